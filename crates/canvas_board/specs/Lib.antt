@@ -1,0 +1,6 @@
+pub mod Raster
+pub mod Seen
+pub mod Steps
+pub mod Fault
+pub mod Alone
+pub mod Past

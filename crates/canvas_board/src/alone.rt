@@ -1,0 +1,151 @@
+ghost use Rattle.std.specs.Prelude.{◌≡◌};
+ghost use Rattle.canvas_board.specs.Alone.{Makes, Opens};
+ghost use Rattle.canvas_board.specs.Steps.{new_id};
+
+use crate::answers::{Dot, Edited, MOST_BYTES, Picture, Saved};
+use crate::board::Board;
+use crate::fault::BoardFault;
+use crate::history::History;
+use crate::picture::file_of;
+use bumpalo::Bump;
+use canvas_doc::{Change, Document, Edit, Refusal};
+use canvas_plane::Window;
+use canvas_store::export;
+use std::alloc::Global;
+use std::marker::Model;
+use std::mem;
+use std::snapshot::Snapshot;
+use std::sync::Wait;
+use std::thread::Threads;
+
+/// The board of one caller, who has the document alone.
+#[derive(Drop)]
+pub struct Alone {
+    alloc: Global,
+    limit: u64,
+    opening: Snapshot<Document>,
+    document: Document,
+    history: History,
+    // How many changes the history has.
+    number: u64,
+    // Holds the scene of a picture while it is painted.
+    arena: Bump,
+}
+
+impl Model for Alone {
+    ghost use Rattle.std.specs.Prelude.{◌≡◌, ◌≤◌, true, length};
+    ghost use Rattle.canvas_board.specs.Seen.{Seen};
+    ghost use Rattle.canvas_doc.specs.History.{replay_of};
+
+    ghost Value = { Seen };
+
+    ghost view = { λ a. record { opening = a.opening.value; limit = a.limit; front = a.history; alone = true } };
+
+    ghost invariant = { λ a. (a.document ≡ replay_of a.opening.value a.history) × (a.number ≡ length a.history) × (a.number ≤ a.limit) × (a.limit ≤ 1000000) };
+}
+
+impl Alone {
+    /// A board over a document that may accept up to `limit` changes, 1 to 1,000,000; else `BadSetting`.
+    pub fn new(alloc: Global, document: Document, limit: u64) -> Result<Alone, BoardFault>
+        ensures { Opens document limit result }
+    {
+        if limit < 1 || 1_000_000 < limit {
+            return Err(BoardFault::BadSetting);
+        }
+        Ok(Alone {
+            alloc,
+            limit,
+            opening: Snapshot::of(&document),
+            document,
+            history: History::new(),
+            number: 0,
+            arena: Bump::new(alloc),
+        })
+    }
+}
+
+impl Board for Alone {
+    ghost seen = { λ board. board };
+
+    fn edit<H: Wait>(&mut self, _rt: &H, edit: &Edit) -> Result<Edited, BoardFault> {
+        if self.number >= self.limit {
+            return Err(BoardFault::VersionsSpent);
+        }
+        match made(self.alloc, &self.document, edit) {
+            Err(fault) => Err(fault),
+            Ok((change, after)) => {
+                let id = new_id(&change);
+                self.document = after;
+                self.number += 1;
+                let history = mem::replace(&mut self.history, History::new());
+                self.history = history.with(change);
+                Ok(Edited {
+                    number: self.number,
+                    id,
+                })
+            }
+        }
+    }
+
+    fn picture<H: Threads + Wait + Sync>(
+        &mut self,
+        _rt: &H,
+        window: &Window,
+        workers: u32,
+    ) -> Result<Picture, BoardFault> {
+        if workers < 1 || 16 < workers {
+            return Err(BoardFault::BadWorkers);
+        }
+        let version = self.number;
+        let file = file_of(self.alloc, &self.arena, &self.document, window);
+        // Nothing borrows the arena any more, so a reset can't fail.
+        let _ = self.arena.reset();
+        match file {
+            Ok(bytes) if bytes.len() <= MOST_BYTES => Ok(Picture { version, bytes }),
+            _ => Err(BoardFault::OutOfMemory),
+        }
+    }
+
+    fn point(&mut self, x: i32, y: i32) -> Result<Dot, BoardFault> {
+        let version = self.number;
+        let colour = self.document.colour_at(x, y);
+        Ok(Dot { version, colour })
+    }
+
+    fn saved(&mut self) -> Result<Saved, BoardFault> {
+        let version = self.number;
+        match export(self.alloc, &self.document) {
+            Ok(text) if text.len() <= MOST_BYTES => Ok(Saved { version, text }),
+            _ => Err(BoardFault::OutOfMemory),
+        }
+    }
+}
+
+// The change that an edit makes of a document, and the document after it.
+fn made(alloc: Global, document: &Document, edit: &Edit) -> Result<(Change, Document), BoardFault>
+    ensures { Makes document.now edit.now result }
+{
+    match document.decide(alloc, edit) {
+        Err(Refusal::OutOfMemory) => Err(BoardFault::OutOfMemory),
+        Err(why) => Err(BoardFault::Refused(why)),
+        Ok(change) => match document.with(alloc, &change) {
+            Err(_) => Err(BoardFault::OutOfMemory),
+            Ok(after) => Ok((change, after)),
+        },
+    }
+}
+
+// The id of the shape that a change makes, if it makes one.
+fn new_id(change: &Change) -> Option<u32>
+    ensures { result ≡ new_id change.now }
+{
+    match change {
+        Change::Create { id, .. } => Some(*id),
+        Change::Move { .. } => None,
+        Change::Pose { .. } => None,
+        Change::Reshape { .. } => None,
+        Change::Show { .. } => None,
+        Change::Delete { .. } => None,
+        Change::Respace { .. } => None,
+    }
+}

@@ -1,0 +1,60 @@
+ghost use Rattle.std.specs.Prelude.{◌≡◌};
+ghost use Rattle.canvas_code.specs.Names.{name_of};
+ghost use Rattle.canvas_board.specs.Fault.{board_fault_code};
+
+use canvas_doc::Refusal;
+use thiserror::Error;
+
+/// Why a board does not answer. After any of them the document is as it was.
+#[derive(Clone, Copy, Debug, Drop, PartialEq, Eq, Error)]
+pub enum BoardFault {
+    /// Memory could not be had.
+    #[error("OutOfMemory")]
+    OutOfMemory,
+    /// The document does not allow the edit.
+    #[error("{0}")]
+    Refused(Refusal),
+    /// As many changes are accepted as the board may accept.
+    #[error("VersionsSpent")]
+    VersionsSpent,
+    /// The seat has seen `front` changes, and the shared document has only `desk`.
+    #[error("Behind")]
+    Behind { desk: u64, front: u64 },
+    /// The seat is at the document named `own`, and was given one named `found`.
+    #[error("Strangers")]
+    Strangers { own: u64, found: u64 },
+    /// A number of workers outside 1 to 16.
+    #[error("BadWorkers")]
+    BadWorkers,
+    /// A board can't be made with such a setting.
+    #[error("BadSetting")]
+    BadSetting,
+    /// The shared document could not be entered.
+    #[error("NoView")]
+    NoView,
+}
+
+impl BoardFault {
+    /// The number of the refusal.
+    pub fn code(&self) -> u16
+        ensures { result ≡ board_fault_code self.now }
+    {
+        match self {
+            BoardFault::OutOfMemory => 1,
+            BoardFault::Refused(why) => why.code(),
+            BoardFault::VersionsSpent => 16,
+            BoardFault::Behind { .. } => 17,
+            BoardFault::Strangers { .. } => 18,
+            BoardFault::BadWorkers => 31,
+            BoardFault::BadSetting => 32,
+            BoardFault::NoView => 33,
+        }
+    }
+
+    /// The name of the refusal, which is also its text.
+    pub fn name(&self) -> &'static str
+        ensures { result.now ≡ name_of (board_fault_code self.now) }
+    {
+        canvas_code::name_of(self.code())
+    }
+}

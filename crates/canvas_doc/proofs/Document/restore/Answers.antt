@@ -1,0 +1,33 @@
+use Rattle.std.proofs.Common.{rules, All, ◌≡◌, ◌<◌, ◌^◌, None, subst, sym, arith}
+use Rattle.canvas_key.specs.Text.{IsKey}
+use Rattle.canvas_doc.specs.declared.records.Record.{Record}
+use Rattle.canvas_doc.specs.Contents.{IsWellFormed}
+use Rattle.canvas_doc.specs.Restored.{record_fault, tree_fault}
+use Rattle.canvas_doc.proofs.Saved.{restoration_of-same}
+use Rattle.canvas_doc.proofs.RestoredWell.{restores-well}
+use Rattle.canvas_doc.proofs.Document.restore.Goals as goal
+
+pub invariant_of-result : goal.invariant_of-result
+invariant_of-result c =
+    let fits : c.args.next < 2 ^ 32 = omega arith in
+    let none : c.in_ok-position.field-0 ≡ None = search rules in
+    let keys : All (λ (r : Record). IsKey r.place.index) c.args.records.items = subst (All (λ (r : Record). IsKey r.place.index)) c.deref-2.ensures.value (c.in_ok-position.ensures.keys none) in
+    let records : record_fault c.args.next c.args.records.items ≡ None = search rules in
+    let tree : tree_fault c.args.records.items ≡ None = search rules in
+    subst (λ rs. IsWellFormed (record { records = rs; next = c.args.next })) (sym c.in_ok-records.ensures)
+    (restores-well c.args.records.items c.args.next c.requires.next fits c.requires.few keys records tree)
+
+pub returns-in-Some-clause-again : goal.returns-in-Some-clause-again
+returns-in-Some-clause-again c = restoration_of-same (record { records = c.args.records.items; next = c.args.next })
+
+pub returns-in_err-position-clause-again : goal.returns-in_err-position-clause-again
+returns-in_err-position-clause-again c = restoration_of-same (record { records = c.args.records.items; next = c.args.next })
+
+pub returns-in-Some-2-clause-again : goal.returns-in-Some-2-clause-again
+returns-in-Some-2-clause-again c = restoration_of-same (record { records = c.args.records.items; next = c.args.next })
+
+pub returns-in_err-records-clause-again : goal.returns-in_err-records-clause-again
+returns-in_err-records-clause-again c = restoration_of-same (record { records = c.args.records.items; next = c.args.next })
+
+pub returns-clause-again : goal.returns-clause-again
+returns-clause-again c = restoration_of-same (record { records = c.args.records.items; next = c.args.next })

@@ -1,0 +1,10 @@
+use Rattle.std.proofs.Common.{◌≡◌, ◌≤◌, take}
+use Rattle.canvas_doc.specs.Depth.{levels_of, greatest, AreMarks}
+use Rattle.canvas_doc.proofs.ancestry.marked_height.Given as goal
+
+abbrev pub invariant-loop-at : goal.invariant-loop-at
+invariant-loop-at l = record {
+  value : l.height ≡ greatest (levels_of l.id l.records) (take l.at l.records);
+  small : l.height ≤ 32;
+  marks : AreMarks l.id l.records l.marks;
+}

@@ -1,0 +1,51 @@
+-- The children of a parent, from front to back.
+use Rattle.std.specs.Prelude.{ℕ, List, [], ◌∷◌, Bool, true, false, cond, ◌==◌, ◌&&◌, filter, Option, Some, None}
+use Rattle.canvas_key.specs.Order.{is_before}
+use Rattle.canvas_doc.specs.declared.records.Parent.{Parent}
+use Rattle.canvas_doc.specs.declared.records.Parent.TheVariants.{Page, Shape}
+use Rattle.canvas_doc.specs.declared.records.Record.{Record}
+
+abbrev pub same_parent : Parent → Parent → Bool
+same_parent Page Page = true
+same_parent Page (Shape b) = false
+same_parent (Shape a) Page = false
+same_parent (Shape a) (Shape b) = a == b
+
+abbrev pub is_child : Parent → Record → Bool
+is_child p r = same_parent r.place.parent p
+
+-- r has the greater index
+abbrev pub is_in_front : Record → Record → Bool
+is_in_front r s = is_before s.place.index r.place.index
+
+-- r at its place in a list from front to back
+abbrev pub put : Record → List Record → List Record
+put r [] = r ∷ []
+put r (s ∷ rest) = cond (is_in_front s r) (s ∷ put r rest) (r ∷ s ∷ rest)
+
+-- the greatest index first
+abbrev pub front_first : List Record → List Record
+front_first [] = []
+front_first (r ∷ rs) = put r (front_first rs)
+
+-- the records with the parent p, greatest index first
+abbrev pub children : Parent → List Record → List Record
+children p rs = front_first (filter (is_child p) rs)
+
+-- the index is below a bound, or there is none
+abbrev pub is_behind : Option (List ℕ) → Record → Bool
+is_behind None r = true
+is_behind (Some key) r = is_before r.place.index key
+
+-- a child of p below the bound
+abbrev pub is_next : Option (List ℕ) → Parent → Record → Bool
+is_next bound p r = is_child p r && is_behind bound r
+
+-- those of the children whose index is below a bound
+abbrev pub children_behind : Option (List ℕ) → Parent → List Record → List Record
+children_behind bound p rs = front_first (filter (is_next bound p) rs)
+
+-- r is in front of the best so far
+abbrev pub is_better : Record → Option Record → Bool
+is_better r None = true
+is_better r (Some s) = is_in_front r s

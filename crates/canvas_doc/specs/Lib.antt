@@ -1,0 +1,13 @@
+pub mod Children
+pub mod Picture
+pub mod Tree
+pub mod Contents
+pub mod Effect
+pub mod Siblings
+pub mod Decision
+pub mod Refused
+pub mod History
+pub mod Depth
+pub mod Fitting
+pub mod Restored
+pub mod Listed

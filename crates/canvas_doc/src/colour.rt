@@ -1,0 +1,141 @@
+//! The colour of a pixel, walked from front to back.
+
+ghost use Rattle.std.specs.Prelude.{◌≡◌, ◌≤◌, ◌+◌, ◌*◌, ◌^◌, All, cond};
+ghost use Rattle.canvas_plane.specs.Motion.{carry, reach_of};
+ghost use Rattle.canvas_shape.specs.Inside.{holds_of};
+ghost use Rattle.canvas_doc.specs.Picture.{answer_among, answer_of, or_else, or_white, colour};
+ghost use Rattle.canvas_doc.specs.Tree.{IsInLimits, HavePlaces};
+
+use crate::Document;
+use crate::order::next_child;
+use crate::records::{Parent, Record};
+use canvas_key::Key;
+use canvas_plane::Pose;
+use canvas_shape::{Colour, Kind};
+
+impl Document {
+    /// The colour of a pixel of the page: what the first shape that holds it answers, walked from
+    /// front to back, or white.
+    pub fn colour_at(&self, x: i32, y: i32) -> Colour
+        ensures { result ≡ colour self.now.records x y }
+    {
+        colour_among(&self.records, Pixel { x, y })
+    }
+}
+
+// The colour of a pixel among records.
+fn colour_among(records: &[Record], at: Pixel) -> Colour
+    requires places { HavePlaces records.now }
+    requires limits { All IsInLimits records.now }
+    ensures { result ≡ colour records.now at.x at.y }
+{
+    or_white(answer_among(records, DEPTH, Parent::Page, &Pose::STILL, at))
+}
+
+fn or_white(answer: Option<Colour>) -> Colour
+    ensures { result ≡ or_white answer }
+{
+    match answer {
+        Some(colour) => colour,
+        None => Colour([255, 255, 255]),
+    }
+}
+
+/// How deep a record may lie: a child of the page has depth 1.
+const DEPTH: u32 = 32;
+
+/// A pixel of the page.
+#[derive(Clone, Copy)]
+struct Pixel {
+    x: i32,
+    y: i32,
+}
+
+// What the children of `parent` answer, where `out` carries its points to the page.
+#[cycle(walk)]
+fn answer_among(
+    records: &[Record],
+    levels: u32,
+    parent: Parent,
+    out: &Pose,
+    at: Pixel,
+) -> Option<Colour>
+    requires places { HavePlaces records.now }
+    requires limits { All IsInLimits records.now }
+    requires quarter { out.now.quarter ≤ 3 }
+    requires reach { reach_of out.now + levels * 2 ^ 20 ≤ 2 ^ 26 }
+    ensures { result ≡ answer_among levels records.now parent (carry out.now) at.x at.y }
+{
+    if levels == 0 {
+        return None;
+    }
+    let mut bound: Option<&Key> = None;
+    while let Some(child) = next_child(records, parent, bound) {
+        let answer = answer_of(records, levels - 1, child, out, at);
+        if answer.is_some() {
+            return answer;
+        }
+        bound = Some(&child.place.index);
+    }
+    None
+}
+
+// What a shape answers with all below it.
+#[cycle(walk)]
+fn answer_of(
+    records: &[Record],
+    levels: u32,
+    shape: &Record,
+    out: &Pose,
+    at: Pixel,
+) -> Option<Colour>
+    requires places { HavePlaces records.now }
+    requires limits { All IsInLimits records.now }
+    requires shape { IsInLimits shape.now }
+    requires quarter { out.now.quarter ≤ 3 }
+    requires reach { reach_of out.now + (levels + 1) * 2 ^ 20 ≤ 2 ^ 26 }
+    ensures { result ≡ answer_of levels records.now (carry out.now) at.x at.y shape.now }
+{
+    if shape.hidden {
+        return None;
+    }
+    let page = shape.pose.then(out);
+    let holds = holds_at(shape, &page, at);
+    match &shape.kind {
+        Kind::Group => answer_among(records, levels, Parent::Shape(shape.id), &page, at),
+        Kind::Frame { fill, .. } => {
+            if holds {
+                or_fill(
+                    answer_among(records, levels, Parent::Shape(shape.id), &page, at),
+                    *fill,
+                )
+            } else {
+                None
+            }
+        }
+        Kind::Rect { fill, .. } => if_held(holds, *fill),
+        Kind::Ellipse { fill, .. } => if_held(holds, *fill),
+        Kind::Polygon { fill, .. } => if_held(holds, *fill),
+    }
+}
+
+fn holds_at(shape: &Record, page: &Pose, at: Pixel) -> bool
+    requires shape { IsInLimits shape.now }
+    requires quarter { page.now.quarter ≤ 3 }
+    requires reach { reach_of page.now ≤ 2 ^ 26 }
+    ensures { result ≡ holds_of shape.now.kind (carry page.now) at.x at.y }
+{
+    shape.kind.holds(page, at.x, at.y)
+}
+
+fn if_held(held: bool, fill: Colour) -> Option<Colour>
+    ensures { result ≡ cond held (Some fill) None }
+{
+    if held { Some(fill) } else { None }
+}
+
+fn or_fill(inner: Option<Colour>, fill: Option<Colour>) -> Option<Colour>
+    ensures { result ≡ or_else inner fill }
+{
+    inner.or(fill)
+}

@@ -1,0 +1,250 @@
+//! What is decided of an edit.
+
+ghost use Rattle.std.specs.Prelude.{◌≡◌, All, IfOk, false, true};
+ghost use Rattle.std.specs.Option.{option_copied};
+ghost use Rattle.canvas_plane.specs.Limits.{is_pose};
+ghost use Rattle.canvas_key.specs.Text.{IsKey};
+ghost use Rattle.canvas_doc.specs.Contents.{AreRising, reaches_page};
+ghost use Rattle.canvas_doc.specs.Effect.{Fits, HasKey};
+ghost use Rattle.canvas_doc.specs.Decision.{same_variant, is_another_kind, move_index, create_index, pose_decision, reshape_judgement, respace_decision, decision_of, asks_memory, IsAnswer};
+
+use crate::Document;
+use crate::ancestry::{
+    STEPS, can_have_children, has_parent, has_shape, is_above_32, is_below, reaches_page,
+};
+use crate::edits::{Change, Edit, Spot};
+use crate::lookup::find;
+use crate::records::{Parent, Place, Record};
+use crate::refusals::Refusal;
+use crate::spots::index_at;
+use canvas_key::Key;
+use canvas_plane::Pose;
+use canvas_shape::Kind;
+use std::alloc::Global;
+
+impl Document {
+    /// What becomes of an edit: a change that fits, or the first refusal that applies.
+    ///
+    /// Every other refusal is decided before any memory is asked for, so `OutOfMemory` comes only
+    /// in place of a change, and only where `Create` or `Reshape` copies the vertices of a polygon.
+    pub fn decide(&self, alloc: Global, edit: &Edit) -> Result<Change, Refusal>
+        ensures decision { IsAnswer result (decision_of edit.now self.now) }
+        ensures exact { asks_memory edit.now ≡ false → result ≡ decision_of edit.now self.now }
+        ensures fits { IfOk result (λ change. Fits change self.now) }
+    {
+        decision(alloc, &self.records, self.next, edit)
+    }
+}
+
+// The change, or the refusal.
+fn decision(alloc: Global, records: &[Record], next: u32, edit: &Edit) -> Result<Change, Refusal>
+    requires rising { AreRising records.now }
+    requires grounded { All (λ r. reaches_page 31 records.now r.place.parent ≡ true) records.now }
+    ensures value { IsAnswer result (decision_of edit.now (record { records = records.now; next = next })) }
+    ensures exact { asks_memory edit.now ≡ false → result ≡ decision_of edit.now (record { records = records.now; next = next }) }
+    ensures key { IfOk result HasKey }
+{
+    match edit {
+        Edit::Create {
+            kind,
+            pose,
+            hidden,
+            parent,
+            spot,
+        } => {
+            let index = create_index(records, next, kind, pose, *parent, spot)?;
+            Ok(Change::Create {
+                id: next,
+                kind: kind.try_clone(alloc)?,
+                pose: *pose,
+                hidden: *hidden,
+                place: Place {
+                    parent: *parent,
+                    index,
+                },
+            })
+        }
+        Edit::Move { id, parent, spot } => {
+            let index = move_index(alloc, records, *id, *parent, spot)?;
+            Ok(Change::Move {
+                id: *id,
+                place: Place {
+                    parent: *parent,
+                    index,
+                },
+            })
+        }
+        Edit::Pose { id, pose } => decide_pose(records, *id, *pose),
+        Edit::Reshape { id, kind } => {
+            judge_reshape(records, *id, kind)?;
+            Ok(Change::Reshape {
+                id: *id,
+                kind: kind.try_clone(alloc)?,
+            })
+        }
+        Edit::Show { id, hidden } => {
+            if !has_shape(records, *id) {
+                return Err(Refusal::NoSuchShape);
+            }
+            Ok(Change::Show {
+                id: *id,
+                hidden: *hidden,
+            })
+        }
+        Edit::Delete { id } => {
+            if !has_shape(records, *id) {
+                return Err(Refusal::NoSuchShape);
+            }
+            Ok(Change::Delete { id: *id })
+        }
+        Edit::Respace { parent } => decide_respace(records, *parent),
+    }
+}
+
+// The index of a new shape, or why it is refused.
+fn create_index(
+    records: &[Record],
+    next: u32,
+    kind: &Kind,
+    pose: &Pose,
+    parent: Parent,
+    spot: &Spot,
+) -> Result<Key, Refusal>
+    requires { AreRising records.now }
+    ensures value { result ≡ create_index kind.now pose.now parent spot.now (record { records = records.now; next = next }) }
+    ensures key { IfOk result IsKey }
+{
+    if !has_parent(records, parent) {
+        return Err(Refusal::NoSuchParent);
+    }
+    if !can_have_children(records, parent) {
+        return Err(Refusal::NotAContainer);
+    }
+    if !reaches_page(records, STEPS, parent) {
+        return Err(Refusal::TooDeep);
+    }
+    if records.len() >= 4096 {
+        return Err(Refusal::TooMany);
+    }
+    if next == 4_294_967_295 {
+        return Err(Refusal::IdsSpent);
+    }
+    if !kind.has_sides() {
+        return Err(Refusal::BadSize);
+    }
+    if !is_pose(pose) {
+        return Err(Refusal::BadPose);
+    }
+    if !kind.has_vertices() {
+        return Err(Refusal::BadPolygon);
+    }
+    index_at(records, next, parent, spot)
+}
+
+// The index of a moved shape, or why the move is refused.
+fn move_index(
+    alloc: Global,
+    records: &[Record],
+    id: u32,
+    parent: Parent,
+    spot: &Spot,
+) -> Result<Key, Refusal>
+    requires rising { AreRising records.now }
+    requires grounded { All (λ r. reaches_page 31 records.now r.place.parent ≡ true) records.now }
+    ensures value { result ≡ move_index id parent spot.now records.now }
+    ensures key { IfOk result IsKey }
+{
+    if !has_shape(records, id) {
+        return Err(Refusal::NoSuchShape);
+    }
+    if !has_parent(records, parent) {
+        return Err(Refusal::NoSuchParent);
+    }
+    if !can_have_children(records, parent) {
+        return Err(Refusal::NotAContainer);
+    }
+    if is_below(records, STEPS + 1, id, parent) {
+        return Err(Refusal::Cycle);
+    }
+    if is_above_32(alloc, records, id, parent) {
+        return Err(Refusal::TooDeep);
+    }
+    index_at(records, id, parent, spot)
+}
+
+// Another pose, or why it is refused.
+fn decide_pose(records: &[Record], id: u32, pose: Pose) -> Result<Change, Refusal>
+    requires { AreRising records.now }
+    ensures value { result ≡ pose_decision id pose records.now }
+    ensures key { IfOk result HasKey }
+{
+    if !has_shape(records, id) {
+        return Err(Refusal::NoSuchShape);
+    }
+    if !is_pose(&pose) {
+        return Err(Refusal::BadPose);
+    }
+    Ok(Change::Pose { id, pose })
+}
+
+// Whether a shape may have another kind, or why it may not.
+fn judge_reshape(records: &[Record], id: u32, kind: &Kind) -> Result<(), Refusal>
+    requires { AreRising records.now }
+    ensures { result ≡ reshape_judgement id kind.now records.now }
+{
+    if !has_shape(records, id) {
+        return Err(Refusal::NoSuchShape);
+    }
+    if is_another_kind(kind, find(records, id)) {
+        return Err(Refusal::WrongKind);
+    }
+    if !kind.has_sides() {
+        return Err(Refusal::BadSize);
+    }
+    if !kind.has_vertices() {
+        return Err(Refusal::BadPolygon);
+    }
+    Ok(())
+}
+
+// New indexes for children, or why they are refused.
+fn decide_respace(records: &[Record], parent: Parent) -> Result<Change, Refusal>
+    requires { AreRising records.now }
+    ensures value { result ≡ respace_decision parent records.now }
+    ensures key { IfOk result HasKey }
+{
+    if !has_parent(records, parent) {
+        return Err(Refusal::NoSuchParent);
+    }
+    if !can_have_children(records, parent) {
+        return Err(Refusal::NotAContainer);
+    }
+    Ok(Change::Respace { parent })
+}
+
+pub(crate) fn is_pose(pose: &Pose) -> bool
+    ensures { result ≡ is_pose pose.now }
+{
+    pose.check().is_ok()
+}
+
+fn is_another_kind(kind: &Kind, shape: Option<&Record>) -> bool
+    ensures { result ≡ is_another_kind kind.now (option_copied shape.entry) }
+{
+    match shape {
+        Some(shape) => !same_variant(&shape.kind, kind),
+        None => false,
+    }
+}
+
+fn same_variant(a: &Kind, b: &Kind) -> bool
+    ensures { result ≡ same_variant a.now b.now }
+{
+    match a {
+        Kind::Group => matches!(b, Kind::Group),
+        Kind::Frame { .. } => matches!(b, Kind::Frame { .. }),
+        Kind::Rect { .. } => matches!(b, Kind::Rect { .. }),
+        Kind::Ellipse { .. } => matches!(b, Kind::Ellipse { .. }),
+        Kind::Polygon { .. } => matches!(b, Kind::Polygon { .. }),
+    }
+}

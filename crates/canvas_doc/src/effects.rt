@@ -1,0 +1,315 @@
+//! The document after a change.
+
+ghost use Rattle.std.specs.Prelude.{◌≡◌, ◌≤◌, ◌++◌, ◌∷◌, [], not, map, filter, length, All, IfOk, true};
+ghost use Rattle.canvas_doc.specs.Children.{is_child};
+ghost use Rattle.canvas_doc.specs.Contents.{AreRising, reaches_page};
+ghost use Rattle.canvas_doc.specs.Depth.{AreMarks};
+ghost use Rattle.canvas_doc.specs.Effect.{changed_by, respaced, respaced_among, rank_among, indexes, is_in_subtree};
+ghost use Rattle.std.specs.List.Sorted.{IsPermutation, IsSortedBy};
+ghost use Rattle.canvas_key.specs.Order.{is_before};
+
+use crate::Document;
+use crate::ancestry::{STEPS, level_at, no_marks};
+use crate::edits::Change;
+use crate::records::{Parent, Place, Record};
+use canvas_key::{Key, fresh};
+use canvas_plane::Pose;
+use canvas_shape::Kind;
+use std::alloc::{AllocError, Global};
+
+impl Document {
+    ghost use Rattle.std.specs.Prelude.{ℤ, true};
+    ghost use Rattle.canvas_doc.specs.Effect.{changes_one, effect_of, Fits, SpacesOnly};
+    ghost use Rattle.canvas_doc.specs.Picture.{colour};
+
+    /// The document after a change that fits.
+    pub fn with(&self, alloc: Global, change: &Change) -> Result<Document, AllocError>
+        requires { Fits change.now self.now }
+        ensures effect { IfOk result (λ after. after ≡ effect_of change.now self.now) }
+        ensures colours { IfOk result (λ after. SpacesOnly change.now → (x y : ℤ) → colour after.records x y ≡ colour self.now.records x y) }
+    {
+        match change {
+            Change::Create {
+                id,
+                kind,
+                pose,
+                hidden,
+                place,
+            } => {
+                let shape = Record {
+                    id: *id,
+                    kind: kind.try_clone(alloc)?,
+                    place: place.copy(),
+                    pose: *pose,
+                    hidden: *hidden,
+                };
+                let records = with_one_more(alloc, &self.records, shape)?;
+                Ok(Document {
+                    records,
+                    next: self.next + 1,
+                })
+            }
+            Change::Delete { id } => {
+                let records = without(alloc, &self.records, *id)?;
+                let next = self.next;
+                Ok(Document { records, next })
+            }
+            Change::Respace { parent } => {
+                let records = all_respaced(alloc, &self.records, *parent)?;
+                Ok(Document {
+                    records,
+                    next: self.next,
+                })
+            }
+            Change::Move { .. } => self.with_one_changed(alloc, change),
+            Change::Pose { .. } => self.with_one_changed(alloc, change),
+            Change::Reshape { .. } => self.with_one_changed(alloc, change),
+            Change::Show { .. } => self.with_one_changed(alloc, change),
+        }
+    }
+
+    // The document after a change of one shape's place, pose, kind or mark.
+    fn with_one_changed(&self, alloc: Global, change: &Change) -> Result<Document, AllocError>
+        requires one { changes_one change.now ≡ true }
+        requires fits { Fits change.now self.now }
+        ensures { IfOk result (λ after. after ≡ effect_of change.now self.now) }
+    {
+        let records = changed(alloc, &self.records, change)?;
+        Ok(Document {
+            records,
+            next: self.next,
+        })
+    }
+}
+
+// A shape after a change of one shape's place, pose, kind or mark.
+fn changed_by(alloc: Global, shape: &Record, change: &Change) -> Result<Record, AllocError>
+    ensures { IfOk result (λ after. after ≡ changed_by change.now shape.now) }
+{
+    match change {
+        Change::Move { id, place } => {
+            if shape.id == *id {
+                moved(alloc, shape, place)
+            } else {
+                shape.try_clone(alloc)
+            }
+        }
+        Change::Pose { id, pose } => {
+            if shape.id == *id {
+                posed(alloc, shape, *pose)
+            } else {
+                shape.try_clone(alloc)
+            }
+        }
+        Change::Reshape { id, kind } => {
+            if shape.id == *id {
+                reshaped(alloc, shape, kind)
+            } else {
+                shape.try_clone(alloc)
+            }
+        }
+        Change::Show { id, hidden } => {
+            if shape.id == *id {
+                shown(alloc, shape, *hidden)
+            } else {
+                shape.try_clone(alloc)
+            }
+        }
+        Change::Create { .. } => shape.try_clone(alloc),
+        Change::Delete { .. } => shape.try_clone(alloc),
+        Change::Respace { .. } => shape.try_clone(alloc),
+    }
+}
+
+fn moved(alloc: Global, shape: &Record, place: &Place) -> Result<Record, AllocError>
+    ensures { IfOk result (λ after. after ≡ record shape.now { place = place.now }) }
+{
+    Ok(Record {
+        id: shape.id,
+        kind: shape.kind.try_clone(alloc)?,
+        place: place.copy(),
+        pose: shape.pose,
+        hidden: shape.hidden,
+    })
+}
+
+fn posed(alloc: Global, shape: &Record, pose: Pose) -> Result<Record, AllocError>
+    ensures { IfOk result (λ after. after ≡ record shape.now { pose = pose }) }
+{
+    Ok(Record {
+        id: shape.id,
+        kind: shape.kind.try_clone(alloc)?,
+        place: shape.place.copy(),
+        pose,
+        hidden: shape.hidden,
+    })
+}
+
+fn reshaped(alloc: Global, shape: &Record, kind: &Kind) -> Result<Record, AllocError>
+    ensures { IfOk result (λ after. after ≡ record shape.now { kind = kind.now }) }
+{
+    Ok(Record {
+        id: shape.id,
+        kind: kind.try_clone(alloc)?,
+        place: shape.place.copy(),
+        pose: shape.pose,
+        hidden: shape.hidden,
+    })
+}
+
+fn shown(alloc: Global, shape: &Record, hidden: bool) -> Result<Record, AllocError>
+    ensures { IfOk result (λ after. after ≡ record shape.now { hidden = hidden }) }
+{
+    Ok(Record {
+        id: shape.id,
+        kind: shape.kind.try_clone(alloc)?,
+        place: shape.place.copy(),
+        pose: shape.pose,
+        hidden,
+    })
+}
+
+// The records after a change of one shape's place, pose, kind or mark.
+fn changed(alloc: Global, records: &[Record], change: &Change) -> Result<Vec<Record>, AllocError>
+    ensures { IfOk result (λ all. all.items ≡ map (changed_by change.now) records.now) }
+{
+    let mut all = Vec::with_capacity(alloc, records.len())?;
+    for shape in records {
+        let after = changed_by(alloc, shape, change)?;
+        all.push(after)?;
+    }
+    Ok(all)
+}
+
+// The records with one more at the end.
+fn with_one_more(
+    alloc: Global,
+    records: &[Record],
+    shape: Record,
+) -> Result<Vec<Record>, AllocError>
+    ensures { IfOk result (λ all. all.items ≡ records.now ++ shape ∷ []) }
+{
+    let mut all = Vec::with_capacity(alloc, records.len() + 1)?;
+    for other in records {
+        all.push(other.try_clone(alloc)?)?;
+    }
+    all.push(shape)?;
+    Ok(all)
+}
+
+// The records without a shape and all below it.
+fn without(alloc: Global, records: &[Record], id: u32) -> Result<Vec<Record>, AllocError>
+    requires rising { AreRising records.now }
+    requires grounded { All (λ r. reaches_page 31 records.now r.place.parent ≡ true) records.now }
+    ensures { IfOk result (λ all. all.items ≡ filter (λ r. not (is_in_subtree id records.now r)) records.now) }
+{
+    let mut marks = no_marks(alloc, records, id)?;
+    without_marked(alloc, records, &mut marks, id)
+}
+
+fn without_marked(
+    alloc: Global,
+    records: &[Record],
+    marks: &mut [u8],
+    id: u32,
+) -> Result<Vec<Record>, AllocError>
+    requires rising { AreRising records.now }
+    requires grounded { All (λ r. reaches_page 31 records.now r.place.parent ≡ true) records.now }
+    requires marks { AreMarks id records.now marks.old }
+    ensures { IfOk result (λ all. all.items ≡ filter (λ r. not (is_in_subtree id records.now r)) records.now) }
+{
+    let mut all = Vec::with_capacity(alloc, records.len())?;
+    for at in 0..records.len() {
+        let level = level_at(records, marks, STEPS, id, at);
+        if level == 0 {
+            let copy = records[at].try_clone(alloc)?;
+            all.push(copy)?;
+        }
+    }
+    Ok(all)
+}
+
+// The records, with new indexes for the children of a parent.
+fn all_respaced(
+    alloc: Global,
+    records: &[Record],
+    parent: Parent,
+) -> Result<Vec<Record>, AllocError>
+    requires { length records.now ≤ 4096 }
+    ensures { IfOk result (λ all. all.items ≡ map (respaced parent records.now) records.now) }
+{
+    let order = sorted_indexes(alloc, records, parent)?;
+    let mut all = Vec::with_capacity(alloc, records.len())?;
+    for shape in records {
+        let spaced = respaced(alloc, &order, parent, shape)?;
+        all.push(spaced)?;
+    }
+    Ok(all)
+}
+
+// The indexes of the children of a parent, from back to front.
+fn sorted_indexes<'a>(
+    alloc: Global,
+    records: &'a [Record],
+    parent: Parent,
+) -> Result<Vec<&'a Key>, AllocError>
+    ensures same { IfOk result (λ order. IsPermutation (indexes parent records.now) (map (λ key. key.now) order.items)) }
+    ensures sorted { IfOk result (λ order. IsSortedBy (λ a b. is_before a.now b.now) order.items) }
+    ensures few { IfOk result (λ order. length order.items ≤ length records.now) }
+{
+    let mut order = indexes(alloc, records, parent)?;
+    order.sort()?;
+    Ok(order)
+}
+
+// The indexes of the children of a parent.
+fn indexes<'a>(
+    alloc: Global,
+    records: &'a [Record],
+    parent: Parent,
+) -> Result<Vec<&'a Key>, AllocError>
+    ensures same { IfOk result (λ keys. map (λ key. key.now) keys.items ≡ indexes parent records.now) }
+    ensures few { IfOk result (λ keys. length keys.items ≤ length records.now) }
+{
+    let mut keys = Vec::new(alloc);
+    for shape in records {
+        if is_child(parent, shape) {
+            keys.push(&shape.place.index)?;
+        }
+    }
+    Ok(keys)
+}
+
+fn is_child(parent: Parent, shape: &Record) -> bool
+    ensures { result ≡ is_child parent shape.now }
+{
+    shape.place.parent == parent
+}
+
+// A record with the index for its rank, if it is a child of the parent.
+fn respaced(
+    alloc: Global,
+    order: &[&Key],
+    parent: Parent,
+    shape: &Record,
+) -> Result<Record, AllocError>
+    requires sorted { IsSortedBy (λ a b. is_before a.now b.now) order.now }
+    requires few { length order.now ≤ 4096 }
+    ensures { IfOk result (λ after. after ≡ respaced_among parent (map (λ key. key.now) order.now) shape.now) }
+{
+    if is_child(parent, shape) {
+        let index = fresh(rank_among(order, &shape.place.index));
+        moved(alloc, shape, &Place { parent, index })
+    } else {
+        shape.try_clone(alloc)
+    }
+}
+
+// How many of the keys come before one.
+fn rank_among(order: &[&Key], index: &Key) -> u32
+    requires sorted { IsSortedBy (λ a b. is_before a.now b.now) order.now }
+    requires few { length order.now ≤ 4096 }
+    ensures { result ≡ rank_among (map (λ key. key.now) order.now) index.now }
+{
+    order.partition_point(|key| key.is_before(index)) as u32
+}

@@ -1,0 +1,81 @@
+//! One design document: records in a page tree, edits and what is decided of them, and the colour of
+//! each pixel.
+#![tactic(auto)]
+
+ghost use Rattle.std.specs.Prelude.{◌≡◌, [], length};
+ghost use Rattle.std.specs.Option.{option_copied};
+
+mod ancestry;
+mod colour;
+mod copies;
+mod decisions;
+mod edits;
+mod effects;
+mod fits;
+mod lookup;
+mod order;
+mod records;
+mod refusals;
+mod restored;
+mod spots;
+
+pub use edits::{Change, Edit, Spot};
+use lookup::find;
+pub use records::{Parent, Place, Record};
+pub use refusals::Refusal;
+pub use restored::TreeFault;
+use std::alloc::Global;
+use std::marker::Model;
+
+/// A design document: records in a page tree, and the next id. It is always well formed.
+#[derive(Drop)]
+pub struct Document {
+    // In rising id.
+    records: Vec<Record>,
+    next: u32,
+}
+
+impl Model for Document {
+    ghost use Rattle.canvas_doc.specs.Contents.{Contents, IsWellFormed};
+
+    ghost Value = { Contents };
+
+    ghost view = { λ d. record { records = d.records.items; next = d.next } };
+
+    ghost invariant = { λ d. IsWellFormed (record { records = d.records.items; next = d.next }) };
+}
+
+impl Document {
+    ghost use Rattle.canvas_doc.specs.Contents.{record_of};
+
+    /// A document with no record and next id 1.
+    pub fn empty(alloc: Global) -> Document
+        ensures { result ≡ record { records = []; next = 1 } }
+    {
+        Document {
+            records: Vec::new(alloc),
+            next: 1,
+        }
+    }
+
+    /// The id that the next new shape gets, 1 to 4,294,967,295; the last one is never given.
+    pub fn next_id(&self) -> u32
+        ensures { result ≡ self.now.next }
+    {
+        self.next
+    }
+
+    /// How many records there are, at most 4,096.
+    pub fn count(&self) -> usize
+        ensures { result ≡ length self.now.records }
+    {
+        self.records.len()
+    }
+
+    /// The record of an id, if there is one.
+    pub fn get(&self, id: u32) -> Option<&Record>
+        ensures { option_copied result ≡ record_of id self.now.records }
+    {
+        find(&self.records, id)
+    }
+}

@@ -1,0 +1,69 @@
+//! Records: the shapes of a document, each with its place in the page tree.
+
+ghost use Rattle.std.specs.Prelude.{◌≡◌, IfOk};
+
+use canvas_key::Key;
+use canvas_plane::Pose;
+use canvas_shape::Kind;
+use std::alloc::{AllocError, Global};
+
+/// What a record hangs from: the page, or a group or a frame.
+#[derive(Clone, Copy, Debug, PartialEq, Eq)]
+pub enum Parent {
+    /// The page itself.
+    Page,
+    /// The shape with this id.
+    Shape(u32),
+}
+
+/// Where a record hangs: its parent and its index among the parent's children, stored as one
+/// property (Figma, "How Figma's multiplayer technology works").
+#[derive(PartialEq, Eq, Drop)]
+pub struct Place {
+    /// What the record hangs from.
+    pub parent: Parent,
+    /// The greater index is in front.
+    pub index: Key,
+}
+
+/// One shape of a document (tldraw's shape records: id, type, parent, index, place).
+#[derive(PartialEq, Drop)]
+pub struct Record {
+    /// The shape's number, 1 to 4,294,967,294, never given twice in one history.
+    pub id: u32,
+    /// What it shows.
+    pub kind: Kind,
+    /// Where it hangs.
+    pub place: Place,
+    /// Carries its own coordinates to its parent's.
+    pub pose: Pose,
+    /// A hidden record hides all below it, too.
+    pub hidden: bool,
+}
+
+impl Place {
+    /// An equal place.
+    pub fn copy(&self) -> Place
+        ensures { result ≡ self.now }
+    {
+        Place {
+            parent: self.parent,
+            index: self.index.copy(),
+        }
+    }
+}
+
+impl Record {
+    /// An equal record; want of memory is the only refusal.
+    pub fn try_clone(&self, alloc: Global) -> Result<Record, AllocError>
+        ensures { IfOk result (λ shape. shape ≡ self.now) }
+    {
+        Ok(Record {
+            id: self.id,
+            kind: self.kind.try_clone(alloc)?,
+            place: self.place.copy(),
+            pose: self.pose,
+            hidden: self.hidden,
+        })
+    }
+}

@@ -1,0 +1,13 @@
+pub mod Rows
+pub mod Apart
+pub mod Digits
+pub mod Parts
+pub mod Keys
+pub mod Carry
+pub mod Steps
+pub mod Turns
+pub mod Before
+pub mod Mids
+pub mod Rising
+pub mod FreshKeys
+pub mod Laws

@@ -1,0 +1,72 @@
+//! The keys of a row of siblings that are spaced anew.
+ghost use Rattle.std.specs.Prelude.{◌≡◌, ◌<◌, ◌≤◌, ◌+◌, ◌-◌, ◌++◌, ◌∷◌, ◌^◌, [], Some, length, ℕ, ℤ, pos, ◌<ℤ◌, List};
+ghost use Rattle.canvas_key.specs.Order.{Before};
+ghost use Rattle.canvas_key.specs.Text.{IsKey};
+ghost use Rattle.canvas_key.specs.Part.{IsPart};
+ghost use Rattle.canvas_key.specs.Rank.{digits, part_above, part_of_rank, rank_of, fresh_key};
+
+use super::digit::digit_of;
+use super::{KEY_LIMIT, Key};
+use arrayvec::ArrayVec;
+
+/// The n-th fresh key, counted from 0: the integer part of rank n, so `a0`, `a1`, .., `az`, `b00`, .. These are
+/// the keys of siblings that are spaced anew, and those that fractional-indexing gives one after the other from
+/// `a0` on. They rise with n.
+pub fn fresh(n: u32) -> Key
+    ensures value { result ≡ fresh_key n }
+    ensures rank { part_of_rank (pos n) ≡ Some result }
+    ensures key { IsKey result }
+{
+    let mut text = ArrayVec::new();
+    push_part(&mut text, 1, 62, u64::from(n));
+    Key { text }
+}
+
+// Appends the part that is `rest` places above the first one of `count` digits.
+fn push_part(text: &mut ArrayVec<u8, KEY_LIMIT>, count: u8, power: u64, rest: u64)
+    requires start { text.old.items ≡ [] }
+    requires count { 0 < count }
+    requires short { count ≤ 6 }
+    requires power { power ≡ 62 ^ count }
+    requires small { rest < 2 ^ 32 }
+    ensures { part_above (26 - count) count rest ≡ Some text.new.items }
+{
+    if rest < power {
+        text.push(b'a' - 1 + count);
+        push_digits(text, count, power, rest);
+    } else {
+        push_part(text, count + 1, power * 62, rest - power);
+    }
+}
+
+// Appends a number in `count` digits.
+fn push_digits(text: &mut ArrayVec<u8, KEY_LIMIT>, count: u8, power: u64, rest: u64)
+    requires power { power ≡ 62 ^ count }
+    requires small { rest < power }
+    requires short { count ≤ 6 }
+    requires room { length text.old.items + count ≤ 128 }
+    ensures { text.new.items ≡ text.old.items ++ digits count rest }
+{
+    if count == 0 {
+        return;
+    }
+    let unit = power / 62;
+    text.push(digit_of((rest / unit) as u8));
+    push_digits(text, count - 1, unit, rest % unit);
+}
+
+/// A law: fresh keys rise with their numbers.
+pub fn fresh_keys_rise()
+    ensures { (m n : ℕ) → m < n → n < 2 ^ 32 → Before (fresh_key m) (fresh_key n) }
+{}
+
+/// A law: integer parts stand in the order of their ranks.
+pub fn parts_are_in_order()
+    ensures { (r s : ℤ) (low high : List ℕ) → r <ℤ s → part_of_rank r ≡ Some low → part_of_rank s ≡ Some high → Before low high }
+{}
+
+/// A law: each integer part has a rank of its own, and the part of a rank has that rank.
+pub fn ranks_number_the_parts()
+    ensures part { (part : List ℕ) → IsPart part → part_of_rank (rank_of part) ≡ Some part }
+    ensures rank { (r : ℤ) (part : List ℕ) → part_of_rank r ≡ Some part → IsPart part × (rank_of part ≡ r) }
+{}

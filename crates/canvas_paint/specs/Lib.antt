@@ -1,0 +1,4 @@
+pub mod Words
+pub mod Blocks
+pub mod Strips
+pub mod FreeRows

@@ -1,0 +1,331 @@
+//! Worked pictures, and random documents compared with the walk, pixel by pixel.
+
+use crate::{FreeRow, append_picture, paint_strip, strip_rows};
+use bumpalo::Bump;
+use canvas_doc::{Document, Edit, Parent, Spot};
+use canvas_plane::{PageBox, Point, Pose, Window};
+use canvas_scene::Scene;
+use canvas_shape::{Colour, Kind, Points, Span};
+use std::alloc::{AllocError, Global};
+use std::process::Abort;
+use std::test::Fail;
+
+const RED: Colour = Colour([255, 0, 0]);
+
+const GREEN: Colour = Colour([0, 255, 0]);
+
+// The edit that puts a shape in front.
+fn create(kind: Kind, pose: Pose, parent: Parent) -> Edit {
+    Edit::Create {
+        kind,
+        pose,
+        hidden: false,
+        parent,
+        spot: Spot::Front,
+    }
+}
+
+fn frame(w: u32, h: u32) -> Kind {
+    Kind::Frame { w, h, fill: None }
+}
+
+fn rect(w: u32, h: u32, fill: Colour) -> Kind {
+    Kind::Rect { w, h, fill }
+}
+
+// The document after an edit, or as it was where the edit is refused.
+fn after(alloc: Global, document: Document, edit: &Edit) -> Result<Document, AllocError> {
+    match document.decide(alloc, edit) {
+        Ok(change) => document.with(alloc, &change),
+        Err(_) => Ok(document),
+    }
+}
+
+fn picture(alloc: Global, document: &Document, window: &Window) -> Result<Vec<u8>, AllocError> {
+    let bump = Bump::new(alloc);
+    let mut out = Vec::new(alloc);
+    append_picture(alloc, &bump, document, window, &mut out)?;
+    Ok(out)
+}
+
+// Whether a picture has the document's colour at each pixel of a window.
+fn agrees(document: &Document, window: &Window, bytes: &[u8]) -> bool {
+    let mut at = 0usize;
+    for j in 0..window.h() {
+        let y = window.y().wrapping_add(j as i32);
+        for k in 0..window.w() {
+            let x = window.x().wrapping_add(k as i32);
+            let Colour([red, green, blue]) = document.colour_at(x, y);
+            for byte in [red, green, blue] {
+                if bytes.get(at) != Some(&byte) {
+                    return false;
+                }
+                at = at.wrapping_add(1);
+            }
+        }
+    }
+    at == bytes.len()
+}
+
+// A turned frame of 2 by 1 without fill that holds a rectangle of 5 by 5.
+fn turned(alloc: Global) -> Result<Document, AllocError> {
+    let pose = Pose {
+        dx: 1,
+        dy: 0,
+        quarter: 1,
+        flip: false,
+    };
+    let document = Document::empty(alloc);
+    let document = after(alloc, document, &create(frame(2, 1), pose, Parent::Page))?;
+    let inside = create(rect(5, 5, RED), Pose::STILL, Parent::Shape(1));
+    after(alloc, document, &inside)
+}
+
+#[test]
+fn turned_frame_cuts_its_child(rt: HostRuntime) -> Result<(), Fail> {
+    let alloc = rt.alloc();
+    let window = Window::new(0, 0, 4, 4)?;
+    let document = turned(alloc)?;
+    let bump = Bump::new(alloc);
+    let scene = Scene::build(&bump, &document, &window)?;
+    assert_eq!(rt; scene.display_list().len(), 1);
+    for item in scene.display_list() {
+        let clip = PageBox {
+            left: 0,
+            top: 0,
+            right: 1,
+            bottom: 2,
+        };
+        assert_eq!(rt; item.clip, clip);
+    }
+    let bytes = picture(alloc, &document, &window)?;
+    assert!(rt; agrees(&document, &window, bytes.as_slice()));
+    assert_eq!(rt; document.colour_at(0, 1), RED);
+    let hide = Edit::Show {
+        id: 1,
+        hidden: true,
+    };
+    let hidden = after(alloc, document, &hide)?;
+    let bump = Bump::new(alloc);
+    let scene = Scene::build(&bump, &hidden, &window)?;
+    assert_eq!(rt; scene.display_list().len(), 0);
+    Ok(())
+}
+
+#[test]
+fn frames_in_frames_cut_by_both(rt: HostRuntime) -> Result<(), Fail> {
+    let alloc = rt.alloc();
+    let document = Document::empty(alloc);
+    let document = after(
+        alloc,
+        document,
+        &create(frame(4, 4), Pose::STILL, Parent::Page),
+    )?;
+    let inner = create(frame(8, 2), Pose::STILL, Parent::Shape(1));
+    let document = after(alloc, document, &inner)?;
+    let leaf = create(rect(6, 2, GREEN), Pose::STILL, Parent::Shape(2));
+    let document = after(alloc, document, &leaf)?;
+    let window = Window::new(0, 0, 6, 2)?;
+    let bytes = picture(alloc, &document, &window)?;
+    let mut want = Vec::new(alloc);
+    for _ in 0..2u8 {
+        for x in 0..6u8 {
+            let colour = if x < 4 {
+                GREEN
+            } else {
+                Colour([255, 255, 255])
+            };
+            want.extend_from_slice(&colour.0)?;
+        }
+    }
+    assert_eq!(rt; bytes.as_slice(), want.as_slice());
+    Ok(())
+}
+
+#[test]
+fn strips_joined_are_the_picture(rt: HostRuntime) -> Result<(), Fail> {
+    let alloc = rt.alloc();
+    let document = Document::empty(alloc);
+    let document = after(
+        alloc,
+        document,
+        &create(rect(2, 1, RED), Pose::STILL, Parent::Page),
+    )?;
+    let window = Window::new(0, 0, 256, 2)?;
+    let whole = picture(alloc, &document, &window)?;
+    assert_eq!(rt; whole.len(), 1536);
+    assert_eq!(rt; strip_rows(2, 0, 2), (0, 1));
+    assert_eq!(rt; strip_rows(2, 1, 2), (1, 2));
+    let bump = Bump::new(alloc);
+    let scene = Scene::build(&bump, &document, &window)?;
+    let mut joined = paint_strip(alloc, scene.display_list(), &window, 0, 1)?;
+    let second = paint_strip(alloc, scene.display_list(), &window, 1, 2)?;
+    joined.extend_from_slice(second.as_slice())?;
+    assert_eq!(rt; joined.as_slice(), whole.as_slice());
+    Ok(())
+}
+
+fn span(from: i32, to: i32) -> Span {
+    Span { from, to }
+}
+
+#[test]
+fn free_row_gives_each_pixel_once(rt: HostRuntime) -> Result<(), Fail> {
+    let alloc = rt.alloc();
+    let mut row = FreeRow::new(alloc, 0, 10)?;
+    let mut out = Vec::new(alloc);
+    row.take(Span { from: 3, to: 5 }, &mut out)?;
+    assert_eq!(rt; out.as_slice(), [span(3, 5)].as_slice());
+    assert!(rt; !row.is_done());
+    out.clear();
+    row.take(Span { from: 0, to: 10 }, &mut out)?;
+    assert_eq!(rt; out.as_slice(), [span(0, 3), span(5, 10)].as_slice());
+    assert!(rt; row.is_done());
+    out.clear();
+    row.take(Span { from: 2, to: 8 }, &mut out)?;
+    assert_eq!(rt; out.len(), 0);
+    Ok(())
+}
+
+// Numbers that look random.
+#[derive(Drop)]
+struct Dice(u64);
+
+impl Dice {
+    fn below(&mut self, n: u32) -> u32 {
+        self.0 = self
+            .0
+            .wrapping_mul(6_364_136_223_846_793_005)
+            .wrapping_add(1_442_695_040_888_963_407);
+        let high = (self.0 >> 40) as u32;
+        if n == 0 { 0 } else { high % n }
+    }
+
+    fn within(&mut self, low: i64, size: u32) -> i64 {
+        low.wrapping_add(i64::from(self.below(size)))
+    }
+}
+
+fn random_points(alloc: Global, dice: &mut Dice) -> Result<Points, AllocError> {
+    let mut points = Points::new(alloc);
+    for _ in 0..dice.below(6).saturating_add(3) {
+        let x = dice.within(-6, 24);
+        let y = dice.within(-6, 24);
+        points.push(Point { x, y })?;
+    }
+    Ok(points)
+}
+
+fn random_kind(alloc: Global, dice: &mut Dice) -> Result<Kind, AllocError> {
+    let w = dice.below(20).saturating_add(1);
+    let h = dice.below(20).saturating_add(1);
+    let shade = dice.below(4).min(3) as u8;
+    let fill = Colour([shade, 100, 7]);
+    Ok(match dice.below(7) {
+        0 => Kind::Group,
+        1 => Kind::Frame {
+            w,
+            h,
+            fill: Some(fill),
+        },
+        2 => Kind::Frame { w, h, fill: None },
+        3 => Kind::Rect { w, h, fill },
+        4 => Kind::Ellipse { w, h, fill },
+        _ => Kind::Polygon {
+            points: random_points(alloc, dice)?,
+            fill,
+        },
+    })
+}
+
+fn random_edit(alloc: Global, dice: &mut Dice, count: u32) -> Result<Edit, AllocError> {
+    let id = dice.below(count.saturating_add(1));
+    Ok(Edit::Create {
+        kind: random_kind(alloc, dice)?,
+        pose: Pose {
+            dx: dice.within(-8, 24),
+            dy: dice.within(-8, 24),
+            quarter: dice.below(4).min(3) as u8,
+            flip: dice.below(2) == 1,
+        },
+        hidden: dice.below(9) == 0,
+        parent: if id < 3 {
+            Parent::Shape(2)
+        } else {
+            Parent::Shape(id)
+        },
+        spot: if dice.below(2) == 0 {
+            Spot::Front
+        } else {
+            Spot::Back
+        },
+    })
+}
+
+// A random document below two groups that lie `far` from the origin, one in the other.
+fn random_document(alloc: Global, dice: &mut Dice, far: i64) -> Result<Document, AllocError> {
+    let away = Pose {
+        dx: far,
+        dy: 0 - far.min(1_048_576).max(-1_048_576),
+        quarter: 0,
+        flip: false,
+    };
+    let document = Document::empty(alloc);
+    let document = after(alloc, document, &create(Kind::Group, away, Parent::Page))?;
+    let mut document = after(
+        alloc,
+        document,
+        &create(Kind::Group, away, Parent::Shape(1)),
+    )?;
+    for count in 0..24u32 {
+        let edit = random_edit(alloc, dice, count)?;
+        document = after(alloc, document, &edit)?;
+    }
+    Ok(document)
+}
+
+// A window near the random shapes, cut at the edges of the plane.
+fn random_window(dice: &mut Dice, x: i32, y: i32) -> Option<Window> {
+    let left = x
+        .wrapping_add(dice.below(24).min(24) as i32)
+        .wrapping_sub(8);
+    let top = y
+        .wrapping_add(dice.below(24).min(24) as i32)
+        .wrapping_sub(8);
+    let w = dice.below(90).saturating_add(1);
+    let h = dice.below(24).saturating_add(1);
+    Window::new(left, top, w, h).ok()
+}
+
+// How many windows of random documents were compared.
+fn compared(
+    rt: &impl Abort,
+    alloc: Global,
+    seed: u64,
+    far: i64,
+    x: i32,
+    y: i32,
+) -> Result<u32, AllocError> {
+    let mut dice = Dice(seed);
+    let mut count = 0u32;
+    for _ in 0..150u32 {
+        let document = random_document(alloc, &mut dice, far)?;
+        if let Some(window) = random_window(&mut dice, x, y) {
+            let bytes = picture(alloc, &document, &window)?;
+            assert!(rt;
+                agrees(&document, &window, bytes.as_slice()),
+                "{seed} {count}"
+            );
+            count = count.saturating_add(1);
+        }
+    }
+    Ok(count)
+}
+
+#[test]
+fn random_pictures_are_the_walk(rt: HostRuntime) -> Result<(), Fail> {
+    assert_eq!(rt; compared(&rt, rt.alloc(), 1, 0, 0, 0)?, 150);
+    assert!(rt; compared(&rt, rt.alloc(), 2, 1_048_576, 2_097_072, -2_097_152)? > 20);
+    assert!(rt; compared(&rt, rt.alloc(), 3, -1_048_576, -2_097_152, 2_097_132)? > 20);
+    Ok(())
+}

@@ -1,0 +1,4 @@
+pub mod Boxes
+pub mod Composition
+pub mod Inverse
+pub mod Sides

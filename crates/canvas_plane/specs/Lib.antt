@@ -1,0 +1,5 @@
+pub mod Limits
+pub mod Motion
+pub mod Page
+pub mod Sides
+pub mod Window

@@ -1,0 +1,4 @@
+pub mod Digits
+pub mod Files
+pub mod Parts
+pub mod Sides

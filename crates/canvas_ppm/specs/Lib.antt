@@ -1,0 +1,5 @@
+pub mod P6
+pub mod Header
+pub mod Fault
+pub mod Image
+pub mod File

@@ -1,0 +1,4 @@
+pub mod Items
+pub mod Pictures
+pub mod Nodes
+pub mod Scenes

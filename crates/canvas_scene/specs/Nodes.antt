@@ -1,0 +1,39 @@
+-- The items of a tree, back to front: a branch's own, then its children's.
+use Rattle.std.specs.Prelude.{List, [], ◌∷◌, ◌++◌, Option, Some, None, map, Bool, cond}
+use Rattle.canvas_shape.specs.declared.Colour.{Colour}
+use Rattle.canvas_scene.specs.declared.item.Item.{Item}
+use Rattle.canvas_scene.specs.declared.nodes.Node.{Node}
+use Rattle.canvas_scene.specs.declared.nodes.Node.TheOpen.{Node-F, Leaf, Branch}
+use Rattle.canvas_scene.specs.declared.nodes.Node.TheFolds.{fold-Node}
+
+-- a branch's own item, if it has one
+abbrev pub back_item : Option Item → List Item
+back_item None = []
+back_item (Some i) = i ∷ []
+
+-- the lists, one after another
+abbrev pub joined : List (List Item) → List Item
+joined [] = []
+joined (xs ∷ rest) = xs ++ joined rest
+
+-- the items of one node, where its children's items stand in their places
+abbrev pub items_step : Node-F (List Item) → List Item
+items_step (Leaf i) = i ∷ []
+items_step (Branch clip back nodes) = back_item back ++ joined nodes.now
+
+-- the items of a node, back to front
+abbrev pub items_of : Node → List Item
+items_of = fold-Node (List Item) items_step
+
+-- the items of nodes, one after another
+abbrev pub items_along : List Node → List Item
+items_along nodes = joined (map items_of nodes)
+
+-- the items of a node, if there is one
+abbrev pub node_items : Option Node → List Item
+node_items None = []
+node_items (Some n) = items_of n
+
+-- what is seen through a clip
+abbrev pub seen : Bool → Option Colour → Option Colour
+seen inside answer = cond inside answer None

@@ -1,0 +1,11 @@
+//! What a window shows: a tree of leaves in the caller's arena, and its display list.
+#![tactic(auto)]
+
+mod item;
+mod nodes;
+mod scenes;
+mod walk;
+
+pub use item::Item;
+pub use nodes::Node;
+pub use scenes::Scene;

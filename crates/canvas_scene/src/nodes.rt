@@ -1,0 +1,60 @@
+//! The tree of a scene.
+
+ghost use Rattle.std.specs.Prelude.{◌≡◌, ◌++◌, [], ◌∷◌, OnOk, reverse, Some};
+ghost use Rattle.canvas_scene.specs.Nodes.{items_of, items_along, node_items, back_item};
+
+use crate::Item;
+use bumpalo::Bump;
+use canvas_plane::PageBox;
+use std::alloc::AllocError;
+
+/// A part of the tree of a scene, plain data in the arena.
+#[derive(Clone, Copy)]
+pub enum Node<'a> {
+    /// A leaf's item.
+    Leaf(Item<'a>),
+    /// A group or a frame.
+    Branch {
+        /// What is left of the page for its children.
+        clip: PageBox,
+        /// A frame's fill, behind its children.
+        back: Option<Item<'a>>,
+        /// Its children, from back to front.
+        children: &'a [Node<'a>],
+    },
+}
+
+// A node of one item.
+pub(crate) fn leaf<'a>(item: Item<'a>) -> Node<'a>
+    ensures { items_of result ≡ item.entry ∷ [] }
+{
+    Node::Leaf(item)
+}
+
+// A branch, whose items are its own and its children's.
+pub(crate) fn branch<'a>(
+    clip: PageBox,
+    back: Option<Item<'a>>,
+    children: &'a [Node<'a>],
+) -> Node<'a>
+    ensures { items_of result ≡ back_item back.entry ++ items_along children.now }
+{
+    Node::Branch {
+        clip,
+        back,
+        children,
+    }
+}
+
+// Adds a node to those of the shapes in front of it.
+pub(crate) fn keep<'a>(
+    nodes: &mut Vec<Node<'a>, &'a Bump>,
+    node: Option<Node<'a>>,
+) -> Result<(), AllocError>
+    ensures { OnOk result (items_along (reverse nodes.new.items) ≡ node_items node.entry ++ items_along (reverse nodes.old.items)) }
+{
+    if let Some(node) = node {
+        nodes.push(node)?;
+    }
+    Ok(())
+}

@@ -1,0 +1,60 @@
+//! Scenes: what a document shows in a window.
+
+ghost use Rattle.std.specs.Prelude.{◌≡◌, ◌≤◌, ◌<◌, ℕ, ℤ, IfOk, true, reverse};
+ghost use Rattle.canvas_plane.specs.Page.{is_in};
+ghost use Rattle.canvas_plane.specs.Window.{box_of_window};
+ghost use Rattle.canvas_doc.specs.Picture.{colour};
+ghost use Rattle.canvas_scene.specs.Items.{last_colour};
+ghost use Rattle.canvas_scene.specs.Nodes.{items_along};
+ghost use Rattle.canvas_scene.specs.Scenes.{display_list_of, root_of};
+
+use crate::walk::nodes_of_page;
+use crate::{Item, Node};
+use bumpalo::Bump;
+use bumpalo::collections::into_bump_slice;
+use canvas_doc::Document;
+use canvas_plane::Window;
+use std::alloc::AllocError;
+
+/// What a document shows in a window: a tree in the caller's arena, and the items of its leaves
+/// as one list. Nothing of it outlives the arena's next reset.
+#[derive(Clone, Copy)]
+pub struct Scene<'a> {
+    root: &'a [Node<'a>],
+    items: &'a [Item<'a>],
+}
+
+impl<'a> Scene<'a> {
+    /// The scene of a document in a window. What is hidden, and what has no common pixel with its
+    /// clip and the window, makes no item. Want of memory is the only refusal.
+    pub fn build(
+        bump: &'a Bump,
+        document: &Document,
+        window: &Window,
+    ) -> Result<Scene<'a>, AllocError>
+        ensures colours { IfOk result (λ scene. (x y : ℤ) → is_in (box_of_window window.now) x y ≡ true → last_colour (display_list_of scene) x y ≡ colour document.now.records x y) }
+        ensures order { IfOk result (λ scene. display_list_of scene ≡ items_along (root_of scene)) }
+    {
+        let mut items = Vec::new(bump);
+        let root = nodes_of_page(bump, document, &window.page_box(), &mut items)?;
+        items.reverse();
+        Ok(Scene {
+            root,
+            items: into_bump_slice(items),
+        })
+    }
+
+    /// The tree: the nodes of the page's children, from back to front.
+    pub fn root(&self) -> &'a [Node<'a>]
+        ensures { result.now ≡ root_of self.now }
+    {
+        self.root
+    }
+
+    /// The items of the tree from back to front: of a branch its own, then its children's.
+    pub fn display_list(&self) -> &'a [Item<'a>]
+        ensures { result.now ≡ display_list_of self.now }
+    {
+        self.items
+    }
+}

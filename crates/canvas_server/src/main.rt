@@ -1,0 +1,124 @@
+//! The program `canvas`: one design document, edited and looked at by lines of JSON.
+//!
+//! `canvas script [workers]` serves standard input to standard output, beginning with an empty document.
+#![tactic(auto)]
+
+mod words;
+
+use canvas_board::{Alone, BoardFault};
+use canvas_doc::Document;
+use canvas_session::{SessionFault, serve};
+use std::alloc::{AllocError, AllocFailed, Global};
+use std::io::{BufWriter, Read, Write};
+use std::process::ExitCode;
+use std::sync::Wait;
+use std::thread::Threads;
+use std::{env, io};
+use words::{Command, exit_status};
+
+const USAGE: &str = "usage: canvas script [workers] | canvas serve <address> <file> [workers]";
+
+/// How many changes the document takes.
+const LIMIT: u64 = 1_000_000;
+
+/// Why the program ends other than by the end of its input.
+#[derive(Clone, Copy, Debug)]
+enum Fault {
+    Usage,
+    /// A refusal with its code.
+    Refused(u16),
+    /// A fault of input or output that has no code.
+    Io,
+}
+
+impl From<BoardFault> for Fault {
+    fn from(fault: BoardFault) -> Fault {
+        Fault::Refused(fault.code())
+    }
+}
+
+impl From<SessionFault> for Fault {
+    fn from(fault: SessionFault) -> Fault {
+        Fault::Refused(fault.code())
+    }
+}
+
+impl From<AllocError> for Fault {
+    fn from(_error: AllocError) -> Fault {
+        Fault::Refused(1)
+    }
+}
+
+impl<T: Drop> From<AllocFailed<T>> for Fault {
+    fn from(_error: AllocFailed<T>) -> Fault {
+        Fault::Refused(1)
+    }
+}
+
+impl From<io::Error> for Fault {
+    fn from(error: io::Error) -> Fault {
+        match error.kind() {
+            io::ErrorKind::OutOfMemory => Fault::Refused(1),
+            _ => Fault::Io,
+        }
+    }
+}
+
+fn main(rt: HostRuntime) -> ExitCode {
+    let end = match command(&rt) {
+        Ok(Some(Command::Script { workers })) => {
+            script(&rt, rt.alloc(), workers, &mut rt.stdin(), rt.stdout())
+        }
+        Ok(None) => Err(Fault::Usage),
+        Err(fault) => Err(fault),
+    };
+    match end {
+        Ok(()) => ExitCode::SUCCESS,
+        Err(fault) => {
+            // Where standard error takes nothing either, the status alone says what was wrong.
+            let _ = report(&rt, &fault);
+            ExitCode::from(status(&fault))
+        }
+    }
+}
+
+/// The command that the program's words name.
+fn command(rt: &HostRuntime) -> Result<Option<Command>, Fault> {
+    let alloc = rt.alloc();
+    let mut words: Vec<String> = Vec::new(alloc);
+    for word in env::args(rt)?.skip(1) {
+        words.push(word)?;
+    }
+    let words: Vec<&str> = words.iter().map(|word| word.as_str()).collect(alloc)?;
+    Ok(Command::read(&words))
+}
+
+/// Serves a reader to a writer over a document of its own, which begins empty.
+fn script<H: Threads + Wait + Sync, R: Read, W: Write + Drop>(
+    rt: &H,
+    alloc: Global,
+    workers: u32,
+    reader: &mut R,
+    output: W,
+) -> Result<(), Fault> {
+    let mut board = Alone::new(alloc, Document::empty(alloc), LIMIT)?;
+    let mut writer = BufWriter::new(alloc, output)?;
+    serve(rt, alloc, &mut board, workers, reader, &mut writer)?;
+    Ok(())
+}
+
+fn report(rt: &HostRuntime, fault: &Fault) -> io::Result<()> {
+    match fault {
+        Fault::Usage => eprintln!(rt; "{USAGE}"),
+        Fault::Refused(code) => eprintln!(rt; "canvas: {code} {}", canvas_code::name_of(*code)),
+        Fault::Io => eprintln!(rt; "canvas: input or output fault"),
+    }
+}
+
+fn status(fault: &Fault) -> u8 {
+    match fault {
+        Fault::Usage => 2,
+        Fault::Refused(code) => exit_status(Some(*code)),
+        Fault::Io => exit_status(None),
+    }
+}

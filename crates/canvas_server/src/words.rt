@@ -1,0 +1,104 @@
+//! The words of the command line, and the statuses with which the program ends.
+
+/// What the program is asked for.
+#[derive(Clone, Copy, Debug, PartialEq, Eq)]
+pub enum Command {
+    /// Serves standard input to standard output, with so many painters for a picture.
+    Script { workers: u32 },
+}
+
+/// The workers where the words name none.
+const DEFAULT_WORKERS: u32 = 2;
+
+impl Command {
+    /// Reads the words behind the program's name. `None` is a fault of usage.
+    pub fn read(words: &[&str]) -> Option<Command> {
+        match words {
+            ["script"] => Some(Command::Script {
+                workers: DEFAULT_WORKERS,
+            }),
+            ["script", workers] => Some(Command::Script {
+                workers: workers_of(workers)?,
+            }),
+            _ => None,
+        }
+    }
+}
+
+/// A number of workers, 1 to 16: one or two decimal digits without a leading zero.
+fn workers_of(word: &str) -> Option<u32> {
+    if word.starts_with('0') || word.starts_with('+') {
+        return None;
+    }
+    word.parse()
+        .ok()
+        .filter(|workers| (1..=16).contains(workers))
+}
+
+/// The status with which the program ends at a fault: 3 where a document was refused, 5 at want of memory and where
+/// there is no place for a seat or a view, else 4. A fault of input or output has no code.
+pub fn exit_status(code: Option<u16>) -> u8 {
+    match code {
+        Some(50 | 60 | 61 | 62) => 3,
+        Some(1 | 19 | 33) => 5,
+        _ => 4,
+    }
+}
+
+#[cfg(test)]
+mod tests {
+    use super::*;
+
+    #[test]
+    fn commands(rt: HostRuntime) {
+        for (word, workers) in [("1", 1), ("2", 2), ("9", 9), ("10", 10), ("16", 16)] {
+            assert!(rt;
+                Command::read(&["script", word]) == Some(Command::Script { workers }),
+                "at {word}"
+            );
+        }
+        assert!(rt; Command::read(&["script"]) == Some(Command::Script { workers: 2 }));
+        for word in [
+            "0",
+            "17",
+            "02",
+            "+2",
+            "-1",
+            "",
+            " 2",
+            "2 ",
+            "two",
+            "100",
+            "4294967298",
+        ] {
+            assert!(rt; Command::read(&["script", word]).is_none(), "at {word}");
+        }
+        for words in [
+            ["script", "2", "3"],
+            ["serve", "a", "b"],
+            ["Script", "", ""],
+        ] {
+            assert!(rt; Command::read(&words).is_none());
+        }
+        assert!(rt; Command::read(&[]).is_none());
+    }
+
+    #[test]
+    fn statuses(rt: HostRuntime) {
+        for (code, status) in [
+            (61, 3),
+            (62, 3),
+            (50, 3),
+            (60, 3),
+            (74, 4),
+            (72, 4),
+            (32, 4),
+            (1, 5),
+            (19, 5),
+            (33, 5),
+        ] {
+            assert!(rt; exit_status(Some(code)) == status, "at {code}");
+        }
+        assert!(rt; exit_status(None) == 4);
+    }
+}

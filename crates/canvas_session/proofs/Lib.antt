@@ -1,0 +1,7 @@
+pub mod Ranges
+pub mod Lf
+pub mod Writes
+pub mod LinesOf
+pub mod Exchanges
+pub mod Stops
+pub mod Shown

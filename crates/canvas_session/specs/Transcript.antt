@@ -1,0 +1,53 @@
+-- Which responses a board may give to a list of requests.
+use Rattle.std.specs.Prelude.{◌≡◌, ℕ, ℤ, pos, ◌*ℤ◌, Bool, true, false, ◌⊎◌, List, [], ◌∷◌, Result, Ok, Err}
+use Rattle.canvas_plane.specs.declared.windows.Window.{Window}
+use Rattle.canvas_plane.specs.Sides.{is_window}
+use Rattle.canvas_plane.specs.Window.{IsWindowAt}
+use Rattle.canvas_wire.specs.declared.request.Request.{Request}
+use Rattle.canvas_wire.specs.declared.request.Request.TheVariants.{Edit, Tile, Patch, Point, Export}
+use Rattle.canvas_wire.specs.declared.fault.WireFault.{WireFault}
+use Rattle.canvas_wire.specs.Faults.{fault_code}
+use Rattle.canvas_wire.specs.Replies.{refused}
+use Rattle.canvas_board.specs.declared.answers.Edited.{Edited}
+use Rattle.canvas_board.specs.declared.answers.Picture.{Picture}
+use Rattle.canvas_board.specs.declared.answers.Dot.{Dot}
+use Rattle.canvas_board.specs.declared.answers.Saved.{Saved}
+use Rattle.canvas_board.specs.declared.fault.BoardFault.{BoardFault}
+use Rattle.canvas_board.specs.Seen.{Seen}
+use Rattle.canvas_board.specs.Steps.{Edits, Looks, Paints, Saves}
+use Rattle.canvas_session.specs.Response.{Response, bare, edit_response, picture_response, point_response, saved_response}
+
+-- the picture of a window by so many workers
+pub record Shows (workers : ℕ) (s : Seen) (window : Window) (a : Response) (t : Seen) : Type 0 where
+  pub result : Result Picture BoardFault
+  pub step : Paints s window workers result t
+  pub answer : a ≡ picture_response result
+
+-- the picture of a window that may be none
+abbrev pub ShowsIf : Bool → ℕ → Seen → ℤ → ℤ → ℕ → ℕ → Response → Seen → Type 0
+ShowsIf true workers s x y w h a t = (window : Window) × IsWindowAt x y w h window × Shows workers s window a t
+ShowsIf false workers s x y w h a t = (a ≡ bare (refused 30)) × (t ≡ s)
+
+-- what one request, or the fault of its line, is answered with, and what board it leaves
+abbrev pub Step : ℕ → Seen → Result Request WireFault → Response → Seen → Type 0
+Step workers s (Ok (Edit edit)) a t = (result : Result Edited BoardFault) × Edits s edit result t × (a ≡ edit_response result)
+Step workers s (Ok (Tile col row)) a t = ShowsIf (is_window (pos 256 *ℤ col) (pos 256 *ℤ row) 256 256) workers s (pos 256 *ℤ col) (pos 256 *ℤ row) 256 256 a t
+Step workers s (Ok (Patch x y w h)) a t = ShowsIf (is_window x y w h) workers s x y w h a t
+Step workers s (Ok (Point x y)) a t = (result : Result Dot BoardFault) × Looks s x y result t × (a ≡ point_response result)
+Step workers s (Ok Export) a t = (result : Result Saved BoardFault) × Saves s result t × (a ≡ saved_response result)
+Step workers s (Err fault) a t = (a ≡ bare (refused (fault_code fault))) × (t ≡ s)
+
+-- memory was refused, and the board is as it was
+abbrev pub WantsMemory : Seen → Response → Seen → Type 0
+WantsMemory s a t = (a ≡ bare (refused 1)) × (t ≡ s)
+
+-- the same, or the step of the request
+abbrev pub Answers : ℕ → Seen → Result Request WireFault → Response → Seen → Type 0
+Answers workers s r a t = Step workers s r a t ⊎ WantsMemory s a t
+
+-- the requests were answered in turn
+abbrev pub IsTranscript : ℕ → Seen → List (Result Request WireFault) → List Response → Seen → Type 0
+IsTranscript workers s [] [] t = t ≡ s
+IsTranscript workers s (r ∷ rs) (a ∷ more) t = (mid : Seen) × Answers workers s r a mid × IsTranscript workers mid rs more t
+IsTranscript workers s [] (a ∷ more) t = ⊥
+IsTranscript workers s (r ∷ rs) [] t = ⊥

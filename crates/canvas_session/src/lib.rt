@@ -1,0 +1,21 @@
+//! One session: the lines of a reader are requests to a board, and the responses go to a writer.
+#![tactic(auto)]
+
+mod answer;
+mod fault;
+mod law;
+mod next;
+mod output;
+mod pending;
+mod respond;
+mod served;
+mod session;
+#[cfg(test)]
+mod tests;
+
+pub use answer::Answer;
+pub use fault::{Cause, SessionFault};
+pub use law::lines_are_one;
+pub use respond::answer_line;
+pub use served::Served;
+pub use session::{MOST_REQUESTS, serve};

@@ -1,0 +1,205 @@
+ghost use denote.Param.Send.{IsSync};
+ghost use Rattle.std.specs.Prelude.{◌≡◌, Ok, pos, ◌*ℤ◌};
+ghost use Rattle.canvas_wire.specs.Replies.{IsNamed, refused, said};
+ghost use Rattle.canvas_wire.specs.Requests.{request_of};
+ghost use Rattle.canvas_session.specs.Response.{bare, edit_response, fault_response, made, picture_response, point_response, saved_response};
+ghost use Rattle.canvas_session.specs.Transcript.{Answers, Shows, ShowsIf, Step};
+ghost use Rattle.canvas_plane.specs.Sides.{is_window};
+
+use crate::answer::Answer;
+use canvas_board::{Board, BoardFault, Dot, Edited, Picture, Saved};
+use canvas_code::name_of;
+use canvas_plane::Window;
+use canvas_wire::{Reply, Request, read_request};
+use std::alloc::Global;
+use std::sync::Wait;
+use std::thread::Threads;
+
+/// What is answered to one line of a session, without its LF: the request is read and put to the board, and pictures
+/// are painted by so many workers. Where memory for the request is refused, the answer is the reply `OutOfMemory`, and
+/// the board is as it was.
+pub fn answer_line<B: Board, H: Threads + Wait + Sync>(
+    rt: &H,
+    alloc: Global,
+    board: &mut B,
+    workers: u32,
+    line: &[u8],
+) -> Answer
+    ensures { Answers workers (B.seen board.old) (request_of line.now) result (B.seen board.new) }
+{
+    match read_request(alloc, line) {
+        Err(fault) => Answer::bare(alloc, refusal(fault.code())),
+        Ok(request) => answer_request(rt, alloc, board, workers, &request),
+    }
+}
+
+// The answer to a request.
+fn answer_request<B: Board, H: Threads + Wait + Sync>(
+    rt: &H,
+    alloc: Global,
+    board: &mut B,
+    workers: u32,
+    request: &Request,
+) -> Answer
+    ensures { Step workers (B.seen board.old) (Ok request.now) result (B.seen board.new) }
+{
+    match request {
+        Request::Edit(edit) => {
+            let result = board.edit(rt, edit);
+            edit_answer(alloc, &result)
+        }
+        Request::Tile { col, row } => answer_tile(rt, alloc, board, workers, *col, *row),
+        Request::Patch { x, y, w, h } => { answer_patch(rt, alloc, board, workers, *x, *y, *w, *h) }
+        Request::Point { x, y } => {
+            let result = board.point(*x, *y);
+            point_answer(alloc, &result)
+        }
+        Request::Export => {
+            let result = board.saved();
+            saved_answer(alloc, result)
+        }
+    }
+}
+
+// The answer to the wish for a tile.
+fn answer_tile<B: Board, H: Threads + Wait + Sync>(
+    rt: &H,
+    alloc: Global,
+    board: &mut B,
+    workers: u32,
+    col: i32,
+    row: i32,
+) -> Answer
+    ensures { ShowsIf (is_window (pos 256 *ℤ col) (pos 256 *ℤ row) 256 256) workers (B.seen board.old)
+        (pos 256 *ℤ col) (pos 256 *ℤ row) 256 256 result (B.seen board.new) }
+{
+    match Window::tile(col, row) {
+        Ok(window) => answer_window(rt, alloc, board, workers, &window),
+        Err(fault) => Answer::bare(alloc, refusal(fault.code())),
+    }
+}
+
+// The answer to the wish for a window.
+fn answer_patch<B: Board, H: Threads + Wait + Sync>(
+    rt: &H,
+    alloc: Global,
+    board: &mut B,
+    workers: u32,
+    x: i32,
+    y: i32,
+    w: u32,
+    h: u32,
+) -> Answer
+    ensures { ShowsIf (is_window x y w h) workers (B.seen board.old)
+        x y w h result (B.seen board.new) }
+{
+    match Window::new(x, y, w, h) {
+        Ok(window) => answer_window(rt, alloc, board, workers, &window),
+        Err(fault) => Answer::bare(alloc, refusal(fault.code())),
+    }
+}
+
+// The answer with the picture of a window.
+fn answer_window<B: Board, H: Threads + Wait + Sync>(
+    rt: &H,
+    alloc: Global,
+    board: &mut B,
+    workers: u32,
+    window: &Window,
+) -> Answer
+    ensures { Shows workers (B.seen board.old) window.now result (B.seen board.new) }
+{
+    let result = board.picture(rt, window, workers);
+    picture_answer(alloc, result)
+}
+
+fn edit_answer(alloc: Global, outcome: &Result<Edited, BoardFault>) -> Answer
+    ensures { result ≡ edit_response outcome.now }
+{
+    match outcome {
+        Ok(edited) => Answer::bare(alloc, accepted(edited)),
+        Err(fault) => Answer::bare(alloc, fault_reply(fault)),
+    }
+}
+
+fn picture_answer(alloc: Global, outcome: Result<Picture, BoardFault>) -> Answer
+    ensures { result ≡ picture_response outcome }
+{
+    match outcome {
+        Ok(picture) => {
+            let reply = Reply::Body {
+                bytes: picture.bytes.len() as u64,
+                version: picture.version,
+            };
+            Answer::new(reply, picture.bytes)
+        }
+        Err(fault) => Answer::bare(alloc, fault_reply(&fault)),
+    }
+}
+
+fn saved_answer(alloc: Global, outcome: Result<Saved, BoardFault>) -> Answer
+    ensures { result ≡ saved_response outcome }
+{
+    match outcome {
+        Ok(saved) => {
+            let reply = Reply::Body {
+                bytes: saved.text.len() as u64,
+                version: saved.version,
+            };
+            Answer::new(reply, saved.text)
+        }
+        Err(fault) => Answer::bare(alloc, fault_reply(&fault)),
+    }
+}
+
+fn point_answer(alloc: Global, outcome: &Result<Dot, BoardFault>) -> Answer
+    ensures { result ≡ point_response outcome.now }
+{
+    match outcome {
+        Ok(dot) => {
+            let reply = Reply::Point {
+                colour: dot.colour,
+                version: dot.version,
+            };
+            Answer::bare(alloc, reply)
+        }
+        Err(fault) => Answer::bare(alloc, fault_reply(fault)),
+    }
+}
+
+// The reply to an accepted edit.
+fn accepted(edited: &Edited) -> Reply
+    ensures named { IsNamed result }
+    ensures said { said result ≡ made edited.now.id edited.now.number }
+{
+    let version = edited.number;
+    match edited.id {
+        Some(id) => Reply::Created { id, version },
+        None => Reply::Edited { version },
+    }
+}
+
+// The reply to what a board refuses.
+fn fault_reply(fault: &BoardFault) -> Reply
+    ensures named { IsNamed result }
+    ensures said { bare (said result) ≡ fault_response fault.now }
+{
+    match fault {
+        BoardFault::Behind { desk, front } => Reply::Behind {
+            desk: *desk,
+            front: *front,
+        },
+        other => refusal(other.code()),
+    }
+}
+
+// The reply to a refusal.
+pub(crate) fn refusal(code: u16) -> Reply
+    ensures named { IsNamed result }
+    ensures said { said result ≡ refused code }
+{
+    Reply::Refused {
+        code,
+        name: name_of(code),
+    }
+}

@@ -1,0 +1,172 @@
+-- The row of an ellipse.
+use Rattle.std.proofs.Common.{◌≡◌, ℕ, ◌+◌, ◌-◌, ◌*◌, ◌/◌, ◌≤◌, ◌<◌, ℤ, pos, negsuc, ◌+ℤ◌, ◌-ℤ◌, ◌*ℤ◌, ◌≤ℤ◌, ◌<ℤ◌, true, false, refl, sym, ap, ◌∙◌, arith, inl, inr, leb, ◌&&◌}
+use Rattle.std.specs.Prelude.{int_le, int_lt, unsigned_abs, nat_le}
+use Rattle.std.proofs.Math.Nat.{mul-le-mul, mul_comm, add_comm}
+use Rattle.std.proofs.lemmas.Int.{ints}
+use Rattle.std.proofs.lemmas.Bool.{cases_lt, le-leb, lt-leb, cases_Bool, true≢false}
+use Rattle.std.proofs.lemmas.Bool.Decides.{nat_tests}
+use Rattle.canvas_plane.specs.declared.PageBox.{PageBox}
+use Rattle.canvas_plane.specs.Page.{is_in}
+use Rattle.canvas_shape.specs.Spans.{is_from_to}
+use Rattle.canvas_shape.specs.Ellipse.{is_in_ellipse, offset, squared, is_near_middle}
+
+-- n is within the root where its square is within the number
+pub root-test : (n r q : ℕ) → r * r ≤ q → q < (r + 1) * (r + 1) → leb n r ≡ leb (n * n) q
+root-test n r q h k = elim (cases_lt r n) [
+  | inl lt ↦
+      let up : r + 1 ≤ n = omega arith in
+      let sq : (r + 1) * (r + 1) ≤ n * n = mul-le-mul up up in
+      let past : q < n * n = omega arith in
+      lt-leb n r lt ∙ sym (lt-leb (n * n) q past)
+  | inr le ↦
+      let sq : n * n ≤ r * r = mul-le-mul le le in
+      let in_reach : n * n ≤ q = omega arith in
+      le-leb n r le ∙ sym (le-leb (n * n) q in_reach)
+]
+
+-- what a sum takes off, divided and rounded up
+pub lost-test : (a u w h c : ℕ) → u ≤ c * h → c * h < u + h → c ≤ w → leb a (w - c) ≡ leb (a * h + u) (w * h)
+lost-test a u w h c least most bound = elim (cases_lt (w - c) a) [
+  | inl lt ↦
+      let up : w + 1 ≤ a + c = omega arith in
+      let sq : (w + 1) * h ≤ (a + c) * h = mul-le-mul up (omega arith) in
+      let past : w * h < a * h + u = omega arith in
+      lt-leb a (w - c) lt ∙ sym (lt-leb (a * h + u) (w * h) past)
+  | inr le ↦
+      let up : a + c ≤ w = omega arith in
+      let sq : (a + c) * h ≤ w * h = mul-le-mul up (omega arith) in
+      let in_reach : a * h + u ≤ w * h = omega arith in
+      le-leb a (w - c) le ∙ sym (le-leb (a * h + u) (w * h) in_reach)
+]
+
+pub reach-test : (n m w h c r : ℕ) → (m * m) * (w * w) ≤ c * (h * h) → c * (h * h) < (m * m) * (w * w) + h * h → c ≤ w * w → r * r ≤ w * w - c → w * w - c < (r + 1) * (r + 1) → leb n r ≡ is_near_middle n m w h
+reach-test n m w h c r least most bound square next =
+    root-test n r (w * w - c) square next ∙ lost-test (n * n) ((m * m) * (w * w)) (w * w) (h * h) c least most bound
+
+squared-abs : (z : ℤ) → squared z ≡ pos (unsigned_abs z * unsigned_abs z)
+squared-abs (pos n) = refl
+squared-abs (negsuc n) = refl
+
+-- the test by sizes
+pub by-sizes : (dx dy : ℤ) (w h : ℕ) → int_le (squared dx *ℤ squared (pos h) +ℤ squared dy *ℤ squared (pos w)) (squared (pos w) *ℤ squared (pos h)) ≡ is_near_middle (unsigned_abs dx) (unsigned_abs dy) w h
+by-sizes dx dy w h = rw (squared-abs dx, squared-abs dy) refl
+
+-- a row too far from the middle has nothing
+pub far-row : (n m w h : ℕ) → 0 < w → h < m → is_near_middle n m w h ≡ false
+far-row n m w h some far =
+    let up : h + 1 ≤ m = omega arith in
+    let sq : (h + 1) * (h + 1) ≤ m * m = mul-le-mul up up in
+    let more : h * h + 1 ≤ m * m = omega arith in
+    let all : (h * h + 1) * (w * w) ≤ (m * m) * (w * w) = mul-le-mul more (omega arith) in
+    let one : 1 * 1 ≤ w * w = mul-le-mul some some in
+    let turned : (w * w) * (h * h) ≡ (h * h) * (w * w) = mul_comm (w * w) (h * h) in
+    let past : (w * w) * (h * h) < (n * n) * (h * h) + (m * m) * (w * w) = omega arith in
+    lt-leb ((n * n) * (h * h) + (m * m) * (w * w)) ((w * w) * (h * h)) past
+
+-- a pixel's centre is never as far from the middle as an edge is
+pub not-edge : (at from : ℤ) (h : ℕ) → h ≤ unsigned_abs (offset at from (pos h)) → h < unsigned_abs (offset at from (pos h))
+not-edge at from h le = omega (arith, ints)
+
+-- what a row takes off is no more than the whole
+pub lost-bound : (c m w h : ℕ) → m < h → c * (h * h) < (m * m) * (w * w) + h * h → c ≤ w * w
+lost-bound c m w h row most = elim (cases_lt (w * w) c) [
+  | inl lt ↦
+      let up : w * w + 1 ≤ c = omega arith in
+      let all : (w * w + 1) * (h * h) ≤ c * (h * h) = mul-le-mul up (omega arith) in
+      let low : m ≤ h = omega arith in
+      let sq : m * m ≤ h * h = mul-le-mul low low in
+      let part : (m * m) * (w * w) ≤ (h * h) * (w * w) = mul-le-mul sq (omega arith) in
+      let turned : (w * w) * (h * h) ≡ (h * h) * (w * w) = mul_comm (w * w) (h * h) in
+      absurd (omega arith)
+  | inr le ↦ le
+]
+
+abs-test : (z : ℤ) (r : ℕ) → (int_le (pos 0) (z +ℤ pos r) && int_le z (pos r)) ≡ leb (unsigned_abs z) r
+abs-test z r = grind (arith, ints, nat_tests)
+
+le_test-true : (a b : ℤ) → int_le a b ≡ true → a ≤ℤ b
+le_test-true a b h = grind (arith, ints)
+
+le_test-false : (a b : ℤ) → int_le a b ≡ false → b <ℤ a
+le_test-false a b h = grind (arith, ints)
+
+le-le_test : (a b : ℤ) → a ≤ℤ b → int_le a b ≡ true
+le-le_test a b h = grind (arith, ints)
+
+lt-le_test : (a b : ℤ) → b <ℤ a → int_le a b ≡ false
+lt-le_test a b h = grind (arith, ints)
+
+-- two tests of an order give one answer
+le-same : (a b c d : ℤ) → (a ≤ℤ b → c ≤ℤ d) → (b <ℤ a → d <ℤ c) → int_le a b ≡ int_le c d
+le-same a b c d f g = elim (cases_Bool (int_le a b)) [ inl t ↦ t ∙ sym (le-le_test c d (f (le_test-true a b t))) | inr t ↦ t ∙ sym (lt-le_test c d (g (le_test-false a b t))) ]
+
+lt-le : (a b : ℤ) → int_lt a b ≡ int_le (a +ℤ pos 1) b
+lt-le a b = grind (arith, ints)
+
+low-end : (left x : ℤ) (w r a : ℕ) → 2 * a + r ≤ w → w < 2 * a + r + 2 → int_le (left +ℤ pos a) x ≡ int_le (pos 0) (offset x left (pos w) +ℤ pos r)
+low-end left x w r a h k = le-same (left +ℤ pos a) x (pos 0) (offset x left (pos w) +ℤ pos r) (λ e. omega (arith, ints)) (λ e. omega (arith, ints))
+
+high-end : (left x : ℤ) (w r b : ℕ) → 2 * b ≤ w + r + 1 → w + r + 1 < 2 * b + 2 → int_lt x (left +ℤ pos b) ≡ int_le (offset x left (pos w)) (pos r)
+high-end left x w r b h k = lt-le x (left +ℤ pos b) ∙ le-same (x +ℤ pos 1) (left +ℤ pos b) (offset x left (pos w)) (pos r) (λ e. omega (arith, ints)) (λ e. omega (arith, ints))
+
+-- the pixels that a reach has
+pub reach-ends : (left x : ℤ) (w r : ℕ) → r ≤ w → is_from_to (left +ℤ pos ((w - r) / 2)) x (left +ℤ pos ((w + r + 1) / 2)) ≡ leb (unsigned_abs (offset x left (pos w))) r
+reach-ends left x w r h =
+    ap (λ t. t && int_lt x (left +ℤ pos ((w + r + 1) / 2))) (low-end left x w r ((w - r) / 2) (omega arith) (omega arith))
+    ∙ ap (λ t. int_le (pos 0) (offset x left (pos w) +ℤ pos r) && t) (high-end left x w r ((w + r + 1) / 2) (omega arith) (omega arith))
+    ∙ abs-test (offset x left (pos w)) r
+
+-- the test of a box's ellipse, where its sides are written as sizes
+by-sides : (b : PageBox) (x y : ℤ) (w h : ℕ) → pos w ≡ b.right -ℤ b.left → pos h ≡ b.bottom -ℤ b.top → is_near_middle (unsigned_abs (offset x b.left (pos w))) (unsigned_abs (offset y b.top (pos h))) w h ≡ is_in_ellipse b x y
+by-sides b x y w h ew eh =
+    let test = λ (s t : ℤ). int_le (squared (offset x b.left s) *ℤ squared t +ℤ squared (offset y b.top t) *ℤ squared s) (squared s *ℤ squared t) in
+    sym (by-sizes (offset x b.left (pos w)) (offset y b.top (pos h)) w h) ∙ ap (λ s. test s (pos h)) ew ∙ ap (λ t. test (b.right -ℤ b.left) t) eh
+
+-- a row that meets the ellipse
+pub near-row : (b : PageBox) (x y : ℤ) (w h m r : ℕ) (from to : ℤ) → pos w ≡ b.right -ℤ b.left → pos h ≡ b.bottom -ℤ b.top → m ≡ unsigned_abs (offset y b.top (pos h)) → ((n : ℕ) → nat_le n r ≡ is_near_middle n m w h) → r ≤ w → from ≡ b.left +ℤ pos ((w - r) / 2) → to ≡ b.left +ℤ pos ((w + r + 1) / 2) → is_from_to from x to ≡ is_in_ellipse b x y
+near-row b x y w h m r from to ew eh em near bound ef et =
+    ap (λ z. is_from_to z x to) ef ∙ ap (λ z. is_from_to (b.left +ℤ pos ((w - r) / 2)) x z) et
+    ∙ reach-ends b.left x w r bound ∙ near (unsigned_abs (offset x b.left (pos w)))
+    ∙ ap (λ k. is_near_middle (unsigned_abs (offset x b.left (pos w))) k w h) em
+    ∙ by-sides b x y w h ew eh
+
+none : (x : ℤ) → is_from_to (pos 0) x (pos 0) ≡ false
+none x = grind (arith, ints)
+
+-- a row that misses it
+pub empty-row : (b : PageBox) (x y : ℤ) (w h m : ℕ) → pos w ≡ b.right -ℤ b.left → pos h ≡ b.bottom -ℤ b.top → m ≡ unsigned_abs (offset y b.top (pos h)) → 0 < w → h ≤ m → is_from_to (pos 0) x (pos 0) ≡ is_in_ellipse b x y
+empty-row b x y w h m ew eh em some far =
+    let at_edge : h ≤ unsigned_abs (offset y b.top (pos h)) = omega arith in
+    none x ∙ sym (far-row (unsigned_abs (offset x b.left (pos w))) (unsigned_abs (offset y b.top (pos h))) w h some (not-edge y b.top h at_edge)) ∙ by-sides b x y w h ew eh
+
+-- across and down may change places
+turned : (n m w h : ℕ) → is_near_middle n m w h ≡ is_near_middle m n h w
+turned n m w h =
+    let e : (n * n) * (h * h) + (m * m) * (w * w) ≡ (m * m) * (w * w) + (n * n) * (h * h) = add_comm ((n * n) * (h * h)) ((m * m) * (w * w)) in
+    ap (λ a. nat_le a ((w * w) * (h * h))) e ∙ ap (λ a. nat_le ((m * m) * (w * w) + (n * n) * (h * h)) a) (mul_comm (w * w) (h * h))
+
+near-low : (at from to : ℤ) (w : ℕ) → pos w ≡ to -ℤ from → unsigned_abs (offset at from (pos w)) < w → from ≤ℤ at
+near-low at from to w e h = omega (arith, ints)
+
+near-high : (at from to : ℤ) (w : ℕ) → pos w ≡ to -ℤ from → unsigned_abs (offset at from (pos w)) < w → at <ℤ to
+near-high at from to w e h = omega (arith, ints)
+
+lt-lt_test : (a b : ℤ) → a <ℤ b → int_lt a b ≡ true
+lt-lt_test a b h = grind (arith, ints)
+
+inside-at : (b : PageBox) (x y : ℤ) → b.left ≤ℤ x → x <ℤ b.right → b.top ≤ℤ y → y <ℤ b.bottom → is_in b x y ≡ true
+inside-at b x y l r t u =
+    ap (λ v. (v && int_lt x b.right) && (int_le b.top y && int_lt y b.bottom)) (le-le_test b.left x l) ∙ ap (λ v. v && (int_le b.top y && int_lt y b.bottom)) (lt-lt_test x b.right r) ∙ ap (λ v. v && int_lt y b.bottom) (le-le_test b.top y t) ∙ lt-lt_test y b.bottom u
+
+near-side : (at from to : ℤ) (w : ℕ) → pos w ≡ to -ℤ from → unsigned_abs (offset at from (pos w)) < w → (from ≤ℤ at) × (at <ℤ to)
+near-side at from to w e h = (near-low at from to w e h, near-high at from to w e h)
+
+-- a pixel of the ellipse is in its box
+pub held-in : (b : PageBox) (x y : ℤ) (w h : ℕ) → pos w ≡ b.right -ℤ b.left → pos h ≡ b.bottom -ℤ b.top → 0 < w → 0 < h → is_in_ellipse b x y ≡ true → is_in b x y ≡ true
+held-in b x y w h ew eh sw sh t =
+    let n = unsigned_abs (offset x b.left (pos w)) in
+    let m = unsigned_abs (offset y b.top (pos h)) in
+    let near : is_near_middle n m w h ≡ true = by-sides b x y w h ew eh ∙ t in
+    let down = near-side y b.top b.bottom h eh (elim (cases_lt m h) [ inl lt ↦ lt | inr le ↦ absurd (true≢false (sym near ∙ far-row n m w h sw (not-edge y b.top h le))) ]) in
+    let across = near-side x b.left b.right w ew (elim (cases_lt n w) [ inl lt ↦ lt | inr le ↦ absurd (true≢false (sym near ∙ turned n m w h ∙ far-row m n h w sh (not-edge x b.left w le))) ]) in
+    inside-at b x y across.0 across.1 down.0 down.1

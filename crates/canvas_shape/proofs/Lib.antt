@@ -1,0 +1,11 @@
+pub mod Colours
+pub mod Edge
+pub mod EllipseRow
+pub mod Held
+pub mod Law
+pub mod LeafRows
+pub mod Limits
+pub mod Outside
+pub mod Pairs
+pub mod Sides
+pub mod Turned

@@ -1,0 +1,11 @@
+pub mod Bounds
+pub mod Box
+pub mod Cuts
+pub mod Edges
+pub mod Ellipse
+pub mod Inside
+pub mod Leaves
+pub mod Limits
+pub mod Names
+pub mod Points
+pub mod Spans

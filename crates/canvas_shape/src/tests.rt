@@ -1,0 +1,213 @@
+mod random;
+
+use super::{Carried, Colour, Kind, KindFault, Points, Span};
+use canvas_plane::{Point, Pose};
+use std::alloc::{AllocError, Global};
+use std::test::Fail;
+
+// Whether the spans of a row from 0 to 4 are these, behind one that was there.
+fn has_row(alloc: Global, leaf: &Carried<'_>, y: i32, want: &[Span]) -> Result<bool, AllocError> {
+    let there = span(7, 7);
+    let mut out = Vec::new(alloc);
+    out.push(there)?;
+    leaf.row_spans(alloc, y, 0, 4, &mut out)?;
+    let mut all = Vec::new(alloc);
+    all.push(there)?;
+    all.extend_from_slice(want)?;
+    Ok(out == all)
+}
+
+fn span(from: i32, to: i32) -> Span {
+    Span { from, to }
+}
+
+fn at(x: i64, y: i64) -> Point {
+    Point { x, y }
+}
+
+#[test]
+fn ellipse_lacks_its_corners(rt: HostRuntime) -> Result<(), Fail> {
+    let leaf = Carried::ellipse(&Pose::STILL, 4, 4);
+    assert!(rt; has_row(rt.alloc(), &leaf, -1, &[])?);
+    assert!(rt; has_row(rt.alloc(), &leaf, 0, &[span(1, 3)])?);
+    assert!(rt; has_row(rt.alloc(), &leaf, 1, &[span(0, 4)])?);
+    assert!(rt; has_row(rt.alloc(), &leaf, 2, &[span(0, 4)])?);
+    assert!(rt; has_row(rt.alloc(), &leaf, 3, &[span(1, 3)])?);
+    assert!(rt; has_row(rt.alloc(), &leaf, 4, &[])?);
+    Ok(())
+}
+
+#[test]
+fn turned_ellipse(rt: HostRuntime) -> Result<(), Fail> {
+    let pose = Pose {
+        dx: 2,
+        dy: 0,
+        quarter: 1,
+        flip: false,
+    };
+    let leaf = Carried::ellipse(&pose, 8, 2);
+    assert!(rt; has_row(rt.alloc(), &leaf, 0, &[])?);
+    for y in 1..7 {
+        assert!(rt; has_row(rt.alloc(), &leaf, y, &[span(0, 2)])?);
+    }
+    assert!(rt; has_row(rt.alloc(), &leaf, 7, &[])?);
+    Ok(())
+}
+
+#[test]
+fn rectangle_is_half_open(rt: HostRuntime) -> Result<(), Fail> {
+    let pose = Pose {
+        dx: 1,
+        dy: 1,
+        quarter: 0,
+        flip: false,
+    };
+    let leaf = Carried::rect(&pose, 2, 1);
+    assert!(rt; has_row(rt.alloc(), &leaf, 0, &[])?);
+    assert!(rt; has_row(rt.alloc(), &leaf, 1, &[span(1, 3)])?);
+    assert!(rt; has_row(rt.alloc(), &leaf, 2, &[])?);
+    assert_eq!(rt; leaf.page_box().right, 3);
+    Ok(())
+}
+
+#[test]
+fn triangles_share_a_square(rt: HostRuntime) -> Result<(), Fail> {
+    let lower = [at(0, 0), at(4, 0), at(0, 4)];
+    let leaf = random::polygon(&lower).ok_or("far")?;
+    assert!(rt; has_row(rt.alloc(), &leaf, 0, &[span(0, 3)])?);
+    assert!(rt; has_row(rt.alloc(), &leaf, 1, &[span(0, 2)])?);
+    assert!(rt; has_row(rt.alloc(), &leaf, 2, &[span(0, 1)])?);
+    assert!(rt; has_row(rt.alloc(), &leaf, 3, &[])?);
+    let upper = [at(4, 0), at(4, 4), at(0, 4)];
+    let other = random::polygon(&upper).ok_or("far")?;
+    assert!(rt; has_row(rt.alloc(), &other, 0, &[span(3, 4)])?);
+    assert!(rt; has_row(rt.alloc(), &other, 1, &[span(2, 4)])?);
+    assert!(rt; has_row(rt.alloc(), &other, 2, &[span(1, 4)])?);
+    assert!(rt; has_row(rt.alloc(), &other, 3, &[span(0, 4)])?);
+    Ok(())
+}
+
+#[test]
+fn crossed_polygon(rt: HostRuntime) -> Result<(), Fail> {
+    let points = [at(0, 0), at(4, 4), at(4, 0), at(0, 4)];
+    let leaf = random::polygon(&points).ok_or("far")?;
+    assert!(rt; has_row(rt.alloc(), &leaf, 0, &[span(3, 4)])?);
+    assert!(rt; has_row(rt.alloc(), &leaf, 1, &[span(0, 1), span(2, 4)])?);
+    assert!(rt; has_row(rt.alloc(), &leaf, 2, &[span(0, 1), span(2, 4)])?);
+    assert!(rt; has_row(rt.alloc(), &leaf, 3, &[span(3, 4)])?);
+    Ok(())
+}
+
+#[test]
+fn colours_are_six_digits(rt: HostRuntime) {
+    assert_eq!(rt; Colour::read("ff8000"), Some(Colour([255, 128, 0])));
+    assert_eq!(rt; Colour::read("fF80aB"), Some(Colour([255, 128, 171])));
+    assert_eq!(rt; Colour::read("ff800"), None);
+    assert_eq!(rt; Colour::read("ff80000"), None);
+    assert_eq!(rt; Colour::read("ff80g0"), None);
+    assert_eq!(rt; Colour::read(""), None);
+    assert!(rt; Colour([255, 128, 10]).text() == *b"ff800a");
+}
+
+fn triangle(alloc: Global, far: i64) -> Result<Kind, AllocError> {
+    let mut points = Points::new(alloc);
+    points.push(at(0, 0))?;
+    points.push(at(4, 0))?;
+    points.push(at(0, far))?;
+    Ok(Kind::Polygon {
+        points,
+        fill: Colour([1, 2, 3]),
+    })
+}
+
+#[test]
+fn clones_are_equal(rt: HostRuntime) -> Result<(), Fail> {
+    let kind = triangle(rt.alloc(), 4)?;
+    let copy = kind.try_clone(rt.alloc())?;
+    assert!(rt; copy == kind);
+    let other = triangle(rt.alloc(), 5)?;
+    assert!(rt; other != kind);
+    let frame = Kind::Frame {
+        w: 2,
+        h: 1,
+        fill: None,
+    };
+    assert!(rt; frame.try_clone(rt.alloc())? == frame);
+    assert!(rt; frame != kind);
+    Ok(())
+}
+
+#[test]
+fn kinds_have_limits(rt: HostRuntime) -> Result<(), Fail> {
+    let fill = Colour([0, 0, 0]);
+    assert_eq!(rt; Kind::Group.check(), Ok(()));
+    assert_eq!(rt;
+        Kind::Rect {
+            w: 65_536,
+            h: 1,
+            fill
+        }
+        .check(),
+        Ok(())
+    );
+    assert_eq!(rt;
+        Kind::Rect {
+            w: 65_537,
+            h: 1,
+            fill
+        }
+        .check(),
+        Err(KindFault::BadSize)
+    );
+    assert_eq!(rt;
+        Kind::Ellipse { w: 1, h: 0, fill }.check(),
+        Err(KindFault::BadSize)
+    );
+    assert_eq!(rt;
+        Kind::Frame {
+            w: 0,
+            h: 1,
+            fill: None
+        }
+        .check(),
+        Err(KindFault::BadSize)
+    );
+    assert_eq!(rt; triangle(rt.alloc(), 1_048_576)?.check(), Ok(()));
+    assert_eq!(rt;
+        triangle(rt.alloc(), 1_048_577)?.check(),
+        Err(KindFault::BadPolygon)
+    );
+    assert_eq!(rt;
+        vertices(rt.alloc(), 2)?.check(),
+        Err(KindFault::BadPolygon)
+    );
+    assert_eq!(rt; vertices(rt.alloc(), 256)?.check(), Ok(()));
+    assert_eq!(rt;
+        vertices(rt.alloc(), 257)?.check(),
+        Err(KindFault::BadPolygon)
+    );
+    Ok(())
+}
+
+// A polygon of so many vertices.
+fn vertices(alloc: Global, count: i64) -> Result<Kind, AllocError> {
+    let mut points = Vec::new(alloc);
+    for x in 0..count {
+        points.push(at(x, 0))?;
+    }
+    Ok(Kind::Polygon {
+        points: Points::from_vec(points),
+        fill: Colour([0, 0, 0]),
+    })
+}
+
+#[test]
+fn faults_have_codes_and_names(rt: HostRuntime) -> Result<(), Fail> {
+    assert_eq!(rt; KindFault::BadSize.code(), 8);
+    assert_eq!(rt; KindFault::BadPolygon.code(), 10);
+    for fault in [KindFault::BadSize, KindFault::BadPolygon] {
+        let text = format!(in rt.alloc(); "{fault}")?;
+        assert!(rt; text.as_str() == fault.name());
+    }
+    Ok(())
+}

@@ -1,0 +1,10 @@
+pub mod Chains
+pub mod Elements
+pub mod Json
+pub mod Keys
+pub mod Opens
+pub mod Plain
+pub mod ReadBack
+pub mod Names
+pub mod Texts
+pub mod Vertices

@@ -1,0 +1,11 @@
+use Rattle.std.proofs.Common.{◌≡◌, ◌++◌, drop, length}
+use Rattle.serde_json.specs.View.{items_view}
+use Rattle.canvas_store.specs.Opened.{records_from}
+use Rattle.canvas_store.proofs.Elements.{after}
+use Rattle.canvas_store.proofs.opening.records_of.Given as goal
+
+abbrev pub invariant-loop-position : goal.invariant-loop-position
+invariant-loop-position l = record {
+  count : length l.records.items ≡ l.position;
+  rest : after l.records.items (records_from l.next l.position (items_view (drop l.position l.shapes))) ≡ records_from l.next 0 (items_view l.shapes);
+}

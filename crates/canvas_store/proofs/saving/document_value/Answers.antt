@@ -1,0 +1,20 @@
+use Rattle.std.proofs.Common.{◌≡◌, ◌<◌, ◌^◌, All, map, Ok}
+use Rattle.canvas_doc.specs.Contents.{IsWellFormed}
+use Rattle.canvas_doc.specs.Tree.{IsInLimits}
+use Rattle.canvas_store.specs.Kept.{IsKept}
+use Rattle.canvas_store.specs.Opened.{opened_data}
+use Rattle.canvas_store.specs.Saved.{data_of}
+use Rattle.canvas_store.proofs.Opens.{IfOk-any, ids-held, limits-held, opens-held}
+use Rattle.canvas_store.proofs.saving.document_value.Goals as goal
+
+pub record_values-requires-clause-ids : goal.record_values-requires-clause-ids
+record_values-requires-clause-ids c =
+    ids-held c.args.document.now c.deref.result.now (rw c.deref.ensures.value c.in_ok-records.ensures.records) c.in_ok-records.ensures.well_formed
+
+pub record_values-requires-clause-limits : goal.record_values-requires-clause-limits
+record_values-requires-clause-limits c =
+    limits-held c.args.document.now c.deref.result.now (rw c.deref.ensures.value c.in_ok-records.ensures.records) c.in_ok-records.ensures.well_formed
+
+pub returns-clause-opens : goal.returns-clause-opens
+returns-clause-opens c =
+    IfOk-any _ _ (opens-held c.args.document.now c.deref.result.now (rw c.deref.ensures.value c.in_ok-records.ensures.records) c.in_ok-records.ensures.well_formed c.in_ok-shapes.ensures.kept)

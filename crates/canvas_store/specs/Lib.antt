@@ -1,0 +1,7 @@
+pub mod Faults
+pub mod Json
+pub mod Kept
+pub mod Opened
+pub mod Records
+pub mod Saved
+pub mod Shapes

@@ -1,0 +1,18 @@
+//! Saved documents: one JSON text each.
+#![tactic(auto)]
+
+mod extra;
+mod fault;
+mod field;
+mod opening;
+mod record;
+mod saving;
+mod shape;
+mod value;
+
+pub use fault::StoreFault;
+pub use opening::import;
+pub use saving::export;
+
+#[cfg(test)]
+mod tests;

@@ -1,0 +1,126 @@
+//! From a text to a document.
+ghost use Rattle.std.specs.Prelude.{◌≡◌, ◌≤◌, ◌∷◌, ◌++◌, [], codes, option_map, length, IfOk, IfSome, OnOk};
+ghost use Rattle.serde_json.specs.Find.{as_array};
+ghost use Rattle.serde_json.specs.View.{view, items_view};
+ghost use Rattle.canvas_store.specs.Faults.{Gives, GivesSeen, or_fault};
+ghost use Rattle.canvas_store.specs.Json.{json_of, required};
+ghost use Rattle.canvas_store.specs.Opened.{next_of, if_few, shapes_of, records_from, opened_data, opened};
+ghost use Rattle.canvas_store.specs.declared.fault.StoreFault.TheVariants.{BadJson};
+
+use crate::extra::has_others;
+use crate::fault::StoreFault;
+use crate::field::u32_at;
+use crate::record::element_of;
+use canvas_doc::{Document, Record};
+use serde_json::Value;
+use std::alloc::{AllocError, Global};
+
+/// The most elements that a saved document of format 1 has.
+const MOST_SHAPES: usize = 4096;
+
+// The value that a text is.
+fn value_of(alloc: Global, text: &[u8]) -> Result<Value, StoreFault>
+    ensures { GivesSeen view result (or_fault BadJson (json_of text.now)) }
+{
+    match Value::from_slice(alloc, text) {
+        Ok(value) => Ok(value),
+        Err(error) => {
+            if error.is_memory() {
+                Err(StoreFault::OutOfMemory)
+            } else {
+                Err(StoreFault::BadJson)
+            }
+        }
+    }
+}
+
+// The next id of a saved document of format 1.
+#[tactic(auto, unfolding(crate::specs::Opened::next_of))]
+fn next_of(saved: &Value) -> Option<u32>
+    ensures value { result ≡ next_of (view saved.now) }
+    ensures least { IfSome result (λ next. 1 ≤ next) }
+{
+    let format = u32_at(saved, "format")?;
+    let next = u32_at(saved, "next")?;
+    if format != 1 || next < 1 || has_others(&["format", "next", "shapes"], saved) {
+        return None;
+    }
+    Some(next)
+}
+
+// The list of shapes, which has to be there.
+fn shapes_in(saved: &Value) -> Option<&Vec<Value>>
+    ensures { option_map (λ list. items_view list.now.items) result ≡ required as_array (codes "shapes") (view saved.now) }
+{
+    saved.get("shapes").and_then(Value::as_array)
+}
+
+// The elements of a list, if they are at most 4,096.
+fn few_of(list: &Vec<Value>) -> Option<&[Value]>
+    ensures value { option_map (λ shapes. items_view shapes.now) result ≡ if_few (items_view list.now.items) }
+    ensures few { IfSome result (λ shapes. length shapes.now ≤ 4096) }
+{
+    let shapes = list.as_slice();
+    if shapes.len() <= MOST_SHAPES {
+        Some(shapes)
+    } else {
+        None
+    }
+}
+
+// The elements of a saved document's list of shapes.
+#[tactic(auto, unfolding(crate::specs::Opened::shapes_of))]
+fn shapes_of(saved: &Value) -> Option<&[Value]>
+    ensures value { option_map (λ shapes. items_view shapes.now) result ≡ shapes_of (view saved.now) }
+    ensures few { IfSome result (λ shapes. length shapes.now ≤ 4096) }
+{
+    shapes_in(saved).and_then(few_of)
+}
+
+fn push(records: &mut Vec<Record>, shape: Record) -> Result<(), AllocError>
+    ensures { OnOk result (records.new.items ≡ records.old.items ++ shape ∷ []) }
+{
+    Ok(records.push(shape)?)
+}
+
+// The records of the elements.
+fn records_of(alloc: Global, next: u32, shapes: &[Value]) -> Result<Vec<Record>, StoreFault>
+    ensures value { GivesSeen (λ records. records.items) result (records_from next 0 (items_view shapes.now)) }
+    ensures count { IfOk result (λ records. length records.items ≡ length shapes.now) }
+{
+    let mut records = Vec::with_capacity(alloc, shapes.len())?;
+    for (position, element) in shapes.iter().enumerate() {
+        match element_of(alloc, next, element)? {
+            Some(shape) => push(&mut records, shape)?,
+            None => return Err(StoreFault::BadRecord { position }),
+        }
+    }
+    Ok(records)
+}
+
+// The document of a JSON value.
+#[tactic(auto, unfolding(crate::specs::Opened::opened_data))]
+fn opened_data(alloc: Global, saved: &Value) -> Result<Document, StoreFault>
+    ensures { Gives result (opened_data (view saved.now)) }
+{
+    let next = next_of(saved).ok_or(StoreFault::BadFormat)?;
+    let shapes = shapes_of(saved).ok_or(StoreFault::BadFormat)?;
+    let records = records_of(alloc, next, shapes)?;
+    Ok(Document::restore(alloc, records, next)?)
+}
+
+/// The document of a saved text, by serde_json's reading of it.
+///
+/// White space and any order of members and records are taken. The first of these faults that
+/// applies is answered: 50 where the text is not JSON; 60 where it is no object of exactly
+/// `format` 1, a `next` of 1 to 4,294,967,295 and a list `shapes` of at most 4,096 elements; 61
+/// with the least position whose element is no record within its limits; 62 with the least
+/// position whose record does not belong to a page tree. 1 is answered only where the allocator
+/// refused memory.
+#[tactic(auto, unfolding(crate::specs::Opened::opened))]
+pub fn import(alloc: Global, text: &[u8]) -> Result<Document, StoreFault>
+    ensures { Gives result (opened text.now) }
+{
+    let saved = value_of(alloc, text)?;
+    opened_data(alloc, &saved)
+}

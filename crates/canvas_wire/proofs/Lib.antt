@@ -1,0 +1,5 @@
+pub mod Json
+pub mod Lines
+pub mod Names
+pub mod Texts
+pub mod Vertices

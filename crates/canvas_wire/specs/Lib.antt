@@ -1,0 +1,11 @@
+pub mod Asked
+pub mod Extra
+pub mod Faults
+pub mod Json
+pub mod Places
+pub mod Poses
+pub mod Replies
+pub mod ReplyObjects
+pub mod Requests
+pub mod Shapes
+pub mod Verbs

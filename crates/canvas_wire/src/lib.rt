@@ -1,0 +1,23 @@
+//! Requests and replies: one line of JSON each.
+#![tactic(auto)]
+
+mod asked;
+mod extra;
+mod fault;
+mod field;
+mod law;
+mod place;
+mod reading;
+mod reply;
+mod request;
+mod shape;
+mod verb;
+
+pub use fault::WireFault;
+pub use law::replies_are_json;
+pub use reading::read_request;
+pub use reply::{Reply, ReplyLine, write_reply};
+pub use request::Request;
+
+#[cfg(test)]
+mod tests;

@@ -1,0 +1,73 @@
+#!/usr/bin/env python3
+"""Feeds the examples of docs/PROTOCOL.md to the built program and compares its replies.
+
+usage: tools/check_protocol.py
+
+A block marked `session` is a session of its own: a line `> ..` is sent, a line `< ..` is the reply's line, and a line in brackets
+after it says what the body is; where that is a JSON text it is compared. Prints what differs, and a last line
+'N passed, M failed'; the status is 1 where something failed.
+"""
+
+import subprocess
+import sys
+from pathlib import Path
+
+TOP = Path(__file__).resolve().parent.parent
+PROGRAM = TOP / "bin" / "canvas"
+PAGE = TOP / "docs" / "PROTOCOL.md"
+
+
+def blocks(text):
+    """The lines of each session block, with the number of its first line."""
+    lines = text.splitlines()
+    begin = None
+    for number, line in enumerate(lines, start=1):
+        if line == "```session":
+            begin = number
+        elif line == "```" and begin is not None:
+            yield begin, lines[begin : number - 1]
+            begin = None
+
+
+def fault(block):
+    """What is wrong with a session block, or None."""
+    sent = [line[2:] for line in block if line.startswith("> ")]
+    wanted = [line[2:] for line in block if line.startswith("< ")]
+    bodies = [line[1:-1] for line in block if line.startswith("(")]
+    if len(sent) != len(wanted):
+        return "as many requests as replies must stand in a block"
+    given = "".join(line + "\n" for line in sent).encode()
+    done = subprocess.run([PROGRAM, "script"], input=given, capture_output=True, timeout=60)
+    rest = done.stdout
+    for request, reply in zip(sent, wanted):
+        line, _, rest = rest.partition(b"\n")
+        if line.decode() != reply:
+            return f"{request} is answered {line.decode()}, and not {reply}"
+        length = int(reply.split('"body":')[1].split(",")[0])
+        body, rest = rest[:length], rest[length:]
+        if length and not bodies:
+            return f"the body of {reply} is not named"
+        if length:
+            named = bodies.pop(0)
+            if named.startswith("{") and body.decode() != named:
+                return f"the body of {reply} is {body.decode()}"
+    if rest or done.returncode != 0:
+        return f"the program ends with status {done.returncode}, and {len(rest)} bytes are left"
+    return None
+
+
+def main():
+    passed = failed = 0
+    for number, block in blocks(PAGE.read_text()):
+        found = fault(block)
+        if found:
+            failed += 1
+            print(f"docs/PROTOCOL.md:{number}: {found}")
+        else:
+            passed += 1
+    print(f"{passed} passed, {failed} failed")
+    sys.exit(1 if failed else 0)
+
+
+if __name__ == "__main__":
+    main()
