@@ -89,8 +89,7 @@ pub(crate) fn text_of(text: &[u8]) -> ArrayVec<u8, KEY_LIMIT>
     ensures { result.items ≡ text.now }
 {
     let mut copy = ArrayVec::new();
-    for byte in text {
-        copy.push(*byte);
-    }
+    // It has room for any key.
+    let _fits = copy.try_extend_from_slice(text);
     copy
 }
