@@ -8,4 +8,5 @@ pub mod Limits
 pub mod Outside
 pub mod Pairs
 pub mod Sides
+pub mod Strips
 pub mod Turned

@@ -9,6 +9,7 @@ mod leaves;
 mod parts;
 mod polygon;
 mod spans;
+mod strip;
 mod vertex_list;
 
 use canvas_plane::Point;

@@ -15,19 +15,62 @@ use crate::parts::Row;
 use crate::spans::clamped;
 use canvas_plane::{PageBox, Point};
 use std::alloc::{AllocError, Global};
+use std::marker::Model;
 
 /// Memory for the cuts of a row, to be kept from row to row: only a row with more cuts than any before makes it grow.
+/// It is seen as the cuts that were left in it, which no later row counts.
 #[derive(Drop)]
 pub struct Cuts {
     places: Vec<u32>,
 }
 
+impl Model for Cuts {
+    ghost use Rattle.std.specs.Prelude.{List, ℕ};
+
+    ghost Value = { List ℕ };
+
+    ghost view = { λ cuts. cuts.places.items };
+}
+
 impl Cuts {
-    /// No memory yet.
-    pub fn new(alloc: Global) -> Cuts {
+    /// No cut, and no memory yet.
+    pub fn new(alloc: Global) -> Cuts
+        ensures { result ≡ [] }
+    {
         Cuts {
             places: Vec::new(alloc),
         }
+    }
+
+    pub(crate) fn clear(&mut self)
+        ensures { self.new ≡ [] }
+    {
+        self.places.clear();
+    }
+
+    /// Notes where an edge stops to count, if it counts in this row.
+    pub(crate) fn add(&mut self, from: Point, to: Point, row: Row) -> Result<(), AllocError>
+        requires near { (size_of from ≤ 2 ^ 27) × (size_of to ≤ 2 ^ 27) }
+        ensures { OnOk result (AddsCut row.left row.right self.old self.new (λ x. counts from to x row.y)) }
+    {
+        add_cut(from, to, row, &mut self.places)
+    }
+
+    /// Appends the spans between the cuts from `left` up to `right`, which rise, lie apart and are not empty: an odd number
+    /// of cuts lie to the right of each of their pixels. Without memory `out` stays as it was.
+    pub fn append_spans(
+        &mut self,
+        left: i32,
+        right: i32,
+        out: &mut Vec<Span>,
+    ) -> Result<(), AllocError>
+        requires range { left ≤ℤ right }
+        requires inside { AreWithin left right self.old }
+        ensures ok { OnOk result (AppendsSpans out.old.items out.new.items (within left right (λ x. is_odd_above left self.old x))) }
+        ensures err { OnErr result (out.new.items ≡ out.old.items) }
+    {
+        self.places.sort_unstable();
+        append_spans(&self.places, Row { y: 0, left, right }, out)
     }
 }
 
@@ -157,7 +200,7 @@ fn collect(points: &[Point], row: Row, cuts: &mut Vec<u32>) -> Result<(), AllocE
     Ok(())
 }
 
-fn last(points: &[Point]) -> Point
+pub(crate) fn last(points: &[Point]) -> Point
     requires some { 0 < length points.now }
     requires near { All (λ p. size_of p ≤ 2 ^ 27) points.now }
     ensures value { (x y : ℤ) → is_odd_along result points.now x y ≡ is_in_polygon points.now x y }

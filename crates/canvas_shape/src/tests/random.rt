@@ -1,9 +1,9 @@
 //! Random leaves: the spans of rows beside the pixels asked one by one.
 
-ghost use Rattle.std.specs.Prelude.{◌≡◌, ◌<◌, ◌≤◌, ◌≤ℤ◌, ◌^◌, All, nat_le, true};
+ghost use Rattle.std.specs.Prelude.{◌≡◌, ◌<◌, ◌≤◌, ◌≤ℤ◌, ◌+ℤ◌, ◌^◌, All, length, nat_le, pos, true};
 ghost use Rattle.canvas_plane.specs.Motion.{size_of};
 
-use crate::{Carried, Colour, Kind, Points, Span};
+use crate::{Carried, Colour, Cuts, Kind, Points, Span, Vertices};
 use canvas_plane::{Point, Pose};
 use std::alloc::{AllocError, Global};
 use std::cmp::Ordering;
@@ -196,6 +196,63 @@ fn polygons_agree_with_their_pixels(rt: HostRuntime) -> Result<(), Fail> {
         }
         let leaf = polygon(&points).ok_or("a vertex is far")?;
         assert!(rt; rows_agree(rt.alloc(), &mut dice, &leaf)?, "polygon {k}");
+    }
+    Ok(())
+}
+
+// The spans of three rows that are cut together, in the columns from 0 to 40.
+fn append_together(
+    vertices: &Vertices<'_>,
+    top: i32,
+    rows: &mut [Cuts],
+    out: &mut Vec<Span>,
+) -> Result<(), AllocError>
+    requires count { length rows.old ≡ 3 }
+    requires bottom { (top +ℤ pos 3) ≤ℤ pos 2147483647 }
+{
+    vertices.cut_rows(top, 0, 40, rows)?;
+    for k in 0..rows.len() {
+        let row = &mut rows[k];
+        row.append_spans(0, 40, out)?;
+    }
+    Ok(())
+}
+
+// Whether rows of a polygon that are cut together have the spans that they have one by one.
+fn together_agrees(alloc: Global, dice: &mut Dice, leaf: &Carried<'_>) -> Result<bool, AllocError> {
+    let Carried::Polygon(vertices) = leaf else {
+        return Ok(false);
+    };
+    let mut rows = [Cuts::new(alloc), Cuts::new(alloc), Cuts::new(alloc)];
+    let mut same = true;
+    for end in [vertices.bounds.top, vertices.bounds.bottom] {
+        let top = pixel(end.saturating_add(dice.within(9))).min(1_000_000_000);
+        let mut together = Vec::new(alloc);
+        append_together(vertices, top, &mut rows, &mut together)?;
+        let mut each = Vec::new(alloc);
+        for y in top..top + 3 {
+            leaf.row_spans(alloc, y, 0, 40, &mut each)?;
+        }
+        same = same && together == each;
+    }
+    Ok(same)
+}
+
+#[test]
+fn rows_together_agree_with_rows_alone(rt: HostRuntime) -> Result<(), Fail> {
+    let mut dice = Dice { state: 5 };
+    for k in 0..1500u32 {
+        let size = if k % 3 == 0 { 1 << 27 } else { 12 };
+        let count = dice.below(12) + 1;
+        let mut points = Vec::new(rt.alloc());
+        for _ in 0..count {
+            points.push(dice.point(size))?;
+        }
+        let leaf = polygon(&points).ok_or("a vertex is far")?;
+        assert!(rt;
+            together_agrees(rt.alloc(), &mut dice, &leaf)?,
+            "polygon {k}"
+        );
     }
     Ok(())
 }

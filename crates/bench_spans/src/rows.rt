@@ -1,0 +1,93 @@
+//! The rows of a window of 256 by 256, row by row or together.
+
+ghost use Rattle.std.specs.Prelude.{◌≡◌, IfOk, length};
+
+use canvas_shape::{Carried, Cuts, Span, Vertices};
+use std::alloc::{AllocError, Global};
+use std::fmt;
+
+/// How many rows and columns the window has.
+const SIDE: u32 = 256;
+
+/// How the rows of a leaf are taken.
+#[derive(Clone, Copy)]
+pub enum Way {
+    RowByRow,
+    /// The cuts of all rows of a polygon at once.
+    Together,
+}
+
+impl fmt::Display for Way {
+    fn fmt<W: fmt::Write>(&self, f: &mut fmt::Formatter<W>) -> fmt::Result {
+        f.write_str(match self {
+            Way::RowByRow => "row by row",
+            Way::Together => "rows together",
+        })
+    }
+}
+
+/// Memory that all turns share, and the spans of the last one.
+#[derive(Drop)]
+pub struct Memory {
+    cuts: Cuts,
+    rows: Vec<Cuts>,
+    pub out: Vec<Span>,
+    ghost window: { length rows.items ≡ 256 },
+}
+
+impl Memory {
+    pub fn new(alloc: Global) -> Result<Memory, AllocError> {
+        Ok(Memory {
+            cuts: Cuts::new(alloc),
+            rows: all_rows(alloc)?,
+            out: Vec::new(alloc),
+        })
+    }
+
+    /// The spans of all rows of a leaf.
+    pub fn take_rows(&mut self, leaf: &Carried<'_>, way: Way) -> Result<(), AllocError> {
+        self.out.clear();
+        match (way, leaf) {
+            (Way::Together, Carried::Polygon(vertices)) => {
+                append_together(vertices, &mut self.rows, &mut self.out)
+            }
+            _ => append_row_by_row(leaf, &mut self.cuts, &mut self.out),
+        }
+    }
+}
+
+fn all_rows(alloc: Global) -> Result<Vec<Cuts>, AllocError>
+    ensures { IfOk result (λ rows. length rows.items ≡ 256) }
+{
+    let mut rows = Vec::new(alloc);
+    for _ in 0..SIDE {
+        rows.push(Cuts::new(alloc))?;
+    }
+    Ok(rows)
+}
+
+fn append_row_by_row(
+    leaf: &Carried<'_>,
+    cuts: &mut Cuts,
+    out: &mut Vec<Span>,
+) -> Result<(), AllocError> {
+    for y in 0..SIDE as i32 {
+        leaf.row_spans_with(cuts, y, 0, SIDE as i32, out)?;
+    }
+    Ok(())
+}
+
+fn append_together(
+    vertices: &Vertices<'_>,
+    rows: &mut [Cuts],
+    out: &mut Vec<Span>,
+) -> Result<(), AllocError>
+    requires { length rows.old ≡ 256 }
+{
+    vertices.cut_rows(0, 0, SIDE as i32, rows)?;
+    for k in 0..rows.len() {
+        let row = &mut rows[k];
+        row.append_spans(0, SIDE as i32, out)?;
+    }
+    Ok(())
+}

@@ -1,0 +1,106 @@
+//! Vertices of polygons, 256 each, in a square of 240 by 240.
+
+ghost use Rattle.std.specs.Prelude.{◌≤◌, ◌<◌, ◌^◌, IfOk, All, length};
+ghost use Rattle.canvas_plane.specs.Motion.{size_of};
+
+use canvas_plane::Point;
+use std::alloc::{AllocError, Global};
+
+/// How many vertices a polygon has.
+const COUNT: u32 = 256;
+
+/// How far they lie from the middle at most.
+const RADIUS: u32 = 120;
+
+/// Vertices on a circle, one after another.
+pub fn round(alloc: Global) -> Result<Vec<Point>, AllocError>
+    ensures { IfOk result (λ points. (0 < length points.items) × All (λ p. size_of p ≤ 2 ^ 27) points.items) }
+{
+    let mut points = Vec::new(alloc);
+    for k in 0..COUNT {
+        points.push(ring(k, RADIUS))?;
+    }
+    Ok(points)
+}
+
+/// Vertices on a circle and on one of half its size in turn.
+pub fn star(alloc: Global) -> Result<Vec<Point>, AllocError>
+    ensures { IfOk result (λ points. (0 < length points.items) × All (λ p. size_of p ≤ 2 ^ 27) points.items) }
+{
+    let mut points = Vec::new(alloc);
+    for k in 0..COUNT {
+        points.push(ring(k, if k % 2 == 0 { RADIUS } else { RADIUS / 2 }))?;
+    }
+    Ok(points)
+}
+
+/// Vertices that lie anywhere, the same in each run.
+pub fn scattered(alloc: Global) -> Result<Vec<Point>, AllocError>
+    ensures { IfOk result (λ points. (0 < length points.items) × All (λ p. size_of p ≤ 2 ^ 27) points.items) }
+{
+    let mut points = Vec::new(alloc);
+    let mut state: u64 = 1;
+    for _ in 0..COUNT {
+        let x = mixed(state);
+        let y = mixed(x);
+        state = y;
+        points.push(at(high_bits(x) % 240, high_bits(y) % 240))?;
+    }
+    Ok(points)
+}
+
+// The next number of a congruential generator.
+fn mixed(state: u64) -> u64 {
+    state
+        .wrapping_mul(6364136223846793005)
+        .wrapping_add(1442695040888963407)
+}
+
+fn high_bits(state: u64) -> u32 {
+    (state >> 33) as u32
+}
+
+fn at(x: u32, y: u32) -> Point
+    requires { (x ≤ 65536) × (y ≤ 65536) }
+    ensures { size_of result ≤ 2 ^ 27 }
+{
+    Point {
+        x: x as i64,
+        y: y as i64,
+    }
+}
+
+// One of 256 places round a circle: 64 a quarter, at (1 - s²) / (1 + s²) and 2s / (1 + s²) of the radius, where s goes
+// from 0 to 1 in steps of a 64th.
+fn ring(k: u32, radius: u32) -> Point
+    requires { radius ≤ 120 }
+    ensures { size_of result ≤ 2 ^ 27 }
+{
+    let step = k % 64;
+    let square = squared(step);
+    let across = part(radius, 4096 - square, 4096 + square);
+    let down = part(radius, 128 * step, 4096 + square);
+    let (x, y) = match k / 64 {
+        0 => (120 + across, 120 + down),
+        1 => (120 - down, 120 + across),
+        2 => (120 - across, 120 - down),
+        _ => (120 + down, 120 - across),
+    };
+    at(x, y)
+}
+
+fn squared(step: u32) -> u32
+    requires { step < 64 }
+    ensures { result ≤ 4096 }
+{
+    step * step
+}
+
+// So much of the radius, at most all of it.
+fn part(radius: u32, of: u32, whole: u32) -> u32
+    requires small { (radius ≤ 120) × (of ≤ 8192) }
+    requires divisor { 0 < whole }
+    ensures { result ≤ 120 }
+{
+    (radius * of / whole).min(120)
+}
