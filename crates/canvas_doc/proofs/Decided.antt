@@ -1,5 +1,5 @@
 -- What is decided fits.
-use Rattle.std.proofs.Common.{◌≡◌, Result, Ok, Err, not, sym, subst, IfOk}
+use Rattle.std.proofs.Common.{◌≡◌, Result, Ok, Err, subst, IfOk}
 use Rattle.canvas_doc.specs.declared.refusals.Refusal.{Refusal}
 use Rattle.canvas_doc.specs.declared.edits.Edit.{Edit}
 use Rattle.canvas_doc.specs.declared.edits.Edit.TheVariants as edit

@@ -1,7 +1,7 @@
 -- A move lies too deep exactly where depth and height together are above 32.
-use Rattle.std.proofs.Common.{◌≡◌, ◌≢◌, ℕ, zero, suc, ◌+◌, ◌-◌, ◌<◌, ◌≤◌, ◌==◌, List, [], ◌∷◌, Bool, true, false, cond, not, ◌&&◌, ◌||◌, Option, Some, None, refl, sym, ap, ◌∙◌, arith, inl, inr, subst, map, All, length, nat_le, nat_lt, max}
+use Rattle.std.proofs.Common.{◌≡◌, ℕ, zero, suc, ◌+◌, ◌-◌, ◌==◌, List, [], ◌∷◌, Bool, true, false, cond, not, ◌&&◌, ◌||◌, Option, Some, None, refl, sym, ap, ◌∙◌, arith, inl, inr, All, nat_le, nat_lt, max}
 use Rattle.std.specs.List.{list_all}
-use Rattle.std.proofs.lemmas.Bool.{cases_Bool, true≢false, and_parts}
+use Rattle.std.proofs.lemmas.Bool.{cases_Bool, and_parts}
 use Rattle.std.proofs.lemmas.Bool.Decides.{nat_tests}
 use Rattle.std.proofs.lemmas.List.Elements.{All-head, All-tail}
 use Rattle.canvas_doc.specs.declared.records.Parent.{Parent}
@@ -11,7 +11,7 @@ use Rattle.canvas_doc.specs.Contents.{Contents, IsWellFormed, record_of, is_cont
 use Rattle.canvas_doc.specs.Effect.{is_below, is_below_from}
 use Rattle.canvas_doc.specs.Decision.{put_under, parent_after, lies_too_deep, makes_cycle}
 use Rattle.canvas_doc.specs.Depth.{depth_of, depth_from, levels_to, levels_from, levels_of, one_more, greatest, height_of, is_above_32}
-use Rattle.canvas_doc.proofs.Paths.{reaches-page, reaches-none, reaches-step, reaches-step_after, deep-after}
+use Rattle.canvas_doc.proofs.Paths.{reaches-page, reaches-step_after, deep-after}
 
 from-some : (up : Parent → Bool) (o : Option Record) → reaches_from up o ≡ true → (r : Record) × (o ≡ Some r) × (is_container r.kind ≡ true) × (up r.place.parent ≡ true)
 from-some up None h = cc

@@ -1,12 +1,9 @@
 -- A change that is decided fits.
-use Rattle.std.proofs.Common.{◌≡◌, ◌≢◌, ℕ, zero, suc, ◌+◌, ◌-◌, ◌<◌, ◌≤◌, ◌^◌, ◌==◌, List, [], ◌∷◌, ◌++◌, Bool, true, false, cond, not, ◌&&◌, Option, Some, None, Result, Ok, Err, refl, sym, ap, ◌∙◌, arith, inl, inr, subst, map, All, length, IsSome, nat_le, nat_lt, is_some, rules}
-use Rattle.std.specs.List.{AllByRecursion, list_all}
-use Rattle.std.proofs.lemmas.Bool.{cases_Bool, true≢false, and_parts, eq-eqb, eqb-true}
+use Rattle.std.proofs.Common.{◌≡◌, ℕ, ◌==◌, List, [], ◌∷◌, Bool, true, false, cond, not, ◌&&◌, Option, Some, None, Result, Ok, Err, refl, sym, ap, ◌∙◌, arith, inl, inr, subst, map, All, IsSome, is_some, rules}
+use Rattle.std.proofs.lemmas.Bool.{cases_Bool}
 use Rattle.std.proofs.lemmas.List.{length-map}
-use Rattle.std.proofs.lemmas.List.Elements.{All-map, All-weaker, All-cons, All-head, All-tail, All-push}
+use Rattle.std.proofs.lemmas.List.Elements.{All-head, All-tail}
 use Rattle.canvas_key.specs.Text.{IsKey}
-use Rattle.canvas_plane.specs.declared.Pose.{Pose}
-use Rattle.canvas_shape.specs.declared.Kind.{Kind}
 use Rattle.canvas_doc.specs.declared.records.Parent.{Parent}
 use Rattle.canvas_doc.specs.declared.records.Parent.TheVariants.{Page, Shape}
 use Rattle.canvas_doc.specs.declared.records.Record.{Record}
@@ -15,17 +12,17 @@ use Rattle.canvas_doc.specs.declared.edits.Spot.{Spot}
 use Rattle.canvas_doc.specs.declared.edits.Change.{Change}
 use Rattle.canvas_doc.specs.declared.edits.Change.TheVariants as change
 use Rattle.canvas_doc.specs.declared.refusals.Refusal.{Refusal}
-use Rattle.canvas_doc.specs.declared.refusals.Refusal.TheVariants.{NoSuchShape, NoSuchParent, NotAContainer, Cycle, TooDeep, TooMany, BadSize, BadPose, WrongKind, IdsSpent}
-use Rattle.canvas_doc.specs.Contents.{Contents, IsWellFormed, record_of, is_container, reaches_from, reaches_page, AreRising}
-use Rattle.canvas_doc.specs.Tree.{HavePlaces, IsElsewhere, IsInLimits}
-use Rattle.canvas_doc.specs.Effect.{at_id, effect_of, Fits, HasKey}
-use Rattle.canvas_doc.specs.Siblings.{refused_if, siblings, index_at, is_taken}
+use Rattle.canvas_doc.specs.declared.refusals.Refusal.TheVariants.{NoSuchShape, NoSuchParent, NotAContainer, Cycle, TooDeep}
+use Rattle.canvas_doc.specs.Contents.{Contents, IsWellFormed, record_of, is_container, reaches_page}
+use Rattle.canvas_doc.specs.Tree.{HavePlaces, IsInLimits}
+use Rattle.canvas_doc.specs.Effect.{at_id, Fits, HasKey}
+use Rattle.canvas_doc.specs.Siblings.{refused_if, siblings, index_at}
 use Rattle.canvas_doc.specs.Decision.{placed, put_under, lies_too_deep, are_grounded, has_shape, has_parent, can_have_children, makes_cycle, move_index, holds_container}
 use Rattle.canvas_doc.specs.Depth.{is_above_32}
 use Rattle.canvas_doc.proofs.Paths.{reaches-page, reaches-step}
 use Rattle.canvas_doc.proofs.DepthAgrees.{deep-agrees}
-use Rattle.canvas_doc.proofs.Free.{IsFree, HaveKeys, spot-free}
-use Rattle.canvas_doc.proofs.Maps.{at-keeps, rising-map, ids-map, all-map, places-map, places-moved, KeepsPaths, AreGrounded, grounded-map, all-from_test}
+use Rattle.canvas_doc.proofs.Free.{HaveKeys, spot-free}
+use Rattle.canvas_doc.proofs.Maps.{at-keeps, rising-map, ids-map, all-map, places-moved, KeepsPaths, AreGrounded, grounded-map, all-from_test}
 
 pub refused-ok : {T : Type 0} (b : Bool) (why : Refusal) (rest : Result T Refusal) (x : T) → refused_if b why rest ≡ Ok x → (b ≡ false) × (rest ≡ Ok x)
 refused-ok true why rest x h = cc

@@ -1,38 +1,20 @@
 -- A deletion that is decided fits: what stays reaches the page without what goes.
-use Rattle.std.proofs.Common.{◌≡◌, ◌≢◌, ℕ, zero, suc, ◌+◌, ◌-◌, ◌<◌, ◌≤◌, ◌^◌, ◌==◌, List, [], ◌∷◌, ◌++◌, Bool, true, false, cond, not, ◌&&◌, Option, Some, None, Result, Ok, Err, refl, sym, ap, ◌∙◌, arith, inl, inr, subst, map, All, length, IsSome, nat_le, nat_lt, is_some, rules, length-append}
-use Rattle.std.specs.List.{AllByRecursion, list_all}
-use Rattle.std.proofs.lemmas.Bool.{cases_Bool, true≢false, and_parts, eq-eqb, eqb-true}
-use Rattle.std.proofs.lemmas.Bool.Decides.{nat_tests}
-use Rattle.std.proofs.lemmas.List.{length-map}
-use Rattle.std.proofs.lemmas.List.Elements.{All-map, All-weaker, All-cons, All-head, All-tail, All-push}
-use Rattle.canvas_plane.specs.declared.Pose.{Pose}
-use Rattle.canvas_plane.specs.Motion.{reach_of}
-use Rattle.canvas_shape.specs.declared.Kind.{Kind}
-use Rattle.canvas_shape.specs.declared.Kind.TheVariants.{Group, Frame, Rect, Ellipse, Polygon}
-use Rattle.canvas_shape.specs.Inside.{IsSound}
-use Rattle.canvas_shape.specs.Box.{AreSides}
+use Rattle.std.proofs.Common.{◌≡◌, ℕ, zero, suc, ◌+◌, ◌-◌, ◌<◌, ◌≤◌, ◌==◌, List, [], ◌∷◌, Bool, true, false, not, ◌&&◌, Option, Some, None, Result, Ok, refl, sym, ap, ◌∙◌, arith, inl, inr, subst, All, length}
+use Rattle.std.specs.List.{AllByRecursion}
+use Rattle.std.proofs.lemmas.Bool.{cases_Bool, and_parts}
 use Rattle.canvas_doc.specs.declared.records.Parent.{Parent}
 use Rattle.canvas_doc.specs.declared.records.Parent.TheVariants.{Page, Shape}
 use Rattle.canvas_doc.specs.declared.records.Record.{Record}
-use Rattle.canvas_doc.specs.declared.records.Place.{Place}
-use Rattle.canvas_doc.specs.declared.edits.Spot.{Spot}
 use Rattle.canvas_doc.specs.declared.edits.Change.{Change}
 use Rattle.canvas_doc.specs.declared.edits.Change.TheVariants as change
 use Rattle.canvas_doc.specs.declared.refusals.Refusal.{Refusal}
-use Rattle.canvas_doc.specs.declared.refusals.Refusal.TheVariants.{NoSuchShape, NoSuchParent, NotAContainer, Cycle, TooDeep, TooMany, BadSize, BadPose, BadPolygon, WrongKind, IdsSpent}
-use Rattle.canvas_doc.specs.Children.{same_parent}
+use Rattle.canvas_doc.specs.declared.refusals.Refusal.TheVariants.{NoSuchShape}
 use Rattle.canvas_doc.specs.Contents.{Contents, IsWellFormed, record_of, is_container, reaches_from, reaches_page, AreRising}
 use Rattle.canvas_doc.specs.Tree.{HavePlaces, IsElsewhere, IsInLimits}
-use Rattle.canvas_doc.specs.Effect.{at_id, effect_of, Fits}
-use Rattle.canvas_doc.specs.Siblings.{refused_if, siblings, index_at, is_taken}
-use Rattle.canvas_doc.specs.Decision.{placed, has_shape, has_parent, can_have_children, same_variant, is_another_kind, pose_decision, allowed, reshape_judgement, create_index}
-use Rattle.canvas_plane.specs.Limits.{is_pose}
-use Rattle.canvas_shape.specs.Limits.{has_sides, has_vertices}
-use Rattle.canvas_shape.proofs.Limits.{sound-known, sound-sides, sound-vertices}
-use Rattle.canvas_doc.proofs.Paths.{changed, found-after, reaches-page}
-use Rattle.canvas_doc.proofs.Free.{IsFree, spot-free}
-use Rattle.canvas_doc.proofs.Maps.{at-keeps, rising-map, ids-map, all-map, places-map, places-moved, KeepsPaths, AreGrounded, grounded-map, all-from_test}
-use Rattle.canvas_doc.proofs.Fit.{refused-ok, placed-ok, not-false, some-there, changed-well}
+use Rattle.canvas_doc.specs.Effect.{effect_of, Fits}
+use Rattle.canvas_doc.specs.Siblings.{refused_if}
+use Rattle.canvas_doc.specs.Decision.{has_shape}
+use Rattle.canvas_doc.proofs.Fit.{refused-ok, not-false, some-there}
 use Rattle.std.proofs.Common.{filter, ◌||◌}
 use Rattle.canvas_doc.proofs.Paths.{below-page}
 use Rattle.std.proofs.lemmas.List.Elements.{All-filter, filter_passes}

@@ -1,13 +1,10 @@
 -- The index of a spot is none of the siblings'.
-use Rattle.std.proofs.Common.{◌≡◌, ◌≢◌, ℕ, ◌==◌, List, [], ◌∷◌, Bool, true, false, cond, not, ◌&&◌, ◌||◌, Option, Some, None, Result, Ok, Err, refl, sym, ap, ◌∙◌, arith, filter, All, inl, inr, subst}
-use Rattle.std.specs.List.{AllByRecursion, list_any}
-use Rattle.std.specs.Ordering.{nat_cmp, is_lt}
-use Rattle.std.specs.declared.cmp.Ordering.{Ordering}
-use Rattle.std.specs.declared.cmp.Ordering.TheVariants.{Less, Equal, Greater}
-use Rattle.std.specs.Cmp.Lexicographic.{slice_cmp, same_text, other_text}
-use Rattle.std.proofs.lemmas.Bool.{cases_Bool, true≢false, and_parts}
-use Rattle.std.proofs.lemmas.List.Elements.{All-head, All-tail}
-use Rattle.canvas_key.specs.Order.{is_before, IsAbove, IsBelow, AreApart, Before}
+use Rattle.std.proofs.Common.{◌≡◌, ◌≢◌, ℕ, ◌==◌, List, [], ◌∷◌, Bool, true, false, cond, not, ◌&&◌, ◌||◌, Option, Some, None, Result, Ok, Err, refl, sym, ap, ◌∙◌, filter, inl, inr, subst}
+use Rattle.std.specs.List.{AllByRecursion}
+use Rattle.std.specs.Ordering.{is_lt}
+use Rattle.std.specs.Cmp.Lexicographic.{other_text}
+use Rattle.std.proofs.lemmas.Bool.{cases_Bool, true≢false}
+use Rattle.canvas_key.specs.Order.{is_before, IsAbove, IsBelow, Before}
 use Rattle.canvas_key.specs.Text.{IsKey, IsKeyOrNone, is_same}
 use Rattle.canvas_key.specs.Between.{key_between}
 use Rattle.canvas_key.specs.declared.KeyFault.{KeyFault}
@@ -16,8 +13,7 @@ use Rattle.canvas_doc.specs.declared.records.Parent.{Parent}
 use Rattle.canvas_doc.specs.declared.records.Record.{Record}
 use Rattle.canvas_doc.specs.declared.edits.Spot.{Spot}
 use Rattle.canvas_doc.specs.declared.edits.Spot.TheVariants.{Back, Front, Over, At}
-use Rattle.canvas_doc.specs.declared.refusals.Refusal.{Refusal}
-use Rattle.canvas_doc.specs.declared.refusals.Refusal.TheVariants.{IndexTaken, SpotNotSibling, NoRoom}
+use Rattle.canvas_doc.specs.declared.refusals.Refusal.TheVariants.{IndexTaken}
 use Rattle.canvas_doc.specs.Children.{is_child, same_parent}
 use Rattle.canvas_doc.specs.Contents.{record_of}
 use Rattle.canvas_doc.specs.Siblings.{refused_if, is_sibling, siblings, lesser, greater, is_above, least_above, greatest_index, is_taken, with_room, index_over, index_at}

@@ -2,7 +2,9 @@ pub mod Found
 pub mod Spotted
 pub mod Fronts
 pub mod NextChild
+pub mod Foremost
 pub mod Walk
+pub mod Sorting
 pub mod Paths
 pub mod Free
 pub mod Maps

@@ -1,8 +1,8 @@
 -- Levels below a shape, found once for each record.
-use Rattle.std.proofs.Common.{◌≡◌, ◌≢◌, ℕ, zero, suc, ◌+◌, ◌-◌, ◌<◌, ◌≤◌, ◌==◌, List, [], ◌∷◌, Bool, true, false, cond, not, ◌&&◌, ◌||◌, Option, Some, None, refl, sym, ap, ◌∙◌, arith, inl, inr, subst, All, length, get_or, set, replicate, max, take, filter, ◌++◌}
+use Rattle.std.proofs.Common.{◌≡◌, ℕ, zero, suc, ◌+◌, ◌-◌, ◌<◌, ◌≤◌, ◌==◌, List, [], ◌∷◌, Bool, true, false, cond, not, ◌&&◌, ◌||◌, Option, Some, None, refl, sym, ap, ◌∙◌, arith, inl, inr, subst, All, length, get_or, set, replicate, take, filter, ◌++◌}
 use Rattle.std.proofs.Common.{get_or-set_other, get_or-set_same}
-use Rattle.std.proofs.lemmas.Bool.{cases_Bool, true≢false, and_parts, cases_eq}
-use Rattle.std.proofs.lemmas.List.{length-set, length-replicate, get_or_default}
+use Rattle.std.proofs.lemmas.Bool.{true≢false, and_parts, cases_eq}
+use Rattle.std.proofs.lemmas.List.{length-set, length-replicate}
 use Rattle.std.proofs.lemmas.List.Elements.{filter_more}
 use Rattle.std.proofs.lemmas.Bool.Decides.{nat_tests}
 use Rattle.canvas_doc.specs.declared.records.Parent.{Parent}
@@ -10,8 +10,8 @@ use Rattle.canvas_doc.specs.declared.records.Parent.TheVariants.{Page, Shape}
 use Rattle.canvas_doc.specs.declared.records.Record.{Record}
 use Rattle.canvas_doc.specs.Contents.{record_of, is_container, reaches_from, reaches_page}
 use Rattle.canvas_doc.specs.Effect.{is_below, is_below_from, is_in_subtree}
-use Rattle.canvas_doc.specs.Depth.{levels_to, levels_from, levels_of, one_more, greatest, IsMark, AreMarks}
-use Rattle.canvas_doc.proofs.Paths.{reaches-page, levels-page, levels-zero, levels-step, below-page, reaches-none, reaches-step}
+use Rattle.canvas_doc.specs.Depth.{levels_to, levels_from, levels_of, one_more, IsMark, AreMarks}
+use Rattle.canvas_doc.proofs.Paths.{reaches-page, levels-page, levels-step, reaches-none, reaches-step}
 use Rattle.canvas_doc.proofs.FitDelete.{below-fuel}
 
 from-some : (up : Parent → Bool) (o : Option Record) → reaches_from up o ≡ true → (r : Record) × (o ≡ Some r) × (is_container r.kind ≡ true) × (up r.place.parent ≡ true)

@@ -1,22 +1,22 @@
 -- The next child behind a bound, and those behind it.
-use Rattle.std.proofs.Common.{◌≡◌, ◌≢◌, ℕ, ◌+◌, ◌<◌, List, [], ◌∷◌, ◌++◌, Bool, true, false, cond, ◌&&◌, Option, Some, None, MatchOption, refl, sym, ap, ◌∙◌, arith, filter, inl, inr, subst, take, length, get_or, append-nil}
+use Rattle.std.proofs.Common.{◌≡◌, ℕ, ◌+◌, ◌<◌, List, [], ◌∷◌, ◌++◌, Bool, true, false, cond, ◌&&◌, Option, Some, None, MatchOption, refl, sym, ap, ◌∙◌, filter, inl, inr, subst, take, length, get_or, append-nil}
 use Rattle.std.specs.List.{AllByRecursion}
-use Rattle.std.proofs.lemmas.Bool.{cases_Bool, true≢false, and_parts, eq-eqb, eqb-true}
+use Rattle.std.proofs.lemmas.Bool.{cases_Bool, and_parts, eq-eqb, eqb-true}
 use Rattle.std.proofs.lemmas.List.Elements.{filter_more}
 use Rattle.canvas_key.specs.Order.{is_before}
 use Rattle.canvas_doc.specs.declared.records.Parent.{Parent}
 use Rattle.canvas_doc.specs.declared.records.Parent.TheVariants.{Page, Shape}
 use Rattle.canvas_doc.specs.declared.records.Record.{Record}
-use Rattle.canvas_doc.specs.Children.{is_in_front, put, front_first, is_better, is_behind, is_child, same_parent, children_behind, children, is_next}
+use Rattle.canvas_doc.specs.Children.{is_in_front, front_first, is_better, is_behind, is_child, same_parent, children_behind, is_next}
 use Rattle.canvas_doc.specs.Tree.{IsElsewhere, HavePlaces}
-use Rattle.canvas_doc.proofs.Fronts.{head, lead, better_of, head-put, head-push, rest, before-trans, IsNewIndex, HaveIndexes}
+use Rattle.canvas_doc.proofs.Fronts.{head, lead, head-put, head-push, rest, before-trans, IsNewIndex, HaveIndexes}
 
 filter-step : (p q t : Record → Bool) (r : Record) (ps ts : List Record) (a b : Bool) → p r ≡ a → q r ≡ b → (p r && q r) ≡ t r → filter q ps ≡ ts → filter q (cond (p r) (r ∷ ps) ps) ≡ cond (t r) (r ∷ ts) ts
 filter-step p q t r ps ts true true e f h ih = rw (← h, e, f) (ap (λ zs. r ∷ zs) ih)
 filter-step p q t r ps ts true false e f h ih = rw (← h, e, f) ih
 filter-step p q t r ps ts false b e f h ih = rw (← h, e) ih
 
-filter-filter : (p q t : Record → Bool) → ((r : Record) → (p r && q r) ≡ t r) → (rs : List Record) → filter q (filter p rs) ≡ filter t rs
+pub filter-filter : (p q t : Record → Bool) → ((r : Record) → (p r && q r) ≡ t r) → (rs : List Record) → filter q (filter p rs) ≡ filter t rs
 filter-filter p q t h [] = refl
 filter-filter p q t h (r ∷ rs) = filter-step p q t r (filter p rs) (filter t rs) (p r) (q r) refl refl (h r) (filter-filter p q t h rs)
 
@@ -52,7 +52,7 @@ new-index bound p r (s ∷ rs) h a = elim (cases_Bool (is_next bound p s)) [
   | inr f ↦ rw f (new-index bound p r rs h a.1)
 ]
 
-have-indexes : (bound : Option (List ℕ)) (p : Parent) (rs : List Record) → HavePlaces rs → HaveIndexes (filter (is_next bound p) rs)
+pub have-indexes : (bound : Option (List ℕ)) (p : Parent) (rs : List Record) → HavePlaces rs → HaveIndexes (filter (is_next bound p) rs)
 have-indexes bound p [] h = tt
 have-indexes bound p (r ∷ rs) h = elim (cases_Bool (is_next bound p r)) [
   | inl t ↦ rw t (new-index bound p r rs (and_parts (is_child p r) (is_behind bound r) t).0 h.0, have-indexes bound p rs h.1)

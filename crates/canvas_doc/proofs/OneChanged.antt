@@ -1,5 +1,5 @@
 -- A change of one record is a map.
-use Rattle.std.proofs.Common.{◌≡◌, List, true, false, map, refl}
+use Rattle.std.proofs.Common.{◌≡◌, true, map, refl}
 use Rattle.canvas_doc.specs.declared.edits.Change.{Change}
 use Rattle.canvas_doc.specs.declared.edits.Change.TheVariants as change
 use Rattle.canvas_doc.specs.Contents.{Contents}

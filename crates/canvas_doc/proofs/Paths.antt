@@ -1,8 +1,8 @@
 -- Paths from a parent up, step by step.
-use Rattle.std.proofs.Common.{◌≡◌, ◌≢◌, ℕ, zero, suc, ◌+◌, ◌-◌, ◌<◌, ◌≤◌, ◌==◌, List, [], ◌∷◌, Bool, true, false, cond, not, ◌&&◌, ◌||◌, Option, Some, None, refl, sym, ap, ◌∙◌, arith, inl, inr, subst, map, take, length, get_or, max, ◌++◌}
+use Rattle.std.proofs.Common.{◌≡◌, ℕ, zero, suc, ◌+◌, ◌-◌, ◌<◌, ◌==◌, List, [], ◌∷◌, Bool, true, false, cond, not, ◌&&◌, Option, Some, None, refl, sym, ap, ◌∙◌, arith, inl, inr, take, length, get_or, max, ◌++◌}
 use Rattle.std.proofs.lemmas.List.{take_more}
-use Rattle.canvas_doc.specs.Depth.{depth_of, depth_from, levels_to, levels_from, levels_of, greatest}
-use Rattle.std.proofs.lemmas.Bool.{cases_Bool, true≢false, and_parts}
+use Rattle.canvas_doc.specs.Depth.{depth_of, depth_from, levels_to, levels_from, greatest}
+use Rattle.std.proofs.lemmas.Bool.{cases_Bool}
 use Rattle.std.specs.List.{list_all}
 use Rattle.std.proofs.lemmas.List.Folds.{list_all_at}
 use Rattle.canvas_doc.specs.declared.records.Parent.{Parent}

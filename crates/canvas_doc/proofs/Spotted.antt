@@ -1,5 +1,5 @@
 -- The least and the greatest index, and the index of a spot, as loops find them.
-use Rattle.std.proofs.Common.{◌≡◌, ◌≢◌, ℕ, ◌+◌, ◌<◌, ◌==◌, List, [], ◌∷◌, ◌++◌, Bool, true, false, cond, not, ◌&&◌, ◌||◌, Option, Some, None, refl, sym, ap, ◌∙◌, arith, filter, inl, inr, subst, take, length, get_or}
+use Rattle.std.proofs.Common.{◌≡◌, ℕ, ◌+◌, ◌<◌, ◌==◌, List, [], ◌∷◌, ◌++◌, Bool, true, false, cond, ◌&&◌, ◌||◌, Option, Some, None, refl, sym, ap, ◌∙◌, arith, filter, inl, inr, subst, take, length, get_or}
 use Rattle.std.specs.List.{AllByRecursion, list_any}
 use Rattle.std.specs.Ordering.{nat_cmp, is_lt}
 use Rattle.std.specs.declared.cmp.Ordering.{Ordering}
@@ -12,8 +12,8 @@ use Rattle.canvas_key.specs.Order.{is_before, AreApart, Before}
 use Rattle.canvas_doc.specs.declared.records.Parent.{Parent}
 use Rattle.canvas_doc.specs.declared.records.Record.{Record}
 use Rattle.canvas_doc.specs.Contents.{record_of, AreRising}
-use Rattle.canvas_doc.specs.Siblings.{is_sibling, siblings, lesser, greater, is_above, least_above, greatest_index, is_taken}
-use Rattle.canvas_doc.proofs.Fronts.{before-trans, before-itself, before-asym, before-gt, not_before, upto-trans}
+use Rattle.canvas_doc.specs.Siblings.{is_sibling, siblings, lesser, greater, is_above, least_above, greatest_index}
+use Rattle.canvas_doc.proofs.Fronts.{before-trans, before-asym, before-gt, not_before, upto-trans}
 
 -- of two keys of which neither comes before the other
 same-key : (a b : List ℕ) → is_before a b ≡ false → is_before b a ≡ false → a ≡ b

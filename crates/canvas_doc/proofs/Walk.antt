@@ -1,5 +1,5 @@
 -- The walk's steps against the definition.
-use Rattle.std.proofs.Common.{◌≡◌, ℕ, zero, suc, ◌+◌, ◌-◌, ◌<◌, List, [], ◌∷◌, Bool, true, false, cond, Option, Some, None, ℤ, refl, sym, ap, ◌∙◌, arith, filter, inl, inr, subst, length, get_or, All}
+use Rattle.std.proofs.Common.{◌≡◌, ℕ, zero, suc, ◌-◌, ◌<◌, List, [], ◌∷◌, Bool, true, false, cond, Option, Some, None, ℤ, refl, sym, ap, ◌∙◌, arith, filter, inl, inr, subst, All}
 use Rattle.std.specs.Option.{IfSome, MatchOption}
 use Rattle.canvas_doc.specs.Tree.{IsInLimits}
 use mathlib.Core.Path.{fun_ext}
@@ -12,10 +12,10 @@ use Rattle.canvas_shape.specs.declared.Colour.{Colour}
 use Rattle.canvas_shape.specs.declared.Kind.{Kind}
 use Rattle.canvas_shape.specs.Inside.{holds_of}
 use Rattle.canvas_doc.specs.declared.records.Parent.{Parent}
-use Rattle.canvas_doc.specs.declared.records.Parent.TheVariants.{Page, Shape}
+use Rattle.canvas_doc.specs.declared.records.Parent.TheVariants.{Shape}
 use Rattle.canvas_doc.specs.declared.records.Record.{Record}
 use Rattle.canvas_doc.specs.Children.{is_in_front, front_first, children, children_behind, is_next, is_child}
-use Rattle.canvas_doc.specs.Picture.{answer_among, answer_of, answer_with, first_answer, kind_answer, shape_answer, or_else}
+use Rattle.canvas_doc.specs.Picture.{answer_among, answer_of, first_answer, kind_answer}
 use Rattle.canvas_doc.proofs.Fronts.{head, lead, head-put}
 
 -- what a shape of kind k answers, by what was computed of it
@@ -45,6 +45,14 @@ answer-level zero rs p out x y h = absurd (omega arith)
 answer-level (suc n) rs p out x y h =
     let e : suc n - 1 ≡ n = omega arith in
     rw e (ap (λ l. first_answer (answer_of n rs out x y) (front_first l)) (filter-behind_none p rs))
+
+-- the same over all children
+pub answer-children : (levels : ℕ) (rs : List Record) (p : Parent) (out : Point → Point) (x y : ℤ) → 0 < levels → answer_among levels rs p out x y ≡ first_answer (answer_of (levels - 1) rs out x y) (children p rs)
+unfolding answer_among
+answer-children zero rs p out x y h = absurd (omega arith)
+answer-children (suc n) rs p out x y h =
+    let e : suc n - 1 ≡ n = omega arith in
+    rw e refl
 
 -- what holds of the one in a `Some`
 abbrev pub Holds : (Record → Type 0) → Option Record → Type 0

@@ -1,5 +1,5 @@
 -- What a document is seen as.
-use Rattle.std.specs.Prelude.{ℕ, ◌≡◌, ◌<◌, ◌≤◌, ◌^◌, List, [], ◌∷◌, ◌==◌, cond, Option, Some, None, Bool, true, false, ◌&&◌, All, length, zero, suc, find, slice_index_or}
+use Rattle.std.specs.Prelude.{ℕ, ◌≡◌, ◌<◌, ◌≤◌, ◌^◌, List, [], ◌∷◌, ◌==◌, Option, Some, None, Bool, true, false, ◌&&◌, All, length, zero, suc, find, slice_index_or}
 use Rattle.std.specs.List.{AllByRecursion}
 use Rattle.canvas_shape.specs.declared.Kind.{Kind}
 use Rattle.canvas_shape.specs.declared.Kind.TheVariants.{Group, Frame, Rect, Ellipse, Polygon}

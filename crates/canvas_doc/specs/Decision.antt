@@ -1,5 +1,5 @@
 -- What is decided of an edit: a change, or the first refusal that applies.
-use Rattle.std.specs.Prelude.{ℕ, ◌≡◌, ◌==◌, ◌&&◌, ◌^◌, not, nat_le, nat_lt, List, [], ◌∷◌, Option, Some, None, Bool, true, false, cond, Result, Ok, Err, is_some, length, filter, if◌then◌else◌}
+use Rattle.std.specs.Prelude.{ℕ, ◌≡◌, ◌==◌, not, nat_le, List, Option, Some, None, Bool, true, false, cond, Result, Ok, Err, is_some, length}
 use Rattle.std.specs.List.{list_all}
 use Rattle.canvas_plane.specs.declared.Pose.{Pose}
 use Rattle.canvas_plane.specs.Limits.{is_pose}
@@ -118,6 +118,18 @@ abbrev pub allowed : Result (Unit {0}) Refusal → Change → Result Change Refu
 allowed (Ok _) c = Ok c
 allowed (Err why) c = Err why
 
+abbrev pub move_decision : ℕ → Parent → Spot → List Record → Result Change Refusal
+move_decision id p spot rs = placed p (move_index id p spot rs) (λ place. change.Move id place)
+
+abbrev pub reshape_decision : ℕ → Kind → List Record → Result Change Refusal
+reshape_decision id kind rs = allowed (reshape_judgement id kind rs) (change.Reshape id kind)
+
+abbrev pub show_decision : ℕ → Bool → List Record → Result Change Refusal
+show_decision id hidden rs = refused_if (not (has_shape rs id)) NoSuchShape (Ok (change.Show id hidden))
+
+abbrev pub delete_decision : ℕ → List Record → Result Change Refusal
+delete_decision id rs = refused_if (not (has_shape rs id)) NoSuchShape (Ok (change.Delete id))
+
 abbrev pub respace_decision : Parent → List Record → Result Change Refusal
 respace_decision p rs =
     refused_if (not (has_parent rs p)) NoSuchParent
@@ -127,11 +139,11 @@ respace_decision p rs =
 -- the change, or the refusal
 abbrev pub decision_of : Edit → Contents → Result Change Refusal
 decision_of (edit.Create kind pose hidden p spot) d = placed p (create_index kind pose p spot d) (λ place. change.Create d.next kind pose hidden place)
-decision_of (edit.Move id p spot) d = placed p (move_index id p spot d.records) (λ place. change.Move id place)
+decision_of (edit.Move id p spot) d = move_decision id p spot d.records
 decision_of (edit.Pose id pose) d = pose_decision id pose d.records
-decision_of (edit.Reshape id kind) d = allowed (reshape_judgement id kind d.records) (change.Reshape id kind)
-decision_of (edit.Show id hidden) d = refused_if (not (has_shape d.records id)) NoSuchShape (Ok (change.Show id hidden))
-decision_of (edit.Delete id) d = refused_if (not (has_shape d.records id)) NoSuchShape (Ok (change.Delete id))
+decision_of (edit.Reshape id kind) d = reshape_decision id kind d.records
+decision_of (edit.Show id hidden) d = show_decision id hidden d.records
+decision_of (edit.Delete id) d = delete_decision id d.records
 decision_of (edit.Respace p) d = respace_decision p d.records
 
 -- an answer where so much was decided: the same, or want of memory in place of a change

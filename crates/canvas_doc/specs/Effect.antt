@@ -3,10 +3,8 @@ use Rattle.std.specs.Prelude.{ℕ, zero, suc, ◌≡◌, ◌+◌, List, [], ◌�
 use Rattle.canvas_key.specs.Rank.{fresh_key}
 use Rattle.canvas_key.specs.Order.{is_before}
 use Rattle.canvas_key.specs.Text.{IsKey}
-use Rattle.canvas_shape.specs.declared.Kind.{Kind}
 use Rattle.canvas_doc.specs.declared.records.Parent.{Parent}
 use Rattle.canvas_doc.specs.declared.records.Parent.TheVariants.{Page, Shape}
-use Rattle.canvas_doc.specs.declared.records.Place.{Place}
 use Rattle.canvas_doc.specs.declared.records.Record.{Record}
 use Rattle.canvas_doc.specs.declared.edits.Change.{Change}
 use Rattle.canvas_doc.specs.declared.edits.Change.TheVariants.{Create, Move, Pose, Reshape, Show, Delete, Respace}

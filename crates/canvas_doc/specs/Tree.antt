@@ -1,8 +1,6 @@
 -- When records form a page tree.
-use Rattle.std.specs.Prelude.{◌≡◌, ◌≢◌, ℕ, ◌<◌, ◌≤◌, ◌^◌, List, [], ◌∷◌, Bool, true}
+use Rattle.std.specs.Prelude.{◌≡◌, ◌≢◌, ◌≤◌, ◌^◌, List, [], ◌∷◌, true}
 use Rattle.std.specs.List.{AllByRecursion}
-use Rattle.std.specs.Ordering.{nat_cmp}
-use Rattle.std.specs.Cmp.Lexicographic.{slice_cmp}
 use Rattle.canvas_key.specs.Text.{IsKey}
 use Rattle.canvas_plane.specs.Motion.{reach_of}
 use Rattle.canvas_shape.specs.Inside.{IsSound}

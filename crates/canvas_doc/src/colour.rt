@@ -7,9 +7,8 @@ ghost use Rattle.canvas_doc.specs.Picture.{answer_among, answer_of, or_else, or_
 ghost use Rattle.canvas_doc.specs.Tree.{IsInLimits, HavePlaces};
 
 use crate::Document;
-use crate::order::next_child;
+use crate::order::{is_better, is_child};
 use crate::records::{Parent, Record};
-use canvas_key::Key;
 use canvas_plane::Pose;
 use canvas_shape::{Colour, Kind};
 
@@ -51,7 +50,8 @@ struct Pixel {
     y: i32,
 }
 
-// What the children of `parent` answer, where `out` carries its points to the page.
+// What the children of `parent` answer, where `out` carries its points to the page: the answer of
+// the foremost child that has one. A child behind one that has answered is never asked.
 #[cycle(walk)]
 fn answer_among(
     records: &[Record],
@@ -69,15 +69,18 @@ fn answer_among(
     if levels == 0 {
         return None;
     }
-    let mut bound: Option<&Key> = None;
-    while let Some(child) = next_child(records, parent, bound) {
-        let answer = answer_of(records, levels - 1, child, out, at);
-        if answer.is_some() {
-            return answer;
+    let mut front: Option<&Record> = None;
+    let mut seen: Option<Colour> = None;
+    for shape in records {
+        if is_child(parent, shape) && is_better(shape, front) {
+            let answer = answer_of(records, levels - 1, shape, out, at);
+            if answer.is_some() {
+                front = Some(shape);
+                seen = answer;
+            }
         }
-        bound = Some(&child.place.index);
     }
-    None
+    seen
 }
 
 // What a shape answers with all below it.

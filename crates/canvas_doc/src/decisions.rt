@@ -3,10 +3,11 @@
 ghost use Rattle.std.specs.Prelude.{◌≡◌, All, IfOk, false, true};
 ghost use Rattle.std.specs.Option.{option_copied};
 ghost use Rattle.canvas_plane.specs.Limits.{is_pose};
+ghost use Rattle.canvas_shape.specs.Limits.{takes_memory};
 ghost use Rattle.canvas_key.specs.Text.{IsKey};
 ghost use Rattle.canvas_doc.specs.Contents.{AreRising, reaches_page};
 ghost use Rattle.canvas_doc.specs.Effect.{Fits, HasKey};
-ghost use Rattle.canvas_doc.specs.Decision.{same_variant, is_another_kind, move_index, create_index, pose_decision, reshape_judgement, respace_decision, decision_of, asks_memory, IsAnswer};
+ghost use Rattle.canvas_doc.specs.Decision.{same_variant, is_another_kind, move_index, create_index, move_decision, pose_decision, reshape_judgement, reshape_decision, show_decision, delete_decision, respace_decision, decision_of, asks_memory, IsAnswer};
 
 use crate::Document;
 use crate::ancestry::{
@@ -64,39 +65,11 @@ fn decision(alloc: Global, records: &[Record], next: u32, edit: &Edit) -> Result
                 },
             })
         }
-        Edit::Move { id, parent, spot } => {
-            let index = move_index(alloc, records, *id, *parent, spot)?;
-            Ok(Change::Move {
-                id: *id,
-                place: Place {
-                    parent: *parent,
-                    index,
-                },
-            })
-        }
+        Edit::Move { id, parent, spot } => decide_move(alloc, records, *id, *parent, spot),
         Edit::Pose { id, pose } => decide_pose(records, *id, *pose),
-        Edit::Reshape { id, kind } => {
-            judge_reshape(records, *id, kind)?;
-            Ok(Change::Reshape {
-                id: *id,
-                kind: kind.try_clone(alloc)?,
-            })
-        }
-        Edit::Show { id, hidden } => {
-            if !has_shape(records, *id) {
-                return Err(Refusal::NoSuchShape);
-            }
-            Ok(Change::Show {
-                id: *id,
-                hidden: *hidden,
-            })
-        }
-        Edit::Delete { id } => {
-            if !has_shape(records, *id) {
-                return Err(Refusal::NoSuchShape);
-            }
-            Ok(Change::Delete { id: *id })
-        }
+        Edit::Reshape { id, kind } => decide_reshape(alloc, records, *id, kind),
+        Edit::Show { id, hidden } => decide_show(records, *id, *hidden),
+        Edit::Delete { id } => decide_delete(records, *id),
         Edit::Respace { parent } => decide_respace(records, *parent),
     }
 }
@@ -139,6 +112,26 @@ fn create_index(
         return Err(Refusal::BadPolygon);
     }
     index_at(records, next, parent, spot)
+}
+
+// Another place, or why it is refused.
+fn decide_move(
+    alloc: Global,
+    records: &[Record],
+    id: u32,
+    parent: Parent,
+    spot: &Spot,
+) -> Result<Change, Refusal>
+    requires rising { AreRising records.now }
+    requires grounded { All (λ r. reaches_page 31 records.now r.place.parent ≡ true) records.now }
+    ensures value { result ≡ move_decision id parent spot.now records.now }
+    ensures key { IfOk result HasKey }
+{
+    let index = move_index(alloc, records, id, parent, spot)?;
+    Ok(Change::Move {
+        id,
+        place: Place { parent, index },
+    })
 }
 
 // The index of a moved shape, or why the move is refused.
@@ -187,6 +180,25 @@ fn decide_pose(records: &[Record], id: u32, pose: Pose) -> Result<Change, Refusa
     Ok(Change::Pose { id, pose })
 }
 
+// Another kind, or why it is refused.
+fn decide_reshape(
+    alloc: Global,
+    records: &[Record],
+    id: u32,
+    kind: &Kind,
+) -> Result<Change, Refusal>
+    requires { AreRising records.now }
+    ensures value { IsAnswer result (reshape_decision id kind.now records.now) }
+    ensures exact { takes_memory kind.now ≡ false → result ≡ reshape_decision id kind.now records.now }
+    ensures key { IfOk result HasKey }
+{
+    judge_reshape(records, id, kind)?;
+    Ok(Change::Reshape {
+        id,
+        kind: kind.try_clone(alloc)?,
+    })
+}
+
 // Whether a shape may have another kind, or why it may not.
 fn judge_reshape(records: &[Record], id: u32, kind: &Kind) -> Result<(), Refusal>
     requires { AreRising records.now }
@@ -205,6 +217,30 @@ fn judge_reshape(records: &[Record], id: u32, kind: &Kind) -> Result<(), Refusal
         return Err(Refusal::BadPolygon);
     }
     Ok(())
+}
+
+// Hidden or shown, or why it is refused.
+fn decide_show(records: &[Record], id: u32, hidden: bool) -> Result<Change, Refusal>
+    requires { AreRising records.now }
+    ensures value { result ≡ show_decision id hidden records.now }
+    ensures key { IfOk result HasKey }
+{
+    if !has_shape(records, id) {
+        return Err(Refusal::NoSuchShape);
+    }
+    Ok(Change::Show { id, hidden })
+}
+
+// Without a shape, or why it is refused.
+fn decide_delete(records: &[Record], id: u32) -> Result<Change, Refusal>
+    requires { AreRising records.now }
+    ensures value { result ≡ delete_decision id records.now }
+    ensures key { IfOk result HasKey }
+{
+    if !has_shape(records, id) {
+        return Err(Refusal::NoSuchShape);
+    }
+    Ok(Change::Delete { id })
 }
 
 // New indexes for children, or why they are refused.

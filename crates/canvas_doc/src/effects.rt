@@ -1,6 +1,6 @@
 //! The document after a change.
 
-ghost use Rattle.std.specs.Prelude.{◌≡◌, ◌≤◌, ◌++◌, ◌∷◌, [], not, map, filter, length, All, IfOk, true};
+ghost use Rattle.std.specs.Prelude.{◌≡◌, ◌≤◌, ◌++◌, ◌∷◌, [], not, map, filter, length, All, IfOk, false, true};
 ghost use Rattle.canvas_doc.specs.Children.{is_child};
 ghost use Rattle.canvas_doc.specs.Contents.{AreRising, reaches_page};
 ghost use Rattle.canvas_doc.specs.Depth.{AreMarks};
@@ -82,7 +82,33 @@ impl Document {
     }
 }
 
-// A shape after a change of one shape's place, pose, kind or mark.
+// A shape after a change of one shape's place, pose, kind or mark: most often an equal one.
+#[inline(always)]
+fn changed_or_same(alloc: Global, shape: &Record, change: &Change) -> Result<Record, AllocError>
+    ensures { IfOk result (λ after. after ≡ changed_by change.now shape.now) }
+{
+    if is_changed(shape, change) {
+        changed_by(alloc, shape, change)
+    } else {
+        shape.try_clone(alloc)
+    }
+}
+
+// Whether a change may be one of this shape.
+fn is_changed(shape: &Record, change: &Change) -> bool
+    ensures { result ≡ false → changed_by change.now shape.now ≡ shape.now }
+{
+    match change {
+        Change::Move { id, .. } => shape.id == *id,
+        Change::Pose { id, .. } => shape.id == *id,
+        Change::Reshape { id, .. } => shape.id == *id,
+        Change::Show { id, .. } => shape.id == *id,
+        Change::Create { .. } => false,
+        Change::Delete { .. } => false,
+        Change::Respace { .. } => false,
+    }
+}
+
 fn changed_by(alloc: Global, shape: &Record, change: &Change) -> Result<Record, AllocError>
     ensures { IfOk result (λ after. after ≡ changed_by change.now shape.now) }
 {
@@ -175,7 +201,7 @@ fn changed(alloc: Global, records: &[Record], change: &Change) -> Result<Vec<Rec
 {
     let mut all = Vec::with_capacity(alloc, records.len())?;
     for shape in records {
-        let after = changed_by(alloc, shape, change)?;
+        let after = changed_or_same(alloc, shape, change)?;
         all.push(after)?;
     }
     Ok(all)

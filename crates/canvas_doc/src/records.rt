@@ -43,6 +43,7 @@ pub struct Record {
 
 impl Place {
     /// An equal place.
+    #[inline(always)]
     pub fn copy(&self) -> Place
         ensures { result ≡ self.now }
     {
@@ -55,6 +56,7 @@ impl Place {
 
 impl Record {
     /// An equal record; want of memory is the only refusal.
+    #[inline(always)]
     pub fn try_clone(&self, alloc: Global) -> Result<Record, AllocError>
         ensures { IfOk result (λ shape. shape ≡ self.now) }
     {

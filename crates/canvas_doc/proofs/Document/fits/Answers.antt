@@ -1,4 +1,4 @@
-use Rattle.std.proofs.Common.{◌≡◌, ◌∙◌, ap, sym}
+use Rattle.std.proofs.Common.{◌∙◌, ap}
 use Rattle.canvas_doc.specs.Fitting.{fits_test}
 use Rattle.canvas_doc.proofs.FitsOnly.{fits-decides}
 use Rattle.canvas_doc.proofs.Document.fits.Goals as goal

@@ -1,8 +1,6 @@
-use Rattle.std.proofs.Common.{◌≡◌, ◌∷◌, [], ap, ◌∙◌, sym, subst, List, Some, All}
+use Rattle.std.proofs.Common.{◌≡◌, ◌∷◌, [], subst, List, Some}
 use Rattle.std.specs.Option.{MatchOption, option_copied}
 use Rattle.canvas_doc.specs.Children.{children_behind}
-use Rattle.canvas_doc.specs.Contents.{Contents}
-use Rattle.canvas_doc.specs.Tree.{IsInLimits}
 use Rattle.canvas_doc.specs.declared.records.Record.{Record}
 use Rattle.canvas_doc.proofs.Walk.{next-in_limits}
 use Rattle.canvas_doc.proofs.Document.next_child.Goals as goal

@@ -1,8 +1,8 @@
-use Rattle.std.proofs.Common.{◌≡◌, ◌≤◌, ◌<◌, ◌-◌, ◌==◌, ◌∙◌, ℕ, List, Bool, true, false, Some, length, get_or, refl, sym, ap, subst, arith, rules}
-use Rattle.canvas_doc.specs.declared.records.Parent.TheVariants.{Page, Shape}
+use Rattle.std.proofs.Common.{◌≡◌, ◌≤◌, ◌∙◌, ℕ, List, true, Some, get_or, sym, ap, subst, arith, rules}
+use Rattle.canvas_doc.specs.declared.records.Parent.TheVariants.{Shape}
 use Rattle.canvas_doc.specs.declared.records.Record.{Record}
-use Rattle.canvas_doc.specs.Contents.{record_of, reaches_page}
-use Rattle.canvas_doc.specs.Depth.{levels_of, one_more}
+use Rattle.canvas_doc.specs.Contents.{reaches_page}
+use Rattle.canvas_doc.specs.Depth.{levels_of}
 use Rattle.canvas_doc.proofs.Found.{other-id}
 use Rattle.canvas_doc.proofs.Marks.{reaches-up, level-page, level-nowhere, level-blocked, level-found, level-most, mark-known, some-at}
 use Rattle.canvas_doc.proofs.ancestry.+levels.Goals as goal

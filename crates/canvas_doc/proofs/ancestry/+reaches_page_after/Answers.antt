@@ -1,4 +1,4 @@
-use Rattle.std.proofs.Common.{◌≡◌, ◌∙◌, refl, sym, ap, arith, rules}
+use Rattle.std.proofs.Common.{◌∙◌, sym, arith}
 use Rattle.canvas_doc.proofs.Paths.{reaches-by_after, reaches-leaf_after}
 use Rattle.canvas_doc.proofs.ancestry.+reaches_page_after.Goals as goal
 

@@ -1,4 +1,4 @@
-use Rattle.std.proofs.Common.{◌≡◌, ◌∙◌, refl, sym, ap, arith, rules, take, false}
+use Rattle.std.proofs.Common.{◌≡◌, ◌∙◌, sym, ap, rules, false}
 use Rattle.std.specs.List.{list_all}
 use Rattle.std.proofs.lemmas.List.{take_all}
 use Rattle.canvas_doc.specs.Contents.{reaches_page}

@@ -1,4 +1,4 @@
-use Rattle.std.proofs.Common.{◌≡◌, ◌∙◌, arith, max}
+use Rattle.std.proofs.Common.{◌∙◌, arith}
 use Rattle.canvas_doc.specs.Depth.{levels_of}
 use Rattle.canvas_doc.proofs.Paths.{greatest-more}
 use Rattle.canvas_doc.proofs.ancestry.walked_height.Goals as goal

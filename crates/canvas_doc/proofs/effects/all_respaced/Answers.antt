@@ -1,4 +1,4 @@
-use Rattle.std.proofs.Common.{◌≡◌, ◌∙◌, ap, sym, map, List, ℕ, Bor}
+use Rattle.std.proofs.Common.{◌∙◌, ap, map, List, ℕ, Bor}
 use Rattle.std.proofs.lemmas.List.{take_all}
 use Rattle.canvas_doc.specs.declared.records.Record.{Record}
 use Rattle.canvas_doc.specs.Effect.{respaced, respaced_among}

@@ -1,6 +1,5 @@
-use Rattle.std.proofs.Common.{◌≡◌, take, map, filter, not}
-use Rattle.std.specs.List.{count_by}
-use Rattle.canvas_doc.specs.Effect.{changed_by, respaced, rank_of, is_in_subtree}
+use Rattle.std.proofs.Common.{◌≡◌, take, map}
+use Rattle.canvas_doc.specs.Effect.{changed_by}
 use Rattle.canvas_doc.proofs.effects.changed.Given as goal
 
 abbrev pub invariant-loop-shape : goal.invariant-loop-shape

@@ -1,4 +1,4 @@
-use Rattle.std.proofs.Common.{◌≡◌, ◌∙◌, List, ℕ, map, rules, Bor, sym, arith}
+use Rattle.std.proofs.Common.{◌∙◌, List, ℕ, rules, Bor, sym, arith}
 use Rattle.std.proofs.lemmas.List.Sorted.{IsPartitionPoint-from_clause}
 use Rattle.canvas_key.specs.Order.{is_before}
 use Rattle.canvas_doc.proofs.Ranks.{keys-parted, point-count, count-read}

@@ -1,4 +1,4 @@
-use Rattle.std.proofs.Common.{◌≡◌, ◌∙◌, ap, sym, Some}
+use Rattle.std.proofs.Common.{◌∙◌, ap, sym, Some}
 use Rattle.canvas_doc.proofs.lookup.find.Goals as goal
 
 pub returns-in-Some : goal.returns-in-Some

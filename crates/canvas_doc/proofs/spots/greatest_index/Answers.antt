@@ -1,4 +1,4 @@
-use Rattle.std.proofs.Common.{◌≡◌, ◌∙◌, sym, ap, Bool, true, false, cond, Option, Some, List, ℕ, take}
+use Rattle.std.proofs.Common.{◌∙◌, sym, ap, Bool, cond, Option, Some, List, ℕ}
 use Rattle.std.specs.Option.{option_copied}
 use Rattle.canvas_doc.specs.declared.records.Record.{Record}
 use Rattle.canvas_doc.specs.Siblings.{greater}

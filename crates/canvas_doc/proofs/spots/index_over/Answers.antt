@@ -1,5 +1,4 @@
-use Rattle.std.proofs.Common.{◌≡◌, ◌∙◌, sym, ap, cond, Bool, Option, Some, None, Err, List, ℕ}
-use Rattle.std.specs.Option.{option_copied}
+use Rattle.std.proofs.Common.{◌≡◌, ◌∙◌, sym, ap, cond, Bool, Some, None, List}
 use Rattle.canvas_key.specs.Between.{key_between}
 use Rattle.canvas_doc.specs.declared.records.Record.{Record}
 use Rattle.canvas_doc.specs.Contents.{record_of}

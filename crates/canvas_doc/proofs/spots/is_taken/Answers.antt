@@ -1,4 +1,4 @@
-use Rattle.std.proofs.Common.{◌≡◌, ◌∙◌, sym, ap, ◌&&◌}
+use Rattle.std.proofs.Common.{◌∙◌, sym, ap, ◌&&◌}
 use Rattle.std.specs.List.{list_any}
 use Rattle.canvas_key.specs.Text.{is_same}
 use Rattle.canvas_doc.specs.declared.records.Record.{Record}

@@ -1,8 +1,8 @@
-use Rattle.std.proofs.Common.{◌≡◌, ◌∙◌, sym, ap, subst, Bool, true, false, cond, ◌&&◌, Option, Some, List, ℕ, take}
+use Rattle.std.proofs.Common.{◌∙◌, sym, ap, subst, Bool, Option, Some, List, ℕ, take}
 use Rattle.std.specs.Option.{option_copied}
 use Rattle.canvas_key.specs.Order.{AreApart}
 use Rattle.canvas_doc.specs.declared.records.Record.{Record}
-use Rattle.canvas_doc.specs.Siblings.{is_sibling, siblings, is_above, least_above}
+use Rattle.canvas_doc.specs.Siblings.{is_sibling, siblings, is_above}
 use Rattle.canvas_doc.proofs.Spotted.{least_with, least-more, least-apart, both-hold, first-fails, second-fails}
 use Rattle.canvas_doc.proofs.spots.least_above.Goals as goal
 use Rattle.canvas_doc.proofs.spots.least_above.Goals.{then-is_sibling+then-is_above, else-is_sibling, else-is_sibling-via-then-is_sibling+else-is_above, else-is_sibling-via-else-is_sibling}

@@ -1,0 +1,20 @@
+//! Tests of documents, which stand apart since `canvas_doc` is large: worked examples, every refusal
+//! of every edit, and random edits beside a slow, plain model.
+#![tactic(auto)]
+
+#[cfg(test)]
+mod dice;
+#[cfg(test)]
+mod examples;
+#[cfg(test)]
+mod memory;
+#[cfg(test)]
+mod plain;
+#[cfg(test)]
+mod random;
+#[cfg(test)]
+mod refused;
+#[cfg(test)]
+mod shapes;
+#[cfg(test)]
+mod viewed;

@@ -1,0 +1,285 @@
+//! Some thousands of random edits, each beside the plain model.
+
+ghost use Rattle.std.specs.Prelude.{◌<◌};
+
+use crate::dice::Dice;
+use crate::plain::Plain;
+use crate::shapes::{record, restored};
+use crate::viewed::{Pixel, colour_at};
+use canvas_doc::{Change, Document, Edit, Parent, Record, Refusal, Spot};
+use canvas_key::fresh;
+use canvas_plane::{Point, Pose};
+use canvas_shape::{Colour, Kind, Points};
+use std::alloc::{AllocError, Global};
+use std::process::Abort;
+use std::test::Fail;
+
+// A record, or nothing once in a while.
+fn some_record<'a>(dice: &mut Dice, plain: &'a Plain) -> Option<&'a Record> {
+    let count = plain.records.len() as u64;
+    plain
+        .records
+        .get(dice.below(count.saturating_add(2)) as usize)
+}
+
+// An id that most often is there.
+fn id(dice: &mut Dice, plain: &Plain) -> u32 {
+    match some_record(dice, plain) {
+        Some(shape) => shape.id,
+        None => dice.below(60) as u32,
+    }
+}
+
+fn parent(dice: &mut Dice, plain: &Plain) -> Parent {
+    match dice.below(6) {
+        0 => Parent::Page,
+        // A parent that has a child.
+        1 | 2 => match some_record(dice, plain) {
+            Some(shape) => shape.place.parent,
+            None => Parent::Page,
+        },
+        _ => Parent::Shape(id(dice, plain)),
+    }
+}
+
+fn spot(dice: &mut Dice, plain: &Plain, parent: Parent) -> Spot {
+    match dice.below(6) {
+        0 => Spot::Back,
+        1 => Spot::Front,
+        2 => Spot::At(fresh(dice.below(6) as u32)),
+        3 => Spot::Over(id(dice, plain)),
+        _ => child_spot(dice, plain, parent),
+    }
+}
+
+// Over the last child of a parent, or at its index.
+fn child_spot(dice: &mut Dice, plain: &Plain, parent: Parent) -> Spot {
+    let mut spot = Spot::Front;
+    let at_index = dice.below(5) == 0;
+    for shape in &plain.records {
+        if shape.place.parent == parent {
+            spot = if at_index {
+                Spot::At(shape.place.index.copy())
+            } else {
+                Spot::Over(shape.id)
+            };
+        }
+    }
+    spot
+}
+
+fn pose(dice: &mut Dice) -> Pose {
+    let far = dice.below(30) == 0;
+    Pose {
+        dx: if far { 1_048_577 } else { dice.near() },
+        dy: dice.near(),
+        quarter: dice.below(4) as u8,
+        flip: dice.coin(),
+    }
+}
+
+fn colour(dice: &mut Dice) -> Colour {
+    let red = dice.below(200) as u8;
+    let green = dice.below(200) as u8;
+    Colour([red, green, 7])
+}
+
+fn points(alloc: Global, dice: &mut Dice) -> Result<Points, AllocError> {
+    let mut points = Points::new(alloc);
+    for _ in 0..dice.below(6) + 2 {
+        points.push(Point {
+            x: dice.near(),
+            y: dice.near(),
+        })?;
+    }
+    Ok(points)
+}
+
+fn kind(alloc: Global, dice: &mut Dice) -> Result<Kind, AllocError> {
+    Ok(match dice.below(8) {
+        0 | 1 | 2 => Kind::Group,
+        3 | 4 => Kind::Frame {
+            w: dice.side(),
+            h: dice.side(),
+            fill: if dice.coin() {
+                Some(colour(dice))
+            } else {
+                None
+            },
+        },
+        5 => Kind::Rect {
+            w: dice.side(),
+            h: dice.side(),
+            fill: colour(dice),
+        },
+        6 => Kind::Ellipse {
+            w: dice.side(),
+            h: dice.side(),
+            fill: colour(dice),
+        },
+        _ => Kind::Polygon {
+            points: points(alloc, dice)?,
+            fill: colour(dice),
+        },
+    })
+}
+
+fn create(alloc: Global, dice: &mut Dice, plain: &Plain) -> Result<Edit, AllocError> {
+    let parent = parent(dice, plain);
+    Ok(Edit::Create {
+        kind: kind(alloc, dice)?,
+        pose: pose(dice),
+        hidden: dice.below(9) == 0,
+        parent,
+        spot: spot(dice, plain, parent),
+    })
+}
+
+fn displace(dice: &mut Dice, plain: &Plain) -> Edit {
+    let parent = parent(dice, plain);
+    Edit::Move {
+        id: id(dice, plain),
+        parent,
+        spot: spot(dice, plain, parent),
+    }
+}
+
+fn edit(alloc: Global, dice: &mut Dice, plain: &Plain) -> Result<Edit, AllocError> {
+    Ok(match dice.below(20) {
+        0 | 1 | 2 | 3 | 4 | 5 | 6 => create(alloc, dice, plain)?,
+        7 | 8 | 9 | 10 | 11 | 12 => displace(dice, plain),
+        13 => Edit::Pose {
+            id: id(dice, plain),
+            pose: pose(dice),
+        },
+        14 | 15 => Edit::Reshape {
+            id: id(dice, plain),
+            kind: kind(alloc, dice)?,
+        },
+        16 | 17 => Edit::Show {
+            id: id(dice, plain),
+            hidden: dice.below(3) == 0,
+        },
+        18 => Edit::Delete {
+            id: id(dice, plain),
+        },
+        _ => Edit::Respace {
+            parent: parent(dice, plain),
+        },
+    })
+}
+
+fn are_same(own: &Result<Change, Refusal>, plain: &Result<Change, Refusal>) -> bool {
+    match (own, plain) {
+        (Ok(own), Ok(plain)) => own == plain,
+        (Err(own), Err(plain)) => own == plain,
+        _ => false,
+    }
+}
+
+// Whether a document has the records and the next id of the plain one.
+fn agree(alloc: Global, document: &Document, plain: &Plain) -> Result<bool, AllocError> {
+    let records = document.records_in_order(alloc)?;
+    let mut same = document.next_id() == plain.next
+        && document.count() == plain.records.len()
+        && records.len() == plain.records.len();
+    for (own, other) in records.iter().zip(&plain.records) {
+        same = same && *own == other;
+    }
+    Ok(same)
+}
+
+// Whether a document shows some pixels as the plain one does.
+fn look_alike(
+    alloc: Global,
+    dice: &mut Dice,
+    document: &Document,
+    plain: &Plain,
+) -> Result<bool, AllocError> {
+    let mut same = true;
+    for _ in 0..6u32 {
+        let x = dice.below(50) as i32 - 25;
+        let y = dice.below(50) as i32 - 25;
+        let at = Pixel {
+            x: x as i64,
+            y: y as i64,
+        };
+        same = same && document.colour_at(x, y) == colour_at(alloc, plain, at)?;
+    }
+    Ok(same)
+}
+
+// Groups and a few frames, each of which holds the next.
+fn nested(alloc: Global, levels: u32) -> Result<Vec<Record>, AllocError> {
+    let mut records = Vec::new(alloc);
+    for above in 0..levels {
+        let parent = if above == 0 {
+            Parent::Page
+        } else {
+            Parent::Shape(above)
+        };
+        let kind = if above % 8 == 7 {
+            Kind::Frame {
+                w: 30,
+                h: 30,
+                fill: None,
+            }
+        } else {
+            Kind::Group
+        };
+        records.push(record(above.saturating_add(1), parent, fresh(2), kind))?;
+    }
+    Ok(records)
+}
+
+// Edits at random, each judged and made beside the plain model.
+fn edits_agree(
+    rt: &impl Abort,
+    alloc: Global,
+    dice: &mut Dice,
+    levels: u32,
+    edits: u32,
+) -> Result<(), Fail> {
+    let next = levels.saturating_add(1);
+    let mut plain = Plain {
+        records: nested(alloc, levels)?,
+        next,
+    };
+    let mut document = restored(alloc, nested(alloc, levels)?, next)?;
+    for number in 0..edits {
+        let asked = edit(alloc, dice, &plain)?;
+        let own = document.decide(alloc, &asked);
+        let judged = plain.decide(alloc, &asked);
+        assert!(rt; are_same(&own, &judged), "answer {number}");
+        if let Ok(change) = &own {
+            assert!(rt; document.fits(change), "fits {number}");
+            let after = document.with(alloc, change)?;
+            document = after;
+            plain.make(alloc, change)?;
+        }
+        assert!(rt; agree(alloc, &document, &plain)?, "records {number}");
+        assert!(rt;
+            look_alike(alloc, dice, &document, &plain)?,
+            "colours {number}"
+        );
+    }
+    Ok(())
+}
+
+#[test]
+fn random_edits_from_an_empty_document(rt: HostRuntime) -> Result<(), Fail> {
+    let mut dice = Dice { state: 1 };
+    for _ in 0..30u32 {
+        edits_agree(&rt, rt.alloc(), &mut dice, 0, 80)?;
+    }
+    Ok(())
+}
+
+#[test]
+fn random_edits_of_nested_groups(rt: HostRuntime) -> Result<(), Fail> {
+    let mut dice = Dice { state: 2 };
+    for levels in 0..30u32 {
+        edits_agree(&rt, rt.alloc(), &mut dice, levels.saturating_add(2), 60)?;
+    }
+    Ok(())
+}

@@ -1,0 +1,382 @@
+//! Every refusal of every edit, and each pair of refusals that can meet in one edit, in its order.
+
+use crate::shapes::{
+    RED, create, frame, last_index_below_a1, moved, polygon, record, rectangle, restored,
+};
+use canvas_doc::{Document, Edit, Parent, Record, Refusal, Spot};
+use canvas_key::{Key, fresh};
+use canvas_plane::Pose;
+use canvas_shape::Kind;
+use std::alloc::{AllocError, Global};
+use std::process::Abort;
+use std::test::Fail;
+
+// No record of the documents here has this id.
+const MISSING: u32 = 100_000;
+
+// A group on the page, its two children 2 and 3, between which no index lies, and a leaf.
+const GROUP: u32 = 1;
+
+const LEAF: u32 = 4;
+
+// Groups each of which holds the next, at the depths 1 to 32.
+const UPPERMOST: u32 = 5;
+
+const AT_DEPTH_29: u32 = 33;
+
+const AT_DEPTH_30: u32 = 34;
+
+const AT_DEPTH_31: u32 = 35;
+
+const LOWEST: u32 = 36;
+
+// Two leaves at depth 32, between which no index lies.
+const DEEP_LEAF: u32 = 37;
+
+// A group on the page of height 3, the group in it, and the two leaves in that, between which no index
+// lies.
+const TALL: u32 = 39;
+
+const IN_TALL: u32 = 40;
+
+const IN_BOTH: u32 = 41;
+
+// A polygon on the page.
+const POLYGON: u32 = 43;
+
+// One id above all of these.
+const NEXT: u32 = 44;
+
+// Two leaves between which no index lies, the first with the id.
+fn push_pair(records: &mut Vec<Record>, id: u32, parent: u32) -> Result<(), Fail> {
+    let parent = Parent::Shape(parent);
+    let low = last_index_below_a1()?;
+    let high = Key::read(b"a1")?;
+    records.push(record(id, parent, low, rectangle(1, 1, RED)))?;
+    let next = id.saturating_add(1);
+    records.push(record(next, parent, high, rectangle(1, 1, RED)))?;
+    Ok(())
+}
+
+// The records that the constants name.
+fn records(alloc: Global) -> Result<Vec<Record>, Fail> {
+    let mut records = Vec::new(alloc);
+    records.push(record(GROUP, Parent::Page, fresh(0), Kind::Group))?;
+    push_pair(&mut records, 2, GROUP)?;
+    records.push(record(LEAF, Parent::Page, fresh(1), rectangle(1, 1, RED)))?;
+    records.push(record(UPPERMOST, Parent::Page, fresh(2), Kind::Group))?;
+    for above in UPPERMOST..LOWEST {
+        let below = above.saturating_add(1);
+        records.push(record(below, Parent::Shape(above), fresh(0), Kind::Group))?;
+    }
+    push_pair(&mut records, DEEP_LEAF, AT_DEPTH_31)?;
+    records.push(record(TALL, Parent::Page, fresh(3), Kind::Group))?;
+    records.push(record(IN_TALL, Parent::Shape(TALL), fresh(0), frame(1, 1)))?;
+    push_pair(&mut records, IN_BOTH, IN_TALL)?;
+    let triangle = polygon(alloc, &[(0, 0), (4, 0), (0, 4)])?;
+    records.push(record(POLYGON, Parent::Page, fresh(4), triangle))?;
+    Ok(records)
+}
+
+// As many groups more as there may be records.
+fn fill_up(records: &mut Vec<Record>) -> Result<(), AllocError> {
+    for id in NEXT..4097 {
+        records.push(record(id, Parent::Page, fresh(id), Kind::Group))?;
+    }
+    Ok(())
+}
+
+fn document(alloc: Global, is_full: bool, next: u32) -> Result<Document, Fail> {
+    let mut records = records(alloc)?;
+    if is_full {
+        fill_up(&mut records)?;
+    }
+    Ok(restored(alloc, records, next)?)
+}
+
+/// What is wrong with the values of a new shape.
+#[derive(Clone, Copy)]
+enum Flaw {
+    None,
+    Side,
+    Vertices,
+}
+
+fn kind_with(alloc: Global, flaw: Flaw) -> Result<Kind, AllocError> {
+    match flaw {
+        Flaw::None => Ok(Kind::Group),
+        Flaw::Side => Ok(rectangle(1, 0, RED)),
+        Flaw::Vertices => polygon(alloc, &[(0, 0), (4, 0)]),
+    }
+}
+
+fn refusal_of(flaw: Flaw) -> (Option<Refusal>, Option<Refusal>) {
+    match flaw {
+        Flaw::None => (None, None),
+        Flaw::Side => (Some(Refusal::BadSize), None),
+        Flaw::Vertices => (None, Some(Refusal::BadPolygon)),
+    }
+}
+
+// The four kinds of spots under a parent with two leaves between which no index lies, and what is
+// refused of each.
+fn spots(low: u32) -> Result<[(Spot, Option<Refusal>); 4], Fail> {
+    Ok([
+        (Spot::Front, None),
+        (Spot::Over(LEAF), Some(Refusal::SpotNotSibling)),
+        (Spot::At(Key::read(b"a1")?), Some(Refusal::IndexTaken)),
+        (Spot::Over(low), Some(Refusal::NoRoom)),
+    ])
+}
+
+fn poses() -> [(Pose, Option<Refusal>); 2] {
+    [
+        (Pose::STILL, None),
+        (moved(0, -1_048_577), Some(Refusal::BadPose)),
+    ]
+}
+
+// New shapes of every kind of flaw, pose and spot under a parent, of which `first` is refused before.
+fn check_new_shapes(
+    rt: &impl Abort,
+    alloc: Global,
+    document: &Document,
+    parent: Parent,
+    first: Option<Refusal>,
+) -> Result<(), Fail> {
+    for flaw in [Flaw::None, Flaw::Side, Flaw::Vertices] {
+        let (side, vertices) = refusal_of(flaw);
+        for (pose, far) in poses() {
+            for (spot, placed) in spots(2)? {
+                let edit = Edit::Create {
+                    kind: kind_with(alloc, flaw)?,
+                    pose,
+                    hidden: false,
+                    parent,
+                    spot,
+                };
+                let expected = first.or(side).or(far).or(vertices).or(placed);
+                assert!(rt;
+                    document.decide(alloc, &edit).err() == expected,
+                    "{expected:?}"
+                );
+            }
+        }
+    }
+    Ok(())
+}
+
+#[test]
+fn refusals_of_create(rt: HostRuntime) -> Result<(), Fail> {
+    let alloc = rt.alloc();
+    let documents = [
+        (document(alloc, false, 5_000)?, None),
+        (document(alloc, true, 5_000)?, Some(Refusal::TooMany)),
+        (
+            document(alloc, false, 4_294_967_295)?,
+            Some(Refusal::IdsSpent),
+        ),
+        (
+            document(alloc, true, 4_294_967_295)?,
+            Some(Refusal::TooMany),
+        ),
+    ];
+    let parents = [
+        (GROUP, None),
+        (MISSING, Some(Refusal::NoSuchParent)),
+        (LEAF, Some(Refusal::NotAContainer)),
+        (DEEP_LEAF, Some(Refusal::NotAContainer)),
+        (LOWEST, Some(Refusal::TooDeep)),
+    ];
+    for (document, spent) in &documents {
+        for (parent, hung) in parents {
+            let first = hung.or(*spent);
+            check_new_shapes(&rt, alloc, document, Parent::Shape(parent), first)?;
+        }
+    }
+    Ok(())
+}
+
+#[test]
+fn ids_are_spent_last_of_all(rt: HostRuntime) -> Result<(), Fail> {
+    let alloc = rt.alloc();
+    let edit = create(Kind::Group, Parent::Page, Spot::Front);
+    let last = restored(alloc, Vec::new(alloc), 4_294_967_294)?;
+    let spent = last.with(alloc, &last.decide(alloc, &edit)?)?;
+    assert_eq!(rt; spent.next_id(), 4_294_967_295);
+    assert!(rt; spent.get(4_294_967_294).is_some());
+    assert!(rt; spent.decide(alloc, &edit).err() == Some(Refusal::IdsSpent));
+    Ok(())
+}
+
+// Moves of a shape under a parent to every kind of spot, of which `first` is refused before.
+fn check_moves(
+    rt: &impl Abort,
+    alloc: Global,
+    document: &Document,
+    id: u32,
+    parent: u32,
+    low: u32,
+    first: Option<Refusal>,
+) -> Result<(), Fail> {
+    for (spot, placed) in spots(low)? {
+        let edit = Edit::Move {
+            id,
+            parent: Parent::Shape(parent),
+            spot,
+        };
+        let expected = first.or(placed);
+        assert!(rt;
+            document.decide(alloc, &edit).err() == expected,
+            "{id} under {parent}: {expected:?}"
+        );
+    }
+    Ok(())
+}
+
+#[test]
+fn refusals_of_move(rt: HostRuntime) -> Result<(), Fail> {
+    let alloc = rt.alloc();
+    let document = document(alloc, false, NEXT)?;
+    let rows = [
+        (POLYGON, GROUP, 2, None),
+        (TALL, GROUP, 2, None),
+        (POLYGON, AT_DEPTH_31, DEEP_LEAF, None),
+        (MISSING, MISSING, 2, Some(Refusal::NoSuchShape)),
+        (MISSING, LEAF, 2, Some(Refusal::NoSuchShape)),
+        (MISSING, GROUP, 2, Some(Refusal::NoSuchShape)),
+        (POLYGON, MISSING, 2, Some(Refusal::NoSuchParent)),
+        (POLYGON, LEAF, 2, Some(Refusal::NotAContainer)),
+        // Where it would be below itself or too deep, too.
+        (POLYGON, POLYGON, 2, Some(Refusal::NotAContainer)),
+        (TALL, IN_BOTH, 2, Some(Refusal::NotAContainer)),
+        (POLYGON, DEEP_LEAF, 2, Some(Refusal::NotAContainer)),
+        (TALL, TALL, 2, Some(Refusal::Cycle)),
+        (TALL, IN_TALL, IN_BOTH, Some(Refusal::Cycle)),
+        // Where it would be too deep, too.
+        (UPPERMOST, AT_DEPTH_31, DEEP_LEAF, Some(Refusal::Cycle)),
+        (TALL, AT_DEPTH_31, DEEP_LEAF, Some(Refusal::TooDeep)),
+        (POLYGON, LOWEST, 2, Some(Refusal::TooDeep)),
+    ];
+    for (id, parent, low, first) in rows {
+        check_moves(&rt, alloc, &document, id, parent, low, first)?;
+    }
+    Ok(())
+}
+
+#[test]
+fn heights_below_a_parent(rt: HostRuntime) -> Result<(), Fail> {
+    let alloc = rt.alloc();
+    let document = document(alloc, false, NEXT)?;
+    let rows = [(AT_DEPTH_29, None), (AT_DEPTH_30, Some(Refusal::TooDeep))];
+    for (parent, expected) in rows {
+        let edit = Edit::Move {
+            id: TALL,
+            parent: Parent::Shape(parent),
+            spot: Spot::Front,
+        };
+        assert!(rt; document.decide(alloc, &edit).err() == expected, "{parent}");
+    }
+    Ok(())
+}
+
+#[test]
+fn refusals_of_pose(rt: HostRuntime) -> Result<(), Fail> {
+    let alloc = rt.alloc();
+    let document = document(alloc, false, NEXT)?;
+    for (id, missing) in [(LEAF, None), (MISSING, Some(Refusal::NoSuchShape))] {
+        for (pose, far) in poses() {
+            let edit = Edit::Pose { id, pose };
+            assert!(rt;
+                document.decide(alloc, &edit).err() == missing.or(far),
+                "{id}"
+            );
+        }
+    }
+    Ok(())
+}
+
+#[test]
+fn refusals_of_reshape(rt: HostRuntime) -> Result<(), Fail> {
+    let alloc = rt.alloc();
+    let document = document(alloc, false, NEXT)?;
+    let rows = [
+        (GROUP, Flaw::None, None),
+        (LEAF, Flaw::None, Some(Refusal::WrongKind)),
+        (LEAF, Flaw::Side, Some(Refusal::BadSize)),
+        (LEAF, Flaw::Vertices, Some(Refusal::WrongKind)),
+        (POLYGON, Flaw::Side, Some(Refusal::WrongKind)),
+        (POLYGON, Flaw::Vertices, Some(Refusal::BadPolygon)),
+        (MISSING, Flaw::None, Some(Refusal::NoSuchShape)),
+        (MISSING, Flaw::Side, Some(Refusal::NoSuchShape)),
+        (MISSING, Flaw::Vertices, Some(Refusal::NoSuchShape)),
+    ];
+    for (id, flaw, expected) in rows {
+        let kind = kind_with(alloc, flaw)?;
+        let edit = Edit::Reshape { id, kind };
+        assert!(rt;
+            document.decide(alloc, &edit).err() == expected,
+            "{id}: {expected:?}"
+        );
+    }
+    Ok(())
+}
+
+#[test]
+fn refusals_of_the_others(rt: HostRuntime) -> Result<(), Fail> {
+    let alloc = rt.alloc();
+    let document = document(alloc, false, NEXT)?;
+    for (id, expected) in [(LEAF, None), (MISSING, Some(Refusal::NoSuchShape))] {
+        let show = Edit::Show { id, hidden: true };
+        assert!(rt; document.decide(alloc, &show).err() == expected, "{id}");
+        let delete = Edit::Delete { id };
+        assert!(rt; document.decide(alloc, &delete).err() == expected, "{id}");
+    }
+    let rows = [
+        (Parent::Page, None),
+        (Parent::Shape(TALL), None),
+        (Parent::Shape(MISSING), Some(Refusal::NoSuchParent)),
+        (Parent::Shape(LEAF), Some(Refusal::NotAContainer)),
+    ];
+    for (parent, expected) in rows {
+        let edit = Edit::Respace { parent };
+        assert!(rt;
+            document.decide(alloc, &edit).err() == expected,
+            "{expected:?}"
+        );
+    }
+    Ok(())
+}
+
+#[test]
+fn edits_to_what_is_there(rt: HostRuntime) -> Result<(), Fail> {
+    let alloc = rt.alloc();
+    let document = document(alloc, false, NEXT)?;
+    let triangle = polygon(alloc, &[(0, 0), (4, 0), (0, 4)])?;
+    let edits = [
+        Edit::Move {
+            id: POLYGON,
+            parent: Parent::Page,
+            spot: Spot::At(fresh(4)),
+        },
+        Edit::Pose {
+            id: POLYGON,
+            pose: Pose::STILL,
+        },
+        Edit::Reshape {
+            id: POLYGON,
+            kind: triangle,
+        },
+        Edit::Show {
+            id: POLYGON,
+            hidden: false,
+        },
+    ];
+    for edit in &edits {
+        let change = document.decide(alloc, edit)?;
+        let after = document.with(alloc, &change)?;
+        assert!(rt; after.get(POLYGON) == document.get(POLYGON));
+        assert_eq!(rt; after.count(), document.count());
+    }
+    Ok(())
+}

@@ -1,0 +1,211 @@
+//! The colour of a pixel by a plain model: of all that holds the pixel, what lies furthest in front.
+
+use crate::plain::Plain;
+use crate::shapes::WHITE;
+use canvas_doc::{Parent, Record};
+use canvas_key::Key;
+use canvas_plane::{Point, Pose};
+use canvas_shape::{Colour, Kind};
+use std::alloc::{AllocError, Global};
+
+/// A pixel of the page.
+#[derive(Clone, Copy)]
+pub(crate) struct Pixel {
+    pub(crate) x: i64,
+    pub(crate) y: i64,
+}
+
+/// The colour of a pixel.
+pub(crate) fn colour_at(alloc: Global, plain: &Plain, at: Pixel) -> Result<Colour, AllocError> {
+    let mut best: Option<(Vec<&Key>, Colour)> = None;
+    for shape in &plain.records {
+        if let Some(fill) = fill_of(&shape.kind) {
+            let path = plain.path(alloc, Parent::Shape(shape.id))?;
+            if is_seen(plain, &path, at) {
+                let place = place_of(alloc, plain, &path)?;
+                let in_front = match &best {
+                    Some((other, _)) => is_behind(other, &place),
+                    None => true,
+                };
+                if in_front {
+                    best = Some((place, fill));
+                }
+            }
+        }
+    }
+    Ok(match best {
+        Some((_, fill)) => fill,
+        None => WHITE,
+    })
+}
+
+fn fill_of(kind: &Kind) -> Option<Colour> {
+    match kind {
+        Kind::Group => None,
+        Kind::Frame { fill, .. } => *fill,
+        Kind::Rect { fill, .. } | Kind::Ellipse { fill, .. } | Kind::Polygon { fill, .. } => {
+            Some(*fill)
+        }
+    }
+}
+
+// The indexes from the page down to a shape. A shape lies behind its children, and what has the lesser
+// index first lies behind.
+fn place_of<'a>(alloc: Global, plain: &'a Plain, path: &[u32]) -> Result<Vec<&'a Key>, AllocError> {
+    let mut place = Vec::new(alloc);
+    for id in path {
+        if let Some(shape) = plain.find(*id) {
+            place.push(&shape.place.index)?;
+        }
+    }
+    place.reverse();
+    Ok(place)
+}
+
+fn is_behind(place: &[&Key], other: &[&Key]) -> bool {
+    for (index, against) in place.iter().zip(other) {
+        if index.is_before(against) {
+            return true;
+        }
+        if against.is_before(index) {
+            return false;
+        }
+    }
+    place.len() < other.len()
+}
+
+// Whether no shape of a path is hidden, and each but a group holds the pixel.
+fn is_seen(plain: &Plain, path: &[u32], at: Pixel) -> bool {
+    let mut from: usize = 0;
+    for id in path {
+        if let Some(shape) = plain.find(*id) {
+            if shape.hidden || !holds(plain, shape, path, from, at) {
+                return false;
+            }
+        }
+        from = from.saturating_add(1);
+    }
+    true
+}
+
+// Whether a shape, whose poses are those of a path from a position on, holds a pixel.
+fn holds(plain: &Plain, shape: &Record, path: &[u32], from: usize, at: Pixel) -> bool {
+    match &shape.kind {
+        Kind::Group => true,
+        Kind::Frame { w, h, .. } | Kind::Rect { w, h, .. } => {
+            let (first, last) = corners(plain, path, from, *w, *h);
+            first.x <= at.x && at.x < last.x && first.y <= at.y && at.y < last.y
+        }
+        Kind::Ellipse { w, h, .. } => {
+            let (first, last) = corners(plain, path, from, *w, *h);
+            is_round(first, last, at)
+        }
+        Kind::Polygon { points, .. } => is_odd(plain, points.as_slice(), path, from, at),
+    }
+}
+
+// A point carried to the page by the poses of a path from a position on.
+fn carried(plain: &Plain, path: &[u32], from: usize, point: Point) -> Point {
+    let mut place = point;
+    for id in path.iter().skip(from) {
+        if let Some(shape) = plain.find(*id) {
+            place = posed(&shape.pose, place);
+        }
+    }
+    place
+}
+
+fn posed(pose: &Pose, point: Point) -> Point {
+    let mut x = point.x;
+    let mut y = point.y;
+    if pose.flip {
+        x = x.wrapping_neg();
+    }
+    for _ in 0..pose.quarter {
+        let across = y.wrapping_neg();
+        y = x;
+        x = across;
+    }
+    Point {
+        x: x.wrapping_add(pose.dx),
+        y: y.wrapping_add(pose.dy),
+    }
+}
+
+// The corners of a carried box with the least and the greatest coordinates.
+fn corners(plain: &Plain, path: &[u32], from: usize, w: u32, h: u32) -> (Point, Point) {
+    let a = carried(plain, path, from, Point { x: 0, y: 0 });
+    let b = carried(
+        plain,
+        path,
+        from,
+        Point {
+            x: w as i64,
+            y: h as i64,
+        },
+    );
+    let first = Point {
+        x: a.x.min(b.x),
+        y: a.y.min(b.y),
+    };
+    let last = Point {
+        x: a.x.max(b.x),
+        y: a.y.max(b.y),
+    };
+    (first, last)
+}
+
+// Whether the centre of a pixel is in or on the ellipse of a box: distances from its centre are
+// doubled, so that they are whole.
+fn is_round(first: Point, last: Point, at: Pixel) -> bool {
+    let w = last.x.wrapping_sub(first.x);
+    let h = last.y.wrapping_sub(first.y);
+    let x = doubled(at.x)
+        .wrapping_add(1)
+        .wrapping_sub(first.x.wrapping_add(last.x));
+    let y = doubled(at.y)
+        .wrapping_add(1)
+        .wrapping_sub(first.y.wrapping_add(last.y));
+    let across = squared(x.wrapping_mul(h));
+    let down = squared(y.wrapping_mul(w));
+    across.wrapping_add(down) <= squared(w.wrapping_mul(h))
+}
+
+fn doubled(x: i64) -> i64 {
+    x.wrapping_mul(2)
+}
+
+fn squared(x: i64) -> i64 {
+    x.wrapping_mul(x)
+}
+
+// Whether an odd number of edges cross the centre line of the row to the right of the centre.
+fn is_odd(plain: &Plain, points: &[Point], path: &[u32], from: usize, at: Pixel) -> bool {
+    let Some(last) = points.last() else {
+        return false;
+    };
+    let mut odd = false;
+    let mut a = carried(plain, path, from, *last);
+    for point in points {
+        let b = carried(plain, path, from, *point);
+        if crosses(a, b, at) {
+            odd = !odd;
+        }
+        a = b;
+    }
+    odd
+}
+
+fn crosses(a: Point, b: Point, at: Pixel) -> bool {
+    if (a.y > at.y) == (b.y > at.y) {
+        return false;
+    }
+    let down = b.y.wrapping_sub(a.y);
+    let across = b.x.wrapping_sub(a.x);
+    let right = doubled(a.x.wrapping_sub(at.x)).wrapping_sub(1);
+    let below = doubled(at.y.wrapping_sub(a.y)).wrapping_add(1);
+    let side = right
+        .wrapping_mul(down)
+        .wrapping_add(below.wrapping_mul(across));
+    if down > 0 { side > 0 } else { side < 0 }
+}
