@@ -1,3 +1,5 @@
+pub mod Clips
+pub mod Covers
 pub mod Items
 pub mod Pictures
 pub mod Nodes

@@ -4,6 +4,7 @@
 mod item;
 mod nodes;
 mod scenes;
+mod shown;
 mod walk;
 
 pub use item::Item;

@@ -1,6 +1,7 @@
 //! The tree of a scene.
 
-ghost use Rattle.std.specs.Prelude.{◌≡◌, ◌++◌, [], ◌∷◌, OnOk, reverse, Some};
+ghost use Rattle.std.specs.Prelude.{◌≡◌, ◌++◌, [], ◌∷◌, ℤ, OnOk, map, option_to_list, reverse, Some};
+ghost use Rattle.canvas_scene.specs.Clips.{at_pixel, branch_at, leaf_at};
 ghost use Rattle.canvas_scene.specs.Nodes.{items_of, items_along, node_items, back_item};
 
 use crate::Item;
@@ -26,7 +27,8 @@ pub enum Node<'a> {
 
 // A node of one item.
 pub(crate) fn leaf<'a>(item: Item<'a>) -> Node<'a>
-    ensures { items_of result ≡ item.entry ∷ [] }
+    ensures items { items_of result ≡ item.entry ∷ [] }
+    ensures pixels { (x y : ℤ) → at_pixel x y result ≡ leaf_at x y item.entry }
 {
     Node::Leaf(item)
 }
@@ -37,7 +39,8 @@ pub(crate) fn branch<'a>(
     back: Option<Item<'a>>,
     children: &'a [Node<'a>],
 ) -> Node<'a>
-    ensures { items_of result ≡ back_item back.entry ++ items_along children.now }
+    ensures items { items_of result ≡ back_item back.entry ++ items_along children.now }
+    ensures pixels { (x y : ℤ) → at_pixel x y result ≡ branch_at x y clip back.entry (map (at_pixel x y) children.now) }
 {
     Node::Branch {
         clip,
@@ -51,7 +54,8 @@ pub(crate) fn keep<'a>(
     nodes: &mut Vec<Node<'a>, &'a Bump>,
     node: Option<Node<'a>>,
 ) -> Result<(), AllocError>
-    ensures { OnOk result (items_along (reverse nodes.new.items) ≡ node_items node.entry ++ items_along (reverse nodes.old.items)) }
+    ensures items { OnOk result (items_along (reverse nodes.new.items) ≡ node_items node.entry ++ items_along (reverse nodes.old.items)) }
+    ensures nodes { OnOk result (nodes.new.items ≡ nodes.old.items ++ option_to_list node.entry) }
 {
     if let Some(node) = node {
         nodes.push(node)?;

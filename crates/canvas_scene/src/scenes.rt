@@ -1,17 +1,18 @@
 //! Scenes: what a document shows in a window.
 
-ghost use Rattle.std.specs.Prelude.{◌≡◌, ◌≤◌, ◌<◌, ℕ, ℤ, IfOk, true, reverse};
+ghost use Rattle.std.specs.Prelude.{◌≡◌, ◌≤◌, ◌<◌, ℕ, ℤ, All, IfOk, true, reverse};
 ghost use Rattle.canvas_plane.specs.Page.{is_in};
 ghost use Rattle.canvas_plane.specs.Window.{box_of_window};
 ghost use Rattle.canvas_doc.specs.Picture.{colour};
+ghost use Rattle.canvas_scene.specs.Clips.{IsClipped};
 ghost use Rattle.canvas_scene.specs.Items.{last_colour};
 ghost use Rattle.canvas_scene.specs.Nodes.{items_along};
 ghost use Rattle.canvas_scene.specs.Scenes.{display_list_of, root_of};
 
+use crate::shown::Shown;
 use crate::walk::nodes_of_page;
 use crate::{Item, Node};
 use bumpalo::Bump;
-use bumpalo::collections::into_bump_slice;
 use canvas_doc::Document;
 use canvas_plane::Window;
 use std::alloc::AllocError;
@@ -25,22 +26,23 @@ pub struct Scene<'a> {
 }
 
 impl<'a> Scene<'a> {
-    /// The scene of a document in a window. What is hidden, and what has no common pixel with its
-    /// clip and the window, makes no item. Want of memory is the only refusal.
+    /// The scene of a document in a window. What is hidden, what has no common pixel with its clip
+    /// and the window, and what of the window lies wholly within what one rectangle in front of it
+    /// shows there makes no item. Want of memory is the only refusal.
     pub fn build(
         bump: &'a Bump,
         document: &Document,
         window: &Window,
     ) -> Result<Scene<'a>, AllocError>
         ensures colours { IfOk result (λ scene. (x y : ℤ) → is_in (box_of_window window.now) x y ≡ true → last_colour (display_list_of scene) x y ≡ colour document.now.records x y) }
+        ensures clips { IfOk result (λ scene. All (IsClipped (box_of_window window.now)) (root_of scene)) }
         ensures order { IfOk result (λ scene. display_list_of scene ≡ items_along (root_of scene)) }
     {
-        let mut items = Vec::new(bump);
-        let root = nodes_of_page(bump, document, &window.page_box(), &mut items)?;
-        items.reverse();
+        let mut shown = Shown::new(bump);
+        let root = nodes_of_page(bump, document, &window.page_box(), &mut shown)?;
         Ok(Scene {
             root,
-            items: into_bump_slice(items),
+            items: shown.into_list(),
         })
     }
 

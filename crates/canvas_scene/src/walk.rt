@@ -1,21 +1,23 @@
-//! The walk that makes a scene, from front to back, cut by the clips on its way.
+//! The walk that makes a scene, from front to back, cut by the clips on its way and by what it
+//! has shown.
 
-ghost use Rattle.std.specs.Prelude.{◌≡◌, ◌≤◌, ◌+◌, ◌*◌, ◌^◌, ◌++◌, ◌<◌, [], ◌∷◌, ℤ, All, IfOk, OnOk, reverse, length, map, Some, true, false};
+ghost use Rattle.std.specs.Prelude.{◌≡◌, ◌≤◌, ◌+◌, ◌*◌, ◌^◌, ◌++◌, ◌<◌, [], ◌∷◌, ℤ, All, IfOk, IfSome, OnOk, reverse, length, map, Some, true, false};
 ghost use Rattle.canvas_plane.specs.Motion.{carry, reach_of, size_of};
 ghost use Rattle.canvas_plane.specs.Page.{is_in};
 ghost use Rattle.canvas_shape.specs.Inside.{holds_of, AreVertices};
 ghost use Rattle.canvas_shape.specs.Leaves.{carried_holds};
 ghost use Rattle.canvas_doc.specs.Tree.{IsInLimits};
-ghost use Rattle.canvas_doc.specs.Picture.{answer_among, answer_of, colour, or_white};
-ghost use Rattle.canvas_scene.specs.Items.{last_colour, last_fill};
+ghost use Rattle.canvas_doc.specs.Picture.{answer_among, answer_of, colour, or_else, or_white};
+ghost use Rattle.canvas_scene.specs.Clips.{IsClipped};
+ghost use Rattle.canvas_scene.specs.Covers.{first_fill};
 ghost use Rattle.canvas_scene.specs.Nodes.{back_item, items_along, node_items, seen};
 
 use crate::nodes::{branch, keep, leaf};
+use crate::shown::Shown;
 use crate::{Item, Node};
 use bumpalo::Bump;
 use bumpalo::collections::into_bump_slice;
 use canvas_doc::{Document, Parent, Record};
-use canvas_key::Key;
 use canvas_plane::{PageBox, Point, Pose};
 use canvas_shape::{Carried, Colour, Kind};
 use std::alloc::AllocError;
@@ -23,18 +25,18 @@ use std::alloc::AllocError;
 /// How deep a record may lie: a child of the page has depth 1.
 const DEPTH: u32 = 32;
 
-/// Items from front to back, in the arena of their scene.
-pub(crate) type Items<'a> = Vec<Item<'a>, &'a Bump>;
-
-/// The nodes of the page's children from back to front, and their items from front to back.
+/// The nodes of the page's children from back to front. Their items are shown, from front to
+/// back.
 pub(crate) fn nodes_of_page<'a>(
     bump: &'a Bump,
     document: &Document,
     clip: &PageBox,
-    items: &mut Items<'a>,
+    shown: &mut Shown<'a>,
 ) -> Result<&'a [Node<'a>], AllocError>
-    ensures colours { IfOk result (λ nodes. (x y : ℤ) → is_in clip.now x y ≡ true → last_colour (items_along nodes.now) x y ≡ colour document.now.records x y) }
-    ensures items { IfOk result (λ nodes. items.new.items ≡ items.old.items ++ reverse (items_along nodes.now)) }
+    requires { shown.old ≡ [] }
+    ensures colours { IfOk result (λ nodes. (x y : ℤ) → is_in clip.now x y ≡ true → or_white (first_fill shown.new x y) ≡ colour document.now.records x y) }
+    ensures items { IfOk result (λ nodes. shown.new ≡ reverse (items_along nodes.now)) }
+    ensures clips { IfOk result (λ nodes. All (IsClipped clip.now) nodes.now) }
 {
     let nodes = nodes_among(
         bump,
@@ -43,7 +45,7 @@ pub(crate) fn nodes_of_page<'a>(
         Parent::Page,
         &Pose::STILL,
         clip,
-        items,
+        shown,
     )?;
     Ok(nodes)
 }
@@ -57,28 +59,31 @@ fn nodes_among<'a>(
     parent: Parent,
     out: &Pose,
     clip: &PageBox,
-    items: &mut Items<'a>,
+    shown: &mut Shown<'a>,
 ) -> Result<&'a [Node<'a>], AllocError>
     requires quarter { out.now.quarter ≤ 3 }
     requires reach { reach_of out.now + levels * 2 ^ 20 ≤ 2 ^ 26 }
-    ensures fills { IfOk result (λ nodes. (x y : ℤ) → last_fill (items_along nodes.now) x y ≡ seen (is_in clip.now x y) (answer_among levels document.now.records parent (carry out.now) x y)) }
-    ensures items { IfOk result (λ nodes. items.new.items ≡ items.old.items ++ reverse (items_along nodes.now)) }
+    ensures fills { IfOk result (λ nodes. (x y : ℤ) → first_fill shown.new x y ≡ or_else (first_fill shown.old x y) (seen (is_in clip.now x y) (answer_among levels document.now.records parent (carry out.now) x y))) }
+    ensures items { IfOk result (λ nodes. shown.new ≡ shown.old ++ reverse (items_along nodes.now)) }
+    ensures clips { IfOk result (λ nodes. All (IsClipped clip.now) nodes.now) }
 {
     let mut nodes = Vec::new(bump);
     if levels == 0 {
         return Ok(into_bump_slice(nodes));
     }
-    let mut bound: Option<&Key> = None;
-    while let Some(child) = document.next_child(parent, bound) {
-        let node = node_of(bump, document, levels - 1, child, out, clip, items)?;
+    let children = document.children(bump, parent)?;
+    for child in &children {
+        let node = node_of(bump, document, levels - 1, child, out, clip, shown)?;
         keep(&mut nodes, node)?;
-        bound = Some(&child.place.index);
+        if shown.hides(clip) {
+            break;
+        }
     }
     nodes.reverse();
     Ok(into_bump_slice(nodes))
 }
 
-// The node of a shape with all below it, if anything of it may be seen.
+// The node of a shape with all below it, if anything of it may be seen behind what is shown.
 #[cycle(walk)]
 fn node_of<'a>(
     bump: &'a Bump,
@@ -87,13 +92,14 @@ fn node_of<'a>(
     shape: &Record,
     out: &Pose,
     clip: &PageBox,
-    items: &mut Items<'a>,
+    shown: &mut Shown<'a>,
 ) -> Result<Option<Node<'a>>, AllocError>
     requires shape { IsInLimits shape.now }
     requires quarter { out.now.quarter ≤ 3 }
     requires reach { reach_of out.now + (levels + 1) * 2 ^ 20 ≤ 2 ^ 26 }
-    ensures fills { IfOk result (λ node. (x y : ℤ) → last_fill (node_items node) x y ≡ seen (is_in clip.now x y) (answer_of levels document.now.records (carry out.now) x y shape.now)) }
-    ensures items { IfOk result (λ node. items.new.items ≡ items.old.items ++ reverse (node_items node)) }
+    ensures fills { IfOk result (λ node. (x y : ℤ) → first_fill shown.new x y ≡ or_else (first_fill shown.old x y) (seen (is_in clip.now x y) (answer_of levels document.now.records (carry out.now) x y shape.now))) }
+    ensures items { IfOk result (λ node. shown.new ≡ shown.old ++ reverse (node_items node)) }
+    ensures clips { IfOk result (λ node. IfSome node (IsClipped clip.now)) }
 {
     if shape.hidden {
         return Ok(None);
@@ -102,53 +108,45 @@ fn node_of<'a>(
     let inside = Parent::Shape(shape.id);
     match &shape.kind {
         Kind::Group => {
-            let nodes = nodes_among(bump, document, levels, inside, &page, clip, items)?;
+            let nodes = nodes_among(bump, document, levels, inside, &page, clip, shown)?;
             Ok(Some(branch(*clip, None, nodes)))
         }
         Kind::Frame { w, h, fill } => {
             let leaf = Carried::rect(&page, *w, *h);
             let inner = clip.meet(&leaf.page_box());
-            if inner.is_empty() {
+            if shown.hides(&inner) {
                 return Ok(None);
             }
-            let nodes = nodes_among(bump, document, levels, inside, &page, &inner, items)?;
-            let back = back_of(leaf, clip, *fill);
-            keep_item(items, back)?;
+            let nodes = nodes_among(bump, document, levels, inside, &page, &inner, shown)?;
+            let back = back_of(leaf, clip, *fill, shown)?;
             Ok(Some(branch(inner, back, nodes)))
         }
-        Kind::Rect { w, h, fill } => leaf_of(Carried::rect(&page, *w, *h), clip, *fill, items),
+        Kind::Rect { w, h, fill } => leaf_of(Carried::rect(&page, *w, *h), clip, *fill, shown),
         Kind::Ellipse { w, h, fill } => {
-            leaf_of(Carried::ellipse(&page, *w, *h), clip, *fill, items)
+            leaf_of(Carried::ellipse(&page, *w, *h), clip, *fill, shown)
         }
         Kind::Polygon { points, fill } => {
             let vertices = carried(bump, &page, points.as_slice())?;
-            leaf_of(Carried::polygon(vertices), clip, *fill, items)
+            leaf_of(Carried::polygon(vertices), clip, *fill, shown)
         }
     }
 }
 
-// A frame's own item, if it has a fill.
-fn back_of<'a>(leaf: Carried<'a>, clip: &PageBox, fill: Option<Colour>) -> Option<Item<'a>>
-    ensures { (x y : ℤ) → last_fill (back_item result) x y ≡ seen (is_in clip.now x y) (seen (carried_holds leaf.entry x y) fill) }
+// A frame's own item, if it has a fill that may be seen.
+fn back_of<'a>(
+    leaf: Carried<'a>,
+    clip: &PageBox,
+    fill: Option<Colour>,
+    shown: &mut Shown<'a>,
+) -> Result<Option<Item<'a>>, AllocError>
+    ensures fills { IfOk result (λ back. (x y : ℤ) → first_fill shown.new x y ≡ or_else (first_fill shown.old x y) (seen (is_in clip.now x y) (seen (carried_holds leaf.entry x y) fill))) }
+    ensures items { IfOk result (λ back. shown.new ≡ shown.old ++ back_item back) }
+    ensures clip { IfOk result (λ back. IfSome back (λ i. i.clip ≡ clip.now)) }
 {
     match fill {
-        Some(fill) => Some(Item {
-            leaf,
-            clip: *clip,
-            fill,
-        }),
-        None => None,
+        Some(fill) => shown.add(leaf, clip, fill),
+        None => Ok(None),
     }
-}
-
-// Adds an item behind those that are there.
-fn keep_item<'a>(items: &mut Items<'a>, item: Option<Item<'a>>) -> Result<(), AllocError>
-    ensures { OnOk result (items.new.items ≡ items.old.items ++ back_item item.entry) }
-{
-    if let Some(item) = item {
-        items.push(item)?;
-    }
-    Ok(())
 }
 
 // The node of a leaf, if anything of it may be seen.
@@ -156,21 +154,16 @@ fn leaf_of<'a>(
     shape: Carried<'a>,
     clip: &PageBox,
     fill: Colour,
-    items: &mut Items<'a>,
+    shown: &mut Shown<'a>,
 ) -> Result<Option<Node<'a>>, AllocError>
-    ensures fills { IfOk result (λ node. (x y : ℤ) → last_fill (node_items node) x y ≡ seen (is_in clip.now x y) (seen (carried_holds shape.entry x y) (Some fill))) }
-    ensures items { IfOk result (λ node. items.new.items ≡ items.old.items ++ reverse (node_items node)) }
+    ensures fills { IfOk result (λ node. (x y : ℤ) → first_fill shown.new x y ≡ or_else (first_fill shown.old x y) (seen (is_in clip.now x y) (seen (carried_holds shape.entry x y) (Some fill)))) }
+    ensures items { IfOk result (λ node. shown.new ≡ shown.old ++ reverse (node_items node)) }
+    ensures clips { IfOk result (λ node. IfSome node (IsClipped clip.now)) }
 {
-    if shape.page_box().meet(clip).is_empty() {
-        return Ok(None);
+    match shown.add(shape, clip, fill)? {
+        Some(item) => Ok(Some(leaf(item))),
+        None => Ok(None),
     }
-    let item = Item {
-        leaf: shape,
-        clip: *clip,
-        fill,
-    };
-    items.push(item)?;
-    Ok(Some(leaf(item)))
 }
 
 // Vertices as a pose carries them to the page, in the arena.

@@ -1,4 +1,4 @@
-use Rattle.std.proofs.Common.{◌≡◌, ◌∙◌, refl, sym, ap, arith, rules, false, ◌-◌, reverse, ℤ, map}
+use Rattle.std.proofs.Common.{◌∙◌, refl, sym, ap, arith, rules, false, ◌+◌, ◌-◌, reverse, map, None, All, Bor, List, subst}
 use Rattle.canvas_plane.specs.Motion.{carry}
 use Rattle.canvas_plane.specs.Page.{is_in}
 use Rattle.canvas_shape.specs.Edges.{is_in_polygon}
@@ -6,72 +6,115 @@ use Rattle.canvas_shape.specs.Inside.{holds_of}
 use Rattle.canvas_shape.specs.Leaves.{carried_holds}
 use Rattle.canvas_shape.specs.declared.Kind.TheVariants.{Group, Frame, Polygon}
 use Rattle.canvas_doc.specs.declared.records.Parent.TheVariants.{Shape}
-use Rattle.canvas_doc.specs.Picture.{answer_among, answer_of, or_else}
-use Rattle.canvas_doc.proofs.Walk.{answer-by, answer-none, answer-level}
-use Rattle.canvas_scene.specs.Items.{last_fill}
-use Rattle.canvas_scene.specs.Nodes.{back_item, items_along, items_of, node_items, seen}
-use Rattle.canvas_scene.proofs.Seen.{build-more, frame-missed, frame-seen, list-frame, list-more, list-none, none-kept, ok-more, seen-none}
+use Rattle.canvas_doc.specs.declared.records.Record.{Record}
+use Rattle.canvas_doc.specs.Picture.{answer_among, answer_of, first_answer, or_else}
+use Rattle.canvas_doc.specs.Tree.{IsInLimits}
+use Rattle.canvas_doc.proofs.Walk.{answer-by, answer-children, answer-none}
+use Rattle.canvas_scene.specs.declared.nodes.Node.{Node}
+use Rattle.canvas_scene.specs.Clips.{IsClipped}
+use Rattle.canvas_scene.specs.Covers.{first_fill}
+use Rattle.canvas_scene.specs.Nodes.{items_along, items_of, node_items, seen}
+use Rattle.canvas_scene.proofs.Children.{child-all, left-more, left-none, left_from}
+use Rattle.canvas_scene.proofs.Clipping.{all-more, all-reversed, branch-clipped, meet-within}
+use Rattle.canvas_scene.proofs.Covering.{added-child, added-frame, hidden-box, hidden-frame}
+use Rattle.canvas_scene.proofs.Seen.{list-frame, list-more, list-none, ok-more, or_else-none, seen-none}
+use Rattle.canvas_scene.proofs.walk.+walk.Goals.{nodes_among-then-loop-child-test+in_ok-node+in_ok-keep+then-hides, nodes_among-else-loop-child-test}
 use Rattle.canvas_scene.proofs.walk.+walk.Goals as goal
 
 pub nodes_among-returns-then-levels-eq0-clause-fills : goal.nodes_among-returns-then-levels-eq0-clause-fills
 nodes_among-returns-then-levels-eq0-clause-fills t c = λ x y.
-    ap (λ l. last_fill (items_along l) x y) (c.into_bump_slice.ensures ∙ c.new-nodes.ensures.items) ∙ seen-none (is_in c.args.clip.now x y)
-    ∙ ap (seen (is_in c.args.clip.now x y)) (answer-none c.args.levels c.args.document.now.records c.args.parent (carry c.args.out.now) x y (omega arith))
+    or_else-none (first_fill c.args.shown.now x y)
+    ∙ ap (or_else (first_fill c.args.shown.now x y)) (seen-none (is_in c.args.clip.now x y)
+    ∙ ap (seen (is_in c.args.clip.now x y)) (answer-none c.args.levels c.args.document.now.records c.args.parent (carry c.args.out.now) x y (omega arith)))
 
 pub nodes_among-loop-child-init : goal.nodes_among-loop-child-init
 nodes_among-loop-child-init t c = record {
-  left = λ x y. none-kept c.new-nodes.result.items (is_in c.args.clip.now x y) _ _ x y c.new-nodes.ensures.items (answer-level c.args.levels c.args.document.now.records c.args.parent (carry c.args.out.now) x y (omega arith));
-  list = list-none c.args.items.now.items (items_along (reverse c.new-nodes.result.items)) (ap (λ l. items_along (reverse l)) c.new-nodes.ensures.items);
+  left = λ x y. ap (λ o. or_else (first_fill c.args.shown.now x y) (seen (is_in c.args.clip.now x y) o)) (sym (answer-children c.args.levels c.args.document.now.records c.args.parent (carry c.args.out.now) x y (omega arith) ∙ ap (first_answer (answer_of (c.args.levels - 1) c.args.document.now.records (carry c.args.out.now) x y)) (sym (ap (left_from 0) c.deref-child-items.ensures.value ∙ c.in_ok-children.ensures.children))));
+  list = list-none c.args.shown.now (items_along (reverse c.new-nodes.result.items)) (ap (λ l. items_along (reverse l)) c.new-nodes.ensures.items);
+  clips = search rules;
 }
 
 pub nodes_among-node_of-requires : goal.nodes_among-node_of-requires
 nodes_among-node_of-requires t c =
-    (search rules, (c.in-Some.ensures.limits, (c.requires.quarter, omega arith)))
+    let items = c.deref-child-items.result.now in
+    let limits : All (λ (r : Bor Record). IsInLimits r.now) items = subst (λ (l : List (Bor Record)). All (λ (r : Bor Record). IsInLimits r.now) l) (sym c.deref-child-items.ensures.value) c.in_ok-children.ensures.limits in
+    (search rules, (child-all IsInLimits items c.loop-child.child-index c.child-item.result c.loop-child-test.true c.child-item.is limits, (c.requires.quarter, omega arith)))
 
 pub nodes_among-loop-child-preserved : goal.nodes_among-loop-child-preserved
 nodes_among-loop-child-preserved t c = record {
-  left = λ x y. build-more x y (is_in c.args.clip.now x y) (node_items c.in_ok-node.node) (items_along (reverse c.loop-child.nodes.items)) (items_along (reverse c.keep.new.nodes.items)) (answer_of (c.args.levels - 1) c.args.document.now.records (carry c.args.out.now) x y) c.in-Some.child.now _ _ _ c.in_ok-keep.ensures (c.in_ok-node.ensures.fills x y) c.in-Some.ensures.next (c.loop-child.invariant.left x y);
-  list = list-more c.args.items.now.items (items_along (reverse c.loop-child.nodes.items)) (node_items c.in_ok-node.node) (items_along (reverse c.keep.new.nodes.items)) c.loop-child.items.items c.node_of.new.items.items c.loop-child.invariant.list c.in_ok-node.ensures.items c.in_ok-keep.ensures;
+  left = λ x y. added-child (is_in c.args.clip.now x y) (first_fill c.args.shown.now x y) (first_fill c.loop-child.shown x y) (first_fill c.node_of.new.shown x y) (answer_among c.args.levels c.args.document.now.records c.args.parent (carry c.args.out.now) x y) (answer_of (c.args.levels - 1) c.args.document.now.records (carry c.args.out.now) x y) c.child-item.result.now _ _ (c.in_ok-node.ensures.fills x y) (left-more c.deref-child-items.result.now c.loop-child.child-index c.child-item.result c.loop-child-test.true c.child-item.is) (c.loop-child.invariant.left x y);
+  list = list-more c.args.shown.now (items_along (reverse c.loop-child.nodes.items)) (node_items c.in_ok-node.node) (items_along (reverse c.keep.new.nodes.items)) c.loop-child.shown c.node_of.new.shown c.loop-child.invariant.list c.in_ok-node.ensures.items c.in_ok-keep.ensures.items;
+  clips = all-more (IsClipped c.args.clip.now) c.loop-child.nodes.items c.keep.new.nodes.items c.in_ok-node.node c.in_ok-keep.ensures.nodes c.loop-child.invariant.clips c.in_ok-node.ensures.clips;
 }
+
+pub nodes_among-returns-clause-fills : goal.nodes_among-returns-clause-fills
+nodes_among-returns-clause-fills t c = λ x y.
+    let items = c.deref-child-items.result.now in
+    let inside = is_in c.args.clip.now x y in
+    let answer = answer_of (c.args.levels - 1) c.args.document.now.records (carry c.args.out.now) x y in
+    let whole = answer_among c.args.levels c.args.document.now.records c.args.parent (carry c.args.out.now) x y in
+    elim c.loop-child-test.branch [
+      | nodes_among-else-loop-child-test w ↦ rw w.shown-is (or_else-none (first_fill c.loop-child.shown x y)
+          ∙ ap (or_else (first_fill c.loop-child.shown x y)) (seen-none inside ∙ ap (λ l. seen inside (first_answer answer l)) (sym (left-none items c.loop-child.child-index w.loop-child-test.false)))
+          ∙ c.loop-child.invariant.left x y)
+      | nodes_among-then-loop-child-test+in_ok-node+in_ok-keep+then-hides w ↦ rw w.shown-is (hidden-box w.node_of.new.shown c.args.clip.now (first_answer answer (left_from (c.loop-child.child-index + 1) items)) x y (w.if-hides.ensures refl)
+          ∙ added-child inside (first_fill c.args.shown.now x y) (first_fill c.loop-child.shown x y) (first_fill w.node_of.new.shown x y) whole answer w.child-item.result.now _ _ (w.in_ok-node.ensures.fills x y) (left-more items c.loop-child.child-index w.child-item.result w.loop-child-test.true w.child-item.is) (c.loop-child.invariant.left x y))
+    ]
+
+pub nodes_among-returns-clause-clips : goal.nodes_among-returns-clause-clips
+nodes_among-returns-clause-clips t c =
+    let P : List Node → Type 0 = λ l. All (IsClipped c.args.clip.now) l in
+    let kept : All (IsClipped c.args.clip.now) c.loop-child-test.nodes.items = elim c.loop-child-test.branch [
+      | nodes_among-else-loop-child-test w ↦ rw w.nodes-is c.loop-child.invariant.clips
+      | nodes_among-then-loop-child-test+in_ok-node+in_ok-keep+then-hides w ↦ rw w.nodes-is (all-more (IsClipped c.args.clip.now) c.loop-child.nodes.items w.keep.new.nodes.items w.in_ok-node.node w.in_ok-keep.ensures.nodes c.loop-child.invariant.clips w.in_ok-node.ensures.clips)
+    ] in
+    subst P (sym (c.into_bump_slice-2.ensures ∙ c.reverse.ensures.items)) (all-reversed (IsClipped c.args.clip.now) c.loop-child-test.nodes.items kept)
 
 pub node_of-returns-in_ok-nodes-in-Group-clause-fills : goal.node_of-returns-in_ok-nodes-in-Group-clause-fills
 node_of-returns-in_ok-nodes-in-Group-clause-fills t c = λ x y.
     let inner = answer_among c.args.levels c.args.document.now.records (Shape c.args.shape.now.id) (carry c.then-page.result) x y in
-    ap (λ l. last_fill l x y) c.branch-clip.ensures ∙ c.in_ok-nodes-in-Group.ensures.fills x y
-    ∙ ap (seen (is_in c.args.clip.now x y))
+    c.in_ok-nodes-in-Group.ensures.fills x y
+    ∙ ap (λ o. or_else (first_fill c.args.shown.now x y) (seen (is_in c.args.clip.now x y) o))
     (answer-by c.args.levels c.args.document.now.records (carry c.args.out.now) x y c.args.shape.now c.then-page.result Group false inner c.then-page.ensures.carries c.if-shape.false c.in-Group.is
     (ap (λ k. holds_of k (carry c.then-page.result) x y) (sym c.in-Group.is)) refl)
 
-pub node_of-returns-then-is_empty-clause-fills : goal.node_of-returns-then-is_empty-clause-fills
-node_of-returns-then-is_empty-clause-fills t c = λ x y.
+pub node_of-returns-in_ok-nodes-in-Group-clause-clips : goal.node_of-returns-in_ok-nodes-in-Group-clause-clips
+node_of-returns-in_ok-nodes-in-Group-clause-clips t c =
+    branch-clipped c.args.clip.now c.args.clip.now None c.in_ok-nodes-in-Group.nodes.now c.branch-clip.result c.branch-clip.ensures.pixels (λ x y h. h) tt c.in_ok-nodes-in-Group.ensures.clips
+
+pub node_of-returns-then-hides-clause-fills : goal.node_of-returns-then-hides-clause-fills
+node_of-returns-then-hides-clause-fills t c = λ x y.
     let inner = answer_among c.args.levels c.args.document.now.records (Shape c.args.shape.now.id) (carry c.then-page.result) x y in
-    let empty : (x y : ℤ) → is_in c.meet-inner.result x y ≡ false = c.if-is_empty.ensures.nothing.0 refl in
-    frame-missed c.args.clip.now c.page_box.result c.meet-inner.result (or_else inner c.in-Frame.fill) x y c.meet-inner.ensures.exact empty
-    ∙ ap (seen (is_in c.args.clip.now x y))
+    hidden-frame c.args.shown.now c.args.clip.now c.page_box.result c.meet-inner.result (or_else inner c.in-Frame.fill) x y c.meet-inner.ensures.exact (c.if-hides.ensures refl)
+    ∙ ap (λ o. or_else (first_fill c.args.shown.now x y) (seen (is_in c.args.clip.now x y) o))
     (answer-by c.args.levels c.args.document.now.records (carry c.args.out.now) x y c.args.shape.now c.then-page.result (Frame c.in-Frame.w c.in-Frame.h c.in-Frame.fill) (is_in c.page_box.result x y) inner c.then-page.ensures.carries c.if-shape.false c.in-Frame.is
     (ap (λ b. is_in b x y) (c.page_box.ensures.value ∙ c.rect-leaf.ensures.sides) ∙ ap (λ k. holds_of k (carry c.then-page.result) x y) (sym c.in-Frame.is)) refl)
 
-pub node_of-returns-in_ok-keep_item-in-Frame-clause-fills : goal.node_of-returns-in_ok-keep_item-in-Frame-clause-fills
-node_of-returns-in_ok-keep_item-in-Frame-clause-fills t c = λ x y.
+pub node_of-returns-in_ok-back-in-Frame-clause-fills : goal.node_of-returns-in_ok-back-in-Frame-clause-fills
+node_of-returns-in_ok-back-in-Frame-clause-fills t c = λ x y.
     let inner = answer_among c.args.levels c.args.document.now.records (Shape c.args.shape.now.id) (carry c.then-page.result) x y in
     let box = c.page_box.ensures.value ∙ c.rect-leaf.ensures.sides in
-    frame-seen c.args.clip.now c.page_box.result c.meet-inner.result c.in-Frame.fill inner (items_of c.branch-inner.result) (back_item c.back_of-back.result) (items_along c.in_ok-nodes-in-Frame.nodes.now) x y c.branch-inner.ensures c.meet-inner.ensures.exact
-    (c.back_of-back.ensures x y ∙ ap (λ b. seen (is_in c.args.clip.now x y) (seen b c.in-Frame.fill)) (c.rect-leaf.ensures.pixels x y ∙ ap (λ b. is_in b x y) (sym box)))
+    added-frame (first_fill c.args.shown.now x y) (first_fill c.nodes_among-in-Frame.new.shown x y) (first_fill c.back_of.new.shown x y) c.in-Frame.fill inner (is_in c.args.clip.now x y) (is_in c.page_box.result x y) (is_in c.meet-inner.result x y) (c.meet-inner.ensures.exact x y)
     (c.in_ok-nodes-in-Frame.ensures.fills x y)
-    ∙ ap (seen (is_in c.args.clip.now x y))
+    (c.in_ok-back-in-Frame.ensures.fills x y ∙ ap (λ b. or_else (first_fill c.nodes_among-in-Frame.new.shown x y) (seen (is_in c.args.clip.now x y) (seen b c.in-Frame.fill))) (c.rect-leaf.ensures.pixels x y ∙ ap (λ b. is_in b x y) (sym box)))
+    ∙ ap (λ o. or_else (first_fill c.args.shown.now x y) (seen (is_in c.args.clip.now x y) o))
     (answer-by c.args.levels c.args.document.now.records (carry c.args.out.now) x y c.args.shape.now c.then-page.result (Frame c.in-Frame.w c.in-Frame.h c.in-Frame.fill) (is_in c.page_box.result x y) inner c.then-page.ensures.carries c.if-shape.false c.in-Frame.is
     (ap (λ b. is_in b x y) box ∙ ap (λ k. holds_of k (carry c.then-page.result) x y) (sym c.in-Frame.is)) refl)
 
-pub node_of-returns-in_ok-keep_item-in-Frame-clause-items : goal.node_of-returns-in_ok-keep_item-in-Frame-clause-items
-node_of-returns-in_ok-keep_item-in-Frame-clause-items t c =
-    list-frame c.args.items.now.items c.nodes_among-in-Frame.new.items.items c.keep_item.new.items.items (items_along c.in_ok-nodes-in-Frame.nodes.now) (items_of c.branch-inner.result) c.back_of-back.result c.in_ok-nodes-in-Frame.ensures.items c.in_ok-keep_item-in-Frame.ensures c.branch-inner.ensures
+pub node_of-returns-in_ok-back-in-Frame-clause-items : goal.node_of-returns-in_ok-back-in-Frame-clause-items
+node_of-returns-in_ok-back-in-Frame-clause-items t c =
+    list-frame c.args.shown.now c.nodes_among-in-Frame.new.shown c.back_of.new.shown (items_along c.in_ok-nodes-in-Frame.nodes.now) (items_of c.branch-inner.result) c.in_ok-back-in-Frame.back c.in_ok-nodes-in-Frame.ensures.items c.in_ok-back-in-Frame.ensures.items c.branch-inner.ensures.items
+
+pub node_of-returns-in_ok-back-in-Frame-clause-clips : goal.node_of-returns-in_ok-back-in-Frame-clause-clips
+node_of-returns-in_ok-back-in-Frame-clause-clips t c =
+    branch-clipped c.args.clip.now c.meet-inner.result c.in_ok-back-in-Frame.back c.in_ok-nodes-in-Frame.nodes.now c.branch-inner.result c.branch-inner.ensures.pixels (meet-within c.args.clip.now c.page_box.result c.meet-inner.result c.meet-inner.ensures.exact) c.in_ok-back-in-Frame.ensures.clip c.in_ok-nodes-in-Frame.ensures.clips
 
 pub node_of-returns-in_ok-vertices-in-Polygon-clause-fills : goal.node_of-returns-in_ok-vertices-in-Polygon-clause-fills
 node_of-returns-in_ok-vertices-in-Polygon-clause-fills t c =
     ok-more c.leaf_of-in-Polygon.result _ _ (λ node h x y.
     let inner = answer_among c.args.levels c.args.document.now.records (Shape c.args.shape.now.id) (carry c.then-page.result) x y in
     h x y
-    ∙ ap (seen (is_in c.args.clip.now x y))
+    ∙ ap (λ o. or_else (first_fill c.args.shown.now x y) (seen (is_in c.args.clip.now x y) o))
     (answer-by c.args.levels c.args.document.now.records (carry c.args.out.now) x y c.args.shape.now c.then-page.result (Polygon c.in-Polygon.points c.in-Polygon.fill) (carried_holds c.polygon.result x y) inner c.then-page.ensures.carries c.if-shape.false c.in-Polygon.is
     (c.polygon.ensures.pixels x y ∙ ap (λ l. is_in_polygon l x y) c.in_ok-vertices-in-Polygon.ensures.value ∙ ap (λ l. is_in_polygon (map (carry c.then-page.result) l) x y) c.as_slice.ensures ∙ ap (λ k. holds_of k (carry c.then-page.result) x y) (sym c.in-Polygon.is)) refl))
     c.leaf_of-in-Polygon.ensures.fills

@@ -1,16 +1,9 @@
-use Rattle.std.proofs.Common.{◌≡◌, ◌∙◌, ap, refl, false, Some, ℤ}
-use Rattle.canvas_plane.specs.Page.{is_in}
-use Rattle.canvas_shape.specs.Leaves.{carried_holds}
-use Rattle.canvas_scene.specs.Items.{last_fill}
-use Rattle.canvas_scene.proofs.Seen.{item-seen, leaf-missed}
+use Rattle.std.proofs.Common.{◌≡◌, IfSome, Option, subst}
+use Rattle.canvas_scene.specs.declared.item.Item.{Item}
+use Rattle.canvas_scene.proofs.Clipping.{leaf-clipped}
 use Rattle.canvas_scene.proofs.walk.leaf_of.Goals as goal
 
-pub returns-then-is_empty-clause-fills : goal.returns-then-is_empty-clause-fills
-returns-then-is_empty-clause-fills c = λ x y.
-    let empty : (x y : ℤ) → is_in c.meet.result x y ≡ false = c.if-is_empty.ensures.nothing.0 refl in
-    leaf-missed (carried_holds c.args.shape) c.page_box.result c.args.clip.now c.meet.result (Some c.args.fill) x y c.page_box.ensures.has_all c.meet.ensures.exact empty
-
-pub returns-clause-fills : goal.returns-clause-fills
-returns-clause-fills c = λ x y.
-    ap (λ l. last_fill l x y) c.leaf.ensures
-    ∙ item-seen (record { leaf = c.args.shape; clip = c.args.clip.now; fill = c.args.fill }) (carried_holds c.args.shape x y) (is_in c.args.clip.now x y) x y refl
+pub returns-in-Some-clause-clips : goal.returns-in-Some-clause-clips
+returns-in-Some-clause-clips c =
+    let P : Option Item → Type 0 = λ o. IfSome o (λ i. i.clip ≡ c.args.clip.now) in
+    leaf-clipped c.args.clip.now c.leaf.result c.in-Some.item c.leaf.ensures.pixels (subst P c.in-Some.is c.in_ok-item.ensures.clip)

@@ -1,0 +1,81 @@
+//! Times scenes and their painting, beside filling the same tiles with a ready row: `bench_scene time`.
+#![tactic(auto)]
+
+mod documents;
+mod tiles;
+
+use canvas_doc::Document;
+use std::{env, io};
+use tiles::timed;
+
+fn main(rt: HostRuntime) -> io::Result<()> {
+    if !is_asked(&rt)? {
+        return println!(rt; "bench_scene time: measures scenes and their painting");
+    }
+    report(
+        &rt,
+        "10 rectangles",
+        &documents::rectangles(rt.alloc(), 10, 600)?,
+        500,
+        400,
+    )?;
+    report(
+        &rt,
+        "1,000 mixed shapes in nested frames",
+        &documents::nested(rt.alloc())?,
+        600,
+        60,
+    )?;
+    report(
+        &rt,
+        "200 polygons of 256 vertices",
+        &documents::polygons(rt.alloc())?,
+        800,
+        20,
+    )?;
+    report(
+        &rt,
+        "4,000 records in heavy overdraw",
+        &documents::overdraw(rt.alloc())?,
+        250,
+        4,
+    )
+}
+
+// Whether the word `time` is given.
+fn is_asked(rt: &HostRuntime) -> io::Result<bool> {
+    let mut is_asked = false;
+    for word in env::args(rt)?.skip(1) {
+        is_asked = word.as_str() == "time";
+    }
+    Ok(is_asked)
+}
+
+// Prints what tiles of a document cost, of which the left and top edges lie within `across` of the origin.
+fn report(
+    rt: &HostRuntime,
+    name: &str,
+    document: &Document,
+    across: u32,
+    count: u32,
+) -> io::Result<()> {
+    let cost = timed(rt, document, across, count)?;
+    println!(rt;
+        "{name}: {} records, {} items a tile; filling {} ns, scene {} ns, painting {} ns; ratios {} of 1000, painting alone {}",
+        document.count(),
+        cost.items,
+        cost.filling,
+        cost.scene,
+        cost.painting,
+        share(cost.filling, cost.scene.saturating_add(cost.painting)),
+        share(cost.filling, cost.painting)
+    )
+}
+
+// How many thousandths one time is of another.
+fn share(part: u64, whole: u64) -> u64 {
+    match part.saturating_mul(1000).checked_div(whole) {
+        Some(share) => share,
+        None => 0,
+    }
+}

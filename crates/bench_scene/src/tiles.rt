@@ -1,0 +1,149 @@
+//! What a tile costs.
+
+use bumpalo::Bump;
+use canvas_doc::Document;
+use canvas_paint::append_strip;
+use canvas_plane::Window;
+use canvas_scene::Scene;
+use std::io;
+use std::io::ErrorKind;
+use std::time::{Duration, Instant};
+
+/// How often each tile is painted; its least times count.
+const ROUNDS: u32 = 10;
+
+/// The bytes of a tile's row.
+const ROW: usize = 768;
+
+/// Nanoseconds a tile, and how many items a tile's display list has.
+#[derive(Clone, Copy)]
+pub struct Cost {
+    pub items: usize,
+    pub scene: u64,
+    pub painting: u64,
+    pub filling: u64,
+}
+
+impl Cost {
+    const NONE: Cost = Cost {
+        items: 0,
+        scene: 0,
+        painting: 0,
+        filling: 0,
+    };
+
+    // The costs of two tiles.
+    fn and(&self, other: &Cost) -> Cost {
+        Cost {
+            items: self.items.saturating_add(other.items),
+            scene: self.scene.saturating_add(other.scene),
+            painting: self.painting.saturating_add(other.painting),
+            filling: self.filling.saturating_add(other.filling),
+        }
+    }
+
+    // The lesser of each time.
+    fn least(&self, other: &Cost) -> Cost {
+        Cost {
+            items: other.items,
+            scene: self.scene.min(other.scene),
+            painting: self.painting.min(other.painting),
+            filling: self.filling.min(other.filling),
+        }
+    }
+
+    // The cost of one of so many tiles.
+    fn each(&self, count: u32) -> Cost {
+        Cost {
+            items: self.items / count.max(1) as usize,
+            scene: self.scene / u64::from(count.max(1)),
+            painting: self.painting / u64::from(count.max(1)),
+            filling: self.filling / u64::from(count.max(1)),
+        }
+    }
+}
+
+/// The mean cost of some tiles of a document, whose left and top edges lie below `across`.
+pub fn timed(rt: &HostRuntime, document: &Document, across: u32, count: u32) -> io::Result<Cost> {
+    let mut bump = Bump::new(rt.alloc());
+    let mut out = Vec::new(rt.alloc());
+    let mut all = Cost::NONE;
+    let mut place = 7u32;
+    for _ in 0..count {
+        place = place.wrapping_mul(1_664_525).wrapping_add(1_013_904_223);
+        let x = within(place >> 16, across);
+        let y = within(place >> 8, across);
+        if let Ok(window) = Window::new(x, y, 256, 256) {
+            all = all.and(&least(rt, document, &window, &mut bump, &mut out)?);
+        }
+    }
+    Ok(all.each(count))
+}
+
+// The least costs of a tile.
+fn least(
+    rt: &HostRuntime,
+    document: &Document,
+    window: &Window,
+    bump: &mut Bump,
+    out: &mut Vec<u8>,
+) -> io::Result<Cost> {
+    let mut least = tile(rt, document, window, bump, out)?;
+    for _ in 1..ROUNDS {
+        let cost = tile(rt, document, window, bump, out)?;
+        least = least.least(&cost);
+    }
+    Ok(least)
+}
+
+fn within(number: u32, size: u32) -> i32 {
+    match number.checked_rem(size) {
+        Some(place) => place.min(1_000_000) as i32,
+        None => 0,
+    }
+}
+
+// The cost of one tile.
+fn tile(
+    rt: &HostRuntime,
+    document: &Document,
+    window: &Window,
+    bump: &mut Bump,
+    out: &mut Vec<u8>,
+) -> io::Result<Cost> {
+    let start = Instant::now(rt)?;
+    let scene = Scene::build(bump, document, window)?;
+    let cut = start.elapsed(rt)?;
+    out.clear();
+    let start = Instant::now(rt)?;
+    append_strip(rt.alloc(), scene.display_list(), window, 0, window.h(), out)?;
+    let painting = start.elapsed(rt)?;
+    let items = scene.display_list().len();
+    out.clear();
+    let start = Instant::now(rt)?;
+    fill(out)?;
+    let filling = start.elapsed(rt)?;
+    match bump.reset() {
+        Ok(()) => Ok(Cost {
+            items,
+            scene: nanoseconds(cut),
+            painting: nanoseconds(painting),
+            filling: nanoseconds(filling),
+        }),
+        Err(_fault) => Err(io::Error::from(ErrorKind::Other)),
+    }
+}
+
+// Fills a tile with a ready row.
+fn fill(out: &mut Vec<u8>) -> io::Result<()> {
+    let row = [200u8; ROW];
+    out.reserve(256 * ROW)?;
+    for _ in 0..256u32 {
+        out.extend_from_slice(&row)?;
+    }
+    Ok(())
+}
+
+fn nanoseconds(time: Duration) -> u64 {
+    time.as_nanos().min(u128::from(u64::MAX)) as u64
+}

@@ -1,0 +1,7 @@
+//! Tests of scenes and pictures, from documents on.
+#![tactic(auto)]
+
+#[cfg(test)]
+mod random;
+#[cfg(test)]
+mod rows;

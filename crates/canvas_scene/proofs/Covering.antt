@@ -1,0 +1,142 @@
+-- What is hidden behind the items in front of it.
+use Rattle.std.proofs.Common.{◌≡◌, List, [], ◌∷◌, ◌++◌, Bool, true, false, ◌&&◌, cond, Option, Some, None, ℤ, refl, sym, ap, ◌∙◌, reverse, All, subst}
+use Rattle.std.proofs.lemmas.List.{reverse-append}
+use Rattle.std.proofs.lemmas.List.Elements.{All-push, All-weaker}
+use Rattle.canvas_plane.specs.declared.PageBox.{PageBox}
+use Rattle.canvas_plane.specs.Page.{is_in, IsWithin}
+use Rattle.canvas_shape.specs.declared.Colour.{Colour}
+use Rattle.canvas_shape.specs.declared.Carried.{Carried}
+use Rattle.canvas_shape.specs.declared.Carried.TheVariants.{Rect}
+use Rattle.canvas_shape.specs.declared.parts.LeafBox.{LeafBox}
+use Rattle.canvas_shape.specs.Leaves.{carried_holds, page_box_of}
+use Rattle.canvas_doc.specs.declared.records.Record.{Record}
+use Rattle.canvas_doc.specs.Picture.{first_answer, or_else}
+use Rattle.canvas_scene.specs.declared.item.Item.{Item}
+use Rattle.canvas_scene.specs.Covers.{first_fill, is_filled, IsHidden}
+use Rattle.canvas_scene.specs.Items.{fill_at, item_holds, last_fill}
+use Rattle.canvas_scene.specs.Nodes.{seen}
+use Rattle.canvas_scene.proofs.Seen.{frame-cases, last_fill-append, or_else-assoc, or_else-none, seen-or_else, swap-seen}
+
+pub first_fill-append : (xs ys : List Item) (x y : ℤ) → first_fill (xs ++ ys) x y ≡ or_else (first_fill xs x y) (first_fill ys x y)
+first_fill-append [] ys x y = refl
+first_fill-append (i ∷ xs) ys x y =
+    ap (or_else (fill_at i x y)) (first_fill-append xs ys x y)
+    ∙ sym (or_else-assoc (fill_at i x y) (first_fill xs x y) (first_fill ys x y))
+
+-- from front to back the first item wins, from back to front the last
+pub last-is-first : (is : List Item) (x y : ℤ) → last_fill (reverse is) x y ≡ first_fill is x y
+last-is-first [] x y = refl
+last-is-first (i ∷ is) x y =
+    ap (λ l. last_fill l x y) (reverse-append (i ∷ []) is) ∙ last_fill-append (reverse is) (i ∷ []) x y ∙ ap (or_else (fill_at i x y)) (last-is-first is x y)
+
+-- ---- what is hidden
+
+filled-stays : (a b : Option Colour) → is_filled a ≡ true → a ≡ or_else a b
+filled-stays None b e = cc
+filled-stays (Some c) b e = refl
+
+filled-more : (a b : Option Colour) → is_filled a ≡ true → is_filled (or_else a b) ≡ true
+filled-more None b e = cc
+filled-more (Some c) b e = refl
+
+hidden : (inside : Bool) (a o : Option Colour) → (inside ≡ true → is_filled a ≡ true) → a ≡ or_else a (seen inside o)
+hidden true a o h = filled-stays a o (h refl)
+hidden false a o h = or_else-none a
+
+-- what is seen in a hidden box alone is not seen
+pub hidden-box : (items : List Item) (box : PageBox) (o : Option Colour) (x y : ℤ) → IsHidden items box → first_fill items x y ≡ or_else (first_fill items x y) (seen (is_in box x y) o)
+hidden-box items box o x y h = hidden (is_in box x y) (first_fill items x y) o (h x y)
+
+cut-twice : (held box clip : Bool) (o : Option Colour) → (held ≡ true → box ≡ true) → seen (box && clip) (seen held o) ≡ seen clip (seen held o)
+cut-twice true true clip o h = refl
+cut-twice true false clip o h = let z : false ≡ true = h refl in cc
+cut-twice false true true o h = refl
+cut-twice false true false o h = refl
+cut-twice false false true o h = refl
+cut-twice false false false o h = refl
+
+-- a leaf is not seen where its box and its clip have a hidden box in common
+pub hidden-leaf : (items : List Item) (held : ℤ → ℤ → Bool) (box clip common : PageBox) (o : Option Colour) (x y : ℤ) → ((x y : ℤ) → held x y ≡ true → is_in box x y ≡ true) → ((x y : ℤ) → is_in common x y ≡ (is_in box x y && is_in clip x y)) → IsHidden items common → first_fill items x y ≡ or_else (first_fill items x y) (seen (is_in clip x y) (seen (held x y) o))
+hidden-leaf items held box clip common o x y has m h =
+    hidden-box items common (seen (held x y) o) x y h
+    ∙ ap (λ b. or_else (first_fill items x y) (seen b (seen (held x y) o))) (m x y)
+    ∙ ap (or_else (first_fill items x y)) (cut-twice (held x y) (is_in box x y) (is_in clip x y) o (has x y))
+
+cut-frame : (clip box : Bool) (o : Option Colour) → seen (clip && box) o ≡ seen clip (seen box o)
+cut-frame true box o = refl
+cut-frame false box o = refl
+
+-- a frame with all below it is not seen where its box and its clip have a hidden box in common
+pub hidden-frame : (items : List Item) (clip box common : PageBox) (o : Option Colour) (x y : ℤ) → ((x y : ℤ) → is_in common x y ≡ (is_in clip x y && is_in box x y)) → IsHidden items common → first_fill items x y ≡ or_else (first_fill items x y) (seen (is_in clip x y) (cond (is_in box x y) o None))
+hidden-frame items clip box common o x y m h =
+    hidden-box items common o x y h
+    ∙ ap (λ b. or_else (first_fill items x y) (seen b o)) (m x y)
+    ∙ ap (or_else (first_fill items x y)) (cut-frame (is_in clip x y) (is_in box x y) o)
+
+-- a box within a hidden one is hidden
+pub hidden-within : (items : List Item) (inner outer : PageBox) → IsWithin inner outer → IsHidden items outer → IsHidden items inner
+hidden-within items inner outer w h = λ x y e. h x y (w x y e)
+
+hidden-more : (items more : List Item) (box : PageBox) → IsHidden items box → IsHidden (items ++ more) box
+hidden-more items more box h = λ x y e.
+    ap is_filled (first_fill-append items more x y) ∙ filled-more (first_fill items x y) (first_fill more x y) (h x y e)
+
+-- more items hide no less
+pub all-hidden-more : (covers : List PageBox) (items more : List Item) → All (IsHidden items) covers → All (IsHidden (items ++ more)) covers
+all-hidden-more covers items more h = All-weaker (IsHidden items) (IsHidden (items ++ more)) (λ box. hidden-more items more box) covers h
+
+filled-after : (a b : Option Colour) → is_filled b ≡ true → is_filled (or_else a b) ≡ true
+filled-after None b e = e
+filled-after (Some c) b e = refl
+
+filled-by : (held : Bool) (c : Colour) → held ≡ true → is_filled (or_else (cond held (Some c) None) None) ≡ true
+filled-by true c e = refl
+filled-by false c e = cc
+
+-- an item hides a box of which it holds all
+pub hidden-by : (items : List Item) (i : Item) (box : PageBox) → ((x y : ℤ) → is_in box x y ≡ true → item_holds i x y ≡ true) → IsHidden (items ++ i ∷ []) box
+hidden-by items i box h = λ x y e.
+    ap is_filled (first_fill-append items (i ∷ []) x y)
+    ∙ filled-after (first_fill items x y) (first_fill (i ∷ []) x y) (filled-by (item_holds i x y) i.fill (h x y e))
+
+-- one item more hides what was hidden
+pub still-hidden : (covers : List PageBox) (items news : List Item) (i : Item) → news ≡ items ++ i ∷ [] → All (IsHidden items) covers → All (IsHidden news) covers
+still-hidden covers items news i e h =
+    let P : List Item → Type 0 = λ l. All (IsHidden l) covers in
+    subst P (sym e) (all-hidden-more covers items (i ∷ []) h)
+
+-- and the box of which it holds all
+pub one-more-hidden : (covers after : List PageBox) (items news : List Item) (i : Item) (part : PageBox) → news ≡ items ++ i ∷ [] → after ≡ covers ++ part ∷ [] → ((x y : ℤ) → is_in part x y ≡ true → item_holds i x y ≡ true) → All (IsHidden items) covers → All (IsHidden news) after
+one-more-hidden covers after items news i part e f held h =
+    let P : List Item → Type 0 = λ l. IsHidden l part in
+    let Q : List PageBox → Type 0 = λ l. All (IsHidden news) l in
+    subst Q (sym f) (All-push (IsHidden news) covers part (still-hidden covers items news i e h) (subst P (sym e) (hidden-by items i part held)))
+
+-- a rectangle holds all that its box and its clip have in common
+pub rectangle-holds : (leaf : Carried) (sides : LeafBox) (box clip common : PageBox) (fill : Colour) → leaf ≡ Rect sides → box ≡ page_box_of leaf → ((x y : ℤ) → is_in common x y ≡ (is_in box x y && is_in clip x y)) → (x y : ℤ) → is_in common x y ≡ true → item_holds (record { leaf = leaf; clip = clip; fill = fill }) x y ≡ true
+rectangle-holds leaf sides box clip common fill e f m x y h =
+    ap (λ b. b && is_in clip x y) (ap (λ l. carried_holds l x y) e ∙ ap (λ l. is_in (page_box_of l) x y) (sym e) ∙ ap (λ b. is_in b x y) (sym f))
+    ∙ sym (m x y) ∙ h
+
+-- ---- what is added behind
+
+-- one item more
+pub added-item : (items : List Item) (i : Item) (held clip : Bool) (x y : ℤ) → item_holds i x y ≡ (held && clip) → first_fill (items ++ i ∷ []) x y ≡ or_else (first_fill items x y) (seen clip (seen held (Some i.fill)))
+added-item items i held clip x y e =
+    first_fill-append items (i ∷ []) x y
+    ∙ ap (or_else (first_fill items x y)) (sym (or_else-none (fill_at i x y)) ∙ ap (λ b. cond b (Some i.fill) None) e ∙ swap-seen held clip (Some i.fill))
+
+-- one child more
+pub added-child : (clip : Bool) (start old new whole : Option Colour) (f : Record → Option Colour) (child : Record) (kids rest : List Record) → new ≡ or_else old (seen clip (f child)) → kids ≡ child ∷ rest → or_else old (seen clip (first_answer f kids)) ≡ or_else start (seen clip whole) → or_else new (seen clip (first_answer f rest)) ≡ or_else start (seen clip whole)
+added-child clip start old new whole f child kids rest en ek e =
+    ap (λ o. or_else o (seen clip (first_answer f rest))) en
+    ∙ or_else-assoc old (seen clip (f child)) (seen clip (first_answer f rest))
+    ∙ ap (or_else old) (seen-or_else clip (f child) (first_answer f rest))
+    ∙ ap (λ l. or_else old (seen clip (first_answer f l))) (sym ek) ∙ e
+
+-- a frame's own fill behind its children, cut by its box
+pub added-frame : (old mid new fill inner : Option Colour) (clip box common : Bool) → common ≡ (clip && box) → mid ≡ or_else old (seen common inner) → new ≡ or_else mid (seen clip (seen box fill)) → new ≡ or_else old (seen clip (cond box (or_else inner fill) None))
+added-frame old mid new fill inner clip box common ec em en =
+    en ∙ ap (λ o. or_else o (seen clip (seen box fill))) (em ∙ ap (λ b. or_else old (seen b inner)) ec)
+    ∙ or_else-assoc old (seen (clip && box) inner) (seen clip (seen box fill))
+    ∙ ap (or_else old) (frame-cases clip box inner fill)

@@ -1,0 +1,18 @@
+use Rattle.std.proofs.Common.{◌∙◌, All, ap, subst}
+use Rattle.canvas_plane.specs.declared.PageBox.{PageBox}
+use Rattle.canvas_plane.specs.Page.{is_in}
+use Rattle.canvas_doc.specs.Picture.{or_white}
+use Rattle.canvas_scene.specs.Clips.{IsClipped}
+use Rattle.canvas_scene.specs.Items.{last_colour}
+use Rattle.canvas_scene.proofs.Covering.{last-is-first}
+use Rattle.canvas_scene.proofs.scenes.Scene.build.Goals as goal
+
+pub returns-clause-colours : goal.returns-clause-colours
+returns-clause-colours c = λ x y h.
+    ap (λ l. last_colour l x y) c.into_list.ensures ∙ ap or_white (last-is-first c.nodes_of_page.new.shown x y)
+    ∙ c.in_ok-root.ensures.colours x y (ap (λ b. is_in b x y) c.page_box.ensures ∙ h)
+
+pub returns-clause-clips : goal.returns-clause-clips
+returns-clause-clips c =
+    let P : PageBox → Type 0 = λ b. All (IsClipped b) c.in_ok-root.root.now in
+    subst P c.page_box.ensures c.in_ok-root.ensures.clips

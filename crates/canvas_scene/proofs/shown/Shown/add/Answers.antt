@@ -1,0 +1,35 @@
+use Rattle.std.proofs.Common.{◌≡◌, ◌∙◌, ◌++◌, ◌∷◌, [], All, List, Some, ap, refl, rules, subst, sym}
+use Rattle.canvas_plane.specs.declared.PageBox.{PageBox}
+use Rattle.canvas_plane.specs.Page.{is_in}
+use Rattle.canvas_shape.specs.Leaves.{carried_holds}
+use Rattle.canvas_scene.specs.declared.item.Item.{Item}
+use Rattle.canvas_scene.specs.Covers.{first_fill, IsHidden}
+use Rattle.canvas_scene.proofs.Covering.{added-item, hidden-leaf, one-more-hidden, rectangle-holds, still-hidden}
+use Rattle.canvas_scene.proofs.shown.Shown.add.Goals as goal
+
+pub returns-then-hides-clause-fills : goal.returns-then-hides-clause-fills
+returns-then-hides-clause-fills c = λ x y.
+    hidden-leaf c.args.self.now (carried_holds c.args.leaf) c.page_box.result c.args.clip.now c.meet-part.result (Some c.args.fill) x y c.page_box.ensures.has_all c.meet-part.ensures.exact (c.if-hides.ensures refl)
+
+pub invariant_of-self-in-Continue-branch-2 : goal.invariant_of-self-in-Continue-branch-2
+invariant_of-self-in-Continue-branch-2 c =
+    let item : Item = record { leaf = c.args.leaf; clip = c.args.clip.now; fill = c.args.fill } in
+    one-more-hidden c.self.inside.covers.items c.push-in-Rect.new.self.items c.self.inside.items.items c.push.new.self.items item c.meet-part.result c.in_ok-push.ensures.items c.in_ok-push-2.ensures.items
+    (rectangle-holds c.args.leaf c.in-Rect.field-0 c.page_box.result c.args.clip.now c.meet-part.result c.args.fill c.in-Rect.is c.page_box.ensures.value c.meet-part.ensures.exact) c.self.invariant
+
+pub invariant_of-self-in_err-push-2 : goal.invariant_of-self-in_err-push-2
+invariant_of-self-in_err-push-2 c =
+    let item : Item = record { leaf = c.args.leaf; clip = c.args.clip.now; fill = c.args.fill } in
+    let P : List PageBox → Type 0 = λ l. All (IsHidden c.push.new.self.items) l in
+    subst P (sym c.in_err-push-2.ensures.items) (still-hidden c.self.inside.covers.items c.self.inside.items.items c.push.new.self.items item c.in_ok-push.ensures.items c.self.invariant)
+
+pub invariant_of-self-in_default : goal.invariant_of-self-in_default
+invariant_of-self-in_default c =
+    let item : Item = record { leaf = c.args.leaf; clip = c.args.clip.now; fill = c.args.fill } in
+    still-hidden c.self.inside.covers.items c.self.inside.items.items c.push.new.self.items item c.in_ok-push.ensures.items c.self.invariant
+
+pub returns-clause-fills : goal.returns-clause-fills
+returns-clause-fills c = λ x y.
+    let item : Item = record { leaf = c.args.leaf; clip = c.args.clip.now; fill = c.args.fill } in
+    let more : c.match-leaf.self ≡ c.args.self.now ++ item ∷ [] = search rules in
+    ap (λ l. first_fill l x y) more ∙ added-item c.args.self.now item (carried_holds c.args.leaf x y) (is_in c.args.clip.now x y) x y refl

@@ -1,0 +1,116 @@
+//! What a walk from front to back has shown so far.
+
+ghost use Rattle.std.specs.Prelude.{◌≡◌, ◌++◌, ◌&&◌, [], ℤ, All, IfOk, IfSome, IsTrue, List, Some, int_le, reverse};
+ghost use Rattle.canvas_plane.specs.Page.{is_in, IsWithin};
+ghost use Rattle.canvas_shape.specs.Leaves.{carried_holds};
+ghost use Rattle.canvas_doc.specs.Picture.{or_else};
+ghost use Rattle.canvas_scene.specs.declared.item.Item.{Item};
+ghost use Rattle.canvas_scene.specs.Covers.{first_fill, IsHidden};
+ghost use Rattle.canvas_scene.specs.Nodes.{back_item, seen};
+
+use crate::Item;
+use bumpalo::Bump;
+use bumpalo::collections::into_bump_slice;
+use canvas_plane::PageBox;
+use canvas_shape::{Carried, Colour};
+use std::alloc::AllocError;
+use std::marker::Model;
+
+/// The items that a walk has come to, seen as their list from front to back. It keeps what each
+/// rectangle leaves to be seen, so that what lies wholly behind one makes no item.
+#[derive(Drop)]
+pub(crate) struct Shown<'a> {
+    items: Vec<Item<'a>, &'a Bump>,
+    covers: Vec<PageBox, &'a Bump>,
+}
+
+impl<'a> Model for Shown<'a> {
+    ghost Value = { List Item };
+
+    ghost view = { λ shown. shown.items.items };
+
+    ghost invariant = { λ shown. All (IsHidden shown.items.items) shown.covers.items };
+}
+
+impl<'a> Shown<'a> {
+    /// Nothing yet.
+    pub(crate) fn new(bump: &'a Bump) -> Shown<'a>
+        ensures { result ≡ [] }
+    {
+        Shown {
+            items: Vec::new(bump),
+            covers: Vec::new(bump),
+        }
+    }
+
+    /// Whether nothing behind may be seen in a box, for it is empty or lies within one rectangle.
+    pub(crate) fn hides(&self, part: &PageBox) -> bool
+        ensures { IsTrue result → IsHidden self.now part.now }
+    {
+        part.is_empty() || lies_within_one(part, &self.covers)
+    }
+
+    /// Adds a leaf behind all others, if anything of it may be seen, and gives its item.
+    pub(crate) fn add(
+        &mut self,
+        leaf: Carried<'a>,
+        clip: &PageBox,
+        fill: Colour,
+    ) -> Result<Option<Item<'a>>, AllocError>
+        ensures fills { IfOk result (λ item. (x y : ℤ) → first_fill self.new x y ≡ or_else (first_fill self.old x y) (seen (is_in clip.now x y) (seen (carried_holds leaf.entry x y) (Some fill)))) }
+        ensures items { IfOk result (λ item. self.new ≡ self.old ++ back_item item) }
+        ensures clip { IfOk result (λ item. IfSome item (λ i. i.clip ≡ clip.now)) }
+    {
+        let part = leaf.page_box().meet(clip);
+        if self.hides(&part) {
+            return Ok(None);
+        }
+        let item = Item {
+            leaf,
+            clip: *clip,
+            fill,
+        };
+        self.items.push(item)?;
+        if let Carried::Rect(_) = leaf {
+            self.covers.push(part)?;
+        }
+        Ok(Some(item))
+    }
+
+    /// The items from back to front, in the arena.
+    pub(crate) fn into_list(self) -> &'a [Item<'a>]
+        ensures { result.now ≡ reverse self.entry }
+    {
+        let mut items = self.items;
+        items.reverse();
+        into_bump_slice(items)
+    }
+}
+
+// Whether one of some boxes holds all that a box holds.
+fn lies_within_one(part: &PageBox, covers: &[PageBox]) -> bool
+    ensures { IsTrue result → (items : List Item) → All (IsHidden items) covers.now → IsHidden items part.now }
+{
+    for cover in covers {
+        if lies_within(part, cover) {
+            return true;
+        }
+    }
+    false
+}
+
+// Whether the edges of a box lie within those of another.
+fn lies_within(inner: &PageBox, outer: &PageBox) -> bool
+    ensures { IsTrue result → IsWithin inner.now outer.now }
+{
+    let is_across = is_part(inner.left, inner.right, outer.left, outer.right);
+    let is_down = is_part(inner.top, inner.bottom, outer.top, outer.bottom);
+    is_across && is_down
+}
+
+// Whether a side lies within another.
+fn is_part(from: i64, to: i64, start: i64, end: i64) -> bool
+    ensures { result ≡ (int_le start from && int_le to end) }
+{
+    if start <= from { to <= end } else { false }
+}
