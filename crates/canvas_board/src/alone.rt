@@ -89,7 +89,7 @@ impl Board for Alone {
 
     fn picture<H: Threads + Wait + Sync>(
         &mut self,
-        _rt: &H,
+        rt: &H,
         window: &Window,
         workers: u32,
     ) -> Result<Picture, BoardFault> {
@@ -97,7 +97,7 @@ impl Board for Alone {
             return Err(BoardFault::BadWorkers);
         }
         let version = self.number;
-        let file = file_of(self.alloc, &self.arena, &self.document, window);
+        let file = file_of(rt, self.alloc, &self.arena, &self.document, window, workers);
         // Nothing borrows the arena any more, so a reset can't fail.
         let _ = self.arena.reset();
         match file {

@@ -119,6 +119,7 @@ fn versions_are_spent_first(rt: HostRuntime) -> Result<(), Fail> {
 fn numbers_of_workers(rt: HostRuntime) -> Result<(), Fail> {
     let alloc = rt.alloc();
     let mut board = board(alloc, 1)?;
+    assert!(rt; board.edit(&rt, &rectangle(RED)).is_ok());
     let window = window(256, 2)?;
     for workers in [0, 17, u32::MAX] {
         let Err(fault) = board.picture(&rt, &window, workers) else {
@@ -128,11 +129,15 @@ fn numbers_of_workers(rt: HostRuntime) -> Result<(), Fail> {
         assert_eq!(rt; fault.code(), 31);
         assert_eq!(rt; fault.name(), "BadWorkers");
     }
+    let mut want = Vec::new(alloc);
+    want.extend_from_slice(b"P6\n256 2\n255\n\xff\x00\x00\xff\x00\x00")?;
+    want.extend_from_slice(vec![in alloc; 255u8; 1530]?.as_slice())?;
+    assert_eq!(rt; want.len(), 1_549);
     for workers in [1, 3, 16] {
         let Ok(picture) = board.picture(&rt, &window, workers) else {
             return Err(Fail::from("no picture"));
         };
-        assert_eq!(rt; picture.bytes.len(), 1_549);
+        assert!(rt; picture.bytes.as_slice() == want.as_slice());
     }
     Ok(())
 }

@@ -1,5 +1,7 @@
--- A window painted from a scene is the document's picture.
-use Rattle.std.proofs.Common.{◌≡◌, ℕ, ◌<◌, ◌≤◌, ◌++◌, ◌∙◌, List, ℤ, ◌+ℤ◌, pos, ◌&&◌, true, ap, arith, Result, Ok, Err}
+-- A window painted from a scene is the document's picture, and strips in order are the whole of it.
+use Rattle.std.proofs.Common.{◌≡◌, ℕ, ◌+◌, ◌<◌, ◌≤◌, ◌++◌, ◌∙◌, List, ℤ, ◌+ℤ◌, pos, ◌&&◌, true, ap, append-nil, arith, length, refl, sym, take, Result, Ok, Err}
+use Rattle.std.proofs.lemmas.List.{take_at}
+use Rattle.std.proofs.Math.Nat.{mul-div_cancel_left}
 use Rattle.std.specs.Result.{OnOk}
 use Rattle.std.specs.Prelude.{int_le, int_lt}
 use Rattle.std.proofs.lemmas.Int.{ints}
@@ -7,8 +9,11 @@ use Rattle.canvas_plane.specs.declared.windows.Window.{Window}
 use Rattle.canvas_plane.specs.Page.{is_in}
 use Rattle.canvas_plane.specs.Window.{box_of_window}
 use Rattle.canvas_shape.specs.declared.Colour.{Colour}
-use Rattle.canvas_scene.specs.Pictures.{picture_of, rows_of}
-use Rattle.canvas_scene.proofs.Raster.{rows-agree}
+use Rattle.canvas_scene.specs.declared.item.Item.{Item}
+use Rattle.canvas_scene.specs.Items.{last_colour}
+use Rattle.canvas_scene.specs.Pictures.{bytes_at, picture_of, rows_of}
+use Rattle.canvas_scene.proofs.Raster.{band-more, rows-agree}
+use Rattle.canvas_paint.specs.Strips.{IsStrip, strip_start}
 
 in-side : (x : ℤ) (k n : ℕ) → k < n → (int_le x (x +ℤ pos k) && int_lt (x +ℤ pos k) (x +ℤ pos n)) ≡ true
 in-side x k n lt = grind (arith, ints)
@@ -25,3 +30,28 @@ joined-picture f g w h = rows-agree f g w 0 w.h (omega arith) (omega arith) (λ 
 pub ok-then : {A E : Type 0} (r : Result A E) (P Q : Type 0) → (P → Q) → OnOk r P → OnOk r Q
 ok-then (Ok a) P Q f h = f h
 ok-then (Err e) P Q f h = h
+
+-- strips begin and end in order
+strip-order : (h k n : ℕ) → strip_start h k n ≤ strip_start h (k + 1) n
+strip-order h k n = grind arith
+
+-- the bytes after one strip more
+pub strip-after : (items : List Item) (w : Window) (k n : ℕ) (start old new strip : List ℕ) → old ≡ start ++ rows_of (last_colour items) w 0 (strip_start w.h k n) → IsStrip items w k n strip → new ≡ old ++ strip → new ≡ start ++ rows_of (last_colour items) w 0 (strip_start w.h (k + 1) n)
+strip-after items w k n start old new strip o s e =
+    band-more (bytes_at (last_colour items) w) w.w 0 (strip_start w.h k n) (strip_start w.h (k + 1) n) start old new strip (omega arith) (strip-order w.h k n) o s e
+
+-- before the first strip there is nothing
+pub strips-begin : (items : List Item) (w : Window) (n : ℕ) (start : List ℕ) → start ≡ start ++ rows_of (last_colour items) w 0 (strip_start w.h 0 n)
+strips-begin items w n start =
+    let none : strip_start w.h 0 n ≡ 0 = grind arith in
+    sym (ap (λ m. start ++ rows_of (last_colour items) w 0 m) none ∙ append-nil start)
+
+-- what is only appended to keeps its beginning
+pub begins-same : (start rest whole : List ℕ) → whole ≡ start ++ rest → take (length start) whole ≡ start
+begins-same start rest whole e = ap (take (length start)) e ∙ take_at start rest (length start) refl
+
+-- after n strips there are all rows
+pub strips-whole : (items : List Item) (w : Window) (k n : ℕ) (start whole : List ℕ) → 0 < n → k ≡ n → whole ≡ start ++ rows_of (last_colour items) w 0 (strip_start w.h k n) → whole ≡ start ++ rows_of (last_colour items) w 0 w.h
+strips-whole items w k n start whole some all e =
+    let end : strip_start w.h k n ≡ w.h = ap (λ m. strip_start w.h m n) all ∙ mul-div_cancel_left w.h some in
+    e ∙ ap (λ m. start ++ rows_of (last_colour items) w 0 m) end

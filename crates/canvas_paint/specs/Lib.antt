@@ -2,3 +2,4 @@ pub mod Words
 pub mod Blocks
 pub mod Strips
 pub mod FreeRows
+pub mod Workers

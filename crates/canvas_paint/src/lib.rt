@@ -2,16 +2,22 @@
 #![tactic(auto)]
 
 mod block;
+mod fault;
 mod free_row;
+mod gate;
 mod leaf;
 mod picture;
 mod row;
 mod strip;
 mod word;
+mod workers;
 
+pub use fault::PaintFault;
 pub use free_row::FreeRow;
+pub use gate::{FreeGate, Gate};
 pub use picture::append_picture;
 pub use strip::{append_strip, paint_strip, strip_rows};
+pub use workers::paint;
 
 #[cfg(test)]
 mod tests;

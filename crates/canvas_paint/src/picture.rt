@@ -1,29 +1,43 @@
 //! Pictures of documents.
 
-ghost use Rattle.std.specs.Prelude.{◌≡◌, ◌++◌, OnOk, OnErr};
+ghost use Rattle.std.specs.Prelude.{◌≡◌, ◌++◌, OnOk, OnErr, true};
 ghost use Rattle.canvas_doc.specs.Picture.{colour};
 ghost use Rattle.canvas_scene.specs.Pictures.{picture_of};
+ghost use Rattle.canvas_paint.specs.Workers.{are_workers};
 
-use crate::strip::append_strip;
+use crate::gate::FreeGate;
+use crate::workers::append_painted;
 use bumpalo::Bump;
 use canvas_doc::Document;
 use canvas_plane::Window;
 use canvas_scene::Scene;
 use std::alloc::{AllocError, Global};
+use std::thread::Threads;
 
 /// Appends the picture of a document in a window: row by row, for each pixel red, green and blue
-/// of the colour that the document has there. The arena holds the scene until its next reset.
-/// Without memory `out` is as it was.
-pub fn append_picture(
+/// of the colour that the document has there, painted by 1 to 16 workers. The arena holds the
+/// scene until its next reset. Without memory `out` is as it was.
+pub fn append_picture<R: Threads + Sync>(
+    rt: &R,
     alloc: Global,
     bump: &Bump,
     document: &Document,
     window: &Window,
+    workers: u32,
     out: &mut Vec<u8>,
 ) -> Result<(), AllocError>
+    requires { are_workers workers ≡ true }
     ensures ok { OnOk result (out.new.items ≡ out.old.items ++ picture_of (colour document.now.records) window.now) }
     ensures err { OnErr result (out.new.items ≡ out.old.items) }
 {
     let scene = Scene::build(bump, document, window)?;
-    append_strip(alloc, scene.display_list(), window, 0, window.h(), out)
+    append_painted(
+        rt,
+        alloc,
+        scene.display_list(),
+        window,
+        workers,
+        &FreeGate,
+        out,
+    )
 }

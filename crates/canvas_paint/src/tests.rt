@@ -1,6 +1,6 @@
 //! Worked pictures, and random documents compared with the walk, pixel by pixel.
 
-use crate::{FreeRow, append_picture, paint_strip, strip_rows};
+use crate::{FreeGate, FreeRow, Gate, PaintFault, append_picture, paint, paint_strip, strip_rows};
 use bumpalo::Bump;
 use canvas_doc::{Document, Edit, Parent, Spot};
 use canvas_plane::{PageBox, Point, Pose, Window};
@@ -8,7 +8,11 @@ use canvas_scene::Scene;
 use canvas_shape::{Colour, Kind, Points, Span};
 use std::alloc::{AllocError, Global};
 use std::process::Abort;
+use std::sync::atomic::{AtomicU64, Ordering};
 use std::test::Fail;
+use std::thread;
+use std::thread::Threads;
+use std::time::{Clock, Duration};
 
 const RED: Colour = Colour([255, 0, 0]);
 
@@ -41,10 +45,18 @@ fn after(alloc: Global, document: Document, edit: &Edit) -> Result<Document, All
     }
 }
 
-fn picture(alloc: Global, document: &Document, window: &Window) -> Result<Vec<u8>, AllocError> {
+// The picture of a document by 1 to 4 workers.
+fn picture<R: Threads + Sync>(
+    rt: &R,
+    alloc: Global,
+    document: &Document,
+    window: &Window,
+    workers: u32,
+) -> Result<Vec<u8>, AllocError> {
     let bump = Bump::new(alloc);
     let mut out = Vec::new(alloc);
-    append_picture(alloc, &bump, document, window, &mut out)?;
+    let workers = workers.clamp(1, 4);
+    append_picture(rt, alloc, &bump, document, window, workers, &mut out)?;
     Ok(out)
 }
 
@@ -98,7 +110,7 @@ fn turned_frame_cuts_its_child(rt: HostRuntime) -> Result<(), Fail> {
         };
         assert_eq!(rt; item.clip, clip);
     }
-    let bytes = picture(alloc, &document, &window)?;
+    let bytes = picture(&rt, alloc, &document, &window, 1)?;
     assert!(rt; agrees(&document, &window, bytes.as_slice()));
     assert_eq!(rt; document.colour_at(0, 1), RED);
     let hide = Edit::Show {
@@ -126,7 +138,7 @@ fn frames_in_frames_cut_by_both(rt: HostRuntime) -> Result<(), Fail> {
     let leaf = create(rect(6, 2, GREEN), Pose::STILL, Parent::Shape(2));
     let document = after(alloc, document, &leaf)?;
     let window = Window::new(0, 0, 6, 2)?;
-    let bytes = picture(alloc, &document, &window)?;
+    let bytes = picture(&rt, alloc, &document, &window, 1)?;
     let mut want = Vec::new(alloc);
     for _ in 0..2u8 {
         for x in 0..6u8 {
@@ -142,17 +154,18 @@ fn frames_in_frames_cut_by_both(rt: HostRuntime) -> Result<(), Fail> {
     Ok(())
 }
 
+// A red rectangle of 2 by 1 at the origin.
+fn red_rectangle(alloc: Global) -> Result<Document, AllocError> {
+    let edit = create(rect(2, 1, RED), Pose::STILL, Parent::Page);
+    after(alloc, Document::empty(alloc), &edit)
+}
+
 #[test]
 fn strips_joined_are_the_picture(rt: HostRuntime) -> Result<(), Fail> {
     let alloc = rt.alloc();
-    let document = Document::empty(alloc);
-    let document = after(
-        alloc,
-        document,
-        &create(rect(2, 1, RED), Pose::STILL, Parent::Page),
-    )?;
+    let document = red_rectangle(alloc)?;
     let window = Window::new(0, 0, 256, 2)?;
-    let whole = picture(alloc, &document, &window)?;
+    let whole = picture(&rt, alloc, &document, &window, 1)?;
     assert_eq!(rt; whole.len(), 1536);
     assert_eq!(rt; strip_rows(2, 0, 2), (0, 1));
     assert_eq!(rt; strip_rows(2, 1, 2), (1, 2));
@@ -162,6 +175,103 @@ fn strips_joined_are_the_picture(rt: HostRuntime) -> Result<(), Fail> {
     let second = paint_strip(alloc, scene.display_list(), &window, 1, 2)?;
     joined.extend_from_slice(second.as_slice())?;
     assert_eq!(rt; joined.as_slice(), whole.as_slice());
+    Ok(())
+}
+
+#[test]
+fn any_number_of_workers_paints_the_same(rt: HostRuntime) -> Result<(), Fail> {
+    let alloc = rt.alloc();
+    let document = red_rectangle(alloc)?;
+    let window = Window::new(0, 0, 256, 2)?;
+    let bump = Bump::new(alloc);
+    let scene = Scene::build(&bump, &document, &window)?;
+    let mut want = Vec::new(alloc);
+    want.extend_from_slice(b"\xff\x00\x00\xff\x00\x00")?;
+    want.extend_from_slice(vec![in alloc; 255u8; 1530]?.as_slice())?;
+    for workers in [1, 3, 16] {
+        let raster = paint(
+            &rt,
+            alloc,
+            scene.display_list(),
+            &window,
+            workers,
+            &FreeGate,
+        )?;
+        assert!(rt; raster.as_slice() == want.as_slice());
+    }
+    for workers in [0, 17] {
+        let Err(fault) = paint(
+            &rt,
+            alloc,
+            scene.display_list(),
+            &window,
+            workers,
+            &FreeGate,
+        ) else {
+            return Err(Fail::from("a picture"));
+        };
+        assert!(rt; fault == PaintFault::BadWorkers);
+    }
+    Ok(())
+}
+
+#[test]
+fn texts_of_faults(rt: HostRuntime) -> Result<(), Fail> {
+    let faults = [(PaintFault::BadWorkers, 31), (PaintFault::OutOfMemory, 1)];
+    for (fault, code) in faults {
+        assert_eq!(rt; fault.code(), code);
+        let text = format!(in rt.alloc(); "{fault}")?;
+        assert_eq!(rt; text.as_str(), fault.name());
+    }
+    Ok(())
+}
+
+// Holds each of two strips until the other has come too, and counts those that waited in vain.
+#[derive(Drop)]
+struct Meeting<'a, C> {
+    clock: &'a C,
+    come: [AtomicU64; 2],
+    in_vain: AtomicU64,
+}
+
+impl<C: Clock> Gate for Meeting<'_, C> {
+    fn pass(&self, strip: u32) {
+        if let Some(mine) = self.come.get(strip as usize) {
+            mine.store(1, Ordering::SeqCst);
+        }
+        for _ in 0..10_000u32 {
+            if self
+                .come
+                .iter()
+                .all(|strip| strip.load(Ordering::SeqCst) == 1)
+            {
+                return;
+            }
+            thread::sleep(self.clock, Duration::from_millis(1));
+        }
+        self.in_vain.fetch_add(1, Ordering::SeqCst);
+    }
+}
+
+#[test]
+fn two_workers_work_at_once(rt: HostRuntime) -> Result<(), Fail> {
+    let alloc = rt.alloc();
+    let document = red_rectangle(alloc)?;
+    let window = Window::new(0, 0, 4, 2)?;
+    let bump = Bump::new(alloc);
+    let scene = Scene::build(&bump, &document, &window)?;
+    let gate = Meeting {
+        clock: &rt,
+        come: [AtomicU64::new(0), AtomicU64::new(0)],
+        in_vain: AtomicU64::new(0),
+    };
+    let together = paint(&rt, alloc, scene.display_list(), &window, 2, &gate)?;
+    assert_eq!(rt; gate.in_vain.load(Ordering::SeqCst), 0);
+    for strip in &gate.come {
+        assert_eq!(rt; strip.load(Ordering::SeqCst), 1);
+    }
+    let alone = paint(&rt, alloc, scene.display_list(), &window, 1, &FreeGate)?;
+    assert_eq!(rt; together.as_slice(), alone.as_slice());
     Ok(())
 }
 
@@ -298,8 +408,8 @@ fn random_window(dice: &mut Dice, x: i32, y: i32) -> Option<Window> {
 }
 
 // How many windows of random documents were compared.
-fn compared(
-    rt: &impl Abort,
+fn compared<R: Abort + Threads + Sync>(
+    rt: &R,
     alloc: Global,
     seed: u64,
     far: i64,
@@ -311,7 +421,7 @@ fn compared(
     for _ in 0..150u32 {
         let document = random_document(alloc, &mut dice, far)?;
         if let Some(window) = random_window(&mut dice, x, y) {
-            let bytes = picture(alloc, &document, &window)?;
+            let bytes = picture(rt, alloc, &document, &window, count % 3 + 1)?;
             assert!(rt;
                 agrees(&document, &window, bytes.as_slice()),
                 "{seed} {count}"

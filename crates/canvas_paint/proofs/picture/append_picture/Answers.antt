@@ -1,4 +1,4 @@
-use Rattle.std.proofs.Common.{◌≡◌, ◌++◌, ◌∙◌, ap}
+use Rattle.std.proofs.Common.{◌++◌, ◌∙◌, ap}
 use Rattle.canvas_doc.specs.Picture.{colour}
 use Rattle.canvas_scene.specs.Items.{last_colour}
 use Rattle.canvas_scene.specs.Pictures.{rows_of}
@@ -7,9 +7,8 @@ use Rattle.canvas_paint.proofs.Joined.{joined-picture, ok-then}
 use Rattle.canvas_paint.proofs.picture.append_picture.Goals as goal
 
 pub returns-clause-ok : goal.returns-clause-ok
-returns-clause-ok c = ok-then c.append_strip.result _ _
+returns-clause-ok g c = ok-then c.append_painted.result _ _
     (λ e. e ∙ ap (λ l. c.args.out.now.items ++ l)
-    (ap (λ l. rows_of (last_colour l) c.args.window.now 0 c.h.result) c.display_list.ensures
-    ∙ ap (λ h. rows_of (last_colour (display_list_of c.in_ok-scene.scene)) c.args.window.now 0 h) c.h.ensures.value
+    (ap (λ l. rows_of (last_colour l) c.args.window.now 0 c.args.window.now.h) c.display_list.ensures
     ∙ joined-picture (last_colour (display_list_of c.in_ok-scene.scene)) (colour c.args.document.now.records) c.args.window.now c.in_ok-scene.ensures.colours))
-    c.append_strip.ensures.ok
+    c.append_painted.ensures.ok

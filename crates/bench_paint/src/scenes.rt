@@ -1,0 +1,85 @@
+//! Documents to be painted, spread over the page's first tile and beyond.
+
+use anyhow::Result;
+use canvas_doc::{Document, Edit, Parent, Spot};
+use canvas_plane::{Point, Pose};
+use canvas_shape::{Colour, Kind, Points};
+use std::alloc::Global;
+
+/// How far shapes lie from the page's origin, in pixels.
+const ACROSS: u32 = 400;
+
+/// A document of rectangles with sides up to `most`.
+pub fn rectangles(alloc: Global, count: u32, most: u32) -> Result<Document> {
+    let mut dice = Dice(7);
+    let mut document = Document::empty(alloc);
+    for _ in 0..count {
+        let kind = Kind::Rect {
+            w: dice.below(most).saturating_add(1),
+            h: dice.below(most).saturating_add(1),
+            fill: dice.colour(),
+        };
+        document = with_shape(alloc, document, kind, &mut dice)?;
+    }
+    Ok(document)
+}
+
+/// A document of polygons with so many vertices each.
+pub fn polygons(alloc: Global, count: u32, vertices: u32) -> Result<Document> {
+    let mut dice = Dice(11);
+    let mut document = Document::empty(alloc);
+    for _ in 0..count {
+        let mut points = Points::new(alloc);
+        for _ in 0..vertices {
+            points.push(Point {
+                x: i64::from(dice.below(120)),
+                y: i64::from(dice.below(120)),
+            })?;
+        }
+        let fill = dice.colour();
+        document = with_shape(alloc, document, Kind::Polygon { points, fill }, &mut dice)?;
+    }
+    Ok(document)
+}
+
+/// The document with a shape more in front, at a place that the dice give.
+fn with_shape(alloc: Global, document: Document, kind: Kind, dice: &mut Dice) -> Result<Document> {
+    let pose = Pose {
+        dx: i64::from(dice.below(ACROSS)),
+        dy: i64::from(dice.below(ACROSS)),
+        quarter: 0,
+        flip: false,
+    };
+    let change = document.decide(
+        alloc,
+        &Edit::Create {
+            kind,
+            pose,
+            hidden: false,
+            parent: Parent::Page,
+            spot: Spot::Front,
+        },
+    )?;
+    Ok(document.with(alloc, &change)?)
+}
+
+/// Numbers that look random, the same in each run.
+#[derive(Drop)]
+struct Dice(u64);
+
+impl Dice {
+    /// A number below n, or 0 where n is 0.
+    fn below(&mut self, n: u32) -> u32 {
+        self.0 = self
+            .0
+            .wrapping_mul(6_364_136_223_846_793_005)
+            .wrapping_add(1_442_695_040_888_963_407);
+        let high = (self.0 >> 40) as u32;
+        if n == 0 { 0 } else { high % n }
+    }
+
+    fn colour(&mut self) -> Colour {
+        let shade = self.below(256).to_be_bytes();
+        Colour([shade[3], 100, 7])
+    }
+}
