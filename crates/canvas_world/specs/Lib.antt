@@ -1,0 +1,5 @@
+pub mod Past
+pub mod Transcript
+pub mod Tiles
+pub mod Pieces
+pub mod Worlds
