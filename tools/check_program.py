@@ -36,6 +36,7 @@ def usage_faults():
     for words in [[], ["paint"], ["script", "0"], ["script", "17"], ["script", "02"], ["script", "+2"], ["script", "2", "3"],
                   ["script", "two"], ["script", ""], ["serve"], ["serve", "a"], ["Script"]]:
         yield f"usage at {words}", run(words, CREATE), (b"", USAGE, 2)
+    yield "a word that is not UTF-8", run([b"script", b"\xff"], CREATE), (b"", USAGE, 2)
 
 
 def sessions():

@@ -1,15 +1,25 @@
 /* Preloaded before a program: refuses the allocation whose number, counted from 1, is in REFUSE_AT, and gives all others.
-   At its end it writes into the file COUNT_FILE how many were asked for. Built and used by refuse_allocations.py. Not thread safe: meant for programs of one thread. */
+   When it refuses one it makes the file REFUSED_FILE. Built and used by refuse_allocations.py. Not thread safe: meant for programs of one
+   thread. */
 #define _GNU_SOURCE
 #include <dlfcn.h>
 #include <errno.h>
-#include <stdio.h>
+#include <fcntl.h>
 #include <stdlib.h>
+#include <unistd.h>
 
-static long given;
+/* Leaves the file that tells of the refusal. */
+static void tell(void) {
+    const char *name = getenv("REFUSED_FILE");
+    int file = name ? creat(name, 0600) : -1;
+    if (file >= 0) {
+        close(file);
+    }
+}
 
 /* Whether the allocation that is asked for now is the one to refuse. */
 static int is_refused(void) {
+    static long given;
     static long refused = -1;
     if (refused < 0) {
         const char *number = getenv("REFUSE_AT");
@@ -19,18 +29,9 @@ static int is_refused(void) {
     if (given != refused) {
         return 0;
     }
+    tell();
     errno = ENOMEM;
     return 1;
-}
-
-__attribute__((destructor)) static void count(void) {
-    long all = given;
-    const char *name = getenv("COUNT_FILE");
-    FILE *file = name ? fopen(name, "w") : NULL;
-    if (file) {
-        fprintf(file, "%ld\n", all);
-        fclose(file);
-    }
 }
 
 void *malloc(size_t size) {

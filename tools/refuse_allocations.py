@@ -59,10 +59,11 @@ def text(requests):
 
 def run(shim, number, given):
     """What the program writes and its status, and whether it came to the allocation that is refused."""
-    count = shim.with_suffix(".count")
-    environment = {**os.environ, "LD_PRELOAD": str(shim), "REFUSE_AT": str(number), "COUNT_FILE": str(count)}
+    refused = shim.with_suffix(".refused")
+    refused.unlink(missing_ok=True)
+    environment = {**os.environ, "LD_PRELOAD": str(shim), "REFUSE_AT": str(number), "REFUSED_FILE": str(refused)}
     done = subprocess.run([str(PROGRAM), "script", "1"], input=given, capture_output=True, env=environment, timeout=60)
-    return (done.stdout, done.stderr, done.returncode), int(count.read_text()) >= number
+    return (done.stdout, done.stderr, done.returncode), refused.exists()
 
 
 def fault(requests, wanted, out, errors, status):

@@ -86,7 +86,13 @@ fn main(rt: HostRuntime) -> ExitCode {
 fn command(rt: &HostRuntime) -> Result<Option<Command>, Fault> {
     let alloc = rt.alloc();
     let mut words: Vec<String> = Vec::new(alloc);
-    for word in env::args(rt)?.skip(1) {
+    // A word that is not UTF-8 is no command.
+    let given = match env::args(rt) {
+        Ok(given) => given,
+        Err(error) if error.kind() == io::ErrorKind::InvalidData => return Err(Fault::Usage),
+        Err(error) => return Err(error.into()),
+    };
+    for word in given.skip(1) {
         words.push(word)?;
     }
     let words: Vec<&str> = words.iter().map(|word| word.as_str()).collect(alloc)?;

@@ -1,9 +1,13 @@
 //! The words of the command line, and the statuses with which the program ends.
 
+ghost use Rattle.std.specs.Prelude.{◌≡◌, map};
+ghost use Rattle.canvas_server.specs.Statuses.{status_of};
+ghost use Rattle.canvas_server.specs.Words.{command_named, script_named, workers_named};
+
 /// What the program is asked for.
 #[derive(Clone, Copy, Debug, PartialEq, Eq)]
 pub enum Command {
-    /// Serves standard input to standard output, with so many painters for a picture.
+    /// Serves standard input to standard output, with so many workers for a picture.
     Script { workers: u32 },
 }
 
@@ -12,32 +16,48 @@ const DEFAULT_WORKERS: u32 = 2;
 
 impl Command {
     /// Reads the words behind the program's name. `None` is a fault of usage.
-    pub fn read(words: &[&str]) -> Option<Command> {
-        match words {
-            ["script"] => Some(Command::Script {
-                workers: DEFAULT_WORKERS,
-            }),
-            ["script", workers] => Some(Command::Script {
-                workers: workers_of(workers)?,
-            }),
+    pub fn read(words: &[&str]) -> Option<Command>
+        ensures { result ≡ command_named (map (λ word. word.now) words.now) }
+    {
+        let (verb, rest) = words.split_first()?;
+        match *verb {
+            "script" => script_of(rest),
             _ => None,
         }
     }
 }
 
-/// A number of workers, 1 to 16: one or two decimal digits without a leading zero.
-fn workers_of(word: &str) -> Option<u32> {
-    if word.starts_with('0') || word.starts_with('+') {
-        return None;
+// A run over standard input, of the words behind its verb.
+fn script_of(words: &[&str]) -> Option<Command>
+    ensures { result ≡ script_named (map (λ word. word.now) words.now) }
+{
+    match words {
+        [] => Some(Command::Script {
+            workers: DEFAULT_WORKERS,
+        }),
+        [number] => Some(Command::Script {
+            workers: workers_of(number)?,
+        }),
+        _ => None,
     }
-    word.parse()
-        .ok()
-        .filter(|workers| (1..=16).contains(workers))
+}
+
+// A number of workers, 1 to 16: one or two decimal digits without a leading zero.
+fn workers_of(word: &str) -> Option<u32>
+    ensures { result ≡ workers_named word.now }
+{
+    match word.as_bytes() {
+        [ones @ b'1'..=b'9'] => Some(u32::from(*ones - b'0')),
+        [b'1', ones @ b'0'..=b'6'] => Some(10 + u32::from(*ones - b'0')),
+        _ => None,
+    }
 }
 
 /// The status with which the program ends at a fault: 3 where a document was refused, 5 at want of memory and where
 /// there is no place for a seat or a view, else 4. A fault of input or output has no code.
-pub fn exit_status(code: Option<u16>) -> u8 {
+pub fn exit_status(code: Option<u16>) -> u8
+    ensures { result ≡ status_of code }
+{
     match code {
         Some(50 | 60 | 61 | 62) => 3,
         Some(1 | 19 | 33) => 5,

@@ -98,7 +98,7 @@ impl Write for Last {
     }
 }
 
-fn board(alloc: Global) -> Result<Alone, Fail> {
+pub(crate) fn board(alloc: Global) -> Result<Alone, Fail> {
     match Alone::new(alloc, Document::empty(alloc), 1_000_000) {
         Ok(board) => Ok(board),
         Err(_) => Err(Fail::from("no board")),
@@ -106,7 +106,7 @@ fn board(alloc: Global) -> Result<Alone, Fail> {
 }
 
 /// Checks what a session writes, in one piece and byte by byte.
-fn check<H: Threads + Wait + Sync>(
+pub(crate) fn check<H: Threads + Wait + Sync>(
     rt: &H,
     alloc: Global,
     input: &[u8],
