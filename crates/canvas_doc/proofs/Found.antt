@@ -1,12 +1,13 @@
 -- Looking an id up among records in rising id.
-use Rattle.std.proofs.Common.{◌≡◌, ℕ, zero, suc, ◌+◌, ◌<◌, ◌==◌, List, [], ◌∷◌, true, false, Some, None, refl, sym, ap, ◌∙◌, arith, inl, inr, subst, length, get_or}
-use Rattle.std.specs.List.{AllByRecursion}
+use Rattle.std.proofs.Common.{◌≡◌, ℕ, zero, suc, ◌+◌, ◌-◌, ◌<◌, ◌≤◌, ◌==◌, List, [], ◌∷◌, true, false, Some, None, refl, sym, ap, ◌∙◌, arith, inl, inr, subst, length, get_or}
+use Rattle.std.specs.List.{AllByRecursion, slice_get}
 use Rattle.std.specs.List.Sorted.{IsSortedBy}
 use Rattle.std.specs.Ordering.{nat_cmp, is_lt}
 use Rattle.std.specs.declared.cmp.Ordering.TheVariants.{Less, Equal, Greater}
 use Rattle.std.proofs.lemmas.Bool.{cases_Bool, eq-eqb, eqb-true}
 use Rattle.std.proofs.lemmas.Bool.Decides.{nat_tests}
 use Rattle.std.proofs.lemmas.List.{get_or_default}
+use Rattle.std.proofs.lemmas.Option.{get_or_from_slice_get}
 use Rattle.canvas_doc.specs.declared.records.Record.{Record}
 use Rattle.canvas_doc.specs.Contents.{record_of, AreRising}
 
@@ -53,7 +54,7 @@ cmp-Less a b h e = grind (arith, nat_tests)
 pub cmp-Greater : (a b : ℕ) → nat_cmp a b ≡ Greater → a ≡ b → ⊥
 cmp-Greater a b h e = grind (arith, nat_tests)
 
-not-lt : (a b : ℕ) → a < b → is_lt (nat_cmp b a) ≡ false
+pub not-lt : (a b : ℕ) → a < b → is_lt (nat_cmp b a) ≡ false
 not-lt a b h = grind (arith, nat_tests)
 
 -- what a binary search by id asks of the records
@@ -65,3 +66,39 @@ pub found-here : (rs : List Record) (i id : ℕ) (d : Record) → AreRising rs �
 found-here rs i id d w h e =
     let r : Record = get_or rs i d in
     sym (found-at rs i id r w h (get_or_default rs i d r h) e)
+
+-- a record that equals the one at a position stands there, too
+pub stands-at : (rs : List Record) (i : ℕ) (s r : Record) → r ≡ s → s ≡ get_or rs i s → r ≡ get_or rs i r
+stands-at rs i s r e h = rw e h
+
+-- ids rise by 1 at least
+gap-above : (n : ℕ) (rs : List Record) (j : ℕ) (d : Record) → AllByRecursion (λ (s : Record). n < s.id) rs → AreRising rs → j < length rs → n + suc j ≤ (get_or rs j d).id
+gap-above n [] j d a w h = absurd (omega arith)
+gap-above n (x ∷ rs) zero d a w h = let l : n < x.id = a.0 in omega arith
+gap-above n (x ∷ rs) (suc j) d a w h =
+    let l : n < x.id = a.0 in
+    let more : x.id + suc j ≤ (get_or rs j d).id = gap-above x.id rs j d w.0 w.1 (omega arith) in
+    omega arith
+
+pub rising-gap : (rs : List Record) (i j : ℕ) (d : Record) → AreRising rs → i ≤ j → j < length rs → (get_or rs i d).id + j ≤ (get_or rs j d).id + i
+rising-gap [] i j d w l h = absurd (omega arith)
+rising-gap (x ∷ rs) zero zero d w l h = omega arith
+rising-gap (x ∷ rs) zero (suc j) d w l h = let more : x.id + suc j ≤ (get_or rs j d).id = gap-above x.id rs j d w.0 w.1 (omega arith) in omega arith
+rising-gap (x ∷ rs) (suc i) zero d w l h = absurd (omega arith)
+rising-gap (x ∷ rs) (suc i) (suc j) d w l h = let more : (get_or rs i d).id + j ≤ (get_or rs j d).id + i = rising-gap rs i j d w.1 (omega arith) (omega arith) in omega arith
+
+-- ids before a position that lies far enough below the last
+pub less-before : (rs : List Record) (id k : ℕ) (last r : Record) → AreRising rs → slice_get rs (length rs - 1) ≡ Some last → k + 1 + (last.id - id) < length rs → (get_or rs k r).id < id
+less-before rs id k last r w e h =
+    let there : get_or rs (length rs - 1) r ≡ last = get_or_from_slice_get rs (length rs - 1) last r e in
+    let gap : (get_or rs k r).id + (length rs - 1) ≤ (get_or rs (length rs - 1) r).id + k = rising-gap rs k (length rs - 1) r w (omega arith) (omega arith) in
+    let ids : (get_or rs (length rs - 1) r).id ≡ last.id = ap (λ (x : Record). x.id) there in
+    omega arith
+
+-- ids from a position that lies far enough above the first
+pub greater-after : (rs : List Record) (id k : ℕ) (first r : Record) → AreRising rs → slice_get rs 0 ≡ Some first → k < length rs → id + 1 - first.id ≤ k → id < (get_or rs k r).id
+greater-after rs id k first r w e h l =
+    let there : get_or rs 0 r ≡ first = get_or_from_slice_get rs 0 first r e in
+    let gap : (get_or rs 0 r).id + k ≤ (get_or rs k r).id + 0 = rising-gap rs 0 k r w (omega arith) h in
+    let ids : (get_or rs 0 r).id ≡ first.id = ap (λ (x : Record). x.id) there in
+    omega arith

@@ -1,8 +1,6 @@
 pub mod Found
 pub mod Spotted
 pub mod Fronts
-pub mod NextChild
-pub mod Foremost
 pub mod Walk
 pub mod Sorting
 pub mod Paths
@@ -25,6 +23,9 @@ pub mod ById
 pub mod Leads
 pub mod Placed
 pub mod Misplaced
+pub mod Ordered
+pub mod Ranged
 pub mod InOrder
 pub mod RestoredWell
 pub mod Saved
+pub mod Searched

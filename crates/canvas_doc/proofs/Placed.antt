@@ -18,7 +18,7 @@ use Rattle.canvas_doc.specs.Children.{same_parent}
 use Rattle.canvas_doc.specs.Listed.{holder_of, PlaceKey, place_cmp, place_key, has_place}
 use Rattle.canvas_doc.specs.Restored.{same_place}
 
-then-eq : (a b : Ordering) → is_eq (ordering_then a b) ≡ (is_eq a && is_eq b)
+pub then-eq : (a b : Ordering) → is_eq (ordering_then a b) ≡ (is_eq a && is_eq b)
 then-eq Less b = refl
 then-eq Equal b = refl
 then-eq Greater b = refl
@@ -29,7 +29,7 @@ nat-eq a b = elim (cases_Bool (nat_lt a b)) [
   | inr f ↦ elim (cases_Bool (a == b)) [ inl e ↦ rw (f, e) refl | inr e ↦ rw (f, e) refl ]
 ]
 
-holder-eq : (p q : Parent) → is_eq (option_cmp nat_cmp (holder_of p) (holder_of q)) ≡ same_parent p q
+pub holder-eq : (p q : Parent) → is_eq (option_cmp nat_cmp (holder_of p) (holder_of q)) ≡ same_parent p q
 holder-eq Page Page = refl
 holder-eq Page (Shape b) = refl
 holder-eq (Shape a) Page = refl

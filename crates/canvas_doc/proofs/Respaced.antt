@@ -36,8 +36,7 @@ use Rattle.canvas_doc.specs.Children.{is_child, is_in_front, put, front_first, c
 use Rattle.canvas_doc.specs.Effect.{rank_of, respaced, IsThere}
 use Rattle.canvas_doc.specs.Picture.{answer_among, answer_with, first_answer, or_else, or_white, colour, shape_answer}
 use Rattle.canvas_doc.specs.Decision.{respace_decision}
-use Rattle.canvas_doc.proofs.Fronts.{before-trans, before-itself, before-asym, before-or-same, not_before, before-gt}
-use Rattle.canvas_doc.proofs.NextChild.{same_parent-both}
+use Rattle.canvas_doc.proofs.Fronts.{before-trans, before-itself, before-asym, before-or-same, not_before, before-gt, same_parent-both}
 
 -- one of a list
 abbrev pub IsIn : Record → List Record → Type 0

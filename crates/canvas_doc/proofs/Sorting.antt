@@ -1,25 +1,16 @@
--- Children that a sort put in order.
-use Rattle.std.proofs.Common.{◌≡◌, ◌≢◌, ℕ, zero, suc, ◌+◌, ◌<◌, List, [], ◌∷◌, Bool, true, false, not, cond, ◌&&◌, refl, sym, ap, ◌∙◌, arith, filter, inl, inr, subst, length, get_or, map, All, Bor, ◌⊎◌, None}
+-- Children in strict order.
+use Rattle.std.proofs.Common.{◌≡◌, ◌≢◌, ℕ, zero, suc, ◌<◌, List, [], ◌∷◌, Bool, true, false, not, cond, ◌&&◌, refl, sym, ap, ◌∙◌, arith, filter, inl, inr, length, get_or, map, All, Bor, ◌⊎◌}
 use Rattle.std.specs.List.{AllByRecursion, Contains, IsDistinct}
-use Rattle.std.specs.List.Sorted.{IsPermutation, IsSortedBy}
-use Rattle.std.specs.Cmp.{IsStrictWeakOrder}
-use Rattle.std.specs.Ordering.{is_lt, nat_cmp}
-use Rattle.std.specs.Cmp.Lexicographic.{slice_cmp}
-use Rattle.std.proofs.lemmas.Cmp.{nat_list_cmp_total}
+use Rattle.std.specs.List.Sorted.{IsPermutation}
 use Rattle.std.proofs.lemmas.Bool.{true≢false}
-use Rattle.std.proofs.lemmas.List.{get_or-map, length-map}
-use Rattle.std.proofs.lemmas.List.Elements.{All-cons, All-head, All-tail, All-nil, All-contains, All-contains_itself, All-filter}
-use Rattle.std.proofs.lemmas.List.Sorted.{All-permutation, IsPermutation-cons, IsPermutation-middle, IsPermutation-refl, IsPermutation-sym, IsPermutation-trans, IsStrictWeakOrder-flip, ranks_by, sorted_far}
-use Rattle.std.proofs.lemmas.Map.Keys.{IsDistinct-IsPermutation, IsDistinct-head, IsDistinct-tail, apart_from_distinct}
+use Rattle.std.proofs.lemmas.List.Elements.{All-cons, All-head, All-tail, All-nil, All-contains, All-filter}
+use Rattle.std.proofs.lemmas.List.Sorted.{All-permutation, IsPermutation-cons, IsPermutation-middle, IsPermutation-refl, IsPermutation-trans}
+use Rattle.std.proofs.lemmas.Map.Keys.{IsDistinct-head, IsDistinct-tail}
 use Rattle.canvas_key.specs.Order.{is_before}
 use Rattle.canvas_doc.specs.declared.records.Parent.{Parent}
 use Rattle.canvas_doc.specs.declared.records.Record.{Record}
 use Rattle.canvas_doc.specs.Children.{is_in_front, put, front_first, is_child, children}
-use Rattle.canvas_doc.specs.Tree.{HavePlaces}
-use Rattle.canvas_doc.proofs.Foremost.{AreInOrder, in_order}
-use Rattle.canvas_doc.proofs.Fronts.{NoneInFront, IsNewIndex, HaveIndexes, before-asym, before-itself, before-or-same}
-use Rattle.canvas_doc.proofs.NextChild.{have-indexes}
-use Rattle.canvas_doc.proofs.Walk.{filter-behind_none}
+use Rattle.canvas_doc.proofs.Fronts.{AreInOrder, NoneInFront, IsNewIndex, HaveIndexes, before-asym, before-itself, before-or-same}
 
 -- each in front of all that come later
 abbrev pub AreApart : List Record → Type 0
@@ -30,7 +21,7 @@ AreApart (s ∷ rest) = All (λ r. is_in_front s r ≡ true) rest × AreApart re
 abbrev pub is_level : Record → Record → Bool
 is_level r s = not (is_in_front r s) && not (is_in_front s r)
 
-level-flips : (b c : Bool) → (not b && not c) ≡ (not c && not b)
+pub level-flips : (b c : Bool) → (not b && not c) ≡ (not c && not b)
 level-flips true true = refl
 level-flips true false = refl
 level-flips false true = refl
@@ -56,7 +47,7 @@ all-new : (x : Record) (ys : List Record) → IsNewIndex x ys → AllByRecursion
 all-new x [] d = tt
 all-new x (y ∷ ys) d = (level-new x y d.0, all-new x ys d.1)
 
-distinct-indexes : (xs : List Record) → HaveIndexes xs → IsDistinct is_level xs
+pub distinct-indexes : (xs : List Record) → HaveIndexes xs → IsDistinct is_level xs
 unfolding IsDistinct
 distinct-indexes [] h = tt
 distinct-indexes (x ∷ xs) h = (all-new x xs h.0, distinct-indexes xs h.1)
@@ -68,7 +59,7 @@ put-moves r (s ∷ rest) = elim (is_in_front s r) as (λ b. IsPermutation (r ∷
   | false ↦ IsPermutation-refl (r ∷ s ∷ rest)
 ]
 
-front_first-moves : (xs : List Record) → IsPermutation xs (front_first xs)
+pub front_first-moves : (xs : List Record) → IsPermutation xs (front_first xs)
 front_first-moves [] = IsPermutation-refl []
 front_first-moves (x ∷ xs) = IsPermutation-trans (x ∷ xs) (x ∷ front_first xs) (put x (front_first xs)) (IsPermutation-cons x xs (front_first xs) (front_first-moves xs)) (put-moves x (front_first xs))
 
@@ -76,19 +67,9 @@ front-all : (s : Record) (rest : List Record) → NoneInFront s rest → AllByRe
 front-all s [] n d = All-nil (λ r. is_in_front s r ≡ true)
 front-all s (y ∷ ys) n d = All-cons (λ r. is_in_front s r ≡ true) y ys (in_front-apart s y n.0 d.0) (front-all s ys n.1 d.1)
 
-apart-in_order : (l : List Record) → AreInOrder l → IsDistinct is_level l → AreApart l
+pub apart-in_order : (l : List Record) → AreInOrder l → IsDistinct is_level l → AreApart l
 apart-in_order [] h d = tt
 apart-in_order (s ∷ rest) h d = (front-all s rest h.0 (IsDistinct-head is_level s rest d), apart-in_order rest h.1 (IsDistinct-tail is_level s rest d))
-
-apart-pairs : (l : List Record) → ((i j : ℕ) (d : Record) → i < j → j < length l → is_in_front (get_or l i d) (get_or l j d) ≡ true) → AreApart l
-apart-pairs [] h = tt
-apart-pairs (s ∷ rest) h = (λ k d below. h 0 (suc k) d (omega arith) (omega arith), apart-pairs rest (λ i j d before below. h (suc i) (suc j) d (omega arith) (omega arith)))
-
-fronts-order : IsStrictWeakOrder (λ (r s : Record). is_in_front r s)
-fronts-order = IsStrictWeakOrder-flip (λ (r s : Record). is_lt (slice_cmp nat_cmp r.place.index s.place.index)) (ranks_by nat_list_cmp_total (λ (r : Record). r.place.index))
-
-apart-sorted : (l : List Record) → IsSortedBy (λ r s. is_in_front r s) l → IsDistinct is_level l → AreApart l
-apart-sorted l h d = apart-pairs l (λ i j e before below. in_front-apart (get_or l i e) (get_or l j e) (sorted_far (λ r s. is_in_front r s) fronts-order l h i j e (omega arith) below) (apart_from_distinct is_level l i j e d before below))
 
 contains-at : (s : Record) (u : List Record) (x : Record) (k : ℕ) → k < length (s ∷ u) → get_or (s ∷ u) k x ≡ x → (s ≡ x) ⊎ Contains u x
 contains-at s u x zero h e = inl e
@@ -113,7 +94,7 @@ same-heads s t u v f g h k = elim (contains-at t v s h.0 h.1 h.2) [
 ]
 
 -- lists in strict order with the same members are one
-same-order : (a b : List Record) → AreApart a → AreApart b → All (Contains b) a → All (Contains a) b → a ≡ b
+pub same-order : (a b : List Record) → AreApart a → AreApart b → All (Contains b) a → All (Contains a) b → a ≡ b
 same-order [] [] f g h k = refl
 same-order [] (t ∷ v) f g h k = absurd (contains-none t (All-head (Contains []) t v k))
 same-order (s ∷ u) [] f g h k = absurd (contains-none s (All-head (Contains []) s u h))
@@ -124,34 +105,9 @@ same-order (s ∷ u) (t ∷ v) f g h k =
     (λ i d below. not_head s t v (get_or u i d) e (f.0 i d below) (All-tail (Contains (t ∷ v)) s u h i d below))
     (λ i d below. not_head t s u (get_or v i d) (sym e) (g.0 i d below) (All-tail (Contains (s ∷ u)) t v k i d below)))
 
--- a sorted list of records with different indexes is the list put in order
-pub sorted-fronts : (xs l : List Record) → HaveIndexes xs → IsPermutation xs l → IsSortedBy (λ r s. is_in_front r s) l → l ≡ front_first xs
-sorted-fronts xs l h p o =
-    let distinct : IsDistinct is_level xs = distinct-indexes xs h in
-    let flips : (r s : Record) → is_level r s ≡ is_level s r = λ r s. level-flips (is_in_front r s) (is_in_front s r) in
-    let q : IsPermutation xs (front_first xs) = front_first-moves xs in
-    let both : IsPermutation l (front_first xs) = IsPermutation-trans l xs (front_first xs) (IsPermutation-sym xs l p) q in
-    same-order l (front_first xs)
-    (apart-sorted l o (IsDistinct-IsPermutation is_level flips xs l p distinct))
-    (apart-in_order (front_first xs) (in_order xs) (IsDistinct-IsPermutation is_level flips xs (front_first xs) q distinct))
-    (All-permutation (Contains (front_first xs)) (front_first xs) l (IsPermutation-sym l (front_first xs) both) (All-contains_itself (front_first xs)))
-    (All-permutation (Contains l) l (front_first xs) both (All-contains_itself l))
-
-pub sorted-children : (p : Parent) (rs l : List Record) → HavePlaces rs → IsPermutation (filter (is_child p) rs) l → IsSortedBy (λ r s. is_in_front r s) l → l ≡ children p rs
-sorted-children p rs l h m o = sorted-fronts (filter (is_child p) rs) l (subst HaveIndexes (sym (filter-behind_none p rs)) (have-indexes None p rs h)) m o
-
 -- the record behind a reference
 abbrev pub record_of : Bor Record → Record
 record_of b = b.now
-
-pub fronts_by_reference : IsStrictWeakOrder (λ (a b : Bor Record). is_in_front a.now b.now)
-fronts_by_reference = IsStrictWeakOrder-flip (λ (a b : Bor Record). is_lt (slice_cmp nat_cmp a.now.place.index b.now.place.index)) (ranks_by nat_list_cmp_total (λ (b : Bor Record). b.now.place.index))
-
-pub sorted-records : (bs : List (Bor Record)) → IsSortedBy (λ a b. is_in_front a.now b.now) bs → IsSortedBy (λ r s. is_in_front r s) (map record_of bs)
-sorted-records bs h k d low below =
-    let e : Bor Record = record { ref_ptr = (0, 0); now = d } in
-    let short : k + 1 < length bs = omega (arith, length-map bs record_of) in
-    rw (get_or-map record_of bs (k + 1) e d short, get_or-map record_of bs k e d (omega arith)) (h k e low short)
 
 pub all-by_reference : (P : Record → Type 0) (bs : List (Bor Record)) → All P (map record_of bs) → All (λ (b : Bor Record). P b.now) bs
 all-by_reference P [] h = All-nil (λ (b : Bor Record). P b.now)

@@ -1,5 +1,5 @@
 -- The children of a parent, from front to back.
-use Rattle.std.specs.Prelude.{ℕ, List, [], ◌∷◌, Bool, true, false, cond, ◌==◌, ◌&&◌, filter, Option, Some, None}
+use Rattle.std.specs.Prelude.{List, [], ◌∷◌, Bool, true, false, cond, ◌==◌, filter}
 use Rattle.canvas_key.specs.Order.{is_before}
 use Rattle.canvas_doc.specs.declared.records.Parent.{Parent}
 use Rattle.canvas_doc.specs.declared.records.Parent.TheVariants.{Page, Shape}
@@ -31,21 +31,3 @@ front_first (r ∷ rs) = put r (front_first rs)
 -- the records with the parent p, greatest index first
 abbrev pub children : Parent → List Record → List Record
 children p rs = front_first (filter (is_child p) rs)
-
--- the index is below a bound, or there is none
-abbrev pub is_behind : Option (List ℕ) → Record → Bool
-is_behind None r = true
-is_behind (Some key) r = is_before r.place.index key
-
--- a child of p below the bound
-abbrev pub is_next : Option (List ℕ) → Parent → Record → Bool
-is_next bound p r = is_child p r && is_behind bound r
-
--- those of the children whose index is below a bound
-abbrev pub children_behind : Option (List ℕ) → Parent → List Record → List Record
-children_behind bound p rs = front_first (filter (is_next bound p) rs)
-
--- r is in front of the best so far
-abbrev pub is_better : Record → Option Record → Bool
-is_better r None = true
-is_better r (Some s) = is_in_front r s

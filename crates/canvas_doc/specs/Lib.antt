@@ -11,3 +11,4 @@ pub mod Depth
 pub mod Fitting
 pub mod Restored
 pub mod Listed
+pub mod PlaceOrder

@@ -10,20 +10,21 @@ ghost use Rattle.canvas_doc.specs.Decision.{has_shape, has_parent, can_have_chil
 
 use crate::lookup::{find, position_of};
 use crate::records::{Parent, Record};
+use crate::shared::SharedRecord;
 use canvas_shape::Kind;
 use std::alloc::{AllocError, Global};
 
 /// How many steps up lead from a parent to the page at most.
 pub(crate) const STEPS: u32 = 31;
 
-pub(crate) fn has_shape(records: &[Record], id: u32) -> bool
+pub(crate) fn has_shape(records: &[SharedRecord], id: u32) -> bool
     requires { AreRising records.now }
     ensures { result ≡ has_shape records.now id }
 {
     find(records, id).is_some()
 }
 
-pub(crate) fn has_parent(records: &[Record], parent: Parent) -> bool
+pub(crate) fn has_parent(records: &[SharedRecord], parent: Parent) -> bool
     requires { AreRising records.now }
     ensures { result ≡ has_parent records.now parent }
 {
@@ -54,7 +55,7 @@ fn holds_container(shape: Option<&Record>) -> bool
     }
 }
 
-pub(crate) fn can_have_children(records: &[Record], parent: Parent) -> bool
+pub(crate) fn can_have_children(records: &[SharedRecord], parent: Parent) -> bool
     requires { AreRising records.now }
     ensures { result ≡ can_have_children records.now parent }
 {
@@ -66,7 +67,7 @@ pub(crate) fn can_have_children(records: &[Record], parent: Parent) -> bool
 
 // Whether a parent is the shape or lies below it.
 #[tactic(auto, using(crate::proofs::Paths::below_rules))]
-pub(crate) fn is_below(records: &[Record], steps: u32, id: u32, parent: Parent) -> bool
+pub(crate) fn is_below(records: &[SharedRecord], steps: u32, id: u32, parent: Parent) -> bool
     requires { AreRising records.now }
     ensures { result ≡ is_below steps id records.now parent }
 {
@@ -92,7 +93,7 @@ pub(crate) fn is_below(records: &[Record], steps: u32, id: u32, parent: Parent) 
 
 // Whether following parents reaches the page.
 #[tactic(auto, using(crate::proofs::Paths::reach_rules))]
-pub(crate) fn reaches_page(records: &[Record], steps: u32, parent: Parent) -> bool
+pub(crate) fn reaches_page(records: &[SharedRecord], steps: u32, parent: Parent) -> bool
     requires { AreRising records.now }
     ensures { result ≡ reaches_page steps records.now parent }
 {
@@ -130,7 +131,7 @@ fn parent_after(shape: &Record, id: u32, under: Parent) -> Parent
 // Whether following parents reaches the page once a shape hangs under another parent.
 #[tactic(auto, using(crate::proofs::Paths::reach_rules))]
 fn reaches_page_after(
-    records: &[Record],
+    records: &[SharedRecord],
     steps: u32,
     id: u32,
     under: Parent,
@@ -161,7 +162,7 @@ fn reaches_page_after(
 }
 
 // Whether some record lies too deep once a shape hangs under another parent.
-pub(crate) fn lies_too_deep(records: &[Record], id: u32, under: Parent) -> bool
+pub(crate) fn lies_too_deep(records: &[SharedRecord], id: u32, under: Parent) -> bool
     requires { AreRising records.now }
     ensures { result ≡ lies_too_deep records.now id under }
 {
@@ -177,7 +178,7 @@ pub(crate) fn lies_too_deep(records: &[Record], id: u32, under: Parent) -> bool
 
 // How many shapes lie on the path from a parent to the page.
 #[tactic(auto, using(crate::proofs::Paths::depth_rules))]
-fn depth_of(records: &[Record], steps: u32, parent: Parent) -> u32
+fn depth_of(records: &[SharedRecord], steps: u32, parent: Parent) -> u32
     requires { AreRising records.now }
     ensures value { result ≡ depth_of steps records.now parent }
     ensures small { result ≤ steps }
@@ -206,7 +207,7 @@ fn one_more(levels: u32) -> u32
 
 // How many shapes lie on the path from a parent up to a shape, both counted.
 #[tactic(auto, using(crate::proofs::Paths::level_rules))]
-fn levels_to(records: &[Record], steps: u32, id: u32, parent: Parent) -> u32
+fn levels_to(records: &[SharedRecord], steps: u32, id: u32, parent: Parent) -> u32
     requires rising { AreRising records.now }
     requires steps { steps ≤ 32 }
     ensures value { result ≡ levels_to steps id records.now parent }
@@ -232,7 +233,7 @@ fn levels_to(records: &[Record], steps: u32, id: u32, parent: Parent) -> u32
     }
 }
 
-fn levels_of(records: &[Record], id: u32, shape: &Record) -> u32
+fn levels_of(records: &[SharedRecord], id: u32, shape: &Record) -> u32
     requires { AreRising records.now }
     ensures value { result ≡ levels_of id records.now shape.now }
     ensures small { result ≤ 32 }
@@ -245,7 +246,7 @@ fn levels_of(records: &[Record], id: u32, shape: &Record) -> u32
 }
 
 // Whether the depth of a parent and the height of a subtree are together above 32.
-pub(crate) fn is_above_32(alloc: Global, records: &[Record], id: u32, parent: Parent) -> bool
+pub(crate) fn is_above_32(alloc: Global, records: &[SharedRecord], id: u32, parent: Parent) -> bool
     requires rising { AreRising records.now }
     requires grounded { All (λ r. reaches_page 31 records.now r.place.parent ≡ true) records.now }
     ensures { result ≡ is_above_32 records.now id parent }
@@ -255,7 +256,7 @@ pub(crate) fn is_above_32(alloc: Global, records: &[Record], id: u32, parent: Pa
 
 // The height of a subtree, each record looked at once; where there is no memory for marks, by
 // walking up from each record.
-fn height_of(alloc: Global, records: &[Record], id: u32) -> u32
+fn height_of(alloc: Global, records: &[SharedRecord], id: u32) -> u32
     requires rising { AreRising records.now }
     requires grounded { All (λ r. reaches_page 31 records.now r.place.parent ≡ true) records.now }
     ensures value { result ≡ height_of id records.now }
@@ -267,7 +268,11 @@ fn height_of(alloc: Global, records: &[Record], id: u32) -> u32
     }
 }
 
-pub(crate) fn no_marks(alloc: Global, records: &[Record], id: u32) -> Result<Vec<u8>, AllocError>
+pub(crate) fn no_marks(
+    alloc: Global,
+    records: &[SharedRecord],
+    id: u32,
+) -> Result<Vec<u8>, AllocError>
     ensures { IfOk result (λ marks. AreMarks id records.now marks.items) }
 {
     let marks = zeros(alloc, records.len())?;
@@ -280,7 +285,7 @@ fn zeros(alloc: Global, count: usize) -> Result<Vec<u8>, AllocError>
     vec![in alloc; 0u8; count]
 }
 
-fn walked_height(records: &[Record], id: u32) -> u32
+fn walked_height(records: &[SharedRecord], id: u32) -> u32
     requires { AreRising records.now }
     ensures value { result ≡ height_of id records.now }
     ensures small { result ≤ 32 }
@@ -292,7 +297,7 @@ fn walked_height(records: &[Record], id: u32) -> u32
     height
 }
 
-fn marked_height(records: &[Record], marks: &mut [u8], id: u32) -> u32
+fn marked_height(records: &[SharedRecord], marks: &mut [u8], id: u32) -> u32
     requires rising { AreRising records.now }
     requires grounded { All (λ r. reaches_page 31 records.now r.place.parent ≡ true) records.now }
     requires marks { AreMarks id records.now marks.old }
@@ -309,7 +314,13 @@ fn marked_height(records: &[Record], marks: &mut [u8], id: u32) -> u32
 // How many levels a record lies below a shape, the shape itself at 1, or 0 where it lies elsewhere;
 // found once and marked for the records below it.
 #[cycle(levels)]
-pub(crate) fn level_at(records: &[Record], marks: &mut [u8], steps: u32, id: u32, at: usize) -> u8
+pub(crate) fn level_at(
+    records: &[SharedRecord],
+    marks: &mut [u8],
+    steps: u32,
+    id: u32,
+    at: usize,
+) -> u8
     requires rising { AreRising records.now }
     requires marks { AreMarks id records.now marks.old }
     requires at { at < length records.now }
@@ -329,7 +340,13 @@ pub(crate) fn level_at(records: &[Record], marks: &mut [u8], steps: u32, id: u32
 }
 
 #[cycle(levels)]
-fn level_above(records: &[Record], marks: &mut [u8], steps: u32, id: u32, shape: &Record) -> u8
+fn level_above(
+    records: &[SharedRecord],
+    marks: &mut [u8],
+    steps: u32,
+    id: u32,
+    shape: &Record,
+) -> u8
     requires rising { AreRising records.now }
     requires marks { AreMarks id records.now marks.old }
     requires steps { steps ≤ 31 }

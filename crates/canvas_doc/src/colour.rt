@@ -4,13 +4,16 @@ ghost use Rattle.std.specs.Prelude.{◌≡◌, ◌≤◌, ◌+◌, ◌*◌, ◌^
 ghost use Rattle.canvas_plane.specs.Motion.{carry, reach_of};
 ghost use Rattle.canvas_shape.specs.Inside.{holds_of};
 ghost use Rattle.canvas_doc.specs.Picture.{answer_among, answer_of, or_else, or_white, colour};
+ghost use Rattle.canvas_doc.specs.PlaceOrder.{IsInPlaceOrder};
 ghost use Rattle.canvas_doc.specs.Tree.{IsInLimits, HavePlaces};
 
 use crate::Document;
-use crate::order::{is_better, is_child};
+use crate::place_order::children_range;
 use crate::records::{Parent, Record};
+use crate::shared::SharedRecord;
 use canvas_plane::Pose;
 use canvas_shape::{Colour, Kind};
+use std::ops::Range;
 
 impl Document {
     /// The colour of a pixel of the page: what the first shape that holds it answers, walked from
@@ -18,17 +21,18 @@ impl Document {
     pub fn colour_at(&self, x: i32, y: i32) -> Colour
         ensures { result ≡ colour self.now.records x y }
     {
-        colour_among(&self.records, Pixel { x, y })
+        colour_among(&self.records, &self.order, Pixel { x, y })
     }
 }
 
 // The colour of a pixel among records.
-fn colour_among(records: &[Record], at: Pixel) -> Colour
+fn colour_among(records: &[SharedRecord], order: &[u32], at: Pixel) -> Colour
+    requires order { IsInPlaceOrder order.now records.now }
     requires places { HavePlaces records.now }
     requires limits { All IsInLimits records.now }
     ensures { result ≡ colour records.now at.x at.y }
 {
-    or_white(answer_among(records, DEPTH, Parent::Page, &Pose::STILL, at))
+    or_white(answer_among(records, order, DEPTH, Parent::Page, &Pose::STILL, at))
 }
 
 fn or_white(answer: Option<Colour>) -> Colour
@@ -54,12 +58,14 @@ struct Pixel {
 // the foremost child that has one. A child behind one that has answered is never asked.
 #[cycle(walk)]
 fn answer_among(
-    records: &[Record],
+    records: &[SharedRecord],
+    order: &[u32],
     levels: u32,
     parent: Parent,
     out: &Pose,
     at: Pixel,
 ) -> Option<Colour>
+    requires order { IsInPlaceOrder order.now records.now }
     requires places { HavePlaces records.now }
     requires limits { All IsInLimits records.now }
     requires quarter { out.now.quarter ≤ 3 }
@@ -69,29 +75,28 @@ fn answer_among(
     if levels == 0 {
         return None;
     }
-    let mut front: Option<&Record> = None;
-    let mut seen: Option<Colour> = None;
-    for shape in records {
-        if is_child(parent, shape) && is_better(shape, front) {
-            let answer = answer_of(records, levels - 1, shape, out, at);
-            if answer.is_some() {
-                front = Some(shape);
-                seen = answer;
-            }
+    let Range { start, end } = children_range(records, order, parent);
+    for slot in (start..end).rev() {
+        let shape: &Record = &records[order[slot] as usize];
+        let answer = answer_of(records, order, levels - 1, shape, out, at);
+        if answer.is_some() {
+            return answer;
         }
     }
-    seen
+    None
 }
 
 // What a shape answers with all below it.
 #[cycle(walk)]
 fn answer_of(
-    records: &[Record],
+    records: &[SharedRecord],
+    order: &[u32],
     levels: u32,
     shape: &Record,
     out: &Pose,
     at: Pixel,
 ) -> Option<Colour>
+    requires order { IsInPlaceOrder order.now records.now }
     requires places { HavePlaces records.now }
     requires limits { All IsInLimits records.now }
     requires shape { IsInLimits shape.now }
@@ -105,11 +110,11 @@ fn answer_of(
     let page = shape.pose.then(out);
     let holds = holds_at(shape, &page, at);
     match &shape.kind {
-        Kind::Group => answer_among(records, levels, Parent::Shape(shape.id), &page, at),
+        Kind::Group => answer_among(records, order, levels, Parent::Shape(shape.id), &page, at),
         Kind::Frame { fill, .. } => {
             if holds {
                 or_fill(
-                    answer_among(records, levels, Parent::Shape(shape.id), &page, at),
+                    answer_among(records, order, levels, Parent::Shape(shape.id), &page, at),
                     *fill,
                 )
             } else {

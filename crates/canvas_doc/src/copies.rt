@@ -3,6 +3,7 @@
 ghost use Rattle.std.specs.Prelude.{◌≡◌, IfOk, map};
 ghost use Rattle.canvas_doc.specs.Contents.{AreRising, IsWellFormed};
 
+use crate::shared::SharedRecord;
 use crate::{Document, Record};
 use std::alloc::{AllocError, Global};
 
@@ -13,27 +14,39 @@ impl Document {
         ensures rising { AreRising self.now.records }
         ensures well_formed { IsWellFormed self.now }
     {
-        self.records.iter().collect(alloc)
+        in_order(alloc, &self.records)
     }
 
-    /// An equal document with records of its own.
+    /// An equal document, which shares all records.
     pub fn try_clone(&self, alloc: Global) -> Result<Document, AllocError>
         ensures { IfOk result (λ clone. clone ≡ self.now) }
     {
         let records = copies_of(alloc, &self.records)?;
         Ok(Document {
             records,
+            order: self.order.clone()?,
             next: self.next,
         })
     }
 }
 
-fn copies_of(alloc: Global, records: &[Record]) -> Result<Vec<Record>, AllocError>
+fn in_order<'a>(alloc: Global, records: &'a [SharedRecord]) -> Result<Vec<&'a Record>, AllocError>
+    ensures { IfOk result (λ all. map (λ shape. shape.now) all.items ≡ records.now) }
+{
+    let mut all = Vec::with_capacity(alloc, records.len())?;
+    for shape in records {
+        let shape: &'a Record = shape;
+        all.push(shape)?;
+    }
+    Ok(all)
+}
+
+fn copies_of(alloc: Global, records: &[SharedRecord]) -> Result<Vec<SharedRecord>, AllocError>
     ensures { IfOk result (λ copies. copies.items ≡ records.now) }
 {
     let mut copies = Vec::with_capacity(alloc, records.len())?;
     for shape in records {
-        copies.push(shape.try_clone(alloc)?)?;
+        copies.push(shape.share()?)?;
     }
     Ok(copies)
 }

@@ -17,6 +17,7 @@ use crate::edits::{Change, Edit, Spot};
 use crate::lookup::find;
 use crate::records::{Parent, Place, Record};
 use crate::refusals::Refusal;
+use crate::shared::SharedRecord;
 use crate::spots::index_at;
 use canvas_key::Key;
 use canvas_plane::Pose;
@@ -38,7 +39,12 @@ impl Document {
 }
 
 // The change, or the refusal.
-fn decision(alloc: Global, records: &[Record], next: u32, edit: &Edit) -> Result<Change, Refusal>
+fn decision(
+    alloc: Global,
+    records: &[SharedRecord],
+    next: u32,
+    edit: &Edit,
+) -> Result<Change, Refusal>
     requires rising { AreRising records.now }
     requires grounded { All (λ r. reaches_page 31 records.now r.place.parent ≡ true) records.now }
     ensures value { IsAnswer result (decision_of edit.now (record { records = records.now; next = next })) }
@@ -76,7 +82,7 @@ fn decision(alloc: Global, records: &[Record], next: u32, edit: &Edit) -> Result
 
 // The index of a new shape, or why it is refused.
 fn create_index(
-    records: &[Record],
+    records: &[SharedRecord],
     next: u32,
     kind: &Kind,
     pose: &Pose,
@@ -117,7 +123,7 @@ fn create_index(
 // Another place, or why it is refused.
 fn decide_move(
     alloc: Global,
-    records: &[Record],
+    records: &[SharedRecord],
     id: u32,
     parent: Parent,
     spot: &Spot,
@@ -137,7 +143,7 @@ fn decide_move(
 // The index of a moved shape, or why the move is refused.
 fn move_index(
     alloc: Global,
-    records: &[Record],
+    records: &[SharedRecord],
     id: u32,
     parent: Parent,
     spot: &Spot,
@@ -166,7 +172,7 @@ fn move_index(
 }
 
 // Another pose, or why it is refused.
-fn decide_pose(records: &[Record], id: u32, pose: Pose) -> Result<Change, Refusal>
+fn decide_pose(records: &[SharedRecord], id: u32, pose: Pose) -> Result<Change, Refusal>
     requires { AreRising records.now }
     ensures value { result ≡ pose_decision id pose records.now }
     ensures key { IfOk result HasKey }
@@ -183,7 +189,7 @@ fn decide_pose(records: &[Record], id: u32, pose: Pose) -> Result<Change, Refusa
 // Another kind, or why it is refused.
 fn decide_reshape(
     alloc: Global,
-    records: &[Record],
+    records: &[SharedRecord],
     id: u32,
     kind: &Kind,
 ) -> Result<Change, Refusal>
@@ -200,7 +206,7 @@ fn decide_reshape(
 }
 
 // Whether a shape may have another kind, or why it may not.
-fn judge_reshape(records: &[Record], id: u32, kind: &Kind) -> Result<(), Refusal>
+fn judge_reshape(records: &[SharedRecord], id: u32, kind: &Kind) -> Result<(), Refusal>
     requires { AreRising records.now }
     ensures { result ≡ reshape_judgement id kind.now records.now }
 {
@@ -220,7 +226,7 @@ fn judge_reshape(records: &[Record], id: u32, kind: &Kind) -> Result<(), Refusal
 }
 
 // Hidden or shown, or why it is refused.
-fn decide_show(records: &[Record], id: u32, hidden: bool) -> Result<Change, Refusal>
+fn decide_show(records: &[SharedRecord], id: u32, hidden: bool) -> Result<Change, Refusal>
     requires { AreRising records.now }
     ensures value { result ≡ show_decision id hidden records.now }
     ensures key { IfOk result HasKey }
@@ -232,7 +238,7 @@ fn decide_show(records: &[Record], id: u32, hidden: bool) -> Result<Change, Refu
 }
 
 // Without a shape, or why it is refused.
-fn decide_delete(records: &[Record], id: u32) -> Result<Change, Refusal>
+fn decide_delete(records: &[SharedRecord], id: u32) -> Result<Change, Refusal>
     requires { AreRising records.now }
     ensures value { result ≡ delete_decision id records.now }
     ensures key { IfOk result HasKey }
@@ -244,7 +250,7 @@ fn decide_delete(records: &[Record], id: u32) -> Result<Change, Refusal>
 }
 
 // New indexes for children, or why they are refused.
-fn decide_respace(records: &[Record], parent: Parent) -> Result<Change, Refusal>
+fn decide_respace(records: &[SharedRecord], parent: Parent) -> Result<Change, Refusal>
     requires { AreRising records.now }
     ensures value { result ≡ respace_decision parent records.now }
     ensures key { IfOk result HasKey }

@@ -11,7 +11,10 @@ ghost use Rattle.canvas_key.specs.Order.{is_before};
 use crate::Document;
 use crate::ancestry::{STEPS, level_at, no_marks};
 use crate::edits::Change;
+use crate::lookup::position_of;
+use crate::place_order::{order_after_creation, order_after_deletion, order_after_move};
 use crate::records::{Parent, Place, Record};
+use crate::shared::SharedRecord;
 use canvas_key::{Key, fresh};
 use canvas_plane::Pose;
 use canvas_shape::Kind;
@@ -43,23 +46,21 @@ impl Document {
                     pose: *pose,
                     hidden: *hidden,
                 };
+                let shape = SharedRecord::new(alloc, shape)?;
                 let records = with_one_more(alloc, &self.records, shape)?;
-                Ok(Document {
-                    records,
-                    next: self.next + 1,
-                })
+                let order = order_after_creation(alloc, &self.order, &records, self.records.len())?;
+                Document::with_candidate(alloc, records, self.next + 1, order)
             }
             Change::Delete { id } => {
                 let records = without(alloc, &self.records, *id)?;
+                let order = order_after_deletion(alloc, &self.order, &self.records, &records)?;
                 let next = self.next;
-                Ok(Document { records, next })
+                Document::with_candidate(alloc, records, next, order)
             }
             Change::Respace { parent } => {
                 let records = all_respaced(alloc, &self.records, *parent)?;
-                Ok(Document {
-                    records,
-                    next: self.next,
-                })
+                let order = self.order.clone()?;
+                Document::with_candidate(alloc, records, self.next, order)
             }
             Change::Move { .. } => self.with_one_changed(alloc, change),
             Change::Pose { .. } => self.with_one_changed(alloc, change),
@@ -75,22 +76,39 @@ impl Document {
         ensures { IfOk result (λ after. after ≡ effect_of change.now self.now) }
     {
         let records = changed(alloc, &self.records, change)?;
-        Ok(Document {
-            records,
-            next: self.next,
-        })
+        let order = self.order_after(alloc, &records, change)?;
+        Document::with_candidate(alloc, records, self.next, order)
+    }
+
+    // What the order may be after a change of one shape: only a move changes it.
+    fn order_after(
+        &self,
+        alloc: Global,
+        records: &[SharedRecord],
+        change: &Change,
+    ) -> Result<Vec<u32>, AllocError> {
+        if let Change::Move { id, .. } = change {
+            if let Some(position) = position_of(&self.records, *id) {
+                return order_after_move(alloc, &self.order, records, position);
+            }
+        }
+        self.order.clone()
     }
 }
 
-// A shape after a change of one shape's place, pose, kind or mark: most often an equal one.
+// A shape after a change of one shape's place, pose, kind or mark: most often the same one.
 #[inline(always)]
-fn changed_or_same(alloc: Global, shape: &Record, change: &Change) -> Result<Record, AllocError>
+fn changed_or_same(
+    alloc: Global,
+    shape: &SharedRecord,
+    change: &Change,
+) -> Result<SharedRecord, AllocError>
     ensures { IfOk result (λ after. after ≡ changed_by change.now shape.now) }
 {
     if is_changed(shape, change) {
-        changed_by(alloc, shape, change)
+        SharedRecord::new(alloc, changed_by(alloc, shape, change)?)
     } else {
-        shape.try_clone(alloc)
+        shape.share()
     }
 }
 
@@ -196,7 +214,11 @@ fn shown(alloc: Global, shape: &Record, hidden: bool) -> Result<Record, AllocErr
 }
 
 // The records after a change of one shape's place, pose, kind or mark.
-fn changed(alloc: Global, records: &[Record], change: &Change) -> Result<Vec<Record>, AllocError>
+fn changed(
+    alloc: Global,
+    records: &[SharedRecord],
+    change: &Change,
+) -> Result<Vec<SharedRecord>, AllocError>
     ensures { IfOk result (λ all. all.items ≡ map (changed_by change.now) records.now) }
 {
     let mut all = Vec::with_capacity(alloc, records.len())?;
@@ -210,21 +232,25 @@ fn changed(alloc: Global, records: &[Record], change: &Change) -> Result<Vec<Rec
 // The records with one more at the end.
 fn with_one_more(
     alloc: Global,
-    records: &[Record],
-    shape: Record,
-) -> Result<Vec<Record>, AllocError>
+    records: &[SharedRecord],
+    shape: SharedRecord,
+) -> Result<Vec<SharedRecord>, AllocError>
     ensures { IfOk result (λ all. all.items ≡ records.now ++ shape ∷ []) }
 {
     let mut all = Vec::with_capacity(alloc, records.len() + 1)?;
     for other in records {
-        all.push(other.try_clone(alloc)?)?;
+        all.push(other.share()?)?;
     }
     all.push(shape)?;
     Ok(all)
 }
 
 // The records without a shape and all below it.
-fn without(alloc: Global, records: &[Record], id: u32) -> Result<Vec<Record>, AllocError>
+fn without(
+    alloc: Global,
+    records: &[SharedRecord],
+    id: u32,
+) -> Result<Vec<SharedRecord>, AllocError>
     requires rising { AreRising records.now }
     requires grounded { All (λ r. reaches_page 31 records.now r.place.parent ≡ true) records.now }
     ensures { IfOk result (λ all. all.items ≡ filter (λ r. not (is_in_subtree id records.now r)) records.now) }
@@ -235,10 +261,10 @@ fn without(alloc: Global, records: &[Record], id: u32) -> Result<Vec<Record>, Al
 
 fn without_marked(
     alloc: Global,
-    records: &[Record],
+    records: &[SharedRecord],
     marks: &mut [u8],
     id: u32,
-) -> Result<Vec<Record>, AllocError>
+) -> Result<Vec<SharedRecord>, AllocError>
     requires rising { AreRising records.now }
     requires grounded { All (λ r. reaches_page 31 records.now r.place.parent ≡ true) records.now }
     requires marks { AreMarks id records.now marks.old }
@@ -248,8 +274,8 @@ fn without_marked(
     for at in 0..records.len() {
         let level = level_at(records, marks, STEPS, id, at);
         if level == 0 {
-            let copy = records[at].try_clone(alloc)?;
-            all.push(copy)?;
+            let same = records[at].share()?;
+            all.push(same)?;
         }
     }
     Ok(all)
@@ -258,9 +284,9 @@ fn without_marked(
 // The records, with new indexes for the children of a parent.
 fn all_respaced(
     alloc: Global,
-    records: &[Record],
+    records: &[SharedRecord],
     parent: Parent,
-) -> Result<Vec<Record>, AllocError>
+) -> Result<Vec<SharedRecord>, AllocError>
     requires { length records.now ≤ 4096 }
     ensures { IfOk result (λ all. all.items ≡ map (respaced parent records.now) records.now) }
 {
@@ -276,7 +302,7 @@ fn all_respaced(
 // The indexes of the children of a parent, from back to front.
 fn sorted_indexes<'a>(
     alloc: Global,
-    records: &'a [Record],
+    records: &'a [SharedRecord],
     parent: Parent,
 ) -> Result<Vec<&'a Key>, AllocError>
     ensures same { IfOk result (λ order. IsPermutation (indexes parent records.now) (map (λ key. key.now) order.items)) }
@@ -291,7 +317,7 @@ fn sorted_indexes<'a>(
 // The indexes of the children of a parent.
 fn indexes<'a>(
     alloc: Global,
-    records: &'a [Record],
+    records: &'a [SharedRecord],
     parent: Parent,
 ) -> Result<Vec<&'a Key>, AllocError>
     ensures same { IfOk result (λ keys. map (λ key. key.now) keys.items ≡ indexes parent records.now) }
@@ -317,17 +343,18 @@ fn respaced(
     alloc: Global,
     order: &[&Key],
     parent: Parent,
-    shape: &Record,
-) -> Result<Record, AllocError>
+    shape: &SharedRecord,
+) -> Result<SharedRecord, AllocError>
     requires sorted { IsSortedBy (λ a b. is_before a.now b.now) order.now }
     requires few { length order.now ≤ 4096 }
     ensures { IfOk result (λ after. after ≡ respaced_among parent (map (λ key. key.now) order.now) shape.now) }
 {
     if is_child(parent, shape) {
         let index = fresh(rank_among(order, &shape.place.index));
-        moved(alloc, shape, &Place { parent, index })
+        let after = moved(alloc, shape, &Place { parent, index })?;
+        SharedRecord::new(alloc, after)
     } else {
-        shape.try_clone(alloc)
+        shape.share()
     }
 }
 

@@ -11,6 +11,7 @@ use crate::ancestry::{has_parent, has_shape, is_container, lies_too_deep, reache
 use crate::decisions::is_pose;
 use crate::edits::Change;
 use crate::records::{Parent, Place, Record};
+use crate::shared::SharedRecord;
 use crate::spots::is_taken;
 use canvas_plane::Pose;
 use canvas_shape::Kind;
@@ -24,7 +25,7 @@ impl Document {
     }
 }
 
-fn has_no_child(records: &[Record], id: u32) -> bool
+fn has_no_child(records: &[SharedRecord], id: u32) -> bool
     ensures { result ≡ has_no_child id records.now }
 {
     for shape in records {
@@ -35,7 +36,7 @@ fn has_no_child(records: &[Record], id: u32) -> bool
     true
 }
 
-fn fits_test(records: &[Record], next: u32, change: &Change) -> bool
+fn fits_test(records: &[SharedRecord], next: u32, change: &Change) -> bool
     requires { AreRising records.now }
     ensures value { result ≡ fits_test change.now (record { records = records.now; next = next }) }
     ensures key { IsTrue result → HasKey change.now }
@@ -58,7 +59,13 @@ fn fits_test(records: &[Record], next: u32, change: &Change) -> bool
 }
 
 // Whether a new shape may be put here.
-fn can_be_created(records: &[Record], next: u32, kind: &Kind, pose: &Pose, place: &Place) -> bool
+fn can_be_created(
+    records: &[SharedRecord],
+    next: u32,
+    kind: &Kind,
+    pose: &Pose,
+    place: &Place,
+) -> bool
     requires { AreRising records.now }
     ensures value { result ≡ creation_test kind.now pose.now place.now (record { records = records.now; next = next }) }
     ensures key { IsTrue result → IsKey place.now.index }
@@ -85,7 +92,7 @@ fn can_be_created(records: &[Record], next: u32, kind: &Kind, pose: &Pose, place
 }
 
 // Whether a shape may be moved here.
-fn can_be_moved(records: &[Record], id: u32, place: &Place) -> bool
+fn can_be_moved(records: &[SharedRecord], id: u32, place: &Place) -> bool
     requires { AreRising records.now }
     ensures value { result ≡ move_test id place.now records.now }
     ensures key { IsTrue result → IsKey place.now.index }
@@ -100,7 +107,7 @@ fn can_be_moved(records: &[Record], id: u32, place: &Place) -> bool
 }
 
 // Whether a shape may have this kind.
-fn can_be_reshaped(records: &[Record], id: u32, kind: &Kind) -> bool
+fn can_be_reshaped(records: &[SharedRecord], id: u32, kind: &Kind) -> bool
     requires { AreRising records.now }
     ensures { result ≡ kind_test id kind.now records.now }
 {

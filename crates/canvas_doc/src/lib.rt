@@ -14,9 +14,11 @@ mod effects;
 mod fits;
 mod lookup;
 mod order;
+mod place_order;
 mod records;
 mod refusals;
 mod restored;
+mod shared;
 mod spots;
 
 pub use edits::{Change, Edit, Spot};
@@ -24,25 +26,29 @@ use lookup::find;
 pub use records::{Parent, Place, Record};
 pub use refusals::Refusal;
 pub use restored::TreeFault;
+use shared::SharedRecord;
 use std::alloc::Global;
 use std::marker::Model;
 
 /// A design document: records in a page tree, and the next id. It is always well formed.
 #[derive(Drop)]
 pub struct Document {
-    // In rising id.
-    records: Vec<Record>,
+    // In rising id, each shared with the documents before and after a change that left it as it was.
+    records: Vec<SharedRecord>,
+    // The positions of the records by place: by the parent, then by the index.
+    order: Vec<u32>,
     next: u32,
 }
 
 impl Model for Document {
-    ghost use Rattle.canvas_doc.specs.Contents.{Contents, IsWellFormed};
+    ghost use Rattle.canvas_doc.specs.Contents.{Contents};
+    ghost use Rattle.canvas_doc.specs.PlaceOrder.{IsKeptInOrder};
 
     ghost Value = { Contents };
 
     ghost view = { λ d. record { records = d.records.items; next = d.next } };
 
-    ghost invariant = { λ d. IsWellFormed (record { records = d.records.items; next = d.next }) };
+    ghost invariant = { λ d. IsKeptInOrder (record { records = d.records.items; next = d.next }) d.order.items };
 }
 
 impl Document {
@@ -54,6 +60,7 @@ impl Document {
     {
         Document {
             records: Vec::new(alloc),
+            order: Vec::new(alloc),
             next: 1,
         }
     }

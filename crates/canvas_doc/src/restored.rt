@@ -13,6 +13,8 @@ ghost use Rattle.canvas_doc.specs.Listed.{GivesFirsts, holder_of, has_place};
 ghost use Rattle.canvas_doc.specs.declared.restored.TreeFault.TheVariants.{OutOfMemory};
 
 use crate::ancestry::{STEPS, is_container};
+use crate::place_order::holder_of;
+use crate::shared::SharedRecord;
 use crate::{Document, Parent, Record};
 use std::alloc::{AllocError, Global};
 use std::collections::{BTreeMap, BTreeSet};
@@ -87,8 +89,9 @@ impl Document {
         if let Some(position) = tree_fault(alloc, &records)? {
             return Err(TreeFault::BadTree { position });
         }
-        let records = by_id(records)?;
-        Ok(Document { records, next })
+        let records = shared(alloc, by_id(records)?)?;
+        let document = Document::with_candidate(alloc, records, next, Vec::new(alloc))?;
+        Ok(document)
     }
 }
 
@@ -105,6 +108,17 @@ fn by_id(mut records: Vec<Record>) -> Result<Vec<Record>, AllocError>
 {
     records.sort_by_key(|shape| shape.id)?;
     Ok(records)
+}
+
+// The records, ready to be shared.
+fn shared(alloc: Global, records: Vec<Record>) -> Result<Vec<SharedRecord>, AllocError>
+    ensures { IfOk result (λ all. all.items ≡ records.items) }
+{
+    let mut all = Vec::with_capacity(alloc, records.len())?;
+    for shape in records {
+        all.push(SharedRecord::new(alloc, shape)?)?;
+    }
+    Ok(all)
 }
 
 // The least position of a record that does not belong to a page tree.
@@ -169,11 +183,7 @@ fn place_of(shape: &Record) -> (Option<u32>, &[u8])
     ensures index { result.1.now ≡ shape.now.place.index }
     ensures key { IsKey shape.now.place.index }
 {
-    let holder = match shape.place.parent {
-        Parent::Page => None,
-        Parent::Shape(id) => Some(id),
-    };
-    (holder, shape.place.index.bytes())
+    (holder_of(shape.place.parent), shape.place.index.bytes())
 }
 
 // The first record with an id.

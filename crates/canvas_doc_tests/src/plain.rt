@@ -46,7 +46,7 @@ impl Plain {
 
     /// What becomes of an edit.
     pub(crate) fn decide(&self, alloc: Global, edit: &Edit) -> Result<Change, Refusal> {
-        Ok(match edit {
+        match edit {
             Edit::Create {
                 kind,
                 pose,
@@ -54,66 +54,83 @@ impl Plain {
                 parent,
                 spot,
             } => {
-                self.judge_parent(*parent)?;
-                self.judge_new(alloc, kind, pose, *parent)?;
-                let index = self.index_at(alloc, self.next, *parent, spot)?;
-                Change::Create {
+                let place = self.new_place(alloc, kind, pose, *parent, spot)?;
+                Ok(Change::Create {
                     id: self.next,
                     kind: kind.try_clone(alloc)?,
                     pose: *pose,
                     hidden: *hidden,
-                    place: Place {
-                        parent: *parent,
-                        index,
-                    },
-                }
+                    place,
+                })
             }
             Edit::Move { id, parent, spot } => {
-                self.judge_shape(*id)?;
-                self.judge_parent(*parent)?;
-                self.judge_move(alloc, *id, *parent)?;
-                let index = self.index_at(alloc, *id, *parent, spot)?;
-                Change::Move {
-                    id: *id,
-                    place: Place {
-                        parent: *parent,
-                        index,
-                    },
-                }
+                let place = self.other_place(alloc, *id, *parent, spot)?;
+                Ok(Change::Move { id: *id, place })
             }
-            Edit::Pose { id, pose } => {
-                self.judge_shape(*id)?;
-                judge_pose(pose)?;
-                Change::Pose {
-                    id: *id,
-                    pose: *pose,
-                }
-            }
-            Edit::Reshape { id, kind } => {
-                self.judge_shape(*id)?;
-                self.judge_variant(*id, kind)?;
-                judge_sides(kind)?;
-                judge_vertices(kind)?;
-                Change::Reshape {
-                    id: *id,
-                    kind: kind.try_clone(alloc)?,
-                }
-            }
+            Edit::Pose { id, pose } => self.posed(*id, *pose),
+            Edit::Reshape { id, kind } => self.reshaped(alloc, *id, kind),
             Edit::Show { id, hidden } => {
                 self.judge_shape(*id)?;
-                Change::Show {
+                Ok(Change::Show {
                     id: *id,
                     hidden: *hidden,
-                }
+                })
             }
             Edit::Delete { id } => {
                 self.judge_shape(*id)?;
-                Change::Delete { id: *id }
+                Ok(Change::Delete { id: *id })
             }
             Edit::Respace { parent } => {
                 self.judge_parent(*parent)?;
-                Change::Respace { parent: *parent }
+                Ok(Change::Respace { parent: *parent })
             }
+        }
+    }
+
+    // The place of a new shape.
+    fn new_place(
+        &self,
+        alloc: Global,
+        kind: &Kind,
+        pose: &Pose,
+        parent: Parent,
+        spot: &Spot,
+    ) -> Result<Place, Refusal> {
+        self.judge_parent(parent)?;
+        self.judge_new(alloc, kind, pose, parent)?;
+        let index = self.index_at(alloc, self.next, parent, spot)?;
+        Ok(Place { parent, index })
+    }
+
+    // The place of a shape that goes elsewhere.
+    fn other_place(
+        &self,
+        alloc: Global,
+        id: u32,
+        parent: Parent,
+        spot: &Spot,
+    ) -> Result<Place, Refusal> {
+        self.judge_shape(id)?;
+        self.judge_parent(parent)?;
+        self.judge_move(alloc, id, parent)?;
+        let index = self.index_at(alloc, id, parent, spot)?;
+        Ok(Place { parent, index })
+    }
+
+    fn posed(&self, id: u32, pose: Pose) -> Result<Change, Refusal> {
+        self.judge_shape(id)?;
+        judge_pose(&pose)?;
+        Ok(Change::Pose { id, pose })
+    }
+
+    fn reshaped(&self, alloc: Global, id: u32, kind: &Kind) -> Result<Change, Refusal> {
+        self.judge_shape(id)?;
+        self.judge_variant(id, kind)?;
+        judge_sides(kind)?;
+        judge_vertices(kind)?;
+        Ok(Change::Reshape {
+            id,
+            kind: kind.try_clone(alloc)?,
         })
     }
 

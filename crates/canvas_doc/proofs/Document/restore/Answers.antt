@@ -1,4 +1,4 @@
-use Rattle.std.proofs.Common.{rules, All, ◌≡◌, ◌<◌, ◌^◌, None, subst, sym, arith}
+use Rattle.std.proofs.Common.{rules, All, ◌≡◌, ◌∙◌, ◌<◌, ◌^◌, None, subst, sym, arith}
 use Rattle.canvas_key.specs.Text.{IsKey}
 use Rattle.canvas_doc.specs.declared.records.Record.{Record}
 use Rattle.canvas_doc.specs.Contents.{IsWellFormed}
@@ -7,14 +7,14 @@ use Rattle.canvas_doc.proofs.Saved.{restoration_of-same}
 use Rattle.canvas_doc.proofs.RestoredWell.{restores-well}
 use Rattle.canvas_doc.proofs.Document.restore.Goals as goal
 
-pub invariant_of-result : goal.invariant_of-result
-invariant_of-result c =
+pub with_candidate-requires : goal.with_candidate-requires
+with_candidate-requires c =
     let fits : c.args.next < 2 ^ 32 = omega arith in
     let none : c.in_ok-position.field-0 ≡ None = search rules in
     let keys : All (λ (r : Record). IsKey r.place.index) c.args.records.items = subst (All (λ (r : Record). IsKey r.place.index)) c.deref-2.ensures.value (c.in_ok-position.ensures.keys none) in
     let records : record_fault c.args.next c.args.records.items ≡ None = search rules in
     let tree : tree_fault c.args.records.items ≡ None = search rules in
-    subst (λ rs. IsWellFormed (record { records = rs; next = c.args.next })) (sym c.in_ok-records.ensures)
+    subst (λ rs. IsWellFormed (record { records = rs; next = c.args.next })) (sym (c.in_ok-records.ensures ∙ c.in_ok-by_id.ensures))
     (restores-well c.args.records.items c.args.next c.requires.next fits c.requires.few keys records tree)
 
 pub returns-in-Some-clause-again : goal.returns-in-Some-clause-again
@@ -26,8 +26,14 @@ returns-in_err-position-clause-again c = restoration_of-same (record { records =
 pub returns-in-Some-2-clause-again : goal.returns-in-Some-2-clause-again
 returns-in-Some-2-clause-again c = restoration_of-same (record { records = c.args.records.items; next = c.args.next })
 
+pub returns-in_err-by_id-clause-again : goal.returns-in_err-by_id-clause-again
+returns-in_err-by_id-clause-again c = restoration_of-same (record { records = c.args.records.items; next = c.args.next })
+
 pub returns-in_err-records-clause-again : goal.returns-in_err-records-clause-again
 returns-in_err-records-clause-again c = restoration_of-same (record { records = c.args.records.items; next = c.args.next })
 
 pub returns-clause-again : goal.returns-clause-again
 returns-clause-again c = restoration_of-same (record { records = c.args.records.items; next = c.args.next })
+
+pub returns-in_err-document-clause-again : goal.returns-in_err-document-clause-again
+returns-in_err-document-clause-again c = restoration_of-same (record { records = c.args.records.items; next = c.args.next })

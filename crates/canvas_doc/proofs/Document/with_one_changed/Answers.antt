@@ -4,8 +4,8 @@ use Rattle.canvas_doc.specs.Effect.{effect_of, changed_by}
 use Rattle.canvas_doc.proofs.OneChanged.{one-effect}
 use Rattle.canvas_doc.proofs.Document.with_one_changed.Goals as goal
 
-pub invariant_of-result : goal.invariant_of-result
-invariant_of-result c =
+pub with_candidate-requires : goal.with_candidate-requires
+with_candidate-requires c =
     let inside : Contents = record { records = c.self.inside.records.items; next = c.self.inside.next } in
     let after : Contents = record { records = c.in_ok-records.records.items; next = c.self.inside.next } in
     let e : effect_of c.args.change.now c.args.self.now ≡ after =

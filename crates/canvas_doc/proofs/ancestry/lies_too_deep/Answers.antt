@@ -4,12 +4,13 @@ use Rattle.std.proofs.lemmas.List.{take_all}
 use Rattle.canvas_doc.specs.Contents.{reaches_page}
 use Rattle.canvas_doc.specs.Decision.{put_under, parent_after}
 use Rattle.canvas_doc.proofs.Paths.{deep-at, deep-none}
+use Rattle.canvas_doc.proofs.Found.{stands-at}
 use Rattle.canvas_doc.proofs.ancestry.lies_too_deep.Goals as goal
 
 pub returns-then-not-reaches : goal.returns-then-not-reaches
 returns-then-not-reaches c =
     let fails : c.reaches_page_after-reaches.result ≡ false = search rules in
-    deep-at c.args.records.now c.args.id c.args.under c.parent_after-parent.result c.loop-shape.shape-index c.shape-item.result c.reaches_page_after-reaches.result c.loop-shape-test.true c.shape-item.is c.parent_after-parent.ensures c.reaches_page_after-reaches.ensures fails
+    deep-at c.args.records.now c.args.id c.args.under c.parent_after-parent.result c.loop-shape.shape-index c.deref.result.now c.reaches_page_after-reaches.result c.loop-shape-test.true (stands-at c.args.records.now c.loop-shape.shape-index c.shape-item.result c.deref.result.now c.deref.ensures c.shape-item.is) c.parent_after-parent.ensures c.reaches_page_after-reaches.ensures fails
 
 pub returns : goal.returns
 returns c =

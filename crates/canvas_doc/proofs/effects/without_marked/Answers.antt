@@ -4,7 +4,7 @@ use Rattle.canvas_doc.specs.declared.records.Record.{Record}
 use Rattle.canvas_doc.proofs.Found.{other-id}
 use Rattle.canvas_doc.proofs.Marks.{kept-more, some-at}
 use Rattle.canvas_doc.proofs.effects.without_marked.Goals as goal
-use Rattle.canvas_doc.proofs.effects.without_marked.Goals.{then-level-eq0+in_ok-copy+in_ok-push, else-level-eq0}
+use Rattle.canvas_doc.proofs.effects.without_marked.Goals.{then-level-eq0+in_ok-same+in_ok-push, else-level-eq0}
 
 abbrev items_of : Vec Record Global → List Record
 items_of v = v.items
@@ -17,9 +17,9 @@ loop-at-preserved c =
     let old : List Record = c.loop-at.all.items in
     record {
       kept = elim c.if-level-eq0.branch [
-        | then-level-eq0+in_ok-copy+in_ok-push w ↦ (
+        | then-level-eq0+in_ok-same+in_ok-push w ↦ (
             let r : Record = w.index-records-at.result in
-            ap items_of w.all-is ∙ w.in_ok-push.ensures.items ∙ ap (λ x. old ++ x ∷ []) w.in_ok-copy.ensures
+            ap items_of w.all-is ∙ w.in_ok-push.ensures.items ∙ ap (λ x. old ++ x ∷ []) w.in_ok-same.ensures
             ∙ ap (λ (b : Bool). cond b (old ++ r ∷ []) old) (sym (eq-eqb level 0 w.if-level-eq0.true))
             ∙ kept-more c.args.id rs at r level old c.requires.grounded c.loop-at-test.true w.index-records-at.is (c.level_at-level.ensures.value r w.index-records-at.is) c.loop-at.invariant.kept)
         | else-level-eq0 w ↦ (

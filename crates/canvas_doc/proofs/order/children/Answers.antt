@@ -1,22 +1,32 @@
-use Rattle.std.proofs.Common.{All, Bor, List, filter, map, rules, subst, sym}
-use Rattle.std.specs.List.Sorted.{IsPermutation, IsSortedBy}
-use Rattle.std.proofs.lemmas.List.Sorted.{IsPermutation-map, answers_always}
+use Rattle.std.proofs.Common.{◌∙◌, ◌++◌, ◌-◌, All, Bor, List, arith, get_or, map, subst, sym, ap}
+use Rattle.std.proofs.lemmas.List.{map-append}
 use Rattle.canvas_doc.specs.declared.records.Record.{Record}
-use Rattle.canvas_doc.specs.Children.{is_child, is_in_front}
 use Rattle.canvas_doc.specs.Tree.{IsInLimits}
-use Rattle.canvas_doc.proofs.Sorting.{all-by_reference, all-children, fronts_by_reference, record_of, sorted-children, sorted-records}
+use Rattle.canvas_doc.proofs.Found.{stands-at}
+use Rattle.canvas_doc.proofs.Ranged.{children-listed, front-end, front-more, from_front}
+use Rattle.canvas_doc.proofs.Sorting.{all-by_reference, all-children, record_of}
 use Rattle.canvas_doc.proofs.order.children.Goals as goal
+
+pub loop-at-init : goal.loop-at-init
+loop-at-init g c =
+    ap (λ (bs : List (Bor Record)). map record_of bs ++ from_front c.args.records.now c.args.order.now c.children_range-start.result.start (c.children_range-start.result.end - c.children_range-start.result.start)) c.in_ok-list.ensures.items
+
+pub loop-at-preserved : goal.loop-at-preserved
+loop-at-preserved g c =
+    let start = c.children_range-start.result.start in
+    let all : List Record = from_front c.args.records.now c.args.order.now start (c.children_range-start.result.end - start) in
+    front-more c.args.records.now c.args.order.now start c.loop-at.at c.deref-shape.result.now (map record_of c.loop-at.list.items) (map record_of c.push.new.self.items) all c.loop-at-test.true
+    ((c.requires.order.each (c.loop-at.at - 1) (omega (arith, c.children_range-start.ensures.bound))).there) (stands-at c.args.records.now (get_or c.args.order.now (c.loop-at.at - 1) 0) c.index-records-order.result c.deref-shape.result.now c.deref-shape.ensures c.index-records-order.is)
+    (ap (map record_of) c.in_ok-push.ensures.items ∙ map-append record_of c.loop-at.list.items _) c.loop-at.invariant
 
 pub returns-clause-children : goal.returns-clause-children
 returns-clause-children g c =
-    let all : List (Bor Record) = c.sort_unstable_by.new.self.items in
-    let same : IsPermutation (filter (is_child c.args.parent) c.args.records.now) (map record_of all) =
-    subst (λ (xs : List Record). IsPermutation xs (map record_of all)) c.in_ok-list.ensures (IsPermutation-map record_of c.in_ok-list.list.items all c.sort_unstable_by.ensures.permutation) in
-    let sorted : IsSortedBy (λ a b. is_in_front a.now b.now) all =
-    c.sort_unstable_by.ensures.sorted (λ a b. is_in_front a.now b.now) fronts_by_reference (answers_always _ _ _ (λ f a r h called. search rules)) in
-    sorted-children c.args.parent c.args.records.now (map record_of all) c.requires.places same (sorted-records all sorted)
+    let start = c.children_range-start.result.start in
+    let end = c.children_range-start.result.end in
+    front-end c.args.records.now c.args.order.now start c.loop-at.at (map record_of c.loop-at.list.items) (from_front c.args.records.now c.args.order.now start (end - start)) c.loop-at-test.false c.loop-at.invariant
+    ∙ children-listed c.args.parent c.args.records.now c.args.order.now start end c.requires.places c.requires.order c.children_range-start.ensures
 
 pub returns-clause-limits : goal.returns-clause-limits
 returns-clause-limits g c =
-    all-by_reference IsInLimits c.sort_unstable_by.new.self.items
+    all-by_reference IsInLimits c.loop-at.list.items
     (subst (λ (rs : List Record). All IsInLimits rs) (sym (returns-clause-children g c)) (all-children IsInLimits c.args.parent c.args.records.now c.requires.limits))

@@ -1,0 +1,264 @@
+//! The order of a document's records by place: the children of a parent stand side by side in it,
+//! from back to front.
+
+ghost use Rattle.std.specs.Prelude.{◌≡◌, ◌≤◌, ◌<◌, IfOk, IsTrue, length};
+ghost use Rattle.std.specs.List.{range_with_len, slice_get};
+ghost use Rattle.std.specs.Ordering.{is_lt, is_le};
+ghost use Rattle.canvas_doc.specs.Contents.{IsWellFormed};
+ghost use Rattle.canvas_doc.specs.Listed.{holder_of};
+ghost use Rattle.canvas_doc.specs.PlaceOrder.{by_parent, by_place, by_place_at, has_parent_at, IsNextInOrder, IsInPlaceOrder, AreChildrenWithin};
+ghost use Rattle.canvas_doc.specs.Tree.{HavePlaces};
+
+use crate::Document;
+use crate::records::{Parent, Record};
+use crate::shared::SharedRecord;
+use std::alloc::{AllocError, Global};
+use std::cmp::Ordering;
+use std::ops::Range;
+
+impl Document {
+    // The document of these records. The order is the candidate, or is made anew where the
+    // candidate is not in order.
+    pub(crate) fn with_candidate(
+        alloc: Global,
+        records: Vec<SharedRecord>,
+        next: u32,
+        candidate: Vec<u32>,
+    ) -> Result<Document, AllocError>
+        requires { IsWellFormed (record { records = records.items; next = next }) }
+        ensures { IfOk result (λ document. document ≡ record { records = records.items; next = next }) }
+    {
+        let order = in_order(alloc, &records, candidate)?;
+        Ok(Document {
+            records,
+            order,
+            next,
+        })
+    }
+}
+
+// The candidate, where it has the positions of all records by place, or these positions sorted.
+fn in_order(
+    alloc: Global,
+    records: &[SharedRecord],
+    candidate: Vec<u32>,
+) -> Result<Vec<u32>, AllocError>
+    requires few { length records.now ≤ 4096 }
+    requires places { HavePlaces records.now }
+    ensures { IfOk result (λ order. IsInPlaceOrder order.items records.now) }
+{
+    if is_in_order(records, &candidate) {
+        Ok(candidate)
+    } else {
+        sorted_positions(alloc, records)
+    }
+}
+
+// Whether these are the positions of all records, each with a place before the next one's.
+fn is_in_order(records: &[SharedRecord], order: &[u32]) -> bool
+    ensures { IsTrue result → IsInPlaceOrder order.now records.now }
+{
+    if order.len() != records.len() {
+        return false;
+    }
+    for at in 0..order.len() {
+        if !is_next(records, order, at) {
+            return false;
+        }
+    }
+    true
+}
+
+// Whether a record's position stands at an index of the order, and its place comes after the
+// place before it.
+fn is_next(records: &[SharedRecord], order: &[u32], at: usize) -> bool
+    requires { at < length order.now }
+    ensures { IsTrue result → IsNextInOrder order.now records.now at }
+{
+    if order[at] as usize >= records.len() {
+        return false;
+    }
+    at == 0 || by_place_at(records, order[at - 1], order[at]).is_lt()
+}
+
+// The positions of all records, sorted by place.
+fn sorted_positions(alloc: Global, records: &[SharedRecord]) -> Result<Vec<u32>, AllocError>
+    requires few { length records.now ≤ 4096 }
+    requires places { HavePlaces records.now }
+    ensures { IfOk result (λ order. IsInPlaceOrder order.items records.now) }
+{
+    let mut order = positions(alloc, records.len())?;
+    order.sort_unstable_by(|at, other| by_place_at(records, *at, *other));
+    Ok(order)
+}
+
+// The numbers from 0 up to a count.
+fn positions(alloc: Global, count: usize) -> Result<Vec<u32>, AllocError>
+    requires { count ≤ 4096 }
+    ensures { IfOk result (λ all. all.items ≡ range_with_len 0 count) }
+{
+    let mut all = Vec::with_capacity(alloc, count)?;
+    for at in 0..count {
+        all.push(at as u32)?;
+    }
+    Ok(all)
+}
+
+// Where the children of a parent stand in the order, from back to front.
+pub(crate) fn children_range(
+    records: &[SharedRecord],
+    order: &[u32],
+    parent: Parent,
+) -> Range<usize>
+    requires { IsInPlaceOrder order.now records.now }
+    ensures { AreChildrenWithin parent records.now order.now result.start result.end }
+{
+    let start = order.partition_point(|at| comes_before(records, *at, parent));
+    let end = order.partition_point(|at| comes_before_or_hangs(records, *at, parent));
+    start..end
+}
+
+// Whether the parent of the record at a position comes before another.
+fn comes_before(records: &[SharedRecord], at: u32, parent: Parent) -> bool
+    ensures { result ≡ has_parent_at is_lt parent (slice_get records.now at) }
+{
+    match records.get(at as usize) {
+        Some(shape) => by_parent(shape.place.parent, parent).is_lt(),
+        None => false,
+    }
+}
+
+// Whether the parent of the record at a position comes before another, or is that one.
+fn comes_before_or_hangs(records: &[SharedRecord], at: u32, parent: Parent) -> bool
+    ensures { result ≡ has_parent_at is_le parent (slice_get records.now at) }
+{
+    match records.get(at as usize) {
+        Some(shape) => by_parent(shape.place.parent, parent).is_le(),
+        None => false,
+    }
+}
+
+// How the places of the records at two positions compare; a position of no record comes first.
+fn by_place_at(records: &[SharedRecord], at: u32, other: u32) -> Ordering
+    ensures { result ≡ by_place_at records.now at other }
+{
+    match (records.get(at as usize), records.get(other as usize)) {
+        (Some(shape), Some(other)) => by_place(shape, other),
+        (Some(_), None) => Ordering::Greater,
+        (None, Some(_)) => Ordering::Less,
+        (None, None) => Ordering::Equal,
+    }
+}
+
+// By the parent, then by the index.
+fn by_place(shape: &Record, other: &Record) -> Ordering
+    ensures { result ≡ by_place shape.now other.now }
+{
+    match by_parent(shape.place.parent, other.place.parent) {
+        Ordering::Less => Ordering::Less,
+        Ordering::Equal => shape.place.index.cmp(&other.place.index),
+        Ordering::Greater => Ordering::Greater,
+    }
+}
+
+// The page before all shapes, and these by their ids.
+fn by_parent(parent: Parent, other: Parent) -> Ordering
+    ensures { result ≡ by_parent parent other }
+{
+    holder_of(parent).cmp(&holder_of(other))
+}
+
+// The id of a shape as a parent.
+pub(crate) fn holder_of(parent: Parent) -> Option<u32>
+    ensures { result ≡ holder_of parent }
+{
+    match parent {
+        Parent::Page => None,
+        Parent::Shape(id) => Some(id),
+    }
+}
+
+// What the order may be once the last record was added.
+pub(crate) fn order_after_creation(
+    alloc: Global,
+    order: &[u32],
+    records: &[SharedRecord],
+    position: usize,
+) -> Result<Vec<u32>, AllocError>
+    requires { position ≤ 4096 }
+{
+    let mut after = Vec::with_capacity(alloc, order.len() + 1)?;
+    after.extend_from_slice(order)?;
+    put_by_place(&mut after, records, position as u32)?;
+    Ok(after)
+}
+
+// What the order may be once the record at a position was moved.
+pub(crate) fn order_after_move(
+    alloc: Global,
+    order: &[u32],
+    records: &[SharedRecord],
+    position: usize,
+) -> Result<Vec<u32>, AllocError>
+    requires { position ≤ 4096 }
+{
+    let mut after = Vec::with_capacity(alloc, order.len())?;
+    for other in order {
+        if *other as usize != position {
+            after.push(*other)?;
+        }
+    }
+    put_by_place(&mut after, records, position as u32)?;
+    Ok(after)
+}
+
+// Puts a position in front of those with later places.
+fn put_by_place(
+    order: &mut Vec<u32>,
+    records: &[SharedRecord],
+    position: u32,
+) -> Result<(), AllocError> {
+    let at = order.partition_point(|other| by_place_at(records, *other, position).is_lt());
+    order.insert(at, position)?;
+    Ok(())
+}
+
+// What the order may be once records were left out.
+pub(crate) fn order_after_deletion(
+    alloc: Global,
+    order: &[u32],
+    records: &[SharedRecord],
+    left: &[SharedRecord],
+) -> Result<Vec<u32>, AllocError>
+    requires { length records.now ≤ 4096 }
+{
+    let positions = positions_left(alloc, records, left)?;
+    let mut after = Vec::with_capacity(alloc, left.len())?;
+    for at in order {
+        if let Some(Some(position)) = positions.get(*at as usize) {
+            after.push(*position)?;
+        }
+    }
+    Ok(after)
+}
+
+// The position among those left of each record that is left, of which both lists have rising ids.
+fn positions_left(
+    alloc: Global,
+    records: &[SharedRecord],
+    left: &[SharedRecord],
+) -> Result<Vec<Option<u32>>, AllocError>
+    requires { length records.now ≤ 4096 }
+{
+    let mut positions = Vec::with_capacity(alloc, records.len())?;
+    let mut next: usize = 0;
+    for shape in records {
+        if next < left.len() && left[next].id == shape.id {
+            positions.push(Some(next as u32))?;
+            next += 1;
+        } else {
+            positions.push(None)?;
+        }
+    }
+    Ok(positions)
+}
