@@ -10,7 +10,7 @@ use canvas_shape::Carried;
 use rows::{Memory, Way};
 use std::time::Instant;
 use std::{env, fmt, io};
-use vertices::{round, scattered, star};
+use vertices::{crossing, frayed, round, scattered, star};
 
 /// How often all rows of a leaf are timed together.
 const TURNS: u32 = 16;
@@ -54,6 +54,16 @@ fn time_polygons(rt: &HostRuntime) -> io::Result<()> {
         rt,
         "of scattered vertices",
         &Carried::polygon(&scattered(rt.alloc())?),
+    )?;
+    time_polygon(
+        rt,
+        "of crossing edges",
+        &Carried::polygon(&crossing(rt.alloc())?),
+    )?;
+    time_polygon(
+        rt,
+        "with frayed sides",
+        &Carried::polygon(&frayed(rt.alloc())?),
     )
 }
 
@@ -66,7 +76,7 @@ fn time_polygon(rt: &HostRuntime, name: &str, leaf: &Carried<'_>) -> io::Result<
 
 // Prints the median and the least time of a leaf's rows.
 fn time(rt: &HostRuntime, name: &str, leaf: &Carried<'_>, way: Way) -> io::Result<()> {
-    let mut memory = Memory::new(rt.alloc())?;
+    let mut memory = Memory::new(rt.alloc());
     let mut times = Vec::new(rt.alloc());
     for _ in 0..SAMPLES {
         let start = Instant::now(rt)?;

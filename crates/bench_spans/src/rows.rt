@@ -1,8 +1,6 @@
 //! The rows of a window of 256 by 256, row by row or together.
 
-ghost use Rattle.std.specs.Prelude.{◌≡◌, IfOk, length};
-
-use canvas_shape::{Carried, Cuts, Span, Vertices};
+use canvas_shape::{Carried, Cuts, EdgeFlags, Span, Vertices};
 use std::alloc::{AllocError, Global};
 use std::fmt;
 
@@ -13,7 +11,7 @@ const SIDE: u32 = 256;
 #[derive(Clone, Copy)]
 pub enum Way {
     RowByRow,
-    /// The cuts of all rows of a polygon at once.
+    /// The edge flags of all rows of a polygon at once.
     Together,
 }
 
@@ -30,18 +28,17 @@ impl fmt::Display for Way {
 #[derive(Drop)]
 pub struct Memory {
     cuts: Cuts,
-    rows: Vec<Cuts>,
+    rows: [EdgeFlags; SIDE as usize],
     pub out: Vec<Span>,
-    ghost window: { length rows.items ≡ 256 },
 }
 
 impl Memory {
-    pub fn new(alloc: Global) -> Result<Memory, AllocError> {
-        Ok(Memory {
+    pub fn new(alloc: Global) -> Memory {
+        Memory {
             cuts: Cuts::new(alloc),
-            rows: all_rows(alloc)?,
+            rows: [EdgeFlags::none(); SIDE as usize],
             out: Vec::new(alloc),
-        })
+        }
     }
 
     /// The spans of all rows of a leaf.
@@ -54,16 +51,6 @@ impl Memory {
             _ => append_row_by_row(leaf, &mut self.cuts, &mut self.out),
         }
     }
-}
-
-fn all_rows(alloc: Global) -> Result<Vec<Cuts>, AllocError>
-    ensures { IfOk result (λ rows. length rows.items ≡ 256) }
-{
-    let mut rows = Vec::new(alloc);
-    for _ in 0..SIDE {
-        rows.push(Cuts::new(alloc))?;
-    }
-    Ok(rows)
 }
 
 fn append_row_by_row(
@@ -79,15 +66,12 @@ fn append_row_by_row(
 
 fn append_together(
     vertices: &Vertices<'_>,
-    rows: &mut [Cuts],
+    rows: &mut [EdgeFlags; SIDE as usize],
     out: &mut Vec<Span>,
-) -> Result<(), AllocError>
-    requires { length rows.old ≡ 256 }
-{
-    vertices.cut_rows(0, 0, SIDE as i32, rows)?;
-    for k in 0..rows.len() {
-        let row = &mut rows[k];
-        row.append_spans(0, SIDE as i32, out)?;
+) -> Result<(), AllocError> {
+    vertices.flag_rows(0, 0, SIDE, rows);
+    for row in rows.iter() {
+        row.append_spans(0, SIDE, out)?;
     }
     Ok(())
 }

@@ -1,4 +1,4 @@
-//! Vertices of polygons, 256 each, in a square of 240 by 240.
+//! Vertices of polygons, 256 each, in a square of 256 by 256.
 
 ghost use Rattle.std.specs.Prelude.{◌≤◌, ◌<◌, ◌^◌, IfOk, All, length};
 ghost use Rattle.canvas_plane.specs.Motion.{size_of};
@@ -47,6 +47,49 @@ pub fn scattered(alloc: Global) -> Result<Vec<Point>, AllocError>
         points.push(at(high_bits(x) % 240, high_bits(y) % 240))?;
     }
     Ok(points)
+}
+
+/// Vertices anywhere in a square of 256 by 256, the same in each run, so that most edges cross many others.
+pub fn crossing(alloc: Global) -> Result<Vec<Point>, AllocError>
+    ensures { IfOk result (λ points. (0 < length points.items) × All (λ p. size_of p ≤ 2 ^ 27) points.items) }
+{
+    let mut points = Vec::new(alloc);
+    for k in 0..COUNT {
+        points.push(at(hashed(k, 5), hashed(k, 11)))?;
+    }
+    Ok(points)
+}
+
+/// Vertices down one side and up the other, a step of two rows each, of which neither side is quite straight.
+pub fn frayed(alloc: Global) -> Result<Vec<Point>, AllocError>
+    ensures { IfOk result (λ points. (0 < length points.items) × All (λ p. size_of p ≤ 2 ^ 27) points.items) }
+{
+    let mut points = Vec::new(alloc);
+    for k in 0..COUNT {
+        points.push(side(k))?;
+    }
+    Ok(points)
+}
+
+fn side(k: u32) -> Point
+    requires { k < 256 }
+    ensures { size_of result ≤ 2 ^ 27 }
+{
+    if k < 128 {
+        at(200 + k % 7, 2 * k)
+    } else {
+        at(20 + k % 5, 512 - 2 * k)
+    }
+}
+
+// A number below 256 that is mixed from two.
+fn hashed(k: u32, by: u32) -> u32
+    ensures { result < 256 }
+{
+    let sum = k
+        .wrapping_mul(2654435761)
+        .wrapping_add(by.wrapping_mul(40503));
+    (sum.wrapping_mul(747796405).wrapping_add(by) >> 13) % 256
 }
 
 // The next number of a congruential generator.

@@ -1,16 +1,16 @@
 -- Bits of words as tests.
-use Rattle.std.proofs.Common.{◌≡◌, ℕ, zero, suc, ◌+◌, ◌-◌, ◌^◌, ◌%◌, ◌<◌, ◌≤◌, Bool, true, false, not, ◌&&◌, ◌==◌, subst, refl, sym, ap, ◌∙◌, arith, ⊎_elim, inl, inr, min, nat_le, nat_lt}
-use mathlib.Core.Bool.{beq}
-use Rattle.std.specs.Int.{bit_at, bit_not, trailing_zeros, w64}
+use Rattle.std.proofs.Common.{◌≡◌, ℕ, zero, suc, ◌+◌, ◌-◌, ◌^◌, ◌%◌, ◌<◌, ◌≤◌, Bool, true, false, not, ◌&&◌, ◌==◌, subst, refl, sym, ap, ◌∙◌, arith, ⊎_elim, min}
+use Rattle.std.specs.Int.{bit_at, trailing_zeros, w64}
 use Rattle.std.specs.Int.RustNames.{bit_xor}
 use lib.Bits.{bit_and}
-use Rattle.std.proofs.lemmas.Bool.{cases_lt, cases_Bool}
+use Rattle.std.proofs.lemmas.Bool.{cases_lt}
 use Rattle.std.proofs.lemmas.Bool.Decides.{nat_tests}
 use native.Mathlib.Nat.{pow-le-pow_right}
 use lib.Count.{trailing_of_zero}
 use Rattle.std.proofs.lemmas.Nat.Bits.{bit_at_and, bit_at_xor, bit_at_not, bit_at-lt, bit_at-zero, bit_at_mask_inside, bit_at_mask_below, bit_at_mask_above, bit_at-trailing_zeros}
 use Rattle.canvas_plane.specs.Motion.{not_same}
-use Rattle.canvas_paint.specs.Words.{has, is_within, IsWord, IsRun, IsLowest, HasNone}
+use Rattle.canvas_shape.specs.Words.{has}
+use Rattle.canvas_paint.specs.Words.{is_within, IsWord, IsRun, IsLowest, HasNone}
 
 bits-and : (p q : ℕ) → p < 2 → q < 2 → (min p q == 1) ≡ ((p == 1) && (q == 1))
 bits-and p q h k = grind (arith, nat_tests)

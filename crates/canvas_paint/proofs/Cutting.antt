@@ -1,28 +1,28 @@
 -- Items cut to a window, and the words of their rows.
-use Rattle.std.proofs.Common.{◌≡◌, ℕ, ◌+◌, ◌-◌, ◌<◌, ◌≤◌, max, min, List, [], ◌∷◌, ◌++◌, ℤ, Bool, true, false, ◌&&◌, cond, Option, Some, None, refl, sym, ap, ◌∙◌, arith, length, take, drop, get_or, pos, ◌+ℤ◌, nat_le, nat_lt, inl, inr}
+use Rattle.std.proofs.Common.{◌≡◌, ℕ, ◌+◌, ◌-◌, ◌*◌, ◌<◌, ◌≤◌, max, min, List, [], ◌∷◌, ◌++◌, ℤ, Bool, true, false, ◌&&◌, cond, Option, Some, None, refl, sym, ap, ◌∙◌, arith, length, take, get_or, pos, ◌+ℤ◌, nat_le, nat_lt, ◌/◌, ◌%◌, slice_index}
 use Rattle.std.specs.Prelude.{int_le, int_lt}
+use Rattle.std.proofs.Math.IntN.{+ℤ_assoc, pos-+ℤ-pos}
 use Rattle.std.proofs.lemmas.List.{take_more}
 use Rattle.std.proofs.lemmas.Bool.Decides.{nat_tests}
-use Rattle.canvas_plane.specs.Motion.{not_same}
 use Rattle.canvas_plane.specs.Page.{is_in}
 use Rattle.canvas_plane.specs.declared.Point.{Point}
 use Rattle.canvas_shape.specs.Spans.{is_from_to}
 use Rattle.canvas_shape.specs.Ellipse.{is_in_ellipse}
-use Rattle.canvas_shape.specs.Edges.{counts, is_odd_along}
-use Rattle.canvas_shape.proofs.Pairs.{holds-step}
+use Rattle.canvas_shape.specs.Edges.{is_in_polygon}
+use Rattle.canvas_shape.specs.Flags.{is_held}
+use Rattle.canvas_shape.specs.declared.edge_flags.EdgeFlags.{EdgeFlags}
 use Rattle.canvas_plane.specs.declared.PageBox.{PageBox}
 use Rattle.canvas_plane.specs.declared.windows.Window.{Window}
 use Rattle.canvas_shape.specs.declared.Colour.{Colour}
-use Rattle.canvas_shape.specs.declared.Carried.{Carried}
-use Rattle.canvas_shape.specs.declared.Carried.TheVariants.{Rect, Ellipse, Polygon}
 use Rattle.canvas_shape.specs.Leaves.{carried_holds, page_box_of}
 use Rattle.canvas_doc.specs.Picture.{or_else}
 use Rattle.canvas_scene.specs.Items.{fill_at, item_holds, last_fill}
 use Rattle.canvas_scene.specs.declared.item.Item.{Item}
 use Rattle.canvas_paint.specs.declared.block.Block.{Block}
 use Rattle.canvas_paint.specs.declared.block.Form.{Form}
-use Rattle.canvas_paint.specs.Blocks.{block_fill, block_holds, column_at, form_holds, form_of, last_block_fill, row_at}
-use Rattle.canvas_paint.specs.Words.{has, is_within, IsWord}
+use Rattle.canvas_paint.specs.Blocks.{block_fill, block_holds, column_at, form_holds, last_block_fill, row_at, row_has}
+use Rattle.canvas_shape.specs.Words.{has}
+use Rattle.canvas_paint.specs.Words.{is_within, IsWord}
 use Rattle.canvas_paint.proofs.Bits.{has-zero}
 use Rattle.canvas_paint.proofs.Painting.{last-push}
 
@@ -32,31 +32,12 @@ part-none from to base i start end s e le lt =
     let out : is_within from (base + i) to ≡ false = grind (arith, nat_tests) in
     has-zero i ∙ sym out
 
-pub within-zero : (k n : ℕ) → is_within 0 k n ≡ nat_lt k n
-within-zero k n = grind (arith, nat_tests)
-
--- the pixels to the left of an edge's threshold
-pub edge-some : (p q : Point) (row : ℤ) (w : Window) (k n : ℕ) (x t : ℤ) (b : Bool) → b ≡ is_within 0 k n → nat_lt k n ≡ int_lt (x +ℤ pos k) t → x ≡ w.x → counts p q (column_at w k) row ≡ int_lt (column_at w k) t → b ≡ counts p q (column_at w k) row
-edge-some p q row w k n x t b e f g h = e ∙ within-zero k n ∙ f ∙ ap (λ z. int_lt (z +ℤ pos k) t) g ∙ sym h
-
 -- the pixels between the ends of an ellipse's row
 pub ellipse-some : (w : Window) (box sides : PageBox) (k j from to : ℕ) (x x2 y s t : ℤ) (b : Bool) → b ≡ is_within from k to → nat_le from k ≡ int_le s (x +ℤ pos k) → nat_lt k to ≡ int_lt (x2 +ℤ pos k) t → x ≡ w.x → x2 ≡ w.x → ((z : ℤ) → is_from_to s z t ≡ is_in_ellipse sides z y) → y ≡ row_at w j → sides ≡ box → b ≡ is_in_ellipse box (column_at w k) (row_at w j)
 ellipse-some w box sides k j from to x x2 y s t b e f g ex ex2 h ey es =
     e ∙ ap (λ u. u && nat_lt k to) (f ∙ ap (λ z. int_le s (z +ℤ pos k)) ex)
     ∙ ap (λ u. int_le s (column_at w k) && u) (g ∙ ap (λ z. int_lt (z +ℤ pos k) t) ex2)
     ∙ h (column_at w k) ∙ ap (λ z. is_in_ellipse sides (column_at w k) z) ey ∙ ap (λ c. is_in_ellipse c (column_at w k) (row_at w j)) es
-
-same-false : (b : Bool) → not_same false b ≡ b
-same-false true = refl
-same-false false = refl
-
-pub no-edges : (i : ℕ) (b : Bool) → not_same (has 0 i) b ≡ b
-no-edges i b = ap (λ a. not_same a b) (has-zero i) ∙ same-false b
-
--- the pixels of an odd number of edges, after one more
-pub edge-step : (word edge new : ℕ) (p q d : Point) (points : List Point) (n i : ℕ) (x y : ℤ) (start : Bool) → n < length points → q ≡ get_or points n d → has new i ≡ not_same (has word i) (has edge i) → has edge i ≡ counts p q x y → not_same (has word i) (is_odd_along p (drop n points) x y) ≡ start → not_same (has new i) (is_odd_along q (drop (n + 1) points) x y) ≡ start
-edge-step word edge new p q d points n i x y start lt is e f h =
-    ap (λ b. not_same b (is_odd_along q (drop (n + 1) points) x y)) e ∙ holds-step (has word i) (has edge i) start p q d points n x y lt is f h
 
 -- ---- which free pixels of a word a block holds
 
@@ -103,6 +84,9 @@ held-below w b free base i z le = has-zero i ∙ no-row (has free i) (is_within 
 pub none-within : (free i : ℕ) → has 0 i ≡ true → has free i ≡ true
 none-within free i h = let e : false ≡ true = sym (has-zero i) ∙ h in cc
 
+pub none-held : (i : ℕ) (held : Bool) → has 0 i ≡ true → held ≡ true
+none-held i held h = let e : false ≡ true = sym (has-zero i) ∙ h in cc
+
 -- those that its form holds, in its rows
 pub held-some : (w : Window) (b : Block) (form : Form) (free part reach row word base i y z : ℕ) → IsWord part (λ i. is_within b.from (base + i) b.to) → IsWord reach (λ i. has free i && has part i) → IsWord word (λ i. has reach i && has row i) → has row i ≡ form_holds w form (base + i) y → b.form ≡ form → b.top ≤ y → y < b.bottom → y ≤ z → z < y + 1 → i < 64 → has word i ≡ (has free i && block_holds w b (base + i) z)
 held-some w b form free part reach row word base i y z p r v f same top bottom low high lt =
@@ -113,36 +97,61 @@ held-some w b form free part reach row word base i y z p r v f same top bottom l
 
 -- ---- the block of an item
 
-absorb : (p q : Bool) → (q ≡ true → p ≡ true) → (p && q) ≡ q
-absorb true q h = refl
-absorb false true h = let e : false ≡ true = h refl in cc
-absorb false false h = refl
-
 and-true : (p : Bool) → (p && true) ≡ p
 and-true true = refl
 and-true false = refl
 
--- a leaf holds what its form holds of its box
-leaf-form : (w : Window) (leaf : Carried) (box : PageBox) (k j : ℕ) → box ≡ page_box_of leaf → ((x y : ℤ) → carried_holds leaf x y ≡ true → is_in box x y ≡ true) → (is_in box (column_at w k) (row_at w j) && form_holds w (form_of leaf) k j) ≡ carried_holds leaf (column_at w k) (row_at w j)
-leaf-form w (Rect b) box k j e h = and-true (is_in box (column_at w k) (row_at w j)) ∙ ap (λ b. is_in b (column_at w k) (row_at w j)) e
-leaf-form w (Ellipse b) box k j e h = absorb (is_in box (column_at w k) (row_at w j)) (carried_holds (Ellipse b) (column_at w k) (row_at w j)) (h (column_at w k) (row_at w j))
-leaf-form w (Polygon v) box k j e h = absorb (is_in box (column_at w k) (row_at w j)) (carried_holds (Polygon v) (column_at w k) (row_at w j)) (h (column_at w k) (row_at w j))
+rows-in : (top bottom first end at to j : ℕ) → at ≡ max top first → to ≡ min bottom end → first ≤ j → j < end → is_within at j to ≡ is_within top j bottom
+rows-in top bottom first end at to j e f p q = rw (e, f) (let r : is_within (max top first) j (min bottom end) ≡ is_within top j bottom = grind (arith, nat_tests) in r)
 
-swap-and : (p q r : Bool) → ((p && q) && r) ≡ ((p && r) && q)
-swap-and true true true = refl
-swap-and true true false = refl
-swap-and true false true = refl
-swap-and true false false = refl
-swap-and false q r = refl
+-- the columns and the rows of a strip that lie in a box
+pub region-is : (w : Window) (box : PageBox) (f t u v first end top bottom k j : ℕ) → nat_le f k ≡ int_le box.left (column_at w k) → nat_lt k t ≡ int_lt (column_at w k) box.right → nat_le u j ≡ int_le box.top (row_at w j) → nat_lt j v ≡ int_lt (row_at w j) box.bottom → top ≡ max u first → bottom ≡ min v end → first ≤ j → j < end → (is_within f k t && is_within top j bottom) ≡ is_in box (column_at w k) (row_at w j)
+region-is w box f t u v first end top bottom k j e1 e2 e3 e4 et eb p q =
+    ap (λ r. is_within f k t && r) (rows-in u v first end top bottom j et eb p q)
+    ∙ (let edges : (is_within f k t && is_within u j v) ≡ is_in box (column_at w k) (row_at w j) = rw (e1, e2, e3, e4) refl in edges)
 
-pub cut-holds : (w : Window) (item : Item) (box cut : PageBox) (f t u v : ℕ) (c : Colour) (k j : ℕ) → box ≡ page_box_of item.leaf → ((x y : ℤ) → carried_holds item.leaf x y ≡ true → is_in box x y ≡ true) → ((x y : ℤ) → is_in cut x y ≡ (is_in box x y && is_in item.clip x y)) → nat_le f k ≡ int_le cut.left (column_at w k) → nat_lt k t ≡ int_lt (column_at w k) cut.right → nat_le u j ≡ int_le cut.top (row_at w j) → nat_lt j v ≡ int_lt (row_at w j) cut.bottom → block_holds w (record { from = f; to = t; top = u; bottom = v; fill = c; form = form_of item.leaf }) k j ≡ item_holds item (column_at w k) (row_at w j)
-cut-holds w item box cut f t u v c k j e h m e1 e2 e3 e4 =
+-- what of a box and a clip the region has
+pub region-met : (here : Bool) (box page clip cut : PageBox) (x y : ℤ) → here ≡ is_in cut x y → ((x y : ℤ) → is_in cut x y ≡ (is_in box x y && is_in clip x y)) → box ≡ page → here ≡ (is_in page x y && is_in clip x y)
+region-met here box page clip cut x y e m is = e ∙ m x y ∙ ap (λ b. is_in b x y && is_in clip x y) is
+
+none-of : (box clip leaf : Bool) → (box && clip) ≡ false → (leaf ≡ true → box ≡ true) → (leaf && clip) ≡ false
+none-of true true leaf e h = cc
+none-of true false true e h = refl
+none-of true false false e h = refl
+none-of false clip true e h = let z : false ≡ true = h refl in cc
+none-of false clip false e h = refl
+
+-- an item that leaves no pixel of the strip
+pub cut-none : (w : Window) (item : Item) (here : Bool) (k j : ℕ) → here ≡ false → here ≡ (is_in (page_box_of item.leaf) (column_at w k) (row_at w j) && is_in item.clip (column_at w k) (row_at w j)) → ((x y : ℤ) → carried_holds item.leaf x y ≡ true → is_in (page_box_of item.leaf) x y ≡ true) → None ≡ fill_at item (column_at w k) (row_at w j)
+cut-none w item here k j e f h =
     let x = column_at w k in
     let y = row_at w j in
-    let edges : (is_within f k t && is_within u j v) ≡ is_in cut (column_at w k) (row_at w j) = rw (e1, e2, e3, e4) refl in
-    ap (λ t. t && form_holds w (form_of item.leaf) k j) (edges ∙ m (column_at w k) (row_at w j))
-    ∙ swap-and (is_in box (column_at w k) (row_at w j)) (is_in item.clip (column_at w k) (row_at w j)) (form_holds w (form_of item.leaf) k j)
-    ∙ ap (λ t. t && is_in item.clip (column_at w k) (row_at w j)) (leaf-form w item.leaf box k j e h)
+    sym (ap (λ t. cond t (Some item.fill) None) (none-of (is_in (page_box_of item.leaf) x y) (is_in item.clip x y) (carried_holds item.leaf x y) (sym f ∙ e) (h x y)))
+
+some-of : (here box clip leaf form : Bool) → here ≡ (box && clip) → (here ≡ true → box ≡ true → form ≡ leaf) → (leaf ≡ true → box ≡ true) → (here && form) ≡ (leaf && clip)
+some-of here true true leaf form e f h = ap (λ t. t && form) e ∙ f e refl ∙ sym (and-true leaf)
+some-of here true false true form e f h = ap (λ t. t && form) e
+some-of here true false false form e f h = ap (λ t. t && form) e
+some-of here false clip true form e f h = let z : false ≡ true = h refl in cc
+some-of here false clip false form e f h = ap (λ t. t && form) e
+
+-- the block of an item
+pub cut-some : (w : Window) (item : Item) (b : Block) (k j : ℕ) → (is_within b.from k b.to && is_within b.top j b.bottom) ≡ (is_in (page_box_of item.leaf) (column_at w k) (row_at w j) && is_in item.clip (column_at w k) (row_at w j)) → ((is_within b.from k b.to && is_within b.top j b.bottom) ≡ true → is_in (page_box_of item.leaf) (column_at w k) (row_at w j) ≡ true → form_holds w b.form k j ≡ carried_holds item.leaf (column_at w k) (row_at w j)) → ((x y : ℤ) → carried_holds item.leaf x y ≡ true → is_in (page_box_of item.leaf) x y ≡ true) → b.fill ≡ item.fill → block_fill w b k j ≡ fill_at item (column_at w k) (row_at w j)
+cut-some w item b k j e f h same =
+    let x = column_at w k in
+    let y = row_at w j in
+    ap (λ t. cond t (Some b.fill) None) (some-of (is_within b.from k b.to && is_within b.top j b.bottom) (is_in (page_box_of item.leaf) x y) (is_in item.clip x y) (carried_holds item.leaf x y) (form_holds w b.form k j) e f (h x y))
+    ∙ ap (λ c. cond (item_holds item x y) (Some c) None) same
+
+and-right : (p q : Bool) → (p && q) ≡ true → q ≡ true
+and-right true q e = e
+and-right false q e = cc
+
+pub inside-low : (p : Bool) (top j bottom : ℕ) → (p && is_within top j bottom) ≡ true → top ≤ j
+inside-low p top j bottom e = let h : is_within top j bottom ≡ true = and-right p (is_within top j bottom) e in grind (arith, nat_tests)
+
+pub inside-high : (p : Bool) (top j bottom : ℕ) → (p && is_within top j bottom) ≡ true → j < bottom
+inside-high p top j bottom e = let h : is_within top j bottom ≡ true = and-right p (is_within top j bottom) e in grind (arith, nat_tests)
 
 -- ---- the blocks of items
 
@@ -164,19 +173,18 @@ last_fill-more : (xs : List Item) (n : ℕ) (d : Item) (x y : ℤ) → n < lengt
 last_fill-more xs n d x y lt = ap (λ l. last_fill l x y) (take_more xs n d lt) ∙ last_fill-push (take n xs) (get_or xs n d) x y
 
 -- the block of one item more
-pub cut-push : (w : Window) (old new : List Block) (b : Block) (items : List Item) (n : ℕ) (i : Item) (k j : ℕ) (x y : ℤ) → n < length items → i ≡ get_or items n i → last_block_fill w old k j ≡ last_fill (take n items) x y → block_holds w b k j ≡ item_holds i x y → b.fill ≡ i.fill → new ≡ old ++ b ∷ [] → last_block_fill w new k j ≡ last_fill (take (n + 1) items) x y
-cut-push w old new b items n i k j x y lt is o h f e =
+pub cut-push : (w : Window) (old new : List Block) (b : Block) (items : List Item) (n : ℕ) (i : Item) (k j : ℕ) (x y : ℤ) → n < length items → i ≡ get_or items n i → last_block_fill w old k j ≡ last_fill (take n items) x y → block_fill w b k j ≡ fill_at i x y → new ≡ old ++ b ∷ [] → last_block_fill w new k j ≡ last_fill (take (n + 1) items) x y
+cut-push w old new b items n i k j x y lt is o h e =
     ap (λ l. last_block_fill w l k j) e ∙ last-push w old b k j
-    ∙ ap (λ t. or_else (cond t (Some b.fill) None) (last_block_fill w old k j)) h
-    ∙ ap (λ c. or_else (cond (item_holds i x y) (Some c) None) (last_block_fill w old k j)) f
+    ∙ ap (λ f. or_else f (last_block_fill w old k j)) h
     ∙ ap (λ l. or_else (fill_at i x y) l) o
     ∙ ap (λ z. or_else (fill_at z x y) (last_fill (take n items) x y)) is
     ∙ sym (last_fill-more items n i x y lt)
 
--- one item more whose block does not hold the pixel
-pub cut-skip : (w : Window) (old : List Block) (b : Block) (items : List Item) (n : ℕ) (i : Item) (k j : ℕ) (x y : ℤ) → n < length items → i ≡ get_or items n i → last_block_fill w old k j ≡ last_fill (take n items) x y → block_holds w b k j ≡ item_holds i x y → block_holds w b k j ≡ false → last_block_fill w old k j ≡ last_fill (take (n + 1) items) x y
-cut-skip w old b items n i k j x y lt is o h e =
-    o ∙ ap (λ t. or_else (cond t (Some i.fill) None) (last_fill (take n items) x y)) (sym e ∙ h)
+-- one item more that has no block
+pub cut-skip : (w : Window) (old : List Block) (items : List Item) (n : ℕ) (i : Item) (k j : ℕ) (x y : ℤ) → n < length items → i ≡ get_or items n i → last_block_fill w old k j ≡ last_fill (take n items) x y → None ≡ fill_at i x y → last_block_fill w old k j ≡ last_fill (take (n + 1) items) x y
+cut-skip w old items n i k j x y lt is o e =
+    o ∙ ap (λ t. or_else t (last_fill (take n items) x y)) e
     ∙ ap (λ z. or_else (fill_at z x y) (last_fill (take n items) x y)) is
     ∙ sym (last_fill-more items n i x y lt)
 
@@ -185,14 +193,53 @@ and-out true true m e = cc
 and-out true false m e = refl
 and-out false r m e = refl
 
-rows-out : (top bottom first end j : ℕ) → min bottom end ≤ max top first → first ≤ j → j < end → is_within top j bottom ≡ false
-rows-out top bottom first end j h p q = grind (arith, nat_tests)
-
 columns-out : (from to k : ℕ) → to ≤ from → is_within from k to ≡ false
 columns-out from to k h = grind (arith, nat_tests)
 
-pub misses-rows : (w : Window) (b : Block) (first end k j : ℕ) → min b.bottom end ≤ max b.top first → first ≤ j → j < end → block_holds w b k j ≡ false
-misses-rows w b first end k j h p q = and-out (is_within b.from k b.to) (is_within b.top j b.bottom) (form_holds w b.form k j) (rows-out b.top b.bottom first end j h p q)
+pub outside-rows : (w : Window) (b : Block) (k j : ℕ) → is_within b.top j b.bottom ≡ false → block_holds w b k j ≡ false
+outside-rows w b k j e = and-out (is_within b.from k b.to) (is_within b.top j b.bottom) (form_holds w b.form k j) e
 
-pub misses-columns : (w : Window) (b : Block) (k j : ℕ) → b.to ≤ b.from → block_holds w b k j ≡ false
-misses-columns w b k j h = ap (λ t. (t && is_within b.top j b.bottom) && form_holds w b.form k j) (columns-out b.from b.to k h)
+not-met : (p met : Bool) → (p ≡ true → met ≡ true) → met ≡ false → p ≡ false
+not-met true met h e = sym (h refl) ∙ e
+not-met false met h e = refl
+
+pub outside-columns : (w : Window) (b : Block) (k j : ℕ) (met : Bool) → (is_within b.from k b.to ≡ true → met ≡ true) → met ≡ false → block_holds w b k j ≡ false
+outside-columns w b k j met h e = ap (λ t. (t && is_within b.top j b.bottom) && form_holds w b.form k j) (not-met (is_within b.from k b.to) met h e)
+
+no-rows : (top bottom j : ℕ) → bottom ≤ top → is_within top j bottom ≡ false
+no-rows top bottom j h = grind (arith, nat_tests)
+
+and-no : (p : Bool) → (p && false) ≡ false
+and-no true = refl
+and-no false = refl
+
+pub empty-columns : (from to top bottom k j : ℕ) → to ≤ from → (is_within from k to && is_within top j bottom) ≡ false
+empty-columns from to top bottom k j h = ap (λ t. t && is_within top j bottom) (columns-out from to k h)
+
+pub empty-rows : (from to top bottom k j : ℕ) → bottom ≤ top → (is_within from k to && is_within top j bottom) ≡ false
+empty-rows from to top bottom k j h = ap (λ t. is_within from k to && t) (no-rows top bottom j h) ∙ and-no (is_within from k to)
+
+-- ---- rows of four words
+
+row-down : (y : ℤ) (top j : ℕ) → top ≤ j → (y +ℤ pos top) +ℤ pos (j - top) ≡ y +ℤ pos j
+row-down y top j low =
+    let e : top + (j - top) ≡ j = omega arith in
+    +ℤ_assoc y (pos top) (pos (j - top)) ∙ ap (λ z. y +ℤ z) (pos-+ℤ-pos top (j - top)) ∙ ap (λ n. y +ℤ pos n) e
+
+-- the words of the held columns have these
+pub held-row : (words flags : List ℕ) → ((n i : ℕ) → n < 4 → i < 64 → has (slice_index words n) i ≡ is_held flags (64 * n + i)) → (k : ℕ) → k < 256 → row_has words k ≡ is_held flags k
+held-row words flags h k lt =
+    let same : 64 * (k / 64) + k % 64 ≡ k = omega arith in
+    h (k / 64) (k % 64) (omega arith) (omega arith) ∙ ap (is_held flags) same
+
+-- the rows of a polygon from one of a window's rows on
+pub polygon-rows : (w : Window) (points : List Point) (flags : List EdgeFlags) (words : List (List ℕ)) (top n k j : ℕ) (x y : ℤ) (d : EdgeFlags) → k < w.w → n ≡ w.w → n ≤ 256 → top ≤ j → j - top < length flags → x ≡ w.x → y ≡ row_at w top → ((j k : ℕ) (d : EdgeFlags) → j < length flags → k < 256 → row_has (get_or words j []) k ≡ is_held (get_or flags j d).words k) → ((j i : ℕ) (d : EdgeFlags) → j < length flags → is_held (get_or flags j d).words i ≡ (nat_lt i n && is_in_polygon points (x +ℤ pos i) (y +ℤ pos j))) → row_has (get_or words (j - top) []) k ≡ is_in_polygon points (column_at w k) (row_at w j)
+polygon-rows w points flags words top n k j x y d lt wide narrow low inside ex ey held flagged =
+    let near : k < n = omega (arith, wide) in
+    let on : nat_lt k n ≡ true = grind (arith, nat_tests) in
+    let down : y +ℤ pos (j - top) ≡ row_at w j = ap (λ z. z +ℤ pos (j - top)) ey ∙ row-down w.y top j low in
+    held (j - top) k d inside (omega arith)
+    ∙ flagged (j - top) k d inside
+    ∙ ap (λ t. t && is_in_polygon points (x +ℤ pos k) (y +ℤ pos (j - top))) on
+    ∙ ap (λ z. is_in_polygon points (z +ℤ pos k) (y +ℤ pos (j - top))) ex
+    ∙ ap (λ z. is_in_polygon points (column_at w k) z) down

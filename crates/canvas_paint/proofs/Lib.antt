@@ -1,5 +1,7 @@
 pub mod Bits
 pub mod Painting
+pub mod Choosing
+pub mod Columns
 pub mod Cutting
 pub mod Fraying
 pub mod Joined

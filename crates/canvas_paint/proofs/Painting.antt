@@ -1,21 +1,22 @@
 -- Steps of painting a word of a row from front to back.
-use Rattle.std.proofs.Common.{◌≡◌, ℕ, ◌+◌, ◌-◌, ◌*◌, ◌<◌, ◌≤◌, ◌≢◌, List, [], ◌∷◌, ◌++◌, Bool, true, false, not, ◌&&◌, cond, Option, Some, None, refl, sym, ap, ◌∙◌, arith, length, take, get_or, min, ◌⊎◌, inl, inr, ⊎_elim, set, get_or-set_same, get_or-set_other, subst}
-use Rattle.std.proofs.lemmas.Bool.{cases_lt, cases_eq, cases_Bool}
+use Rattle.std.proofs.Common.{◌≡◌, ℕ, ◌+◌, ◌-◌, ◌<◌, ◌≤◌, List, [], ◌∷◌, ◌++◌, Bool, true, false, not, ◌&&◌, cond, Option, Some, None, refl, sym, ap, ◌∙◌, arith, length, drop, get_or, min, ◌⊎◌, inl, inr, ⊎_elim}
+use Rattle.std.proofs.lemmas.Bool.{cases_Bool}
 use Rattle.std.proofs.lemmas.Bool.Decides.{nat_tests}
-use Rattle.std.proofs.lemmas.List.{take_more, take_all}
+use Rattle.std.proofs.lemmas.List.{drop_more, drop_all}
 use Rattle.canvas_plane.specs.declared.windows.Window.{Window}
 use Rattle.canvas_shape.specs.declared.Colour.{Colour}
 use Rattle.canvas_doc.specs.Picture.{or_else, or_white, white}
 use Rattle.canvas_paint.specs.declared.block.Block.{Block}
-use Rattle.canvas_paint.specs.Words.{covers, has, is_within}
-use Rattle.canvas_paint.specs.Blocks.{AreKept, IsHeld, block_fill, block_holds, last_block_fill, shown}
+use Rattle.canvas_shape.specs.Words.{has}
+use Rattle.canvas_paint.specs.Words.{covers, is_within}
+use Rattle.canvas_paint.specs.Blocks.{IsHeld, block_fill, block_holds, first_block_fill, first_shown, last_block_fill}
 use Rattle.canvas_paint.proofs.Bits.{has-zero}
 
-or_else-none : (o : Option Colour) → or_else None o ≡ or_else o None
+pub or_else-none : (o : Option Colour) → or_else None o ≡ or_else o None
 or_else-none None = refl
 or_else-none (Some c) = refl
 
-or_else-assoc : (a b c : Option Colour) → or_else (or_else a b) c ≡ or_else a (or_else b c)
+pub or_else-assoc : (a b c : Option Colour) → or_else (or_else a b) c ≡ or_else a (or_else b c)
 or_else-assoc None b c = refl
 or_else-assoc (Some x) b c = refl
 
@@ -26,32 +27,32 @@ last-push w (c ∷ bs) b x y =
     ap (λ o. or_else o (block_fill w c x y)) (last-push w bs b x y)
     ∙ or_else-assoc (block_fill w b x y) (last_block_fill w bs x y) (block_fill w c x y)
 
-take-one : (w : Window) (bs : List Block) (k : ℕ) (b : Block) (x y : ℕ) → 0 < k → k ≤ length bs → b ≡ get_or bs (k - 1) b → last_block_fill w (take k bs) x y ≡ or_else (block_fill w b x y) (last_block_fill w (take (k - 1) bs) x y)
-take-one w bs k b x y pos le is =
-    ap (λ n. last_block_fill w (take n bs) x y) (let e : k ≡ k - 1 + 1 = omega arith in e)
-    ∙ ap (λ l. last_block_fill w l x y) (take_more bs (k - 1) b (omega arith))
-    ∙ last-push w (take (k - 1) bs) (get_or bs (k - 1) b) x y
-    ∙ ap (λ c. or_else (block_fill w c x y) (last_block_fill w (take (k - 1) bs) x y)) (sym is)
+-- the blocks from one on
+first-drop : (w : Window) (bs : List Block) (at : ℕ) (b : Block) (x y : ℕ) → at < length bs → b ≡ get_or bs at b → first_block_fill w (drop at bs) x y ≡ or_else (block_fill w b x y) (first_block_fill w (drop (at + 1) bs) x y)
+first-drop w bs at b x y lt is =
+    ap (λ l. first_block_fill w l x y) (drop_more bs at b lt)
+    ∙ ap (λ c. or_else (block_fill w c x y) (first_block_fill w (drop (at + 1) bs) x y)) (sym is)
 
 -- a block that does not hold the pixel adds nothing
-last-skip : (w : Window) (bs : List Block) (k : ℕ) (b : Block) (x y : ℕ) → 0 < k → k ≤ length bs → b ≡ get_or bs (k - 1) b → block_holds w b x y ≡ false → last_block_fill w (take k bs) x y ≡ last_block_fill w (take (k - 1) bs) x y
-last-skip w bs k b x y pos le is e =
-    take-one w bs k b x y pos le is
-    ∙ ap (λ t. or_else (cond t (Some b.fill) None) (last_block_fill w (take (k - 1) bs) x y)) e
+first-skip : (w : Window) (bs : List Block) (at : ℕ) (b : Block) (x y : ℕ) → at < length bs → b ≡ get_or bs at b → block_holds w b x y ≡ false → first_block_fill w (drop at bs) x y ≡ first_block_fill w (drop (at + 1) bs) x y
+first-skip w bs at b x y lt is e =
+    first-drop w bs at b x y lt is
+    ∙ ap (λ t. or_else (cond t (Some b.fill) None) (first_block_fill w (drop (at + 1) bs) x y)) e
 
 -- one that holds it gives its colour
-last-held : (w : Window) (bs : List Block) (k : ℕ) (b : Block) (x y : ℕ) → 0 < k → k ≤ length bs → b ≡ get_or bs (k - 1) b → block_holds w b x y ≡ true → last_block_fill w (take k bs) x y ≡ Some b.fill
-last-held w bs k b x y pos le is e =
-    take-one w bs k b x y pos le is
-    ∙ ap (λ t. or_else (cond t (Some b.fill) None) (last_block_fill w (take (k - 1) bs) x y)) e
+first-held : (w : Window) (bs : List Block) (at : ℕ) (b : Block) (x y : ℕ) → at < length bs → b ≡ get_or bs at b → block_holds w b x y ≡ true → first_block_fill w (drop at bs) x y ≡ Some b.fill
+first-held w bs at b x y lt is e =
+    first-drop w bs at b x y lt is
+    ∙ ap (λ t. or_else (cond t (Some b.fill) None) (first_block_fill w (drop (at + 1) bs) x y)) e
 
--- what is painted of a word, with so many blocks left to look at
-pub record IsPainting (w : Window) (bs : List Block) (left y base until free : ℕ) (old row : List (List ℕ)) : Type 0 where
-  pub count : left ≤ length bs
+-- what is painted of a word, with the blocks from one on to look at
+pub record IsPainting (w : Window) (bs : List Block) (at y base end until free : ℕ) (old row : List (List ℕ)) : Type 0 where
+  pub count : at ≤ length bs
   pub live : y < until
+  pub most : until ≤ end
   pub within : (i : ℕ) → i < 64 → has free i ≡ true → base + i < length row
-  pub waits : (i z : ℕ) → i < 64 → has free i ≡ true → y ≤ z → z < until → last_block_fill w bs (base + i) z ≡ last_block_fill w (take left bs) (base + i) z
-  pub done : (i z : ℕ) (d : List ℕ) → i < 64 → base + i < length row → has free i ≡ false → y ≤ z → z < until → get_or row (base + i) d ≡ shown w bs (base + i) z
+  pub waits : (i z : ℕ) → i < 64 → has free i ≡ true → y ≤ z → z < until → first_block_fill w bs (base + i) z ≡ first_block_fill w (drop at bs) (base + i) z
+  pub done : (i z : ℕ) (d : List ℕ) → i < 64 → base + i < length row → has free i ≡ false → y ≤ z → z < until → get_or row (base + i) d ≡ first_shown w bs (base + i) z
   pub outside : (x : ℕ) (d : List ℕ) → x < length row → is_within base x (base + 64) ≡ false → get_or row x d ≡ get_or old x d
 
 covers-in : (base word i : ℕ) → i < 64 → covers base word (base + i) ≡ has word i
@@ -63,20 +64,21 @@ covers-in base word i h =
 covers-out : (base word x : ℕ) → is_within base x (base + 64) ≡ false → covers base word x ≡ false
 covers-out base word x e = ap (λ t. t && has word (x - base)) e
 
-below-of : (x n : ℕ) → is_within 0 x n ≡ true → x < n
+pub below-of : (x n : ℕ) → is_within 0 x n ≡ true → x < n
 below-of x n h = grind (arith, nat_tests)
 
-true-not : (x n : ℕ) → x < n → is_within 0 x n ≡ false → ⊥
+pub true-not : (x n : ℕ) → x < n → is_within 0 x n ≡ false → ⊥
 true-not x n lt h =
     let e : is_within 0 x n ≡ true = grind (arith, nat_tests) in
     let f : true ≡ false = sym e ∙ h in cc
 
-pub start-painting : (w : Window) (bs : List Block) (y base free most : ℕ) (row : List (List ℕ)) → y < most → ((i : ℕ) → i < 64 → has free i ≡ is_within 0 (base + i) (length row)) → IsPainting w bs (length bs) y base most free row row
-start-painting w bs y base free most row live f = record {
+pub start-painting : (w : Window) (bs : List Block) (y base free end : ℕ) (row : List (List ℕ)) → y < end → ((i : ℕ) → i < 64 → has free i ≡ is_within 0 (base + i) (length row)) → IsPainting w bs 0 y base end end free row row
+start-painting w bs y base free end row live f = record {
   count = omega arith;
   live = live;
+  most = omega arith;
   within = λ i h e. below-of (base + i) (length row) (sym (f i h) ∙ e);
-  waits = λ i z h e p q. ap (λ l. last_block_fill w l (base + i) z) (sym (take_all (length bs) bs (omega arith)));
+  waits = λ i z h e p q. refl;
   done = λ i z d h lt e p q. absurd (true-not (base + i) (length row) lt (sym (f i h) ∙ e));
   outside = λ x d lt e. refl;
 }
@@ -108,18 +110,19 @@ only-free false free h e = refl
 only-free true free h e = sym (h refl) ∙ e
 
 -- one block less to look at, of which a word was painted
-pub more-painted : (w : Window) (bs : List Block) (left y base until free : ℕ) (old row new : List (List ℕ)) (b : Block) (word end now next : ℕ) → 0 < left → b ≡ get_or bs (left - 1) b → length row ≡ w.w → length new ≡ length row → IsPainting w bs left y base until free old row → y < end → IsHeld w b free base y word end → ((i : ℕ) → i < 64 → has word i ≡ true → has free i ≡ true) → now ≡ min until end → ((i : ℕ) → i < 64 → has next i ≡ (has free i && not (has word i))) → ((x : ℕ) (e : List ℕ) → x < length row → get_or new x e ≡ cond (covers base word x) b.fill.0 (get_or row x e)) → IsPainting w bs (left - 1) y base now next old new
-more-painted w bs left y base until free old row new b word end now next pos is wide long h live held some e f g =
+pub more-painted : (w : Window) (bs : List Block) (at y base end until free : ℕ) (old row new : List (List ℕ)) (b : Block) (word last now next : ℕ) → at < length bs → b ≡ get_or bs at b → length row ≡ w.w → length new ≡ length row → IsPainting w bs at y base end until free old row → y < last → IsHeld w b free base y word last → ((i : ℕ) → i < 64 → has word i ≡ true → has free i ≡ true) → now ≡ min until last → ((i : ℕ) → i < 64 → has next i ≡ (has free i && not (has word i))) → ((x : ℕ) (e : List ℕ) → x < length row → get_or new x e ≡ cond (covers base word x) b.fill.0 (get_or row x e)) → IsPainting w bs (at + 1) y base end now next old new
+more-painted w bs at y base end until free old row new b word last now next lt-bs is wide long h live held some e f g =
     record {
-      count = omega (arith, h.count);
+      count = omega arith;
       live = omega (arith, h.live);
+      most = omega (arith, h.most);
       within = λ i lt on. let p : base + i < length row = h.within i lt (and-left (has free i) (not (has word i)) (sym (f i lt) ∙ on)) in omega arith;
       waits = λ i z lt on low high.
           let was : (has free i && not (has word i)) ≡ true = sym (f i lt) ∙ on in
           let open-pixel : has free i ≡ true = and-left (has free i) (not (has word i)) was in
           let in-row : base + i < length row = h.within i lt open-pixel in
           let misses : block_holds w b (base + i) z ≡ false = held-false (has free i) (block_holds w b (base + i) z) open-pixel (sym (held i z lt (omega arith) low (omega arith)) ∙ not-left (has free i) (has word i) was) in
-          h.waits i z lt open-pixel low (omega arith) ∙ last-skip w bs left b (base + i) z pos h.count is misses;
+          h.waits i z lt open-pixel low (omega arith) ∙ first-skip w bs at b (base + i) z lt-bs is misses;
       done = λ i z k lt in-row off low high.
           let was : (has free i && not (has word i)) ≡ false = sym (f i lt) ∙ off in
           let put : get_or new (base + i) k ≡ cond (has word i) b.fill.0 (get_or row (base + i) k) = g (base + i) k (omega arith) ∙ ap (λ t. cond t b.fill.0 (get_or row (base + i) k)) (covers-in base word i lt) in
@@ -128,7 +131,7 @@ more-painted w bs left y base until free old row new b word end now next pos is 
           let hit : has word i ≡ true = not-right (has free i) (has word i) was on in
           let holds : block_holds w b (base + i) z ≡ true = and-right (has free i) (block_holds w b (base + i) z) (sym (held i z lt (omega arith) low (omega arith)) ∙ hit) in
           put ∙ ap (λ t. cond t b.fill.0 (get_or row (base + i) k)) hit
-          ∙ ap (λ o. (or_white o).0) (sym (h.waits i z lt on low (omega arith) ∙ last-held w bs left b (base + i) z pos h.count is holds)))
+          ∙ ap (λ o. (or_white o).0) (sym (h.waits i z lt on low (omega arith) ∙ first-held w bs at b (base + i) z lt-bs is holds)))
           (λ (no : has free i ≡ false).
           put ∙ ap (λ t. cond t b.fill.0 (get_or row (base + i) k)) (only-free (has word i) (has free i) (some i lt) no)
           ∙ h.done i z k lt (omega arith) no low (omega arith))
@@ -148,23 +151,23 @@ and-false false = refl
 no-cover : (base word x : ℕ) → has word (x - base) ≡ false → covers base word x ≡ false
 no-cover base word x e = ap (λ t. is_within base x (base + 64) && t) e ∙ and-false (is_within base x (base + 64))
 
-none-left : (left free i : ℕ) → (left ≡ 0) ⊎ (free ≡ 0) → has free i ≡ true → left ≡ 0
-none-left left free i (inl e) on = e
-none-left left free i (inr e) on = absurd (let z : true ≡ false = sym on ∙ ap (λ n. has n i) e ∙ has-zero i in cc)
+none-left : (at n free i : ℕ) → (n ≤ at) ⊎ (free ≡ 0) → has free i ≡ true → n ≤ at
+none-left at n free i (inl e) on = e
+none-left at n free i (inr e) on = absurd (let z : true ≡ false = sym on ∙ ap (λ n. has n i) e ∙ has-zero i in cc)
 
 -- the block whose word is empty leaves all as it was
-pub none-painted : (w : Window) (bs : List Block) (left y base until free : ℕ) (old row new : List (List ℕ)) (b : Block) (word end now next : ℕ) → 0 < left → b ≡ get_or bs (left - 1) b → length row ≡ w.w → IsPainting w bs left y base until free old row → y < end → IsHeld w b free base y word end → word ≡ 0 → now ≡ min until end → next ≡ free → new ≡ row → IsPainting w bs (left - 1) y base now next old new
-none-painted w bs left y base until free old row new b word end now next pos is wide h live held zero e f g =
+pub none-painted : (w : Window) (bs : List Block) (at y base end until free : ℕ) (old row new : List (List ℕ)) (b : Block) (word last now next : ℕ) → at < length bs → b ≡ get_or bs at b → length row ≡ w.w → IsPainting w bs at y base end until free old row → y < last → IsHeld w b free base y word last → word ≡ 0 → now ≡ min until last → next ≡ free → new ≡ row → IsPainting w bs (at + 1) y base end now next old new
+none-painted w bs at y base end until free old row new b word last now next lt-bs is wide h live held zero e f g =
     let off : (i : ℕ) → has word i ≡ false = λ i. ap (λ n. has n i) zero ∙ has-zero i in
-    more-painted w bs left y base until free old row new b word end now next pos is wide (ap length g) h live held
+    more-painted w bs at y base end until free old row new b word last now next lt-bs is wide (ap length g) h live held
     (λ i lt on. absurd (let z : true ≡ false = sym on ∙ off i in cc))
     e
     (λ i lt. ap (λ n. has n i) f ∙ keep (has free i) (has word i) (off i))
     (λ x k lt. ap (λ l. get_or l x k) g ∙ sym (ap (λ t. cond t b.fill.0 (get_or row x k)) (no-cover base word x (off (x - base)))))
 
 -- what is left is white
-pub all-painted : (w : Window) (bs : List Block) (left y base until free : ℕ) (old row new : List (List ℕ)) → IsPainting w bs left y base until free old row → length new ≡ length row → (left ≡ 0) ⊎ (free ≡ 0) → ((x : ℕ) (e : List ℕ) → x < length row → get_or new x e ≡ cond (covers base free x) white.0 (get_or row x e)) → (x z : ℕ) (d : List ℕ) → base ≤ x → x < base + 64 → x < length new → y ≤ z → z < until → get_or new x d ≡ shown w bs x z
-all-painted w bs left y base until free old row new h long end g x z d low high lt above below =
+pub all-painted : (w : Window) (bs : List Block) (at y base end until free : ℕ) (old row new : List (List ℕ)) → IsPainting w bs at y base end until free old row → length new ≡ length row → (length bs ≤ at) ⊎ (free ≡ 0) → ((x : ℕ) (e : List ℕ) → x < length row → get_or new x e ≡ cond (covers base free x) white.0 (get_or row x e)) → (x z : ℕ) (d : List ℕ) → base ≤ x → x < base + 64 → x < length new → y ≤ z → z < until → get_or new x d ≡ first_shown w bs x z
+all-painted w bs at y base end until free old row new h long stop g x z d low high lt above below =
     let i = x - base in
     let here : i < 64 = omega arith in
     let same : x ≡ base + i = omega arith in
@@ -174,42 +177,11 @@ all-painted w bs left y base until free old row new h long end g x z d low high 
     ∙ ⊎_elim
     (λ (on : has free i ≡ true).
     put ∙ ap (λ t. cond t white.0 (get_or row (base + i) d)) on
-    ∙ ap (λ o. (or_white o).0) (sym (h.waits i z here on above below ∙ ap (λ n. last_block_fill w (take n bs) (base + i) z) (none-left left free i end on))))
+    ∙ ap (λ o. (or_white o).0) (sym (h.waits i z here on above below ∙ ap (λ l. first_block_fill w l (base + i) z) (drop_all at bs (none-left at (length bs) free i stop on)))))
     (λ (no : has free i ≡ false). put ∙ ap (λ t. cond t white.0 (get_or row (base + i) d)) no ∙ h.done i z d here inside no above below)
     (cases_Bool (has free i))
-    ∙ ap (λ n. shown w bs n z) (sym same)
+    ∙ ap (λ n. first_shown w bs n z) (sym same)
 
-pub outside-painted : (w : Window) (bs : List Block) (left y base until free : ℕ) (old row new : List (List ℕ)) → IsPainting w bs left y base until free old row → length new ≡ length row → ((x : ℕ) (e : List ℕ) → x < length row → get_or new x e ≡ cond (covers base free x) white.0 (get_or row x e)) → (x : ℕ) (d : List ℕ) → x < length new → is_within base x (base + 64) ≡ false → get_or new x d ≡ get_or old x d
-outside-painted w bs left y base until free old row new h long g x d lt out =
+pub outside-painted : (w : Window) (bs : List Block) (at y base end until free : ℕ) (old row new : List (List ℕ)) → IsPainting w bs at y base end until free old row → length new ≡ length row → ((x : ℕ) (e : List ℕ) → x < length row → get_or new x e ≡ cond (covers base free x) white.0 (get_or row x e)) → (x : ℕ) (d : List ℕ) → x < length new → is_within base x (base + 64) ≡ false → get_or new x d ≡ get_or old x d
+outside-painted w bs at y base end until free old row new h long g x d lt out =
     g x d (omega arith) ∙ ap (λ t. cond t white.0 (get_or row x d)) (covers-out base free x out) ∙ h.outside x d (omega arith) out
-
--- a word painted anew
-pub kept-more : (w : Window) (bs : List Block) (row new : List (List ℕ)) (until : List ℕ) (y k end : ℕ) → k < 4 → length until ≡ 4 → length new ≡ length row → AreKept w bs row until y → ((x : ℕ) (d : List ℕ) → x < length row → is_within (64 * k) x (64 * k + 64) ≡ false → get_or new x d ≡ get_or row x d) → ((x z : ℕ) (d : List ℕ) → 64 * k ≤ x → x < 64 * k + 64 → x < length row → y ≤ z → z < end → get_or new x d ≡ shown w bs x z) → AreKept w bs new (set until k end) y
-kept-more w bs row new until y k end lt four same kept outside painted = λ j x z d jlt low high inside zlow zhigh.
-    ⊎_elim
-    (λ (e : j ≡ k).
-    let at : get_or (set until k end) j 0 ≡ end = ap (λ m. get_or (set until k end) m 0) e ∙ get_or-set_same until k end 0 (omega arith) in
-    painted x z d (omega arith) (omega arith) (omega arith) zlow (omega arith))
-    (λ (ne : j ≢ k).
-    let at : get_or (set until k end) j 0 ≡ get_or until j 0 = get_or-set_other until k j end 0 ne in
-    let apart : is_within (64 * k) x (64 * k + 64) ≡ false = grind (arith, nat_tests) in
-    outside x d (omega arith) apart ∙ kept j x z d jlt low high (omega arith) zlow (omega arith))
-    (cases_eq j k)
-
-pub kept-at : (w : Window) (bs : List Block) (row now : List (List ℕ)) (until then : List ℕ) (y : ℕ) → now ≡ row → then ≡ until → AreKept w bs row until y → AreKept w bs now then y
-kept-at w bs row now until then y e f kept = rw (e, f) kept
-
--- the words that look the same past a row, after one more
-pub live-more : (until then : List ℕ) (y k end : ℕ) → k < length until → then ≡ set until k end → y < end → ((j : ℕ) → j < k → y < get_or until j 0) → (j : ℕ) → j < k + 1 → y < get_or then j 0
-live-more until then y k end lt e high live j below =
-    rw e (⊎_elim
-    (λ (s : j ≡ k). let at : get_or (set until k end) j 0 ≡ end = ap (λ m. get_or (set until k end) m 0) s ∙ get_or-set_same until k end 0 lt in let r : y < get_or (set until k end) j 0 = omega arith in r)
-    (λ (ne : j ≢ k). let at : get_or (set until k end) j 0 ≡ get_or until j 0 = get_or-set_other until k j end 0 ne in let old : y < get_or until j 0 = live j (omega arith) in let r : y < get_or (set until k end) j 0 = omega arith in r)
-    (cases_eq j k))
-
-pub live-same : (until then : List ℕ) (y k : ℕ) → then ≡ until → y < get_or until k 0 → ((j : ℕ) → j < k → y < get_or until j 0) → (j : ℕ) → j < k + 1 → y < get_or then j 0
-live-same until then y k e high live j below =
-    rw e (⊎_elim
-    (λ (s : j ≡ k). let at : get_or until j 0 ≡ get_or until k 0 = ap (λ m. get_or until m 0) s in let r : y < get_or until j 0 = omega arith in r)
-    (λ (ne : j ≢ k). live j (omega arith))
-    (cases_eq j k))

@@ -1,5 +1,5 @@
 -- What a span takes from the free spans of a row, and what it leaves.
-use Rattle.std.specs.Prelude.{List, [], ◌∷◌, ◌++◌, ℤ, cond, int_lt}
+use Rattle.std.specs.Prelude.{List, [], ◌∷◌, ◌++◌, cond, int_lt}
 use Rattle.std.specs.Int.{int_max, int_min}
 use Rattle.canvas_shape.specs.declared.Span.{Span}
 

@@ -1,14 +1,10 @@
--- Words of 64 pixels.
-use Rattle.std.specs.Prelude.{◌≡◌, ℕ, ◌<◌, ◌≤◌, Bool, true, false, ◌&&◌, ◌==◌, nat_le, nat_lt, List, length, ◌+◌, ◌-◌}
-use Rattle.std.specs.Int.{bit_at}
+-- Words of 64 pixels: bit i is a pixel.
+use Rattle.std.specs.Prelude.{◌≡◌, ℕ, ◌<◌, ◌≤◌, Bool, true, false, ◌&&◌, nat_le, nat_lt, ◌+◌, ◌-◌}
+use Rattle.canvas_shape.specs.Words.{has}
 
 -- a place is from the one up to the other
 abbrev pub is_within : ℕ → ℕ → ℕ → Bool
 is_within from x to = nat_le from x && nat_lt x to
-
--- the word has the pixel
-unfoldable pub has : ℕ → ℕ → Bool
-has word i = bit_at word i == 1
 
 -- the word has exactly the pixels of a test
 abbrev pub IsWord : ℕ → (ℕ → Bool) → Type 0

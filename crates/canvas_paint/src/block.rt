@@ -1,22 +1,28 @@
 //! Items as a window shows them.
 
-ghost use Rattle.std.specs.Prelude.{◌≡◌, ℕ, ℤ, ◌+◌, ◌-◌, ◌<◌, ◌≤◌, ◌+ℤ◌, pos, true, int_le, int_lt, nat_le, nat_lt};
-ghost use Rattle.canvas_scene.specs.Items.{item_holds};
-ghost use Rattle.canvas_paint.specs.Blocks.{IsHeld, block_holds, column_at, form_of, row_at};
-ghost use Rattle.canvas_paint.specs.Words.{has, is_within, IsWord};
+ghost use Rattle.std.specs.Prelude.{◌≡◌, ℕ, ℤ, ◌+◌, ◌-◌, ◌<◌, ◌≤◌, ◌%◌, ◌&&◌, ◌+ℤ◌, pos, false, true, IfOk, int_le, int_lt, nat_le, nat_lt};
+ghost use Rattle.canvas_plane.specs.declared.windows.Window.{Window as PageWindow};
+ghost use Rattle.canvas_plane.specs.Page.{is_in};
+ghost use Rattle.canvas_shape.specs.Leaves.{carried_holds, page_box_of};
+ghost use Rattle.canvas_scene.specs.Items.{fill_at};
+ghost use Rattle.canvas_paint.specs.Blocks.{IsHeld, block_holds, column_at, cut_fill, form_holds, row_at};
+ghost use Rattle.canvas_shape.specs.Words.{has};
+ghost use Rattle.canvas_paint.specs.Words.{is_within, IsWord};
 
-use crate::leaf::{ellipse_word, polygon_word};
+use crate::leaf::{RowWords, ellipse_word, polygon_rows};
 use crate::word::{PIXELS, both, part};
-use canvas_plane::Window;
+use bumpalo::Bump;
+use canvas_plane::{PageBox, Window};
 use canvas_scene::Item;
-use canvas_shape::{Carried, Colour, LeafBox, Vertices};
+use canvas_shape::{Carried, Colour, LeafBox};
+use std::alloc::AllocError;
 
 /// What of a block's columns and rows is held.
 #[derive(Clone, Copy)]
 pub(crate) enum Form<'a> {
     Whole,
     Ellipse(LeafBox),
-    Polygon(Vertices<'a>),
+    Polygon(RowWords<'a>),
 }
 
 /// An item in a window: the columns and the rows of the window that its leaf's box and its clip
@@ -55,32 +61,125 @@ pub(crate) fn place(edge: i64, origin: i32, size: u32) -> usize
     }
 }
 
-// What of its box a leaf holds.
-fn form_of<'a>(leaf: &Carried<'a>) -> Form<'a>
-    ensures { result ≡ form_of leaf.now }
+// What of its box a leaf holds in the rows from one up to another. Only a polygon takes memory.
+fn form_of<'a>(
+    bump: &'a Bump,
+    leaf: &Carried<'_>,
+    window: &Window,
+    top: usize,
+    bottom: usize,
+) -> Result<Form<'a>, AllocError>
+    requires rows { top < bottom }
+    requires bottom { bottom ≤ window.now.h }
+    ensures { IfOk result (λ form. (k j : ℕ) → k < window.now.w → top ≤ j → j < bottom → is_in (page_box_of leaf.now) (column_at window.now k) (row_at window.now j) ≡ true → form_holds window.now form k j ≡ carried_holds leaf.now (column_at window.now k) (row_at window.now j)) }
 {
     match leaf {
-        Carried::Rect(_) => Form::Whole,
-        Carried::Ellipse(sides) => Form::Ellipse(*sides),
-        Carried::Polygon(vertices) => Form::Polygon(*vertices),
+        Carried::Rect(_) => Ok(Form::Whole),
+        Carried::Ellipse(sides) => Ok(Form::Ellipse(*sides)),
+        Carried::Polygon(vertices) => Ok(Form::Polygon(polygon_rows(
+            bump, vertices, window, top, bottom,
+        )?)),
+    }
+}
+
+/// Columns and rows of a window, each from one up to another.
+#[derive(Clone, Copy)]
+struct Region {
+    from: usize,
+    to: usize,
+    top: usize,
+    bottom: usize,
+}
+
+impl Region {
+    // The columns, and the rows from one up to another, that lie in a box of the page.
+    fn of(sides: &PageBox, window: &Window, first: usize, end: usize) -> Region
+        requires { end ≤ window.now.h }
+        ensures exact { (k j : ℕ) → k < window.now.w → first ≤ j → j < end → (is_within result.from k result.to && is_within result.top j result.bottom) ≡ is_in sides.now (column_at window.now k) (row_at window.now j) }
+        ensures bottom { result.bottom ≤ end }
+    {
+        Region {
+            from: place(sides.left, window.x(), window.w()),
+            to: place(sides.right, window.x(), window.w()),
+            top: place(sides.top, window.y(), window.h()).max(first),
+            bottom: place(sides.bottom, window.y(), window.h()).min(end),
+        }
+    }
+
+    fn is_empty(&self) -> bool
+        ensures none { result ≡ true → (k j : ℕ) → (is_within self.now.from k self.now.to && is_within self.now.top j self.now.bottom) ≡ false }
+        ensures rows { result ≡ false → self.now.top < self.now.bottom }
+    {
+        self.to <= self.from || self.bottom <= self.top
     }
 }
 
 impl<'a> Block<'a> {
-    /// An item in a window.
-    pub(crate) fn cut(item: &Item<'a>, window: &Window) -> Block<'a>
-        ensures holds { (k j : ℕ) → k < window.now.w → j < window.now.h → block_holds window.now result k j ≡ item_holds item.now (column_at window.now k) (row_at window.now j) }
-        ensures fill { result.fill ≡ item.now.fill }
-        ensures rows { result.bottom ≤ window.now.h }
+    /// An item in the rows of a window from one up to another, if it may hold a pixel there.
+    pub(crate) fn cut(
+        bump: &'a Bump,
+        item: &Item<'_>,
+        window: &Window,
+        first: usize,
+        end: usize,
+    ) -> Result<Option<Block<'a>>, AllocError>
+        requires { end ≤ window.now.h }
+        ensures { IfOk result (λ block. (k j : ℕ) → k < window.now.w → first ≤ j → j < end → cut_fill window.now block k j ≡ fill_at item.now (column_at window.now k) (row_at window.now j)) }
     {
-        let sides = item.leaf.page_box().meet(&item.clip);
-        Block {
-            from: place(sides.left, window.x(), window.w()),
-            to: place(sides.right, window.x(), window.w()),
-            top: place(sides.top, window.y(), window.h()),
-            bottom: place(sides.bottom, window.y(), window.h()),
+        let page_box = item.leaf.page_box();
+        let region = Region::of(&page_box.meet(&item.clip), window, first, end);
+        if region.is_empty() {
+            return Ok(None);
+        }
+        let form = form_of(bump, &item.leaf, window, region.top, region.bottom)?;
+        Ok(Some(Block {
+            from: region.from,
+            to: region.to,
+            top: region.top,
+            bottom: region.bottom,
             fill: item.fill,
-            form: form_of(&item.leaf),
+            form,
+        }))
+    }
+
+    /// Whether the block has a column of the word at a column.
+    pub(crate) fn meets(&self, base: usize) -> bool
+        requires { base < 256 }
+        ensures { (k : ℕ) → base ≤ k → k < base + 64 → is_within self.now.from k self.now.to ≡ true → result ≡ true }
+    {
+        self.from < base + PIXELS && base < self.to
+    }
+
+    /// Whether the block has a row.
+    pub(crate) fn has_row(&self, y: usize) -> bool
+        ensures { result ≡ is_within self.now.top y self.now.bottom }
+    {
+        self.top <= y && y < self.bottom
+    }
+
+    /// Up to which row the block has the rows from `y` on, or has none of them.
+    pub(crate) fn next_change(&self, y: usize) -> usize
+        requires { y < usize.MAX }
+        ensures after { y < result }
+        ensures same { (j : ℕ) → y ≤ j → j < result → is_within self.now.top j self.now.bottom ≡ is_within self.now.top y self.now.bottom }
+    {
+        if y < self.top {
+            self.top
+        } else if y < self.bottom {
+            self.bottom
+        } else {
+            usize::MAX
+        }
+    }
+
+    /// The pixels of the word at a column that the block holds in all its rows.
+    pub(crate) fn covered(&self, base: usize) -> u64
+        ensures { (w : PageWindow) (i j : ℕ) → i < 64 → has result i ≡ true → is_within self.now.top j self.now.bottom ≡ true → block_holds w self.now (base + i) j ≡ true }
+    {
+        match &self.form {
+            Form::Whole => part(self.from, self.to, base),
+            Form::Ellipse(_) => 0,
+            Form::Polygon(_) => 0,
         }
     }
 
@@ -88,6 +187,7 @@ impl<'a> Block<'a> {
     pub(crate) fn held(&self, window: &Window, free: u64, base: usize, y: usize) -> Held
         requires row { y < window.now.h }
         requires base { base < 256 }
+        requires whole { base % 64 ≡ 0 }
         ensures until { y < result.until }
         ensures within { (i : ℕ) → i < 64 → has result.word i ≡ true → has free i ≡ true }
         ensures exact { IsHeld window.now self.now free base y result.word result.until }
@@ -114,8 +214,8 @@ impl<'a> Block<'a> {
                 word: both(reach, ellipse_word(sides, window, base, y)),
                 until: y + 1,
             },
-            Form::Polygon(vertices) => Held {
-                word: both(reach, polygon_word(vertices, window, base, y)),
+            Form::Polygon(rows) => Held {
+                word: both(reach, rows.word(base, y)),
                 until: y + 1,
             },
         }

@@ -1,17 +1,43 @@
 //! Rows of ellipses and polygons as words.
 
-ghost use Rattle.std.specs.Prelude.{◌≡◌, ℕ, ℤ, ◌+◌, ◌<◌, ◌≤◌, ◌^◌, ◌+ℤ◌, pos, All, length};
-ghost use Rattle.canvas_plane.specs.Motion.{size_of};
+ghost use Rattle.std.specs.Prelude.{◌≡◌, ℕ, ℤ, ◌+◌, ◌<◌, ◌≤◌, ◌+ℤ◌, pos, length, ◌-◌, ◌%◌, IfOk, [], slice_index_or};
 ghost use Rattle.canvas_shape.specs.Leaves.{sides_of};
 ghost use Rattle.canvas_shape.specs.Ellipse.{is_in_ellipse};
-ghost use Rattle.canvas_shape.specs.Edges.{counts, is_in_polygon, is_odd_along};
-ghost use Rattle.canvas_paint.specs.Blocks.{column_at, row_at};
-ghost use Rattle.canvas_paint.specs.Words.{has};
+ghost use Rattle.canvas_shape.specs.Edges.{is_in_polygon};
+ghost use Rattle.canvas_shape.specs.Flags.{is_held};
+ghost use Rattle.canvas_shape.specs.declared.edge_flags.EdgeFlags.{EdgeFlags as RowFlags};
+ghost use Rattle.canvas_paint.specs.Blocks.{column_at, row_at, row_has};
+ghost use Rattle.canvas_shape.specs.Words.{has};
 
 use crate::block::place;
-use crate::word::{part, toggled};
-use canvas_plane::{Point, Window};
-use canvas_shape::{LeafBox, Vertices, edge_threshold};
+use crate::word::{PIXELS, part};
+use bumpalo::Bump;
+use bumpalo::collections::into_bump_slice;
+use canvas_plane::Window;
+use canvas_shape::{EdgeFlags, LeafBox, Vertices};
+use std::alloc::AllocError;
+
+/// The pixels of rows that follow one another, from the row `first` of a window on: four words a
+/// row.
+#[derive(Clone, Copy)]
+pub(crate) struct RowWords<'a> {
+    pub first: usize,
+    pub words: &'a [[u64; 4]],
+}
+
+impl RowWords<'_> {
+    /// The pixels in the word at a column of a row.
+    pub(crate) fn word(&self, base: usize, y: usize) -> u64
+        requires base { base < 256 }
+        requires whole { base % 64 ≡ 0 }
+        ensures { (i : ℕ) → i < 64 → has result i ≡ row_has (slice_index_or self.now.words.now (y - self.now.first) []) (base + i) }
+    {
+        match self.words.get(y.saturating_sub(self.first)) {
+            Some(words) => words[base / PIXELS],
+            None => 0,
+        }
+    }
+}
 
 // The row of the page that a window's row shows.
 fn page_row(window: &Window, y: usize) -> i32
@@ -33,41 +59,34 @@ pub(crate) fn ellipse_word(sides: &LeafBox, window: &Window, base: usize, y: usi
     part(from, to, base)
 }
 
-// The pixels at which an edge counts, in the word at a column.
-fn edge_word(p: Point, q: Point, row: i32, window: &Window, base: usize) -> u64
-    requires near { (size_of p ≤ 2 ^ 27) × (size_of q ≤ 2 ^ 27) }
-    requires base { base < 256 }
-    ensures { (i : ℕ) → i < 64 → base + i < window.now.w → has result i ≡ counts p q (column_at window.now (base + i)) row }
+/// The pixels of a polygon in the rows of a window from one up to another.
+pub(crate) fn polygon_rows<'a>(
+    bump: &'a Bump,
+    vertices: &Vertices<'_>,
+    window: &Window,
+    top: usize,
+    bottom: usize,
+) -> Result<RowWords<'a>, AllocError>
+    requires rows { top < bottom }
+    requires bottom { bottom ≤ window.now.h }
+    ensures { IfOk result (λ rows. (k j : ℕ) → k < window.now.w → top ≤ j → j < bottom → row_has (slice_index_or rows.words.now (j - rows.first) []) k ≡ is_in_polygon vertices.now.points.now (column_at window.now k) (row_at window.now j)) }
 {
-    match edge_threshold(p, q, row) {
-        Some(edge) => part(0, place(edge, window.x(), window.w()), base),
-        None => 0,
-    }
+    let mut flags = [EdgeFlags::none(); 256];
+    let rows = &mut flags[..bottom - top];
+    vertices.flag_rows(page_row(window, top), window.x(), window.w(), rows);
+    Ok(RowWords {
+        first: top,
+        words: held_rows(bump, rows)?,
+    })
 }
 
-/// The pixels of a polygon in the word at a column of a window's row.
-pub(crate) fn polygon_word(vertices: &Vertices<'_>, window: &Window, base: usize, y: usize) -> u64
-    requires row { y < window.now.h }
-    requires base { base < 256 }
-    ensures { (i : ℕ) → i < 64 → base + i < window.now.w → has result i ≡ is_in_polygon vertices.now.points.now (column_at window.now (base + i)) (row_at window.now y) }
+// The held pixels of rows of edge flags.
+fn held_rows<'a>(bump: &'a Bump, rows: &[EdgeFlags]) -> Result<&'a [[u64; 4]], AllocError>
+    ensures { IfOk result (λ words. (j k : ℕ) (d : RowFlags) → j < length rows.now → k < 256 → row_has (slice_index_or words.now j []) k ≡ is_held (slice_index_or rows.now j d).words k) }
 {
-    let row = page_row(window, y);
-    let points = vertices.points;
-    let mut word = 0;
-    let mut from = last(points);
-    for to in points {
-        word = toggled(word, edge_word(from, *to, row, window, base));
-        from = *to;
+    let mut words = Vec::with_capacity(bump, rows.len())?;
+    for row in rows {
+        words.push(row.held())?;
     }
-    word
-}
-
-// The last vertex, from which the first edge leads.
-fn last(points: &[Point]) -> Point
-    requires some { 0 < length points.now }
-    requires near { All (λ p. size_of p ≤ 2 ^ 27) points.now }
-    ensures value { (x y : ℤ) → is_odd_along result points.now x y ≡ is_in_polygon points.now x y }
-    ensures near { size_of result ≤ 2 ^ 27 }
-{
-    points[points.len() - 1]
+    Ok(into_bump_slice(words))
 }

@@ -2,6 +2,7 @@
 #![tactic(auto)]
 
 mod block;
+mod column;
 mod fault;
 mod free_row;
 mod gate;

@@ -1,7 +1,8 @@
 //! Rows of pixels, three bytes each.
 
 ghost use Rattle.std.specs.Prelude.{◌≡◌, ℕ, ◌+◌, ◌-◌, ◌<◌, ◌≤◌, List, length, true, slice_index_or, if◌then◌else◌};
-ghost use Rattle.canvas_paint.specs.Words.{covers, has, is_within};
+ghost use Rattle.canvas_shape.specs.Words.{has};
+ghost use Rattle.canvas_paint.specs.Words.{covers, is_within};
 
 use crate::word::{PIXELS, next_run};
 

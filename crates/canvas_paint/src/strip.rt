@@ -1,15 +1,16 @@
 //! Pictures of items, strip by strip.
 
-ghost use Rattle.std.specs.Prelude.{◌≡◌, ℕ, ◌+◌, ◌-◌, ◌*◌, ◌/◌, ◌<◌, ◌≤◌, ◌++◌, List, length, false, slice_index_or, IfOk, OnOk, OnErr, take};
+ghost use Rattle.std.specs.Prelude.{◌≡◌, ℕ, ◌+◌, ◌-◌, ◌*◌, ◌/◌, ◌<◌, ◌≤◌, ◌++◌, List, length, false, slice_index_or, IfOk, OnOk, OnErr, take, vec_len, All};
 ghost use Rattle.canvas_scene.specs.Items.{last_colour, last_fill};
 ghost use Rattle.canvas_scene.specs.Pictures.{raster_of, rows_of};
-ghost use Rattle.canvas_paint.specs.Blocks.{AreKept, column_at, last_block_fill, row_at, shown};
-ghost use Rattle.canvas_paint.specs.Words.{is_within};
+ghost use Rattle.canvas_paint.specs.Blocks.{AreColumns, IsNew, column_at, last_block_fill, row_at, shown};
 ghost use Rattle.canvas_paint.specs.Strips.{strip_start};
 
 use crate::block::Block;
-use crate::row::{Pixel, WHITE, fill_word};
-use crate::word::{PIXELS, part, without};
+use crate::column::Column;
+use crate::row::{Pixel, WHITE};
+use crate::word::PIXELS;
+use bumpalo::Bump;
 use canvas_plane::Window;
 use canvas_scene::Item;
 use std::alloc::{AllocError, Global};
@@ -17,62 +18,41 @@ use std::alloc::{AllocError, Global};
 /// How many words a row has.
 const WORDS: usize = 4;
 
-// Paints the word at a column of the row `y`, and tells up to which row it looks the same.
-fn paint_word(
-    blocks: &[Block<'_>],
-    window: &Window,
-    base: usize,
-    y: usize,
-    row: &mut [Pixel],
-) -> usize
-    requires y { y < window.now.h }
-    requires base { base < 256 }
-    requires width { length row.old ≡ window.now.w }
-    ensures until { y < result }
-    ensures outside { (x : ℕ) (d : List ℕ) → x < length row.old → is_within base x (base + 64) ≡ false → slice_index_or row.new x d ≡ slice_index_or row.old x d }
-    ensures painted { (x z : ℕ) (d : List ℕ) → base ≤ x → x < base + 64 → x < length row.old → y ≤ z → z < result → slice_index_or row.new x d ≡ shown window.now blocks.now x z }
+// The columns of a strip, of which no row was painted, each with room for so many blocks.
+fn new_columns<'a>(alloc: Global, room: usize) -> Result<Vec<Column<'a>>, AllocError>
+    ensures { IfOk result (λ columns. (vec_len columns ≡ 4) × All IsNew columns.items) }
 {
-    let mut free = part(0, row.len(), base);
-    let mut until = usize::MAX;
-    let mut left = blocks.len();
-    while left > 0 && free != 0 {
-        let block = &blocks[left - 1];
-        let held = block.held(window, free, base, y);
-        until = until.min(held.until);
-        if held.word != 0 {
-            fill_word(row, base, held.word, block.fill.0);
-            free = without(free, held.word);
-        }
-        left -= 1;
+    let mut columns = Vec::with_capacity(alloc, WORDS)?;
+    for _ in 0..WORDS {
+        columns.push(Column::new(alloc, room)?)?;
     }
-    fill_word(row, base, free, WHITE);
-    until
+    Ok(columns)
 }
 
 // Paints anew the words of a row that have changed at the row `y`.
-fn refresh(
-    blocks: &[Block<'_>],
+fn refresh<'a>(
+    blocks: &[Block<'a>],
     window: &Window,
     y: usize,
     row: &mut [Pixel],
-    until: &mut [usize; WORDS],
-)
+    columns: &mut [Column<'a>],
+) -> Result<(), AllocError>
     requires y { y < window.now.h }
     requires width { length row.old ≡ window.now.w }
-    requires kept { AreKept window.now blocks.now row.old until.old y }
-    ensures kept { AreKept window.now blocks.now row.new until.new y }
-    ensures fresh { (x : ℕ) (d : List ℕ) → x < length row.old → slice_index_or row.new x d ≡ shown window.now blocks.now x y }
+    requires count { length columns.old ≡ 4 }
+    requires kept { AreColumns window.now blocks.now row.old columns.old y }
+    ensures kept { OnOk result (AreColumns window.now blocks.now row.new columns.new y) }
+    ensures fresh { OnOk result ((x : ℕ) (d : List ℕ) → x < length row.old → slice_index_or row.new x d ≡ shown window.now blocks.now x y) }
 {
-    for k in 0..WORDS {
-        if until[k] <= y {
-            let end = paint_word(blocks, window, PIXELS * k, y, row);
-            until[k] = end;
-        }
+    for (k, column) in columns.iter_mut().enumerate() {
+        column.refresh(blocks, window, PIXELS * k, y, row)?;
     }
+    Ok(())
 }
 
 // Appends the rows of the picture of blocks from one up to another.
 fn append_rows(
+    alloc: Global,
     blocks: &[Block<'_>],
     window: &Window,
     first: usize,
@@ -86,18 +66,20 @@ fn append_rows(
     ensures ok { OnOk result (out.new.items ≡ out.old.items ++ raster_of (shown window.now blocks.now) window.now.w first (end - first)) }
     ensures kept { take (length out.old.items) out.new.items ≡ out.old.items }
 {
-    let mut until = [0usize; WORDS];
+    let mut columns = new_columns(alloc, blocks.len())?;
+    let columns = columns.as_mut_slice();
     for y in first..end {
-        refresh(blocks, window, y, row, &mut until);
+        refresh(blocks, window, y, row, columns)?;
         out.extend_from_slice(row.as_flattened())?;
     }
     Ok(())
 }
 
-// The blocks of items in some rows of a window.
+// The blocks of items in the rows of a window from one up to another.
 fn blocks_of<'a>(
     alloc: Global,
-    items: &[Item<'a>],
+    bump: &'a Bump,
+    items: &[Item<'_>],
     window: &Window,
     first: usize,
     end: usize,
@@ -107,9 +89,9 @@ fn blocks_of<'a>(
 {
     let mut blocks = Vec::new(alloc);
     for item in items {
-        let block = Block::cut(item, window);
-        if block.from < block.to && block.top.max(first) < block.bottom.min(end) {
-            blocks.push(block)?;
+        match Block::cut(bump, item, window, first, end)? {
+            Some(block) => blocks.push(block)?,
+            None => {}
         }
     }
     Ok(blocks)
@@ -131,11 +113,12 @@ pub fn append_strip(
 {
     let (first, end) = (first as usize, end as usize);
     let width = window.w() as usize;
-    let blocks = blocks_of(alloc, items, window, first, end)?;
+    let bump = Bump::new(alloc);
+    let blocks = blocks_of(alloc, &bump, items, window, first, end)?;
     out.reserve(3 * width * (end - first))?;
     let mut row = [WHITE; 256];
     let before = out.len();
-    match append_rows(&blocks, window, first, end, &mut row[..width], out) {
+    match append_rows(alloc, &blocks, window, first, end, &mut row[..width], out) {
         Ok(()) => Ok(()),
         Err(fault) => {
             out.truncate(before);

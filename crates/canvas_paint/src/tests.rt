@@ -439,3 +439,47 @@ fn random_pictures_are_the_walk(rt: HostRuntime) -> Result<(), Fail> {
     assert!(rt; compared(&rt, rt.alloc(), 3, -1_048_576, -2_097_152, 2_097_132)? > 20);
     Ok(())
 }
+
+// A rectangle, an ellipse or a polygon with sides up to 120.
+fn wide_kind(alloc: Global, dice: &mut Dice) -> Result<Kind, AllocError> {
+    let w = dice.below(120).saturating_add(1);
+    let h = dice.below(120).saturating_add(1);
+    let shade = dice.below(200).min(200) as u8;
+    let fill = Colour([shade, 100, 7]);
+    Ok(match dice.below(3) {
+        0 => Kind::Rect { w, h, fill },
+        1 => Kind::Ellipse { w, h, fill },
+        _ => {
+            let mut points = Points::new(alloc);
+            for _ in 0..9u32 {
+                let x = dice.within(-30, 120);
+                let y = dice.within(-30, 120);
+                points.push(Point { x, y })?;
+            }
+            Kind::Polygon { points, fill }
+        }
+    })
+}
+
+#[test]
+fn wide_pictures_are_the_walk(rt: HostRuntime) -> Result<(), Fail> {
+    let alloc = rt.alloc();
+    let mut dice = Dice(4);
+    let mut document = Document::empty(alloc);
+    for _ in 0..60u32 {
+        let pose = Pose {
+            dx: dice.within(-40, 300),
+            dy: dice.within(-40, 140),
+            quarter: dice.below(4).min(3) as u8,
+            flip: dice.below(2) == 1,
+        };
+        let kind = wide_kind(alloc, &mut dice)?;
+        document = after(alloc, document, &create(kind, pose, Parent::Page))?;
+    }
+    let window = Window::new(3, 5, 250, 96)?;
+    for workers in [1, 2, 3, 4] {
+        let bytes = picture(&rt, alloc, &document, &window, workers)?;
+        assert!(rt; agrees(&document, &window, bytes.as_slice()));
+    }
+    Ok(())
+}

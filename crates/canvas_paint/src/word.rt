@@ -1,8 +1,8 @@
 //! Words of 64 pixels: bit i is the pixel i columns to the right of the word's first column.
 
 ghost use Rattle.std.specs.Prelude.{◌≡◌, ◌≤◌, ◌<◌, ◌+◌, ◌-◌, ◌^◌, ◌&&◌, ℕ, false, true, not, MatchOption};
-ghost use Rattle.canvas_paint.specs.Words.{has, is_within, HasNone, IsLowest, IsRun, IsWord};
-ghost use Rattle.canvas_plane.specs.Motion.{not_same};
+ghost use Rattle.canvas_shape.specs.Words.{has};
+ghost use Rattle.canvas_paint.specs.Words.{is_within, HasNone, IsLowest, IsRun, IsWord};
 
 /// How many pixels a word has.
 pub(crate) const PIXELS: usize = 64;
@@ -56,13 +56,6 @@ pub(crate) fn without(a: u64, b: u64) -> u64
     ensures { IsWord result (λ i. has a i && not (has b i)) }
 {
     a & !b
-}
-
-/// The pixels of exactly one of two words.
-pub(crate) fn toggled(a: u64, b: u64) -> u64
-    ensures { IsWord result (λ i. not_same (has a i) (has b i)) }
-{
-    a ^ b
 }
 
 // The place of the first pixel of a word, or 64.

@@ -1,10 +1,15 @@
+pub mod Bits
 pub mod Colours
 pub mod Edge
 pub mod EllipseRow
+pub mod FlagCuts
+pub mod FlagLaws
 pub mod Held
 pub mod Law
 pub mod LeafRows
 pub mod Limits
+pub mod LineLaws
+pub mod Odd
 pub mod Outside
 pub mod Pairs
 pub mod Sides

@@ -315,10 +315,3 @@ holds-step i c start p q d points k x y lt eq ec h =
 
 pub holds-done : (i start : Bool) (p : Point) (points : List Point) (k : ℕ) (x y : ℤ) → length points ≤ k → not_same i (is_odd_along p (drop k points) x y) ≡ start → i ≡ start
 holds-done i start p points k x y le h = sym (not_same-false i) ∙ ap (λ ps. not_same i (is_odd_along p ps x y)) (sym (drop_of_length-le points le)) ∙ h
-
--- cuts count as they do themselves
-pub own-cuts : (left right : ℤ) (cs ds : List ℕ) → cs ≡ ds → AreWithin left right ds → AreCuts left right cs (λ x. is_odd_above left ds x)
-own-cuts left right cs ds e w = record {
-  exact = λ x l r. ap (λ es. is_odd_above left es x) e;
-  inside = let P : List ℕ → Type 0 = λ es. AreWithin left right es in subst P (sym e) w;
-}

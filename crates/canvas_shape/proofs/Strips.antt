@@ -1,14 +1,18 @@
--- Cuts of many rows.
-use Rattle.std.proofs.Common.{◌≡◌, ℕ, ◌+◌, ◌<◌, ◌≤◌, ◌≢◌, List, [], length, get_or, slice_set, ℤ, pos, ◌+ℤ◌, ◌≤ℤ◌, true, false, ◌&&◌, sym, ap, ◌∙◌, subst, arith, inl, inr}
-use Rattle.std.specs.Prelude.{int_le, int_lt, nat_lt}
+-- Edge flags of many rows.
+use Rattle.std.proofs.Common.{◌≡◌, ℕ, suc, ◌+◌, ◌<◌, ◌≤◌, ◌≢◌, List, ◌∷◌, length, get_or, slice_set, drop, ℤ, pos, ◌+ℤ◌, ◌≤ℤ◌, Bool, true, false, ◌&&◌, refl, sym, ap, ◌∙◌, arith, inl, inr, drop-cons, add-one}
+use Rattle.std.specs.Prelude.{int_le, int_lt, nat_lt, cond}
+use Rattle.std.specs.Int.{int_min, int_max}
 use Rattle.std.proofs.lemmas.Int.{ints}
-use Rattle.std.proofs.lemmas.Bool.{cases_eq, lt-ltb, le-ltb}
-use Rattle.std.proofs.lemmas.List.{get_or-set_same, get_or-set_other, get_or_read}
+use Rattle.std.proofs.lemmas.Bool.{cases_eq, cases_Bool, cases_lt, lt-ltb, le-ltb}
+use Rattle.std.proofs.lemmas.List.{get_or-set_same, get_or-set_other}
+use Rattle.std.proofs.Math.ListN.{drop_of_length-le}
 use Rattle.canvas_plane.specs.declared.Point.{Point}
 use Rattle.canvas_plane.specs.Motion.{not_same}
-use Rattle.canvas_shape.specs.Edges.{counts, is_right_of}
-use Rattle.canvas_shape.specs.Cuts.{AddsCut}
-use Rattle.canvas_shape.proofs.Pairs.{adds-none}
+use Rattle.canvas_shape.specs.declared.edge_flags.EdgeFlags.{EdgeFlags}
+use Rattle.canvas_shape.specs.Edges.{counts, crosses_row, is_right_of, is_odd_along}
+use Rattle.canvas_shape.specs.Flags.{is_held}
+use Rattle.canvas_shape.proofs.Edge.{lt_test-false}
+use Rattle.canvas_shape.proofs.Odd.{same-false, not_same-assoc}
 
 not-past : (a y m : ℤ) → m ≤ℤ a → int_lt y m ≡ true → int_le a y ≡ false
 not-past a y m h e = grind (arith, ints)
@@ -17,51 +21,99 @@ past : (a y m : ℤ) → a ≤ℤ m → int_lt y m ≡ false → int_le a y ≡ 
 past a y m h e = grind (arith, ints)
 
 -- an edge counts nowhere above both its ends
-pub above-none : (p q : Point) (x y m : ℤ) → m ≤ℤ p.y → m ≤ℤ q.y → int_lt y m ≡ true → counts p q x y ≡ false
+above-none : (p q : Point) (x y m : ℤ) → m ≤ℤ p.y → m ≤ℤ q.y → int_lt y m ≡ true → counts p q x y ≡ false
 above-none p q x y m hp hq e =
     ap (λ u. not_same u (int_le q.y y) && is_right_of p q x y) (not-past p.y y m hp e)
     ∙ ap (λ u. not_same false u && is_right_of p q x y) (not-past q.y y m hq e)
 
 -- and nowhere below them
-pub below-none : (p q : Point) (x y m : ℤ) → p.y ≤ℤ m → q.y ≤ℤ m → int_lt y m ≡ false → counts p q x y ≡ false
+below-none : (p q : Point) (x y m : ℤ) → p.y ≤ℤ m → q.y ≤ℤ m → int_lt y m ≡ false → counts p q x y ≡ false
 below-none p q x y m hp hq e =
     ap (λ u. not_same u (int_le q.y y) && is_right_of p q x y) (past p.y y m hp e)
     ∙ ap (λ u. not_same true u && is_right_of p q x y) (past q.y y m hq e)
 
+ends-cross : (a b y least most : ℤ) → least ≡ a → most ≡ b → least ≤ℤ y → int_lt y most ≡ true → not_same (int_le a y) (int_le b y) ≡ true
+ends-cross a b y least most ea eb h e = grind (arith, ints)
+
+ends-cross-back : (a b y least most : ℤ) → least ≡ b → most ≡ a → least ≤ℤ y → int_lt y most ≡ true → not_same (int_le a y) (int_le b y) ≡ true
+ends-cross-back a b y least most ea eb h e = grind (arith, ints)
+
+and-false : (b : Bool) → (b && false) ≡ false
+and-false true = refl
+and-false false = refl
+
+-- a row in which an edge counts nowhere is right as it is
+pub kept-row : (old : List ℕ) (i width : ℕ) (c : Bool) → c ≡ false → is_held old i ≡ not_same (is_held old i) (nat_lt i width && c)
+kept-row old i width c e = sym (ap (not_same (is_held old i)) (ap (λ b. nat_lt i width && b) e ∙ and-false (nat_lt i width)) ∙ same-false (is_held old i))
+
+-- between its ends an edge crosses each row
+pub crosses : (p q : Point) (y least most : ℤ) → least ≡ int_min p.y q.y → most ≡ int_max p.y q.y → int_lt y least ≡ false → int_lt y most ≡ true → crosses_row p q y ≡ true
+crosses p q y least most el em h k = elim (cases_Bool (int_lt q.y p.y)) [
+  | inl t ↦ ends-cross-back p.y q.y y least most (el ∙ ap (λ b. cond b q.y p.y) t) (em ∙ ap (λ b. cond b p.y q.y) t) (lt_test-false y least h) k
+  | inr t ↦ ends-cross p.y q.y y least most (el ∙ ap (λ b. cond b q.y p.y) t) (em ∙ ap (λ b. cond b p.y q.y) t) (lt_test-false y least h) k
+]
+
 -- the rows above an edge
-pub rows-above : (left right first m : ℤ) (p q : Point) (rows : List (List ℕ)) (start count : ℕ) → m ≤ℤ p.y → m ≤ℤ q.y → start ≤ count → ((k : ℕ) → k < count → nat_lt k start ≡ int_lt (first +ℤ pos k) m) → (j : ℕ) → j < start → AddsCut left right (get_or rows j []) (get_or rows j []) (λ x. counts p q x (first +ℤ pos j))
-rows-above left right first m p q rows start count hp hq le place j lt =
-    let e : int_lt (first +ℤ pos j) m ≡ true = sym (place j (omega arith)) ∙ lt-ltb j start lt in
-    adds-none left right (get_or rows j []) (λ x. counts p q x (first +ℤ pos j)) (λ x. above-none p q x (first +ℤ pos j) m hp hq e)
+pub row-above : (p q : Point) (first m left : ℤ) (old : List ℕ) (start count width j i : ℕ) → m ≤ℤ p.y → m ≤ℤ q.y → ((k : ℕ) → k < count → nat_lt k start ≡ int_lt (first +ℤ pos k) m) → j < start → j < count → is_held old i ≡ not_same (is_held old i) (nat_lt i width && counts p q (left +ℤ pos i) (first +ℤ pos j))
+row-above p q first m left old start count width j i hp hq place lt below =
+    kept-row old i width (counts p q (left +ℤ pos i) (first +ℤ pos j)) (above-none p q (left +ℤ pos i) (first +ℤ pos j) m hp hq (sym (place j below) ∙ lt-ltb j start lt))
 
--- the rows below it
-pub row-below : (left right first m : ℤ) (p q : Point) (old new : List ℕ) (end count j : ℕ) → p.y ≤ℤ m → q.y ≤ℤ m → ((k : ℕ) → k < count → nat_lt k end ≡ int_lt (first +ℤ pos k) m) → end ≤ j → j < count → new ≡ old → AddsCut left right old new (λ x. counts p q x (first +ℤ pos j))
-row-below left right first m p q old new end count j hp hq place le lt en =
-    let e : int_lt (first +ℤ pos j) m ≡ false = sym (place j lt) ∙ le-ltb j end le in
-    subst (λ row. AddsCut left right old row (λ x. counts p q x (first +ℤ pos j))) (sym en) (adds-none left right old (λ x. counts p q x (first +ℤ pos j)) (λ x. below-none p q x (first +ℤ pos j) m hp hq e))
+-- and the rows below it
+pub row-below : (p q : Point) (first m left : ℤ) (old : List ℕ) (end count width j i : ℕ) → p.y ≤ℤ m → q.y ≤ℤ m → ((k : ℕ) → k < count → nat_lt k end ≡ int_lt (first +ℤ pos k) m) → end ≤ j → j < count → is_held old i ≡ not_same (is_held old i) (nat_lt i width && counts p q (left +ℤ pos i) (first +ℤ pos j))
+row-below p q first m left old end count width j i hp hq place le below =
+    kept-row old i width (counts p q (left +ℤ pos i) (first +ℤ pos j)) (below-none p q (left +ℤ pos i) (first +ℤ pos j) m hp hq (sym (place j below) ∙ le-ltb j end le))
 
--- the same for equal rows
-adds-same : (l left r right z y : ℤ) (p q : Point) (was old new row : List ℕ) → l ≡ left → r ≡ right → z ≡ y → was ≡ old → new ≡ row → AddsCut l r was new (λ x. counts p q x z) → AddsCut left right old row (λ x. counts p q x y)
-adds-same l left r right z y p q was old new row el er ez ew en h =
-    subst (λ u. AddsCut left right old u (λ x. counts p q x y)) en
-    (subst (λ u. AddsCut left right u new (λ x. counts p q x y)) ew
-    (subst (λ u. AddsCut left right was new (λ x. counts p q x u)) ez
-    (subst (λ u. AddsCut left u was new (λ x. counts p q x z)) er
-    (subst (λ u. AddsCut u r was new (λ x. counts p q x z)) el h))))
+-- the columns before a place are those of the window before a threshold
+columns-before : (left t : ℤ) (place width i : ℕ) → place ≤ width → ((k : ℕ) → k < width → nat_lt k place ≡ int_lt (left +ℤ pos k) t) → nat_lt i place ≡ (nat_lt i width && int_lt (left +ℤ pos i) t)
+columns-before left t place width i le h = elim (cases_lt i width) [
+  | inl lt ↦ h i lt ∙ ap (λ b. b && int_lt (left +ℤ pos i) t) (sym (lt-ltb i width lt))
+  | inr ge ↦ le-ltb i place (omega arith) ∙ ap (λ b. b && int_lt (left +ℤ pos i) t) (sym (le-ltb i width ge))
+]
 
--- one more row is cut
-pub rows-step : (left right first l r z : ℤ) (p q : Point) (start rows : List (List ℕ)) (d new : List ℕ) (k : ℕ) → k < length rows → d ≡ get_or rows k d → get_or rows k [] ≡ get_or start k [] → ((j : ℕ) → j < k → AddsCut left right (get_or start j []) (get_or rows j []) (λ x. counts p q x (first +ℤ pos j))) → l ≡ left → r ≡ right → z ≡ first +ℤ pos k → AddsCut l r (get_or rows k d) new (λ x. counts p q x z) → (j : ℕ) → j < k + 1 → AddsCut left right (get_or start j []) (get_or (slice_set rows k new) j []) (λ x. counts p q x (first +ℤ pos j))
-rows-step left right first l r z p q start rows d new k lt is same before el er ez h j le = elim (cases_eq j k) [
+-- a row in which the edge crosses
+pub crossed-row : (p q : Point) (y left t : ℤ) (old new : List ℕ) (place width i : ℕ) → crosses_row p q y ≡ true → ((x : ℤ) → crosses_row p q y ≡ true → counts p q x y ≡ int_lt x t) → place ≤ width → ((k : ℕ) → k < width → nat_lt k place ≡ int_lt (left +ℤ pos k) t) → is_held new i ≡ not_same (is_held old i) (nat_lt i place) → is_held new i ≡ not_same (is_held old i) (nat_lt i width && counts p q (left +ℤ pos i) y)
+crossed-row p q y left t old new place width i c h le columns e =
+    e ∙ ap (not_same (is_held old i)) (columns-before left t place width i le columns ∙ ap (λ b. nat_lt i width && b) (sym (h (left +ℤ pos i) c)))
+
+-- one more row is flagged
+pub rows-step : (rows start : List EdgeFlags) (new : EdgeFlags) (f : ℕ → ℕ → Bool) (k : ℕ) → k < length rows → ((d : EdgeFlags) (i : ℕ) → is_held new.words i ≡ not_same (is_held (get_or start k d).words i) (f k i)) → ((j i : ℕ) (d : EdgeFlags) → j < k → is_held (get_or rows j d).words i ≡ not_same (is_held (get_or start j d).words i) (f j i)) → (j i : ℕ) (d : EdgeFlags) → j < k + 1 → is_held (get_or (slice_set rows k new) j d).words i ≡ not_same (is_held (get_or start j d).words i) (f j i)
+rows-step rows start new f k lt here before j i d le = elim (cases_eq j k) [
   | inl e ↦
-      subst (λ n. AddsCut left right (get_or start n []) (get_or (slice_set rows k new) n []) (λ x. counts p q x (first +ℤ pos n))) (sym e)
-      (adds-same l left r right z (first +ℤ pos k) p q (get_or rows k d) (get_or start k []) new (get_or (slice_set rows k new) k []) el er ez (sym is ∙ get_or_read rows k d lt is [] ∙ same) (sym (get_or-set_same rows k new [] lt)) h)
-  | inr ne ↦
-      let below : j < k = omega arith in
-      subst (λ u. AddsCut left right (get_or start j []) u (λ x. counts p q x (first +ℤ pos j))) (sym (get_or-set_other rows k j new [] ne)) (before j below)
+      ap (λ n. is_held (get_or (slice_set rows k new) n d).words i) e ∙ ap (λ r. is_held r.words i) (get_or-set_same rows k new d lt) ∙ here d i
+      ∙ ap (λ n. not_same (is_held (get_or start n d).words i) (f n i)) (sym e)
+  | inr ne ↦ ap (λ r. is_held r.words i) (get_or-set_other rows k j new d ne) ∙ before j i d (omega arith)
 ]
 
 -- the rows after it are as they were
-pub rows-after : (start rows : List (List ℕ)) (new : List ℕ) (k : ℕ) → ((j : ℕ) → k ≤ j → get_or rows j [] ≡ get_or start j []) → (j : ℕ) → k + 1 ≤ j → get_or (slice_set rows k new) j [] ≡ get_or start j []
-rows-after start rows new k after j le =
-    let ne : j ≢ k = λ e. omega arith in
-    get_or-set_other rows k j new [] ne ∙ after j (omega arith)
+pub rows-after : (rows start : List EdgeFlags) (new : EdgeFlags) (k : ℕ) → ((j : ℕ) (d : EdgeFlags) → k ≤ j → get_or rows j d ≡ get_or start j d) → (j : ℕ) (d : EdgeFlags) → k + 1 ≤ j → get_or (slice_set rows k new) j d ≡ get_or start j d
+rows-after rows start new k after j d le = let ne : j ≢ k = λ e. omega arith in get_or-set_other rows k j new d ne ∙ after j d (omega arith)
+
+-- rows that are cleared
+pub cleared-step : (rows : List EdgeFlags) (new : EdgeFlags) (k : ℕ) → k < length rows → ((i : ℕ) → is_held new.words i ≡ false) → ((j i : ℕ) (d : EdgeFlags) → j < k → is_held (get_or rows j d).words i ≡ false) → (j i : ℕ) (d : EdgeFlags) → j < k + 1 → is_held (get_or (slice_set rows k new) j d).words i ≡ false
+cleared-step rows new k lt here before j i d le = elim (cases_eq j k) [
+  | inl e ↦ ap (λ n. is_held (get_or (slice_set rows k new) n d).words i) e ∙ ap (λ r. is_held r.words i) (get_or-set_same rows k new d lt) ∙ here i
+  | inr ne ↦ ap (λ r. is_held r.words i) (get_or-set_other rows k j new d ne) ∙ before j i d (omega arith)
+]
+
+both-in : (a w c r : Bool) → not_same (not_same a (w && c)) (w && r) ≡ not_same a (w && not_same c r)
+both-in a true c r = sym (not_same-assoc a c r)
+both-in true false c r = refl
+both-in false false c r = refl
+
+-- a step along the edges, of one column of a row
+pub edge-step : (a new w b : Bool) (p q d : Point) (points : List Point) (k : ℕ) (x y : ℤ) → k < length points → q ≡ get_or points k d → new ≡ not_same a (w && counts p q x y) → not_same a (w && is_odd_along p (drop k points) x y) ≡ b → not_same new (w && is_odd_along q (drop (k + 1) points) x y) ≡ b
+edge-step a new w b p q d points k x y lt eq en h =
+    let e : drop k points ≡ q ∷ drop (k + 1) points = drop-cons points k d lt ∙ ap (λ z. z ∷ drop (suc k) points) (sym eq) ∙ ap (λ n. q ∷ drop n points) (sym (add-one k)) in
+    ap (λ u. not_same u (w && is_odd_along q (drop (k + 1) points) x y)) en
+    ∙ both-in a w (counts p q x y) (is_odd_along q (drop (k + 1) points) x y)
+    ∙ ap (λ l. not_same a (w && is_odd_along p l x y)) (sym e) ∙ h
+
+-- after the last edge
+pub edge-done : (a w b : Bool) (p : Point) (points : List Point) (k : ℕ) (x y : ℤ) → length points ≤ k → not_same a (w && is_odd_along p (drop k points) x y) ≡ b → a ≡ b
+edge-done a w b p points k x y le h =
+    sym (ap (λ l. not_same a (w && is_odd_along p l x y)) (drop_of_length-le points le) ∙ ap (not_same a) (and-false w) ∙ same-false a) ∙ h
+
+-- a row from the first that is not above the edge to the last that is not below it
+pub crosses-at : (p q : Point) (first least most : ℤ) (start end count k : ℕ) → least ≡ int_min p.y q.y → most ≡ int_max p.y q.y → ((j : ℕ) → j < count → nat_lt j start ≡ int_lt (first +ℤ pos j) least) → ((j : ℕ) → j < count → nat_lt j end ≡ int_lt (first +ℤ pos j) most) → start ≤ k → k < end → k < count → crosses_row p q (first +ℤ pos k) ≡ true
+crosses-at p q first least most start end count k el em above below le lt inside =
+    crosses p q (first +ℤ pos k) least most el em (sym (above k inside) ∙ le-ltb k start le) (sym (below k inside) ∙ lt-ltb k end lt)

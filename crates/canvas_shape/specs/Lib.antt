@@ -3,9 +3,12 @@ pub mod Box
 pub mod Cuts
 pub mod Edges
 pub mod Ellipse
+pub mod Flags
 pub mod Inside
 pub mod Leaves
 pub mod Limits
+pub mod Lines
 pub mod Names
 pub mod Points
 pub mod Spans
+pub mod Words

@@ -191,14 +191,14 @@ fn root(n: u64, most: u64) -> u64
     ensures bound { result ≤ most }
 {
     let mut low: u64 = 0;
-    let mut high: u64 = most + 1;
-    while low + 1 < high {
-        let middle = (low + high) / 2;
+    let mut size: u64 = most + 1;
+    while 1 < size {
+        let half = size / 2;
+        let middle = low + half;
         if middle * middle <= n {
             low = middle;
-        } else {
-            high = middle;
         }
+        size -= half;
     }
     low
 }

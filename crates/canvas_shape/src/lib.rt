@@ -2,10 +2,13 @@
 //! one or row by row.
 #![tactic(auto)]
 
+mod edge_flags;
 mod ellipse;
+mod flag_words;
 mod hex_text;
 mod kinds;
 mod leaves;
+mod line;
 mod parts;
 mod polygon;
 mod spans;
@@ -13,9 +16,10 @@ mod strip;
 mod vertex_list;
 
 use canvas_plane::Point;
+pub use edge_flags::EdgeFlags;
 pub use ellipse::Ends;
 pub use parts::{LeafBox, Vertices};
-pub use polygon::{Cuts, edge_threshold};
+pub use polygon::Cuts;
 use std::marker::Model;
 use thiserror::Error;
 

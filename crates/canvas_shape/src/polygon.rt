@@ -1,6 +1,6 @@
 //! Polygons on whole pixels.
 
-ghost use Rattle.std.specs.Prelude.{List, [], ◌++◌, OnOk, OnErr, All, length, take, false, ◌≡◌, ◌≤◌, ◌<◌, ◌^◌, ◌*◌, ◌+◌, ℕ, ℤ, unsigned_abs, ◌-ℤ◌, ◌*ℤ◌, ◌+ℤ◌, ◌≤ℤ◌, ◌<ℤ◌, pos, int_le, int_lt, true, MatchOption};
+ghost use Rattle.std.specs.Prelude.{List, [], ◌++◌, OnOk, OnErr, All, length, take, false, ◌≡◌, ◌≤◌, ◌<◌, ◌^◌, ◌*◌, ◌+◌, ℕ, ℤ, unsigned_abs, ◌-ℤ◌, ◌*ℤ◌, ◌+ℤ◌, ◌≤ℤ◌, ◌<ℤ◌, pos, int_le, int_lt, true};
 ghost use Rattle.canvas_plane.specs.Motion.{size_of};
 ghost use Rattle.canvas_shape.specs.Edges.{crosses_row, is_right_of, counts, is_odd_along, is_in_polygon};
 ghost use Rattle.canvas_shape.specs.Bounds.{bounds_of, dot_of, grown_to};
@@ -40,37 +40,6 @@ impl Cuts {
         Cuts {
             places: Vec::new(alloc),
         }
-    }
-
-    pub(crate) fn clear(&mut self)
-        ensures { self.new ≡ [] }
-    {
-        self.places.clear();
-    }
-
-    /// Notes where an edge stops to count, if it counts in this row.
-    pub(crate) fn add(&mut self, from: Point, to: Point, row: Row) -> Result<(), AllocError>
-        requires near { (size_of from ≤ 2 ^ 27) × (size_of to ≤ 2 ^ 27) }
-        ensures { OnOk result (AddsCut row.left row.right self.old self.new (λ x. counts from to x row.y)) }
-    {
-        add_cut(from, to, row, &mut self.places)
-    }
-
-    /// Appends the spans between the cuts from `left` up to `right`, which rise, lie apart and are not empty: an odd number
-    /// of cuts lie to the right of each of their pixels. Without memory `out` stays as it was.
-    pub fn append_spans(
-        &mut self,
-        left: i32,
-        right: i32,
-        out: &mut Vec<Span>,
-    ) -> Result<(), AllocError>
-        requires range { left ≤ℤ right }
-        requires inside { AreWithin left right self.old }
-        ensures ok { OnOk result (AppendsSpans out.old.items out.new.items (within left right (λ x. is_odd_above left self.old x))) }
-        ensures err { OnErr result (out.new.items ≡ out.old.items) }
-    {
-        self.places.sort_unstable();
-        append_spans(&self.places, Row { y: 0, left, right }, out)
     }
 }
 
@@ -116,19 +85,6 @@ pub(crate) fn edge_counts(p: Point, q: Point, x: i32, y: i32) -> bool
         is_before(x, threshold(p, q, y))
     } else {
         false
-    }
-}
-
-/// The x up to which an edge from `p` to `q` counts in the row `y`: it crosses the row's centre line to the right of the centre
-/// of each pixel before that x, and of no other. `None` where the edge does not cross the line.
-pub fn edge_threshold(p: Point, q: Point, y: i32) -> Option<i64>
-    requires near { (size_of p ≤ 2 ^ 27) × (size_of q ≤ 2 ^ 27) }
-    ensures { MatchOption result ((x : ℤ) → counts p q x y ≡ false) (λ edge. (x : ℤ) → counts p q x y ≡ int_lt x edge) }
-{
-    if crosses(p, q, y) {
-        Some(threshold(p, q, y))
-    } else {
-        None
     }
 }
 
@@ -281,7 +237,7 @@ fn is_odd_size(size: usize) -> bool
     size % 2 == 1
 }
 
-fn push_piece(
+pub(crate) fn push_piece(
     row: Row,
     inside: bool,
     start: u32,
@@ -344,7 +300,7 @@ fn threshold(p: Point, q: Point, y: i32) -> i64
     }
 }
 
-fn lean(p: Point, q: Point, y: i32) -> i64
+pub(crate) fn lean(p: Point, q: Point, y: i32) -> i64
     requires near { (size_of p ≤ 2 ^ 27) × (size_of q ≤ 2 ^ 27) }
     ensures value { result ≡ (pos 2 *ℤ y +ℤ pos 1 -ℤ pos 2 *ℤ p.y) *ℤ (q.x -ℤ p.x) }
     ensures bound { unsigned_abs result ≤ 2 ^ 61 }
@@ -384,7 +340,7 @@ fn less(a: i64, b: i64) -> i64
     a - b
 }
 
-fn minus(a: i64, b: i64) -> i64
+pub(crate) fn minus(a: i64, b: i64) -> i64
     requires first { unsigned_abs a ≤ 2 ^ 27 }
     requires second { unsigned_abs b ≤ 2 ^ 27 }
     ensures value { result ≡ a -ℤ b }
@@ -402,7 +358,7 @@ fn product(a: i64, b: i64) -> i64
     a * b
 }
 
-fn negated(a: i64) -> i64
+pub(crate) fn negated(a: i64) -> i64
     requires { unsigned_abs a ≤ 2 ^ 61 }
     ensures value { result ≡ neg_ℤ a }
     ensures bound { unsigned_abs result ≤ 2 ^ 61 }
@@ -410,7 +366,7 @@ fn negated(a: i64) -> i64
     -a
 }
 
-fn rise(from: i64, to: i64) -> u64
+pub(crate) fn rise(from: i64, to: i64) -> u64
     requires order { from <ℤ to }
     requires first { unsigned_abs from ≤ 2 ^ 27 }
     requires second { unsigned_abs to ≤ 2 ^ 27 }
@@ -430,7 +386,7 @@ fn first_past(x: i64, lean: i64, rise: u64) -> i64
     plus(x, half_floor(raised(lean, rise), rise))
 }
 
-fn raised(lean: i64, rise: u64) -> i64
+pub(crate) fn raised(lean: i64, rise: u64) -> i64
     requires small { unsigned_abs lean ≤ 2 ^ 61 }
     requires height { (0 < rise) × (rise ≤ 2 ^ 28) }
     ensures value { result ≡ (lean +ℤ pos rise) -ℤ pos 1 }
@@ -439,21 +395,22 @@ fn raised(lean: i64, rise: u64) -> i64
     lean + rise as i64 - 1
 }
 
-fn plus(a: i64, b: i64) -> i64
-    requires first { unsigned_abs a ≤ 2 ^ 27 }
-    requires second { unsigned_abs b ≤ 2 ^ 62 }
-    ensures { result ≡ a +ℤ b }
+pub(crate) fn plus(a: i64, b: i64) -> i64
+    requires first { unsigned_abs a ≤ 2 ^ 29 }
+    requires second { unsigned_abs b ≤ 2 ^ 62 + 2 ^ 48 }
+    ensures value { result ≡ a +ℤ b }
+    ensures bound { unsigned_abs result ≤ unsigned_abs a + unsigned_abs b }
 {
     a + b
 }
 
 // The quotient by twice `b`, rounded down.
-fn half_floor(a: i64, b: u64) -> i64
+pub(crate) fn half_floor(a: i64, b: u64) -> i64
     requires small { unsigned_abs a ≤ 2 ^ 62 }
     requires divisor { (0 < b) × (b ≤ 2 ^ 28) }
     ensures least { ((result *ℤ pos b) +ℤ (result *ℤ pos b)) ≤ℤ a }
     ensures most { a <ℤ (((result *ℤ pos b) +ℤ (result *ℤ pos b)) +ℤ (pos b +ℤ pos b)) }
-    ensures bound { unsigned_abs result ≤ 2 ^ 62 }
+    ensures bound { unsigned_abs result ≤ unsigned_abs a }
 {
     if 0 <= a {
         quotient(a as u64, 2 * b) as i64

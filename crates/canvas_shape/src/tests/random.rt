@@ -3,8 +3,8 @@
 ghost use Rattle.std.specs.Prelude.{◌≡◌, ◌<◌, ◌≤◌, ◌≤ℤ◌, ◌+ℤ◌, ◌^◌, All, length, nat_le, pos, true};
 ghost use Rattle.canvas_plane.specs.Motion.{size_of};
 
-use crate::{Carried, Colour, Cuts, Kind, Points, Span, Vertices};
-use canvas_plane::{Point, Pose};
+use crate::{Carried, Colour, EdgeFlags, Kind, Points, Span};
+use canvas_plane::{PageBox, Point, Pose};
 use std::alloc::{AllocError, Global};
 use std::cmp::Ordering;
 use std::test::Fail;
@@ -200,59 +200,118 @@ fn polygons_agree_with_their_pixels(rt: HostRuntime) -> Result<(), Fail> {
     Ok(())
 }
 
-// The spans of three rows that are cut together, in the columns from 0 to 40.
-fn append_together(
-    vertices: &Vertices<'_>,
-    top: i32,
-    rows: &mut [Cuts],
-    out: &mut Vec<Span>,
-) -> Result<(), AllocError>
-    requires count { length rows.old ≡ 3 }
-    requires bottom { (top +ℤ pos 3) ≤ℤ pos 2147483647 }
-{
-    vertices.cut_rows(top, 0, 40, rows)?;
-    for k in 0..rows.len() {
-        let row = &mut rows[k];
-        row.append_spans(0, 40, out)?;
-    }
-    Ok(())
+// The columns of a window, from `left` on.
+#[derive(Clone, Copy)]
+struct Columns {
+    left: i32,
+    width: u32,
 }
 
-// Whether rows of a polygon that are cut together have the spans that they have one by one.
-fn together_agrees(alloc: Global, dice: &mut Dice, leaf: &Carried<'_>) -> Result<bool, AllocError> {
+// A width that is often that of a word or of all words.
+fn some_width(dice: &mut Dice) -> u32
+    ensures { result ≤ 256 }
+{
+    match dice.below(9) {
+        0 => 1,
+        1 => 63,
+        2 => 64,
+        3 => 65,
+        4 => 255,
+        5 => 256,
+        _ => dice.below(257) as u32,
+    }
+}
+
+// The place as the first of 256 columns, or the nearest one.
+fn first_column(at: i64) -> i32
+    ensures { (result +ℤ pos 256) ≤ℤ pos 2147483647 }
+{
+    at.clamp(-2_147_483_648, 2_147_483_391) as i32
+}
+
+// Some columns near a leaf.
+fn columns_near(dice: &mut Dice, shape: &PageBox) -> Columns
+    ensures wide { result.width ≤ 256 }
+    ensures range { (result.left +ℤ pos result.width) ≤ℤ pos 2147483647 }
+{
+    let left = match dice.below(4) {
+        0 => shape.left.saturating_add(dice.within(300)),
+        1 => shape.right.saturating_add(dice.within(300)),
+        2 => dice.wild(i32::MAX as u32),
+        _ => dice.within(40),
+    };
+    Columns {
+        left: first_column(left),
+        width: some_width(dice),
+    }
+}
+
+// Whether a bit of a row's words stands.
+fn is_set(words: &[u64; 4], i: u32) -> bool {
+    words
+        .get(i as usize / 64)
+        .is_some_and(|word| word >> (i % 64) & 1 == 1)
+}
+
+// Whether a row's held columns and its spans are the pixels that the leaf holds one by one, and nothing else.
+fn row_agrees(
+    alloc: Global,
+    flags: &EdgeFlags,
+    leaf: &Carried<'_>,
+    y: i32,
+    columns: Columns,
+) -> Result<bool, AllocError>
+    requires wide { columns.width ≤ 256 }
+    requires range { (columns.left +ℤ pos columns.width) ≤ℤ pos 2147483647 }
+{
+    let there = Span { from: 7, to: 7 };
+    let mut out = Vec::new(alloc);
+    out.push(there)?;
+    flags.append_spans(columns.left, columns.width, &mut out)?;
+    let held = flags.held();
+    let mut same = out.first() == Some(&there) && are_rising(&out);
+    for i in 0..256u32 {
+        let x = columns.left.saturating_add(i as i32);
+        let is_held = i < columns.width && leaf.holds(x, y);
+        same = same && is_set(&held, i) == is_held;
+        same = same && (i >= columns.width || has(&out, x) == is_held);
+    }
+    Ok(same)
+}
+
+// Whether the flagged rows of a polygon near one of its ends hold its pixels.
+fn flags_agree(alloc: Global, dice: &mut Dice, leaf: &Carried<'_>) -> Result<bool, AllocError> {
     let Carried::Polygon(vertices) = leaf else {
         return Ok(false);
     };
-    let mut rows = [Cuts::new(alloc), Cuts::new(alloc), Cuts::new(alloc)];
+    let end = match dice.below(3) {
+        0 => vertices.bounds.top,
+        1 => vertices.bounds.bottom,
+        _ => dice.wild(1 << 27),
+    };
+    let top = pixel(end.saturating_add(dice.within(9))).min(i32::MAX - 5);
+    let columns = columns_near(dice, &vertices.bounds);
+    let mut rows = [EdgeFlags { words: [5; 4] }; 5];
+    vertices.flag_rows(top, columns.left, columns.width, &mut rows);
     let mut same = true;
-    for end in [vertices.bounds.top, vertices.bounds.bottom] {
-        let top = pixel(end.saturating_add(dice.within(9))).min(1_000_000_000);
-        let mut together = Vec::new(alloc);
-        append_together(vertices, top, &mut rows, &mut together)?;
-        let mut each = Vec::new(alloc);
-        for y in top..top + 3 {
-            leaf.row_spans(alloc, y, 0, 40, &mut each)?;
-        }
-        same = same && together == each;
+    for (k, row) in rows.iter().enumerate() {
+        same = same && row_agrees(alloc, row, leaf, top.saturating_add(k as i32), columns)?;
     }
     Ok(same)
 }
 
 #[test]
-fn rows_together_agree_with_rows_alone(rt: HostRuntime) -> Result<(), Fail> {
+fn flagged_rows_agree_with_their_pixels(rt: HostRuntime) -> Result<(), Fail> {
     let mut dice = Dice { state: 5 };
-    for k in 0..1500u32 {
-        let size = if k % 3 == 0 { 1 << 27 } else { 12 };
+    for k in 0..400u32 {
+        let size = if k % 3 == 0 { 1 << 27 } else { 120 };
         let count = dice.below(12) + 1;
         let mut points = Vec::new(rt.alloc());
         for _ in 0..count {
             points.push(dice.point(size))?;
         }
         let leaf = polygon(&points).ok_or("a vertex is far")?;
-        assert!(rt;
-            together_agrees(rt.alloc(), &mut dice, &leaf)?,
-            "polygon {k}"
-        );
+        assert!(rt; flags_agree(rt.alloc(), &mut dice, &leaf)?, "polygon {k}");
     }
     Ok(())
 }

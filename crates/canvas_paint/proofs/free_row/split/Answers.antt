@@ -1,4 +1,4 @@
-use Rattle.std.proofs.Common.{◌≡◌, ◌++◌, ◌∙◌, ap}
+use Rattle.std.proofs.Common.{◌++◌, ◌∙◌, ap}
 use Rattle.canvas_paint.specs.FreeRows.{piece_of}
 use Rattle.canvas_paint.proofs.Fraying.{rest-more, taken-more}
 use Rattle.canvas_paint.proofs.free_row.split.Goals as goal

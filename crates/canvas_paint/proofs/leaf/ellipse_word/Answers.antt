@@ -1,8 +1,7 @@
-use Rattle.std.proofs.Common.{◌≡◌, rules, pos, ◌+ℤ◌, ◌+◌, ◌<◌, ap, ◌∙◌, sym, refl, FitsSigned, arith}
+use Rattle.std.proofs.Common.{rules, ◌+◌, ◌<◌, refl, FitsSigned, arith}
 use Rattle.std.specs.Int.{w32, w64}
 use Rattle.std.proofs.lemmas.Int.{to_z-of_z}
 use Rattle.canvas_shape.specs.Leaves.{sides_of}
-use Rattle.canvas_paint.specs.Blocks.{column_at}
 use Rattle.canvas_paint.proofs.Cutting.{ellipse-some}
 use Rattle.canvas_paint.proofs.leaf.ellipse_word.Goals as goal
 

@@ -1,5 +1,6 @@
 use Rattle.std.proofs.Common.{◌≡◌, ℕ, ◌<◌, ◌≤◌, ◌-◌, ◌+◌, List, length, cond, get_or, ◌&&◌}
-use Rattle.canvas_paint.specs.Words.{is_within, has}
+use Rattle.canvas_shape.specs.Words.{has}
+use Rattle.canvas_paint.specs.Words.{is_within}
 use Rattle.canvas_paint.proofs.row.fill_word.Given as goal
 
 abbrev pub invariant-loop-run : goal.invariant-loop-run

@@ -1,9 +1,9 @@
-use Rattle.std.proofs.Common.{◌≡◌, ◌++◌, ◌-◌, arith, ap, ◌∙◌}
+use Rattle.std.proofs.Common.{◌++◌, ◌-◌, arith, ap, ◌∙◌}
 use Rattle.canvas_doc.specs.Picture.{or_white}
 use Rattle.canvas_scene.specs.Items.{last_colour}
 use Rattle.canvas_scene.specs.Pictures.{bytes_at, raster_of}
 use Rattle.canvas_scene.proofs.Raster.{raster-agree}
-use Rattle.canvas_paint.specs.Blocks.{last_block_fill, shown}
+use Rattle.canvas_paint.specs.Blocks.{shown}
 use Rattle.canvas_paint.proofs.strip.append_strip.Goals as goal
 
 pub returns-in-Ok-clause-ok : goal.returns-in-Ok-clause-ok

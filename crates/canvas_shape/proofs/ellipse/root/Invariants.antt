@@ -1,8 +1,8 @@
-use Rattle.std.proofs.Common.{◌-◌, ◌≤◌, ◌<◌, ◌*◌, ◌+◌}
+use Rattle.std.proofs.Common.{◌≤◌, ◌<◌, ◌*◌, ◌+◌}
 use Rattle.canvas_shape.proofs.ellipse.root.Given as goal
 
-abbrev pub invariant-loop-low : goal.invariant-loop-low
-invariant-loop-low l = record { ordered : l.low < l.high; bound : l.high ≤ l.most + 1; square : l.low * l.low ≤ l.n; next : l.n < l.high * l.high }
+abbrev pub invariant-loop-size : goal.invariant-loop-size
+invariant-loop-size l = record { some : 0 < l.size; bound : l.low + l.size ≤ l.most + 1; square : l.low * l.low ≤ l.n; next : l.n < (l.low + l.size) * (l.low + l.size) }
 
-abbrev pub decreases-loop-low : goal.decreases-loop-low
-decreases-loop-low l = l.high - l.low
+abbrev pub decreases-loop-size : goal.decreases-loop-size
+decreases-loop-size l = l.size

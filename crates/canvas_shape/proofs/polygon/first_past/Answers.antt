@@ -17,4 +17,4 @@ returns c = λ z.
     let r : FitsSigned w64 c.raised.result = search rules in
     let h : FitsSigned w64 c.half_floor.result = search rules in
     let p : FitsSigned w64 c.plus.result = search rules in
-    simp to_z-of_z (joined c.args.x c.args.lean c.half_floor.result c.raised.result c.plus.result c.args.rise (simp to_z-of_z at c.plus.ensures) (simp to_z-of_z at c.raised.ensures.value) (simp to_z-of_z at c.half_floor.ensures.least) (simp to_z-of_z at c.half_floor.ensures.most) z)
+    simp to_z-of_z (joined c.args.x c.args.lean c.half_floor.result c.raised.result c.plus.result c.args.rise (simp to_z-of_z at c.plus.ensures.value) (simp to_z-of_z at c.raised.ensures.value) (simp to_z-of_z at c.half_floor.ensures.least) (simp to_z-of_z at c.half_floor.ensures.most) z)

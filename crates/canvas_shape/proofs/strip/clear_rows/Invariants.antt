@@ -1,5 +1,7 @@
-use Rattle.std.proofs.Common.{◌≡◌, ℕ, ◌<◌, [], get_or}
+use Rattle.std.proofs.Common.{◌≡◌, ℕ, ◌<◌, get_or, false}
+use Rattle.canvas_shape.specs.declared.edge_flags.EdgeFlags.{EdgeFlags}
+use Rattle.canvas_shape.specs.Flags.{is_held}
 use Rattle.canvas_shape.proofs.strip.clear_rows.Given as goal
 
 abbrev pub invariant-loop-k : goal.invariant-loop-k
-invariant-loop-k l = (j : ℕ) → j < l.k → get_or l.rows j [] ≡ []
+invariant-loop-k l = (j i : ℕ) (d : EdgeFlags) → j < l.k → is_held (get_or l.rows j d).words i ≡ false

@@ -1,4 +1,4 @@
-use Rattle.std.proofs.Common.{◌≡◌, ◌∙◌, ap, sym, subst, List, [], ℤ, length, true, false, eqb-true, eq-eqb}
+use Rattle.std.proofs.Common.{◌≡◌, ◌∙◌, ap, sym, subst, List, length, eqb-true, eq-eqb}
 use Rattle.canvas_shape.specs.declared.Span.{Span}
 use Rattle.canvas_shape.specs.Spans.{AreRising, covers}
 use Rattle.canvas_paint.proofs.Fraying.{nil-of, none-free}

@@ -1,6 +1,6 @@
-use Rattle.std.proofs.Common.{◌≡◌, ◌++◌, ◌∙◌, ap, sym, subst, List, ℤ, Bool, ◌&&◌, not}
+use Rattle.std.proofs.Common.{◌≡◌, ◌++◌, ◌∙◌, ap, sym, subst, List, ◌&&◌, not}
 use Rattle.canvas_shape.specs.declared.Span.{Span}
-use Rattle.canvas_shape.specs.Spans.{AreRising, IsSpans, covers, is_from_to}
+use Rattle.canvas_shape.specs.Spans.{AreRising, covers, is_from_to}
 use Rattle.canvas_shape.proofs.Held.{appends-spans}
 use Rattle.canvas_paint.specs.FreeRows.{rest_of, taken_of}
 use Rattle.canvas_paint.proofs.Fraying.{covers-rest, covers-taken, rest-rising, taken-rising}

@@ -1,5 +1,0 @@
-use Rattle.canvas_paint.proofs.Bits.{has-xor}
-use Rattle.canvas_paint.proofs.word.toggled.Goals as goal
-
-pub returns : goal.returns
-returns c = λ i h. has-xor c.args.a c.args.b i
