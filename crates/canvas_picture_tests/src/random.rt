@@ -12,10 +12,10 @@ use std::test::Fail;
 
 // Numbers that look random.
 #[derive(Drop)]
-struct Dice(u64);
+pub(crate) struct Dice(pub(crate) u64);
 
 impl Dice {
-    fn below(&mut self, n: u32) -> u32 {
+    pub(crate) fn below(&mut self, n: u32) -> u32 {
         self.0 = self
             .0
             .wrapping_mul(6_364_136_223_846_793_005)
@@ -24,13 +24,17 @@ impl Dice {
         if n == 0 { 0 } else { high % n }
     }
 
-    fn within(&mut self, low: i64, size: u32) -> i64 {
+    pub(crate) fn within(&mut self, low: i64, size: u32) -> i64 {
         low.wrapping_add(i64::from(self.below(size)))
     }
 }
 
 // A polygon that mostly crosses itself.
-fn random_polygon(alloc: Global, dice: &mut Dice, fill: Colour) -> Result<Kind, AllocError> {
+pub(crate) fn random_polygon(
+    alloc: Global,
+    dice: &mut Dice,
+    fill: Colour,
+) -> Result<Kind, AllocError> {
     let mut points = Points::new(alloc);
     for _ in 0..dice.below(9).saturating_add(3) {
         let x = dice.within(-12, 40);
@@ -85,7 +89,11 @@ fn random_edit(alloc: Global, dice: &mut Dice, last: u32) -> Result<Edit, AllocE
 }
 
 // The document after an edit, or as it was where the edit is refused.
-fn after(alloc: Global, document: Document, edit: &Edit) -> Result<Document, AllocError> {
+pub(crate) fn after(
+    alloc: Global,
+    document: Document,
+    edit: &Edit,
+) -> Result<Document, AllocError> {
     match document.decide(alloc, edit) {
         Ok(change) => document.with(alloc, &change),
         Err(_) => Ok(document),
@@ -148,7 +156,7 @@ fn random_window(dice: &mut Dice, x: i32, y: i32) -> Option<Window> {
 }
 
 // Whether a picture has the document's colour at each pixel of a window.
-fn agrees(document: &Document, window: &Window, bytes: &[u8]) -> bool {
+pub(crate) fn agrees(document: &Document, window: &Window, bytes: &[u8]) -> bool {
     let mut at = 0usize;
     for j in 0..window.h() {
         let y = window.y().wrapping_add(j as i32);

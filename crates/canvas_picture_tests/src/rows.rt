@@ -1,4 +1,5 @@
-//! Which items make a display list: what lies wholly behind one rectangle is left out.
+//! Which items make a display list: what lies wholly behind one rectangle is left out. The window
+//! has no more than one cell here.
 
 use bumpalo::Bump;
 use canvas_doc::{Document, Edit, Parent, Spot};
@@ -88,7 +89,7 @@ fn clipped_rectangle_hides_what_its_clip_leaves(rt: HostRuntime) -> Result<(), F
 }
 
 #[test]
-fn two_halves_hide_nothing_that_lies_behind_both(rt: HostRuntime) -> Result<(), Fail> {
+fn two_halves_of_a_cell_hide_nothing_that_lies_behind_both(rt: HostRuntime) -> Result<(), Fail> {
     let alloc = rt.alloc();
     let page = Parent::Page;
     let document = Document::empty(alloc);

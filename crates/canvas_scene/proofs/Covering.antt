@@ -1,5 +1,5 @@
 -- What is hidden behind the items in front of it.
-use Rattle.std.proofs.Common.{◌≡◌, List, [], ◌∷◌, ◌++◌, Bool, true, false, ◌&&◌, cond, Option, Some, None, ℤ, refl, sym, ap, ◌∙◌, reverse, All, subst}
+use Rattle.std.proofs.Common.{◌≡◌, List, [], ◌∷◌, ◌++◌, Bool, true, false, ◌&&◌, ◌||◌, cond, Option, Some, None, ℤ, refl, sym, ap, ◌∙◌, reverse, All, subst}
 use Rattle.std.proofs.lemmas.List.{reverse-append}
 use Rattle.std.proofs.lemmas.List.Elements.{All-push, All-weaker}
 use Rattle.canvas_plane.specs.declared.PageBox.{PageBox}
@@ -11,8 +11,10 @@ use Rattle.canvas_shape.specs.declared.parts.LeafBox.{LeafBox}
 use Rattle.canvas_shape.specs.Leaves.{carried_holds, page_box_of}
 use Rattle.canvas_doc.specs.declared.records.Record.{Record}
 use Rattle.canvas_doc.specs.Picture.{first_answer, or_else}
+use Rattle.canvas_scene.specs.declared.cells.Cells.{Cells}
 use Rattle.canvas_scene.specs.declared.item.Item.{Item}
-use Rattle.canvas_scene.specs.Covers.{first_fill, is_filled, IsHidden}
+use Rattle.canvas_scene.specs.Cells.{is_covered}
+use Rattle.canvas_scene.specs.Covers.{AreCellsHidden, first_fill, is_filled, IsHidden}
 use Rattle.canvas_scene.specs.Items.{fill_at, item_holds, last_fill}
 use Rattle.canvas_scene.specs.Nodes.{seen}
 use Rattle.canvas_scene.proofs.Seen.{frame-cases, last_fill-append, or_else-assoc, or_else-none, seen-or_else, swap-seen}
@@ -111,6 +113,24 @@ one-more-hidden covers after items news i part e f held h =
     let P : List Item → Type 0 = λ l. IsHidden l part in
     let Q : List PageBox → Type 0 = λ l. All (IsHidden news) l in
     subst Q (sym f) (All-push (IsHidden news) covers part (still-hidden covers items news i e h) (subst P (sym e) (hidden-by items i part held)))
+
+-- the same of cells that were hidden
+pub cells-still-hidden : (cells : Cells) (items news : List Item) (i : Item) → news ≡ items ++ i ∷ [] → AreCellsHidden items cells → AreCellsHidden news cells
+cells-still-hidden cells items news i e h = λ x y m.
+    ap (λ l. is_filled (first_fill l x y)) e
+    ∙ ap is_filled (first_fill-append items (i ∷ []) x y) ∙ filled-more (first_fill items x y) (first_fill (i ∷ []) x y) (h x y m)
+
+either-filled : (cell box filled : Bool) → (cell || box) ≡ true → (cell ≡ true → filled ≡ true) → (box ≡ true → filled ≡ true) → filled ≡ true
+either-filled true box filled h f g = f refl
+either-filled false box filled h f g = g h
+
+-- and of those that lie in the box of which it holds all
+pub more-cells-hidden : (cells after : Cells) (items news : List Item) (i : Item) (part : PageBox) → news ≡ items ++ i ∷ [] → ((x y : ℤ) → is_covered after x y ≡ true → (is_covered cells x y || is_in part x y) ≡ true) → ((x y : ℤ) → is_in part x y ≡ true → item_holds i x y ≡ true) → AreCellsHidden items cells → AreCellsHidden news after
+more-cells-hidden cells after items news i part e marks held h = λ x y m.
+    let P : List Item → Type 0 = λ l. IsHidden l part in
+    either-filled (is_covered cells x y) (is_in part x y) (is_filled (first_fill news x y)) (marks x y m)
+    (cells-still-hidden cells items news i e h x y)
+    (subst P (sym e) (hidden-by items i part held) x y)
 
 -- a rectangle holds all that its box and its clip have in common
 pub rectangle-holds : (leaf : Carried) (sides : LeafBox) (box clip common : PageBox) (fill : Colour) → leaf ≡ Rect sides → box ≡ page_box_of leaf → ((x y : ℤ) → is_in common x y ≡ (is_in box x y && is_in clip x y)) → (x y : ℤ) → is_in common x y ≡ true → item_holds (record { leaf = leaf; clip = clip; fill = fill }) x y ≡ true

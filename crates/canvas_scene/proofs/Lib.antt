@@ -1,6 +1,10 @@
+pub mod Bits
+pub mod Bounded
 pub mod Children
 pub mod Clipping
 pub mod Covering
+pub mod Marking
 pub mod Raster
 pub mod Seen
+pub mod Sides
 pub mod Within

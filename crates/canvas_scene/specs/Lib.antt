@@ -1,3 +1,4 @@
+pub mod Cells
 pub mod Clips
 pub mod Covers
 pub mod Items

@@ -1,6 +1,8 @@
 //! What a window shows: a tree of leaves in the caller's arena, and its display list.
 #![tactic(auto)]
 
+mod bounds;
+mod cells;
 mod item;
 mod nodes;
 mod scenes;

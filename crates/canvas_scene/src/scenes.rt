@@ -26,9 +26,11 @@ pub struct Scene<'a> {
 }
 
 impl<'a> Scene<'a> {
-    /// The scene of a document in a window. What is hidden, what has no common pixel with its clip
-    /// and the window, and what of the window lies wholly within what one rectangle in front of it
-    /// shows there makes no item. Want of memory is the only refusal.
+    /// The scene of a document in a window. These make no item: what is hidden, what has no common
+    /// pixel with its clip and the window, what of the window lies wholly within what one
+    /// rectangle in front of it shows there, and what touches only cells of the window that each
+    /// lie wholly within what one such rectangle shows. Cells are squares of 8 by 8 pixels from
+    /// the window's left top corner on, cut by it. Want of memory is the only refusal.
     pub fn build(
         bump: &'a Bump,
         document: &Document,
@@ -38,7 +40,7 @@ impl<'a> Scene<'a> {
         ensures clips { IfOk result (λ scene. All (IsClipped (box_of_window window.now)) (root_of scene)) }
         ensures order { IfOk result (λ scene. display_list_of scene ≡ items_along (root_of scene)) }
     {
-        let mut shown = Shown::new(bump);
+        let mut shown = Shown::new(bump, window);
         let root = nodes_of_page(bump, document, &window.page_box(), &mut shown)?;
         Ok(Scene {
             root,

@@ -5,23 +5,26 @@ ghost use Rattle.canvas_plane.specs.Page.{is_in, IsWithin};
 ghost use Rattle.canvas_shape.specs.Leaves.{carried_holds};
 ghost use Rattle.canvas_doc.specs.Picture.{or_else};
 ghost use Rattle.canvas_scene.specs.declared.item.Item.{Item};
-ghost use Rattle.canvas_scene.specs.Covers.{first_fill, IsHidden};
+ghost use Rattle.canvas_scene.specs.Covers.{first_fill, AreCellsHidden, IsHidden};
 ghost use Rattle.canvas_scene.specs.Nodes.{back_item, seen};
 
 use crate::Item;
+use crate::cells::Cells;
 use bumpalo::Bump;
 use bumpalo::collections::into_bump_slice;
-use canvas_plane::PageBox;
+use canvas_plane::{PageBox, Window};
 use canvas_shape::{Carried, Colour};
 use std::alloc::AllocError;
 use std::marker::Model;
 
 /// The items that a walk has come to, seen as their list from front to back. It keeps what each
-/// rectangle leaves to be seen, so that what lies wholly behind one makes no item.
+/// rectangle shows, and marks the window's cells that lie in one, so that what lies wholly behind
+/// one rectangle or wholly in marked cells makes no item.
 #[derive(Drop)]
 pub(crate) struct Shown<'a> {
     items: Vec<Item<'a>, &'a Bump>,
     covers: Vec<PageBox, &'a Bump>,
+    cells: Cells,
 }
 
 impl<'a> Model for Shown<'a> {
@@ -29,25 +32,27 @@ impl<'a> Model for Shown<'a> {
 
     ghost view = { λ shown. shown.items.items };
 
-    ghost invariant = { λ shown. All (IsHidden shown.items.items) shown.covers.items };
+    ghost invariant = { λ shown. All (IsHidden shown.items.items) shown.covers.items × AreCellsHidden shown.items.items shown.cells };
 }
 
 impl<'a> Shown<'a> {
-    /// Nothing yet.
-    pub(crate) fn new(bump: &'a Bump) -> Shown<'a>
+    /// Nothing yet of a window.
+    pub(crate) fn new(bump: &'a Bump, window: &Window) -> Shown<'a>
         ensures { result ≡ [] }
     {
         Shown {
             items: Vec::new(bump),
             covers: Vec::new(bump),
+            cells: Cells::new(window),
         }
     }
 
-    /// Whether nothing behind may be seen in a box, for it is empty or lies within one rectangle.
+    /// Whether nothing behind may be seen in a box, for it is empty, lies in marked cells or lies
+    /// within one rectangle.
     pub(crate) fn hides(&self, part: &PageBox) -> bool
         ensures { IsTrue result → IsHidden self.now part.now }
     {
-        part.is_empty() || lies_within_one(part, &self.covers)
+        part.is_empty() || self.cells.covers(part) || lies_within_one(part, &self.covers)
     }
 
     /// Adds a leaf behind all others, if anything of it may be seen, and gives its item.
@@ -72,6 +77,7 @@ impl<'a> Shown<'a> {
         };
         self.items.push(item)?;
         if let Carried::Rect(_) = leaf {
+            self.cells.mark(&part);
             self.covers.push(part)?;
         }
         Ok(Some(item))
@@ -100,7 +106,7 @@ fn lies_within_one(part: &PageBox, covers: &[PageBox]) -> bool
 }
 
 // Whether the edges of a box lie within those of another.
-fn lies_within(inner: &PageBox, outer: &PageBox) -> bool
+pub(crate) fn lies_within(inner: &PageBox, outer: &PageBox) -> bool
     ensures { IsTrue result → IsWithin inner.now outer.now }
 {
     let is_across = is_part(inner.left, inner.right, outer.left, outer.right);

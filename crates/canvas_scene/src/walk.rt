@@ -4,6 +4,7 @@
 ghost use Rattle.std.specs.Prelude.{◌≡◌, ◌≤◌, ◌+◌, ◌*◌, ◌^◌, ◌++◌, ◌<◌, [], ◌∷◌, ℤ, All, IfOk, IfSome, OnOk, reverse, length, map, Some, true, false};
 ghost use Rattle.canvas_plane.specs.Motion.{carry, reach_of, size_of};
 ghost use Rattle.canvas_plane.specs.Page.{is_in};
+ghost use Rattle.canvas_shape.specs.Edges.{is_in_polygon};
 ghost use Rattle.canvas_shape.specs.Inside.{holds_of, AreVertices};
 ghost use Rattle.canvas_shape.specs.Leaves.{carried_holds};
 ghost use Rattle.canvas_doc.specs.Tree.{IsInLimits};
@@ -12,6 +13,7 @@ ghost use Rattle.canvas_scene.specs.Clips.{IsClipped};
 ghost use Rattle.canvas_scene.specs.Covers.{first_fill};
 ghost use Rattle.canvas_scene.specs.Nodes.{back_item, items_along, node_items, seen};
 
+use crate::bounds::carried_bounds;
 use crate::nodes::{branch, keep, leaf};
 use crate::shown::Shown;
 use crate::{Item, Node};
@@ -126,8 +128,7 @@ fn node_of<'a>(
             leaf_of(Carried::ellipse(&page, *w, *h), clip, *fill, shown)
         }
         Kind::Polygon { points, fill } => {
-            let vertices = carried(bump, &page, points.as_slice())?;
-            leaf_of(Carried::polygon(vertices), clip, *fill, shown)
+            polygon_of(bump, &page, points.as_slice(), clip, *fill, shown)
         }
     }
 }
@@ -164,6 +165,30 @@ fn leaf_of<'a>(
         Some(item) => Ok(Some(leaf(item))),
         None => Ok(None),
     }
+}
+
+// The node of a polygon, if anything of it may be seen. Only then its vertices go into the arena.
+fn polygon_of<'a>(
+    bump: &'a Bump,
+    page: &Pose,
+    points: &[Point],
+    clip: &PageBox,
+    fill: Colour,
+    shown: &mut Shown<'a>,
+) -> Result<Option<Node<'a>>, AllocError>
+    requires vertices { AreVertices points.now }
+    requires quarter { page.now.quarter ≤ 3 }
+    requires reach { reach_of page.now ≤ 2 ^ 26 }
+    ensures fills { IfOk result (λ node. (x y : ℤ) → first_fill shown.new x y ≡ or_else (first_fill shown.old x y) (seen (is_in clip.now x y) (seen (is_in_polygon (map (carry page.now) points.now) x y) (Some fill)))) }
+    ensures items { IfOk result (λ node. shown.new ≡ shown.old ++ reverse (node_items node)) }
+    ensures clips { IfOk result (λ node. IfSome node (IsClipped clip.now)) }
+{
+    let part = carried_bounds(page, points).meet(clip);
+    if shown.hides(&part) {
+        return Ok(None);
+    }
+    let vertices = carried(bump, page, points)?;
+    leaf_of(Carried::polygon(vertices), clip, fill, shown)
 }
 
 // Vertices as a pose carries them to the page, in the arena.

@@ -3,7 +3,6 @@ use Rattle.canvas_plane.specs.Motion.{carry}
 use Rattle.canvas_plane.specs.Page.{is_in}
 use Rattle.canvas_shape.specs.Edges.{is_in_polygon}
 use Rattle.canvas_shape.specs.Inside.{holds_of}
-use Rattle.canvas_shape.specs.Leaves.{carried_holds}
 use Rattle.canvas_shape.specs.declared.Kind.TheVariants.{Group, Frame, Polygon}
 use Rattle.canvas_doc.specs.declared.records.Parent.TheVariants.{Shape}
 use Rattle.canvas_doc.specs.declared.records.Record.{Record}
@@ -109,12 +108,14 @@ pub node_of-returns-in_ok-back-in-Frame-clause-clips : goal.node_of-returns-in_o
 node_of-returns-in_ok-back-in-Frame-clause-clips t c =
     branch-clipped c.args.clip.now c.meet-inner.result c.in_ok-back-in-Frame.back c.in_ok-nodes-in-Frame.nodes.now c.branch-inner.result c.branch-inner.ensures.pixels (meet-within c.args.clip.now c.page_box.result c.meet-inner.result c.meet-inner.ensures.exact) c.in_ok-back-in-Frame.ensures.clip c.in_ok-nodes-in-Frame.ensures.clips
 
-pub node_of-returns-in_ok-vertices-in-Polygon-clause-fills : goal.node_of-returns-in_ok-vertices-in-Polygon-clause-fills
-node_of-returns-in_ok-vertices-in-Polygon-clause-fills t c =
-    ok-more c.leaf_of-in-Polygon.result _ _ (λ node h x y.
-    let inner = answer_among c.args.levels c.args.document.now.records (Shape c.args.shape.now.id) (carry c.then-page.result) x y in
+pub node_of-returns-in-Polygon-clause-fills : goal.node_of-returns-in-Polygon-clause-fills
+node_of-returns-in-Polygon-clause-fills t c =
+    ok-more c.polygon_of.result _ _ (λ node h x y.
+    let page = c.then-page.result in
+    let held = is_in_polygon (map (carry page) c.as_slice.result.now) x y in
+    let inner = answer_among c.args.levels c.args.document.now.records (Shape c.args.shape.now.id) (carry page) x y in
     h x y
     ∙ ap (λ o. or_else (first_fill c.args.shown.now x y) (seen (is_in c.args.clip.now x y) o))
-    (answer-by c.args.levels c.args.document.now.records (carry c.args.out.now) x y c.args.shape.now c.then-page.result (Polygon c.in-Polygon.points c.in-Polygon.fill) (carried_holds c.polygon.result x y) inner c.then-page.ensures.carries c.if-shape.false c.in-Polygon.is
-    (c.polygon.ensures.pixels x y ∙ ap (λ l. is_in_polygon l x y) c.in_ok-vertices-in-Polygon.ensures.value ∙ ap (λ l. is_in_polygon (map (carry c.then-page.result) l) x y) c.as_slice.ensures ∙ ap (λ k. holds_of k (carry c.then-page.result) x y) (sym c.in-Polygon.is)) refl))
-    c.leaf_of-in-Polygon.ensures.fills
+    (answer-by c.args.levels c.args.document.now.records (carry c.args.out.now) x y c.args.shape.now page (Polygon c.in-Polygon.points c.in-Polygon.fill) held inner c.then-page.ensures.carries c.if-shape.false c.in-Polygon.is
+    (ap (λ l. is_in_polygon (map (carry page) l) x y) c.as_slice.ensures ∙ ap (λ k. holds_of k (carry page) x y) (sym c.in-Polygon.is)) refl))
+    c.polygon_of.ensures.fills
