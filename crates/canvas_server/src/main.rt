@@ -3,6 +3,12 @@
 //! `canvas script [workers]` serves standard input to standard output, beginning with an empty document.
 #![tactic(auto)]
 
+ghost use Rattle.std.specs.Prelude.{◌≡◌};
+ghost use Rattle.canvas_board.specs.Fault.{board_fault_code};
+ghost use Rattle.canvas_session.specs.Cause.{cause_code};
+ghost use Rattle.canvas_server.specs.declared.Fault.TheVariants.{Refused};
+ghost use Rattle.canvas_server.specs.Statuses.{status_at};
+
 mod words;
 
 use canvas_board::{Alone, BoardFault};
@@ -32,24 +38,32 @@ enum Fault {
 }
 
 impl From<BoardFault> for Fault {
-    fn from(fault: BoardFault) -> Fault {
-        Fault::Refused(fault.code())
+    ghost from_gives = { λ error fault. fault ≡ Refused (board_fault_code error) };
+
+    fn from(refusal: BoardFault) -> Fault {
+        Fault::Refused(refusal.code())
     }
 }
 
 impl From<SessionFault> for Fault {
+    ghost from_gives = { λ error fault. fault ≡ Refused (cause_code error.cause) };
+
     fn from(fault: SessionFault) -> Fault {
         Fault::Refused(fault.code())
     }
 }
 
 impl From<AllocError> for Fault {
+    ghost from_gives = { λ _ fault. fault ≡ Refused 1 };
+
     fn from(_error: AllocError) -> Fault {
         Fault::Refused(1)
     }
 }
 
 impl<T: Drop> From<AllocFailed<T>> for Fault {
+    ghost from_gives = { λ _ fault. fault ≡ Refused 1 };
+
     fn from(_error: AllocFailed<T>) -> Fault {
         Fault::Refused(1)
     }
@@ -121,7 +135,10 @@ fn report(rt: &HostRuntime, fault: &Fault) -> io::Result<()> {
     }
 }
 
-fn status(fault: &Fault) -> u8 {
+/// The status with which the program ends at a fault.
+fn status(fault: &Fault) -> u8
+    ensures { result ≡ status_at fault.now }
+{
     match fault {
         Fault::Usage => 2,
         Fault::Refused(code) => exit_status(Some(*code)),

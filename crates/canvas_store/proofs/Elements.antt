@@ -1,10 +1,7 @@
 -- Elements of a saved document, one by one.
-use Rattle.std.proofs.Common.{◌≡◌, ℕ, ◌+◌, ◌<◌, ◌≤◌, List, [], ◌∷◌, ◌++◌, length, drop, get_or, drop-cons, add-one, append_assoc, Option, Some, None, Result, Ok, Err, Bool, true, false, refl, sym, ap, ◌∙◌, arith, if◌then◌else◌}
-use Rattle.std.specs.Prelude.{codes, nat_le}
+use Rattle.std.proofs.Common.{◌≡◌, ℕ, ◌+◌, ◌<◌, ◌≤◌, List, [], ◌∷◌, ◌++◌, length, drop, get_or, drop-cons, add-one, append_assoc, Some, None, Result, Ok, Err, Bool, true, false, refl, sym, ap, arith, if◌then◌else◌}
+use Rattle.std.specs.Prelude.{nat_le}
 use Rattle.std.proofs.lemmas.Bool.Decides.{nat_tests}
-use Rattle.serde_json.specs.Data.{Data, Items, no_items, item}
-use Rattle.serde_json.specs.Events.{items_len}
-use Rattle.serde_json.specs.Find.{as_array}
 use Rattle.serde_json.specs.View.{view, items_view}
 use Rattle.serde_json.specs.declared.value.Value.{Value}
 use Rattle.serde_json.proofs.Views.{items_len-items_view}
@@ -12,9 +9,8 @@ use Rattle.canvas_doc.specs.declared.records.Record.{Record}
 use Rattle.canvas_store.specs.declared.fault.StoreFault.{StoreFault}
 use Rattle.canvas_store.specs.declared.fault.StoreFault.TheVariants.{BadRecord}
 use Rattle.canvas_store.specs.Faults.{◌>>=◌}
-use Rattle.canvas_store.specs.Json.{required}
 use Rattle.canvas_store.specs.Records.{element_of}
-use Rattle.canvas_store.specs.Opened.{if_few, shapes_of, records_from}
+use Rattle.canvas_store.specs.Opened.{if_few, records_from}
 
 -- the records before, then those that were read
 abbrev pub after : List Record → Result (List Record) StoreFault → Result (List Record) StoreFault

@@ -1,5 +1,5 @@
 -- A document's JSON value opens as that document.
-use Rattle.std.proofs.Common.{◌≡◌, ℕ, suc, ◌+◌, ◌^◌, ◌<◌, ◌≤◌, Bool, true, List, [], ◌∷◌, map, length, Some, Ok, refl, sym, ap, ◌∙◌, arith, All, Bor, get_or, take, subst}
+use Rattle.std.proofs.Common.{◌≡◌, ℕ, suc, ◌+◌, ◌^◌, ◌<◌, ◌≤◌, true, List, [], ◌∷◌, map, length, Some, Ok, refl, sym, ap, arith, All, Bor, get_or, take, subst}
 use Rattle.std.specs.Prelude.{nat_lt, nat_le, ◌&&◌, Result, Err, IfOk, IsUtf8}
 use Rattle.serde_json.specs.Read.{read}
 use Rattle.std.specs.List.{AllByRecursion}
@@ -14,7 +14,7 @@ use Rattle.canvas_shape.specs.Limits.{has_sides, has_vertices}
 use Rattle.canvas_shape.proofs.Limits.{sound-sides, sound-vertices}
 use Rattle.canvas_doc.specs.declared.records.Record.{Record}
 use Rattle.canvas_doc.specs.Contents.{Contents, IsWellFormed}
-use Rattle.canvas_doc.specs.Restored.{is_record, restoration_of}
+use Rattle.canvas_doc.specs.Restored.{is_record}
 use Rattle.canvas_doc.specs.Tree.{IsInLimits}
 use Rattle.canvas_doc.proofs.Saved.{restoration_of-same}
 use Rattle.canvas_store.specs.Json.{has_others}

@@ -1,5 +1,5 @@
 -- A document's JSON value has no floats and nests few levels deep, so its text is known and reads back.
-use Rattle.std.proofs.Common.{◌≡◌, ℕ, ◌≤◌, ℤ, pos, negsuc, false, List, [], ◌∷◌, map, Option, Some, None, refl, arith}
+use Rattle.std.proofs.Common.{◌≡◌, ◌≤◌, ℤ, pos, negsuc, false, List, [], ◌∷◌, map, Option, Some, None, refl, arith}
 use Rattle.serde_json.specs.Data.{Data, depth, items_depth}
 use Rattle.serde_json.specs.Find.{of_integer, is_float}
 use Rattle.serde_json.specs.View.{items_of}
@@ -12,7 +12,7 @@ use Rattle.canvas_doc.specs.declared.records.Parent.{Parent}
 use Rattle.canvas_doc.specs.declared.records.Parent.TheVariants.{Page, Shape}
 use Rattle.canvas_doc.specs.declared.records.Record.{Record}
 use Rattle.canvas_doc.specs.Contents.{Contents}
-use Rattle.canvas_store.specs.Saved.{fill_data, point_data, shape_data, parent_data, pose_data, record_data, data_of}
+use Rattle.canvas_store.specs.Saved.{fill_data, point_data, shape_data, parent_data, record_data, data_of}
 
 integer-whole : (z : ℤ) → is_float (of_integer z) ≡ false
 integer-whole (pos n) = refl

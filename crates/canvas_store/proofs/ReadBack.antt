@@ -1,6 +1,6 @@
 -- What is written of a record is read back as that record.
-use Rattle.std.proofs.Common.{◌≡◌, ℕ, ◌+◌, ◌^◌, ◌<◌, ◌≤◌, ℤ, pos, negsuc, Bool, true, false, List, [], ◌∷◌, map, Option, Some, None, refl, sym, ap, ◌∙◌, arith}
-use Rattle.std.specs.Prelude.{nat_lt, int_lt, unsigned_abs, codes, option_map}
+use Rattle.std.proofs.Common.{◌≡◌, ℕ, ◌^◌, ◌<◌, ◌≤◌, ℤ, pos, negsuc, true, false, List, [], ◌∷◌, map, Option, Some, None, refl, arith}
+use Rattle.std.specs.Prelude.{nat_lt, unsigned_abs}
 use Rattle.std.specs.List.{AllByRecursion}
 use Rattle.std.proofs.lemmas.Bool.{lt-ltb}
 use Rattle.std.proofs.lemmas.List.Elements.{recursion_from_All}
@@ -18,7 +18,6 @@ use Rattle.canvas_shape.specs.declared.Kind.TheVariants.{Group, Frame, Rect, Ell
 use Rattle.canvas_shape.specs.Box.{AreSides}
 use Rattle.canvas_shape.specs.Inside.{IsSound, AreVertices}
 use Rattle.canvas_shape.specs.Names.{colour_named, colour_text}
-use Rattle.canvas_doc.specs.declared.records.Parent.{Parent}
 use Rattle.canvas_doc.specs.declared.records.Parent.TheVariants.{Page, Shape}
 use Rattle.canvas_doc.specs.declared.records.Record.{Record}
 use Rattle.canvas_store.specs.Json.{i32_of, u32_of, u8_of, has_others}

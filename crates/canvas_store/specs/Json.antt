@@ -1,5 +1,5 @@
 -- What a text is as JSON, by serde_json's definition, and how an object's members are read.
-use Rattle.std.specs.Prelude.{ℕ, ◌^◌, ◌||◌, nat_lt, int_lt, ℤ, pos, negsuc, Bool, false, not, List, [], ◌∷◌, Option, Some, None, option_and_then, if◌then◌else◌}
+use Rattle.std.specs.Prelude.{ℕ, ◌^◌, ◌||◌, nat_lt, int_lt, ℤ, pos, negsuc, Bool, not, List, [], ◌∷◌, Option, Some, None, option_and_then, if◌then◌else◌}
 use Rattle.std.specs.List.{list_any}
 use Rattle.std.specs.Option.{option_map_or}
 use Rattle.std.specs.Str.{is_utf8, bytes_eq}

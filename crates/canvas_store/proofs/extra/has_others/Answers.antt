@@ -1,4 +1,3 @@
-use Rattle.std.proofs.Common.{rules, ap, sym, ◌∙◌, refl}
 use Rattle.canvas_store.proofs.Names.{has_others_of_members}
 use Rattle.canvas_store.proofs.extra.has_others.Goals as goal
 

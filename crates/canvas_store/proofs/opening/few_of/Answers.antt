@@ -1,4 +1,3 @@
-use Rattle.std.proofs.Common.{arith}
 use Rattle.canvas_store.proofs.Elements.{few-taken, few-left}
 use Rattle.canvas_store.proofs.opening.few_of.Goals as goal
 

@@ -1,4 +1,4 @@
-use Rattle.std.proofs.Common.{◌≡◌, ◌++◌, drop, length}
+use Rattle.std.proofs.Common.{◌≡◌, drop, length}
 use Rattle.serde_json.specs.View.{items_view}
 use Rattle.canvas_store.specs.Opened.{records_from}
 use Rattle.canvas_store.proofs.Elements.{after}

@@ -1,9 +1,3 @@
-use Rattle.std.proofs.Common.{◌≡◌, ◌<◌, ◌^◌, All, map, Ok}
-use Rattle.canvas_doc.specs.Contents.{IsWellFormed}
-use Rattle.canvas_doc.specs.Tree.{IsInLimits}
-use Rattle.canvas_store.specs.Kept.{IsKept}
-use Rattle.canvas_store.specs.Opened.{opened_data}
-use Rattle.canvas_store.specs.Saved.{data_of}
 use Rattle.canvas_store.proofs.Opens.{IfOk-any, ids-held, limits-held, opens-held}
 use Rattle.canvas_store.proofs.saving.document_value.Goals as goal
 

@@ -1,12 +1,10 @@
 use Rattle.std.proofs.Common.{◌≡◌, ◌∙◌, ap, false, Some}
-use Rattle.std.specs.Prelude.{IsUtf8}
 use Rattle.std.proofs.lemmas.Result.{IfOk-weaker}
-use Rattle.serde_json.specs.Data.{depth}
 use Rattle.serde_json.specs.View.{view}
 use Rattle.serde_json.specs.Written.{compact_text, has_float}
 use Rattle.canvas_store.specs.Saved.{data_of}
 use Rattle.canvas_store.proofs.Opens.{IfOk-both, text-opens}
-use Rattle.canvas_store.proofs.Plain.{data-whole, data-shallow, shallow-at}
+use Rattle.canvas_store.proofs.Plain.{data-whole, shallow-at}
 use Rattle.canvas_store.proofs.saving.export.Goals as goal
 
 pub returns-clause-saved : goal.returns-clause-saved
