@@ -11,15 +11,42 @@ use canvas_paint::{FreeGate, paint, paint_strip};
 use canvas_plane::Window;
 use canvas_scene::{Item, Scene};
 use std::alloc::Global;
-use std::env;
 use std::thread::Threads;
 use std::time::{Clock, Instant};
+use std::{env, fmt};
 
 /// How often a picture is painted in one measurement.
 const TIMES: u32 = 5;
 
-/// How often each measurement is made: the least counts.
-const ROUNDS: u32 = 100;
+/// How often each way is measured, the ways in turn, so that a slow moment of the machine meets all.
+const ROUNDS: u32 = 101;
+
+/// How a picture is painted.
+#[derive(Clone, Copy)]
+enum Way {
+    /// By `paint_strip`, as one strip.
+    OneStrip,
+    /// By `paint`, with so many workers.
+    Workers(u32),
+}
+
+impl Way {
+    const ALL: [Way; 4] = [
+        Way::OneStrip,
+        Way::Workers(1),
+        Way::Workers(2),
+        Way::Workers(4),
+    ];
+}
+
+impl fmt::Display for Way {
+    fn fmt<W: fmt::Write>(&self, f: &mut fmt::Formatter<W>) -> fmt::Result {
+        match self {
+            Way::OneStrip => f.write_str("one strip"),
+            Way::Workers(workers) => write!(f, "workers {workers}"),
+        }
+    }
+}
 
 fn main(rt: HostRuntime) -> Result<()> {
     if !is_to_measure(&rt)? {
@@ -53,54 +80,48 @@ fn measure<R: Clock + Print + Threads + Sync>(
     let window = Window::tile(0, 0)?;
     let scene = Scene::build(&bump, document, &window)?;
     let items = scene.display_list();
-    let strip = of_one_strip(rt, alloc, items, &window)?;
-    println!(rt; "    {} shown, one strip {strip} ns", items.len())?;
-    for workers in [1, 2, 4] {
-        let picture = by_workers(rt, alloc, items, &window, workers)?;
-        let percent = u128::from(picture) * 100 / u128::from(strip.max(1));
-        println!(rt; "    {workers} workers {picture} ns, {percent} % of one strip")?;
+    println!(rt; "    {} shown", items.len())?;
+    let mut ways = Vec::new(alloc);
+    for way in Way::ALL {
+        ways.push((way, Vec::new(alloc)))?;
+    }
+    for _ in 0..ROUNDS {
+        for (way, times) in ways.iter_mut() {
+            times.push(timed(rt, alloc, items, &window, *way)?)?;
+        }
+    }
+    report(rt, &mut ways)
+}
+
+/// Prints the least and the middle of the times of each way, and what the middle is of the first one's.
+fn report<R: Print>(rt: &R, ways: &mut [(Way, Vec<u64>)]) -> Result<()> {
+    let mut first = None;
+    for (way, times) in ways {
+        times.sort_unstable();
+        let least = times.first().map_or(0, |time| *time);
+        let middle = times.get(times.len() / 2).map_or(0, |time| *time);
+        let whole = *first.get_or_insert(middle);
+        let percent = middle.saturating_mul(100) / whole.max(1);
+        println!(rt; "    {way}: middle {middle} ns, least {least} ns, {percent} % of one strip")?;
     }
     Ok(())
 }
 
-/// The nanoseconds that `paint_strip` takes for a whole window.
-fn of_one_strip<R: Clock>(
+/// The nanoseconds that a picture takes.
+fn timed<R: Clock + Threads + Sync>(
     rt: &R,
     alloc: Global,
     items: &[Item<'_>],
     window: &Window,
+    way: Way,
 ) -> Result<u64> {
-    let mut least = u64::MAX;
-    for _ in 0..ROUNDS {
-        let start = Instant::now(rt)?;
-        for _ in 0..TIMES {
-            paint_strip(alloc, items, window, 0, window.h())?;
-        }
-        least = least.min(each(start.elapsed(rt)?.as_nanos()));
+    let start = Instant::now(rt)?;
+    for _ in 0..TIMES {
+        match way {
+            Way::OneStrip => paint_strip(alloc, items, window, 0, window.h())?,
+            Way::Workers(workers) => paint(rt, alloc, items, window, workers, &FreeGate)?,
+        };
     }
-    Ok(least)
-}
-
-/// The nanoseconds that `paint` takes by so many workers.
-fn by_workers<R: Clock + Threads + Sync>(
-    rt: &R,
-    alloc: Global,
-    items: &[Item<'_>],
-    window: &Window,
-    workers: u32,
-) -> Result<u64> {
-    let mut least = u64::MAX;
-    for _ in 0..ROUNDS {
-        let start = Instant::now(rt)?;
-        for _ in 0..TIMES {
-            paint(rt, alloc, items, window, workers, &FreeGate)?;
-        }
-        least = least.min(each(start.elapsed(rt)?.as_nanos()));
-    }
-    Ok(least)
-}
-
-/// The nanoseconds of one picture, where so many went by for all of a measurement.
-fn each(nanoseconds: u128) -> u64 {
-    u64::try_from(nanoseconds / u128::from(TIMES)).unwrap_or(u64::MAX)
+    let each = start.elapsed(rt)?.as_nanos() / u128::from(TIMES);
+    Ok(u64::try_from(each).unwrap_or(u64::MAX))
 }
