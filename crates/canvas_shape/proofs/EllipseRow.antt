@@ -10,38 +10,68 @@ use Rattle.canvas_plane.specs.Page.{is_in}
 use Rattle.canvas_shape.specs.Spans.{is_from_to}
 use Rattle.canvas_shape.specs.Ellipse.{is_in_ellipse, offset, squared, is_near_middle}
 
--- n is within the root where its square is within the number
-pub root-test : (n r q : ℕ) → r * r ≤ q → q < (r + 1) * (r + 1) → leb n r ≡ leb (n * n) q
-root-test n r q h k = elim (cases_lt r n) [
+-- n is within the root of a quotient where its square, times the divisor, is within the number
+root-test : (n r q b : ℕ) → (r * r) * b ≤ q → q < ((r + 1) * (r + 1)) * b → leb n r ≡ leb ((n * n) * b) q
+root-test n r q b least next = elim (cases_lt r n) [
   | inl lt ↦
       let up : r + 1 ≤ n = omega arith in
       let sq : (r + 1) * (r + 1) ≤ n * n = mul-le-mul up up in
-      let past : q < n * n = omega arith in
-      lt-leb n r lt ∙ sym (lt-leb (n * n) q past)
+      let all : ((r + 1) * (r + 1)) * b ≤ (n * n) * b = mul-le-mul sq (omega arith) in
+      let past : q < (n * n) * b = omega arith in
+      lt-leb n r lt ∙ sym (lt-leb ((n * n) * b) q past)
   | inr le ↦
       let sq : n * n ≤ r * r = mul-le-mul le le in
-      let in_reach : n * n ≤ q = omega arith in
-      le-leb n r le ∙ sym (le-leb (n * n) q in_reach)
+      let all : (n * n) * b ≤ (r * r) * b = mul-le-mul sq (omega arith) in
+      let in_reach : (n * n) * b ≤ q = omega arith in
+      le-leb n r le ∙ sym (le-leb ((n * n) * b) q in_reach)
 ]
 
--- what a sum takes off, divided and rounded up
-pub lost-test : (a u w h c : ℕ) → u ≤ c * h → c * h < u + h → c ≤ w → leb a (w - c) ≡ leb (a * h + u) (w * h)
-lost-test a u w h c least most bound = elim (cases_lt (w - c) a) [
+-- both sides of a test, with one more term
+more-same : (a b c d : ℕ) → d ≡ b + c → leb a b ≡ leb (a + c) d
+more-same a b c d e = elim (cases_lt b a) [
+  | inl lt ↦ lt-leb a b lt ∙ sym (lt-leb (a + c) d (omega arith))
+  | inr le ↦ le-leb a b le ∙ sym (le-leb (a + c) d (omega arith))
+]
+
+-- what the square of a row's way leaves of the square of the height, times the square of the width, gives how far the row reaches
+pub reach-test : (n m w h whole part across number r : ℕ) → whole ≡ h * h → part ≡ m * m → across ≡ w * w → part ≤ whole → number ≡ across * (whole - part) → (r * r) * whole ≤ number → number < ((r + 1) * (r + 1)) * whole → leb n r ≡ is_near_middle n m w h
+reach-test n m w h whole part across number r eh em ew le en least next =
+    let split : whole ≡ (whole - part) + part = omega arith in
+    let sum : across * whole ≡ across * (whole - part) + across * part = ap (λ s. across * s) split ∙ omega arith in
+    let all : across * whole ≡ number + part * across = omega arith in
+    simp (eh, em, ew) at (root-test n r number whole least next ∙ more-same ((n * n) * whole) number (part * across) (across * whole) all)
+
+-- a row reaches no further than the side does
+pub reach-bound : (w whole rest number r : ℕ) → 0 < whole → rest ≤ whole → number ≡ (w * w) * rest → (r * r) * whole ≤ number → r ≤ w
+reach-bound w whole rest number r some le en least = elim (cases_lt w r) [
   | inl lt ↦
-      let up : w + 1 ≤ a + c = omega arith in
-      let sq : (w + 1) * h ≤ (a + c) * h = mul-le-mul up (omega arith) in
-      let past : w * h < a * h + u = omega arith in
-      lt-leb a (w - c) lt ∙ sym (lt-leb (a * h + u) (w * h) past)
-  | inr le ↦
-      let up : a + c ≤ w = omega arith in
-      let sq : (a + c) * h ≤ w * h = mul-le-mul up (omega arith) in
-      let in_reach : a * h + u ≤ w * h = omega arith in
-      le-leb a (w - c) le ∙ sym (le-leb (a * h + u) (w * h) in_reach)
+      let up : w + 1 ≤ r = omega arith in
+      let sq : (w + 1) * (w + 1) ≤ r * r = mul-le-mul up up in
+      let more : w * w + 1 ≤ r * r = omega arith in
+      let all : (w * w + 1) * whole ≤ (r * r) * whole = mul-le-mul more (omega arith) in
+      let part : (w * w) * rest ≤ (w * w) * whole = mul-le-mul (omega arith) le in
+      absurd (omega arith)
+  | inr ge ↦ ge
 ]
 
-pub reach-test : (n m w h c r : ℕ) → (m * m) * (w * w) ≤ c * (h * h) → c * (h * h) < (m * m) * (w * w) + h * h → c ≤ w * w → r * r ≤ w * w - c → w * w - c < (r + 1) * (r + 1) → leb n r ≡ is_near_middle n m w h
-reach-test n m w h c r least most bound square next =
-    root-test n r (w * w - c) square next ∙ lost-test (n * n) ((m * m) * (w * w)) (w * w) (h * h) c least most bound
+-- the root of a quotient, as its square times the divisor
+pub quotient-root : (r n b : ℕ) → 0 < b → r * r ≤ n / b → n / b < (r + 1) * (r + 1) → ((r * r) * b ≤ n) × (n < ((r + 1) * (r + 1)) * b)
+quotient-root r n b some least next =
+    let low : (r * r) * b ≤ (n / b) * b = mul-le-mul least (omega arith) in
+    let up : n / b + 1 ≤ (r + 1) * (r + 1) = omega arith in
+    let high : (n / b + 1) * b ≤ ((r + 1) * (r + 1)) * b = mul-le-mul up (omega arith) in
+    (omega arith, omega arith)
+
+-- a quotient is within a square where the number is
+pub quotient-bound : (w b rest n : ℕ) → 0 < b → rest ≤ b → n ≡ (w * w) * rest → n / b ≤ w * w
+quotient-bound w b rest n some le en = elim (cases_lt (w * w) (n / b)) [
+  | inl lt ↦
+      let up : w * w + 1 ≤ n / b = omega arith in
+      let all : (w * w + 1) * b ≤ (n / b) * b = mul-le-mul up (omega arith) in
+      let part : (w * w) * rest ≤ (w * w) * b = mul-le-mul (omega arith) le in
+      absurd (omega arith)
+  | inr ge ↦ ge
+]
 
 squared-abs : (z : ℤ) → squared z ≡ pos (unsigned_abs z * unsigned_abs z)
 squared-abs (pos n) = refl
@@ -66,20 +96,6 @@ far-row n m w h some far =
 -- a pixel's centre is never as far from the middle as an edge is
 pub not-edge : (at from : ℤ) (h : ℕ) → h ≤ unsigned_abs (offset at from (pos h)) → h < unsigned_abs (offset at from (pos h))
 not-edge at from h le = omega (arith, ints)
-
--- what a row takes off is no more than the whole
-pub lost-bound : (c m w h : ℕ) → m < h → c * (h * h) < (m * m) * (w * w) + h * h → c ≤ w * w
-lost-bound c m w h row most = elim (cases_lt (w * w) c) [
-  | inl lt ↦
-      let up : w * w + 1 ≤ c = omega arith in
-      let all : (w * w + 1) * (h * h) ≤ c * (h * h) = mul-le-mul up (omega arith) in
-      let low : m ≤ h = omega arith in
-      let sq : m * m ≤ h * h = mul-le-mul low low in
-      let part : (m * m) * (w * w) ≤ (h * h) * (w * w) = mul-le-mul sq (omega arith) in
-      let turned : (w * w) * (h * h) ≡ (h * h) * (w * w) = mul_comm (w * w) (h * h) in
-      absurd (omega arith)
-  | inr le ↦ le
-]
 
 abs-test : (z : ℤ) (r : ℕ) → (int_le (pos 0) (z +ℤ pos r) && int_le z (pos r)) ≡ leb (unsigned_abs z) r
 abs-test z r = grind (arith, ints, nat_tests)

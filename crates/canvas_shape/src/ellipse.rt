@@ -1,6 +1,6 @@
 //! Ellipses on whole pixels.
 
-ghost use Rattle.std.specs.Prelude.{◌≡◌, ◌≤◌, ◌<◌, ◌^◌, ◌*◌, ◌+◌, ◌-◌, ◌/◌, ℕ, ℤ, unsigned_abs, ◌-ℤ◌, ◌*ℤ◌, ◌+ℤ◌, ◌≤ℤ◌, pos, nat_le, OnOk, OnErr, false};
+ghost use Rattle.std.specs.Prelude.{◌≡◌, ◌≤◌, ◌<◌, ◌^◌, ◌*◌, ◌+◌, ◌-◌, ◌/◌, ◌%◌, ◌↔◌, ℕ, ℤ, unsigned_abs, ◌-ℤ◌, ◌*ℤ◌, ◌+ℤ◌, ◌≤ℤ◌, pos, nat_le, OnOk, OnErr, IsTrue};
 ghost use Rattle.canvas_shape.specs.Ellipse.{is_in_ellipse, offset, IsSide, is_near_middle};
 ghost use Rattle.canvas_shape.specs.Spans.{AppendsSpans, is_from_to, within};
 
@@ -8,6 +8,7 @@ use crate::Span;
 use crate::spans::append_cut;
 use canvas_plane::PageBox;
 use std::alloc::AllocError;
+use std::num::saturating_f64_to_u16;
 
 /// Appends the pixels of an ellipse in the row `y`, from `left` up to `right`.
 pub(crate) fn ellipse_spans(
@@ -81,7 +82,8 @@ fn side(from: i64, to: i64) -> u64
 fn way(at: i32, from: i64, size: u64) -> u64
     requires near { unsigned_abs from ≤ 2 ^ 28 }
     requires small { size ≤ 65536 }
-    ensures { result ≡ unsigned_abs (offset at from (pos size)) }
+    ensures value { result ≡ unsigned_abs (offset at from (pos size)) }
+    ensures odd { (result + size) % 2 ≡ 1 }
 {
     less(centre(at), doubled(from), size).unsigned_abs()
 }
@@ -124,28 +126,36 @@ fn ends_at(left: i64, w: u64, reach: u64) -> Ends
     }
 }
 
-// How far a row reaches from the middle, where it is `m` away from the middle, all doubled.
+// How far a row reaches from the middle, where it is `m` away from the middle, all doubled: w / h times the root of h² - m².
+// Floats only propose it, which is quicker than a search; whole numbers decide whether it is right.
 fn reach(m: u64, w: u64, h: u64) -> u64
     requires row { m < h }
+    requires odd { (m + h) % 2 ≡ 1 }
     requires across { w ≤ 65536 }
     requires down { h ≤ 65536 }
     ensures value { (n : ℕ) → nat_le n result ≡ is_near_middle n m w h }
     ensures bound { result ≤ w }
 {
-    let lost = lost_square(m, w, h);
-    root(w * w - lost, w)
+    let whole = square(h);
+    let rest = whole - square(m);
+    let number = product(square(w), rest);
+    let guess = guessed_reach(rest, w, h);
+    if is_root(guess, number, whole) {
+        guess
+    } else {
+        root(number / whole, w)
+    }
 }
 
-// What a row at `m` takes off the square of the width.
-fn lost_square(m: u64, w: u64, h: u64) -> u64
-    requires row { m < h }
+// w / h times the square root of `rest`, rounded down, as floats have it.
+fn guessed_reach(rest: u64, w: u64, h: u64) -> u64
+    requires small { rest < 2 ^ 32 }
     requires across { w ≤ 65536 }
     requires down { h ≤ 65536 }
-    ensures least { (m * m) * (w * w) ≤ result * (h * h) }
-    ensures most { result * (h * h) < (m * m) * (w * w) + h * h }
-    ensures bound { result ≤ w * w }
+    ensures { result ≤ 65535 }
 {
-    rounded_up(product(square_below(m), square(w)), square(h))
+    let root = f64::from(rest as u32).sqrt();
+    u64::from(saturating_f64_to_u16(root * f64::from(w as u32) / f64::from(h as u32)))
 }
 
 fn square(a: u64) -> u64
@@ -156,30 +166,22 @@ fn square(a: u64) -> u64
     a * a
 }
 
-fn square_below(a: u64) -> u64
-    requires { a ≤ 65535 }
-    ensures value { result ≡ a * a }
-    ensures bound { result ≤ 4294836225 }
-{
-    a * a
-}
-
 fn product(a: u64, b: u64) -> u64
-    requires first { a ≤ 4294836225 }
-    requires second { b ≤ 2 ^ 32 }
-    ensures value { result ≡ a * b }
-    ensures bound { result ≤ 4294836225 * 2 ^ 32 }
+    requires first { a ≤ 2 ^ 32 }
+    requires second { b < 2 ^ 32 }
+    ensures { result ≡ a * b }
 {
     a * b
 }
 
-fn rounded_up(a: u64, b: u64) -> u64
-    requires first { a ≤ 4294836225 * 2 ^ 32 }
-    requires second { (0 < b) × (b ≤ 2 ^ 32) }
-    ensures least { a ≤ result * b }
-    ensures most { result * b < a + b }
+// Whether a number is the integer square root of the quotient of `n` by `by`.
+fn is_root(root: u64, n: u64, by: u64) -> bool
+    requires number { root ≤ 65535 }
+    requires divisor { by ≤ 2 ^ 32 }
+    ensures { IsTrue result ↔ (((root * root) * by ≤ n) × (n < ((root + 1) * (root + 1)) * by)) }
 {
-    (a + (b - 1)) / b
+    let least = root * root * by;
+    least <= n && n - least < (2 * root + 1) * by
 }
 
 // The integer square root of a number that is no greater than the square of `most`.

@@ -13,7 +13,7 @@ returns-then-m-h c = λ x.
     let t : FitsSigned w64 c.args.shape.now.top = search rules in
     let u : FitsSigned w64 c.args.shape.now.bottom = search rules in
     near-row c.args.shape.now x c.args.y c.side-w.result c.side-h.result c.way-m.result c.reach.result c.ends_at.result.from c.ends_at.result.to
-    (simp to_z-of_z at c.side-w.ensures.value) (simp to_z-of_z at c.side-h.ensures.value) (simp to_z-of_z at c.way-m.ensures)
+    (simp to_z-of_z at c.side-w.ensures.value) (simp to_z-of_z at c.side-h.ensures.value) (simp to_z-of_z at c.way-m.ensures.value)
     c.reach.ensures.value c.reach.ensures.bound (simp to_z-of_z at c.ends_at.ensures.from) (simp to_z-of_z at c.ends_at.ensures.to)
 
 pub returns-else-m-h : goal.returns-else-m-h
@@ -24,5 +24,5 @@ returns-else-m-h c = λ x.
     let t : FitsSigned w64 c.args.shape.now.top = search rules in
     let u : FitsSigned w64 c.args.shape.now.bottom = search rules in
     empty-row c.args.shape.now x c.args.y c.side-w.result c.side-h.result c.way-m.result
-    (simp to_z-of_z at c.side-w.ensures.value) (simp to_z-of_z at c.side-h.ensures.value) (simp to_z-of_z at c.way-m.ensures)
+    (simp to_z-of_z at c.side-w.ensures.value) (simp to_z-of_z at c.side-h.ensures.value) (simp to_z-of_z at c.way-m.ensures.value)
     c.side-w.ensures.least c.if-m-h.false
