@@ -25,6 +25,7 @@ pub mod Placed
 pub mod Misplaced
 pub mod Ordered
 pub mod Ranged
+pub mod Kept
 pub mod InOrder
 pub mod RestoredWell
 pub mod Saved

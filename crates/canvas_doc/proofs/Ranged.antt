@@ -26,12 +26,12 @@ use Rattle.canvas_doc.proofs.Placed.{holder-eq}
 use Rattle.canvas_doc.proofs.Sorting.{AreApart, apart-in_order, distinct-indexes, front_first-moves, is_level, level-flips, same-order}
 
 -- a record at a position that stands in the order
-record Stands (rs : List Record) (at : ℕ) : Type 0 where
-  it : Record
-  is : slice_get rs at ≡ Some it
-  read : get_or rs at it ≡ it
+pub record Stands (rs : List Record) (at : ℕ) : Type 0 where
+  pub it : Record
+  pub is : slice_get rs at ≡ Some it
+  pub read : get_or rs at it ≡ it
 
-stands : (rs : List Record) (at : ℕ) → at < length rs → Stands rs at
+pub stands : (rs : List Record) (at : ℕ) → at < length rs → Stands rs at
 stands rs at l = elim (slice_get_cases rs at).1 [
   | inl x ↦ record { it = x.0; is = x.2; read = x.3 }
   | inr n ↦ absurd (omega (arith, n.0))

@@ -74,7 +74,7 @@ same-parents Page (Shape b) h = cc
 same-parents (Shape a) Page h = cc
 same-parents (Shape a) (Shape b) h = ap (λ n. Shape n) (eqb-true a b h)
 
-same-itself : (a : Parent) → same_parent a a ≡ true
+pub same-itself : (a : Parent) → same_parent a a ≡ true
 same-itself Page = refl
 same-itself (Shape a) = eq-eqb a a refl
 
@@ -206,7 +206,7 @@ front-fresh rs r s few m n e = elim (cases_Bool (is_in_front s r)) [
   ])
 ]
 
-in_front-respaced : (p q : Parent) (rs : List Record) (r s : Record) → length rs ≤ 4096 → IsIn r rs × (is_child q r ≡ true) → IsIn s rs × (is_child q s ≡ true) → is_in_front (respaced p rs s) (respaced p rs r) ≡ is_in_front s r
+pub in_front-respaced : (p q : Parent) (rs : List Record) (r s : Record) → length rs ≤ 4096 → IsIn r rs × (is_child q r ≡ true) → IsIn s rs × (is_child q s ≡ true) → is_in_front (respaced p rs s) (respaced p rs r) ≡ is_in_front s r
 in_front-respaced p q rs r s few m n =
     let parent : s.place.parent ≡ r.place.parent = same-parents s.place.parent r.place.parent (same_parent-both s.place.parent r.place.parent q n.1 m.1) in
     elim (cases_Bool (is_child p r)) [

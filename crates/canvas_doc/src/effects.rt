@@ -6,13 +6,15 @@ ghost use Rattle.canvas_doc.specs.Contents.{AreRising, reaches_page};
 ghost use Rattle.canvas_doc.specs.Depth.{AreMarks};
 ghost use Rattle.canvas_doc.specs.Effect.{changed_by, respaced, respaced_among, rank_among, indexes, is_in_subtree};
 ghost use Rattle.std.specs.List.Sorted.{IsPermutation, IsSortedBy};
+ghost use Rattle.canvas_doc.specs.PlaceOrder.{IsInPlaceOrder};
+ghost use Rattle.canvas_doc.specs.Tree.{HavePlaces};
 ghost use Rattle.canvas_key.specs.Order.{is_before};
 
 use crate::Document;
 use crate::ancestry::{STEPS, level_at, no_marks};
 use crate::edits::Change;
 use crate::lookup::position_of;
-use crate::place_order::{order_after_creation, order_after_deletion, order_after_move};
+use crate::place_order::{in_order, order_after_creation, order_after_deletion, order_after_move};
 use crate::records::{Parent, Place, Record};
 use crate::shared::SharedRecord;
 use canvas_key::{Key, fresh};
@@ -23,6 +25,7 @@ use std::alloc::{AllocError, Global};
 impl Document {
     ghost use Rattle.std.specs.Prelude.{ℤ, true};
     ghost use Rattle.canvas_doc.specs.Effect.{changes_one, effect_of, Fits, SpacesOnly};
+    ghost use Rattle.canvas_doc.specs.declared.edits.Change.TheVariants.{Respace};
     ghost use Rattle.canvas_doc.specs.Picture.{colour};
 
     /// The document after a change that fits.
@@ -57,16 +60,24 @@ impl Document {
                 let next = self.next;
                 Document::with_candidate(alloc, records, next, order)
             }
-            Change::Respace { parent } => {
-                let records = all_respaced(alloc, &self.records, *parent)?;
-                let order = self.order.clone()?;
-                Document::with_candidate(alloc, records, self.next, order)
-            }
+            Change::Respace { parent } => self.with_new_indexes(alloc, *parent),
             Change::Move { .. } => self.with_one_changed(alloc, change),
             Change::Pose { .. } => self.with_one_changed(alloc, change),
             Change::Reshape { .. } => self.with_one_changed(alloc, change),
             Change::Show { .. } => self.with_one_changed(alloc, change),
         }
+    }
+
+    // The document with new indexes for the children of a parent, which leave the order as it is.
+    fn with_new_indexes(&self, alloc: Global, parent: Parent) -> Result<Document, AllocError>
+        ensures { IfOk result (λ after. after ≡ effect_of (Respace parent) self.now) }
+    {
+        let records = all_respaced(alloc, &self.records, parent)?;
+        Ok(Document {
+            records,
+            order: self.order.clone()?,
+            next: self.next,
+        })
     }
 
     // The document after a change of one shape's place, pose, kind or mark.
@@ -77,19 +88,28 @@ impl Document {
     {
         let records = changed(alloc, &self.records, change)?;
         let order = self.order_after(alloc, &records, change)?;
-        Document::with_candidate(alloc, records, self.next, order)
+        Ok(Document {
+            records,
+            order,
+            next: self.next,
+        })
     }
 
-    // What the order may be after a change of one shape: only a move changes it.
+    // The order after a change of one shape: only a move changes it.
     fn order_after(
         &self,
         alloc: Global,
         records: &[SharedRecord],
         change: &Change,
-    ) -> Result<Vec<u32>, AllocError> {
+    ) -> Result<Vec<u32>, AllocError>
+        requires changed { records.now ≡ map (changed_by change.now) self.now.records }
+        requires places { HavePlaces records.now }
+        ensures { IfOk result (λ order. IsInPlaceOrder order.items records.now) }
+    {
         if let Change::Move { id, .. } = change {
             if let Some(position) = position_of(&self.records, *id) {
-                return order_after_move(alloc, &self.order, records, position);
+                let order = order_after_move(alloc, &self.order, records, position)?;
+                return in_order(alloc, records, order);
             }
         }
         self.order.clone()

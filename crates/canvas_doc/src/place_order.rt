@@ -38,7 +38,7 @@ impl Document {
 }
 
 // The candidate, where it has the positions of all records by place, or these positions sorted.
-fn in_order(
+pub(crate) fn in_order(
     alloc: Global,
     records: &[SharedRecord],
     candidate: Vec<u32>,

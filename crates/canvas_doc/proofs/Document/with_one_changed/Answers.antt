@@ -1,11 +1,12 @@
 use Rattle.std.proofs.Common.{◌≡◌, ◌∙◌, sym, ap, subst, map}
 use Rattle.canvas_doc.specs.Contents.{Contents, IsWellFormed}
 use Rattle.canvas_doc.specs.Effect.{effect_of, changed_by}
+use Rattle.canvas_doc.specs.PlaceOrder.{IsInPlaceOrder}
 use Rattle.canvas_doc.proofs.OneChanged.{one-effect}
 use Rattle.canvas_doc.proofs.Document.with_one_changed.Goals as goal
 
-pub with_candidate-requires : goal.with_candidate-requires
-with_candidate-requires c =
+pub invariant_of-result : goal.invariant_of-result
+invariant_of-result c =
     let inside : Contents = record { records = c.self.inside.records.items; next = c.self.inside.next } in
     let after : Contents = record { records = c.in_ok-records.records.items; next = c.self.inside.next } in
     let e : effect_of c.args.change.now c.args.self.now ≡ after =
@@ -13,4 +14,7 @@ with_candidate-requires c =
     ∙ one-effect c.args.change.now inside c.requires.one
     ∙ ap (λ rs. record { records = map (changed_by c.args.change.now) rs; next = c.self.inside.next }) (sym c.deref.ensures.value)
     ∙ ap (λ rs. record { records = rs; next = c.self.inside.next }) (sym c.in_ok-records.ensures) in
-    subst IsWellFormed e c.requires.fits.left
+    record {
+      well_formed = subst IsWellFormed e c.requires.fits.left;
+      in_order = subst (IsInPlaceOrder c.in_ok-order.order.items) c.deref-2.ensures.value c.in_ok-order.ensures;
+    }

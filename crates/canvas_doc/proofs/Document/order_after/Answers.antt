@@ -1,0 +1,26 @@
+use Rattle.std.proofs.Common.{◌≡◌, ◌∙◌, List, ℕ, ap, map, subst, sym}
+use Rattle.std.specs.List.{each_same}
+use Rattle.std.proofs.lemmas.Result.{MatchResult-weaker}
+use Rattle.canvas_doc.specs.declared.edits.Change.TheVariants.{Move}
+use Rattle.canvas_doc.specs.declared.records.Record.{Record}
+use Rattle.canvas_doc.specs.Contents.{Contents, record_of}
+use Rattle.canvas_doc.specs.Effect.{changed_by}
+use Rattle.canvas_doc.specs.PlaceOrder.{IsInPlaceOrder}
+use Rattle.canvas_doc.proofs.Kept.{absent-order, unmoved-order}
+use Rattle.canvas_doc.proofs.Document.order_after.Goals as goal
+use Rattle.canvas_doc.proofs.Document.order_after.Goals.{in-Move+in_default-position_of, in_default}
+
+pub returns : goal.returns
+returns c =
+    let order : List ℕ = c.self.inside.order.items in
+    let before : List Record = c.self.inside.records.items in
+    let after : List Record = c.args.records.now in
+    let changed : map (changed_by c.args.change.now) before ≡ after = ap (λ (d : Contents). map (changed_by c.args.change.now) d.records) c.self.view_is ∙ sym c.requires.changed in
+    let kept : IsInPlaceOrder order (map (changed_by c.args.change.now) before) =
+    elim c.match-change.branch [
+      | in-Move+in_default-position_of w ↦ subst (λ ch. IsInPlaceOrder order (map (changed_by ch) before)) (sym w.in-Move.is)
+        (absent-order w.in-Move.id w.in-Move.place order before (ap (λ rs. record_of w.in-Move.id rs) (sym w.deref.ensures.value) ∙ w.in_default-position_of.ensures) c.self.invariant.in_order)
+      | in_default w ↦ unmoved-order c.args.change.now order before w.in_default.not-Move c.self.invariant.in_order
+    ] in
+    MatchResult-weaker c.clone.result c.clone.ensures.cases
+    (λ copy same. subst (λ (l : List ℕ). IsInPlaceOrder l after) (sym (each_same order copy.items same.0)) (subst (IsInPlaceOrder order) changed kept)) (λ _ _. tt)
