@@ -28,6 +28,10 @@ is-in [] at r e = cc
 is-in (x ∷ rs) zero r e = (let same : x ≡ r = cc in inl same)
 is-in (x ∷ rs) (suc at) r e = inr (is-in rs at r e)
 
+-- places compare as their records do
+pub at-places : (rs : List Record) (i j : ℕ) (r s : Record) → slice_get rs i ≡ Some r → slice_get rs j ≡ Some s → by_place_at rs i j ≡ by_place r s
+at-places rs i j r s e f = ap (λ o. option_cmp by_place o (slice_get rs j)) e ∙ ap (λ o. option_cmp by_place (Some r) o) f
+
 -- earlier places stay earlier
 abbrev pub KeepsPlaceOrder : (Record → Record) → List Record → Type 0
 KeepsPlaceOrder g rs = (r s : Record) → IsIn r rs → IsIn s rs → by_place r s ≡ Less → by_place (g r) (g s) ≡ Less
@@ -36,11 +40,10 @@ less-map : (g : Record → Record) (rs : List Record) → KeepsPlaceOrder g rs �
 less-map g rs keeps i j a b l =
     let r : Stands rs i = stands rs i a in
     let s : Stands rs j = stands rs j b in
-    let less : by_place r.it s.it ≡ Less = sym (ap (λ o. option_cmp by_place o (Some s.it)) r.is) ∙ sym (ap (λ o. option_cmp by_place (slice_get rs i) o) s.is) ∙ l in
+    let less : by_place r.it s.it ≡ Less = sym (at-places rs i j r.it s.it r.is s.is) ∙ l in
     let x : slice_get (map g rs) i ≡ Some (g r.it) = slice_get-map g rs i ∙ ap (option_map g) r.is in
     let y : slice_get (map g rs) j ≡ Some (g s.it) = slice_get-map g rs j ∙ ap (option_map g) s.is in
-    ap (λ o. option_cmp by_place o (slice_get (map g rs) j)) x
-    ∙ ap (λ o. option_cmp by_place (Some (g r.it)) o) y
+    at-places (map g rs) i j (g r.it) (g s.it) x y
     ∙ keeps r.it s.it (is-in rs i r.it r.is) (is-in rs j s.it s.is) less
 
 -- such a change leaves the records in order

@@ -62,7 +62,7 @@ far order rs h i (suc j) l b =
     ]
 
 -- no position stands twice
-apart : (order : List ℕ) (rs : List Record) → IsInPlaceOrder order rs → (i j d : ℕ) → i < j → j < length order → eqb (get_or order i d) (get_or order j d) ≡ false
+pub apart : (order : List ℕ) (rs : List Record) → IsInPlaceOrder order rs → (i j d : ℕ) → i < j → j < length order → eqb (get_or order i d) (get_or order j d) ≡ false
 apart order rs h i j d l b = elim (cases_Bool (eqb (get_or order i d) (get_or order j d))) [
   | inl t ↦ (let a : get_or order i d ≡ get_or order i 0 = get_or_default order i d 0 (omega arith) in
       let c : get_or order j d ≡ get_or order j 0 = get_or_default order j d 0 b in

@@ -151,7 +151,7 @@ all-listed P rs order low zero h = All-nil P
 all-listed P rs order low (suc n) h = all-listed-step P rs order low n (slice_get rs (get_or order (low + n) 0)) refl h (all-listed P rs order low n (λ k r l m e. h k r l (omega arith) e))
 
 -- a child at a position
-child-at : (p : Parent) (rs : List Record) (at : ℕ) (r : Record) → slice_get rs at ≡ Some r → is_child_at p (slice_get rs at) ≡ true → is_child p r ≡ true
+pub child-at : (p : Parent) (rs : List Record) (at : ℕ) (r : Record) → slice_get rs at ≡ Some r → is_child_at p (slice_get rs at) ≡ true → is_child p r ≡ true
 child-at p rs at r e h = sym (ap (is_child_at p) e) ∙ h
 
 -- of two children of a parent the later one in the order is in front
@@ -160,7 +160,7 @@ later-index Less b e h = cc
 later-index Equal b e h = h
 later-index Greater b e h = cc
 
-in_front-later : (p : Parent) (r s : Record) → is_child p r ≡ true → is_child p s ≡ true → by_place r s ≡ Less → is_in_front s r ≡ true
+pub in_front-later : (p : Parent) (r s : Record) → is_child p r ≡ true → is_child p s ≡ true → by_place r s ≡ Less → is_in_front s r ≡ true
 in_front-later p r s h k l =
     let alike : is_eq (by_parent r.place.parent s.place.parent) ≡ true = holder-eq r.place.parent s.place.parent ∙ same_parent-both r.place.parent s.place.parent p h k in
     ap is_lt (later-index (by_parent r.place.parent s.place.parent) (slice_cmp nat_cmp r.place.index s.place.index) alike l)

@@ -1,20 +1,27 @@
 -- Ranks of children, from their indexes in order.
-use Rattle.std.proofs.Common.{◌≡◌, ℕ, zero, suc, ◌+◌, ◌<◌, ◌≤◌, List, [], ◌∷◌, ◌++◌, Bool, true, false, cond, ◌&&◌, refl, sym, ap, ◌∙◌, arith, map, filter, length, get_or, take, zero-add, Bor}
-use Rattle.std.specs.List.{count_by}
-use Rattle.std.specs.List.Sorted.{IsPermutation, IsSortedBy, IsPartitionedBy}
-use Rattle.std.proofs.lemmas.Cmp.{nat_list_cmp_total}
-use Rattle.std.proofs.lemmas.List.{map-append, append-nil}
-use Rattle.std.proofs.lemmas.List.Elements.{filter_more}
+use Rattle.std.proofs.Common.{◌≡◌, ◌≢◌, ℕ, zero, suc, ◌+◌, ◌-◌, ◌<◌, ◌≤◌, List, [], ◌∷◌, Bool, true, false, cond, ◌&&◌, nat_lt, min, Option, Some, None, refl, sym, ap, subst, ◌∙◌, arith, inl, inr, map, filter, length, get_or, set, zero-add}
+use Rattle.std.specs.List.{cons_option, count_by, slice_get}
+use Rattle.std.specs.List.Sorted.{IsPermutation}
+use Rattle.std.specs.declared.cmp.Ordering.TheVariants.{Less}
+use Rattle.std.proofs.lemmas.Bool.{cases_Bool, eq-eqb, true≢false}
+use Rattle.std.proofs.lemmas.Bool.Decides.{nat_tests}
+use Rattle.std.proofs.lemmas.List.{get_or_default, get_or-map, get_or-set_other, get_or-set_same, length-map, same_lists}
 use Rattle.std.proofs.lemmas.List.Sums.{length-filter}
-use Rattle.std.proofs.lemmas.List.Sorted.{sum_by-IsPermutation, ranks_by, sorted_far}
+use Rattle.std.proofs.lemmas.List.Sorted.{sum_by-IsPermutation, IsPermutation-map}
 use Rattle.canvas_key.specs.Order.{is_before}
 use Rattle.canvas_key.specs.Rank.{fresh_key}
 use Rattle.canvas_doc.specs.declared.records.Parent.{Parent}
 use Rattle.canvas_doc.specs.declared.records.Place.{Place}
 use Rattle.canvas_doc.specs.declared.records.Record.{Record}
-use Rattle.canvas_doc.specs.Children.{is_child}
-use Rattle.canvas_doc.specs.Effect.{rank_of, respaced, respaced_among, rank_among, indexes}
-use Rattle.canvas_doc.proofs.Free.{after-upto}
+use Rattle.canvas_doc.specs.Children.{is_child, is_in_front}
+use Rattle.canvas_doc.specs.Effect.{child_rank, rank_of, respaced, respaced_among, rank_among, indexes}
+use Rattle.canvas_doc.specs.PlaceOrder.{by_place, is_child_at, AreChildrenWithin, IsInPlaceOrder}
+use Rattle.canvas_doc.specs.Tree.{HavePlaces}
+use Rattle.canvas_doc.proofs.Fronts.{before-asym, before-itself}
+use Rattle.canvas_doc.proofs.Kept.{at-places}
+use Rattle.canvas_doc.proofs.Ordered.{apart, far, index-of}
+use Rattle.canvas_doc.proofs.Ranged.{Stands, stands, child-at, children-listed, from_front, in_front-later}
+use Rattle.canvas_doc.proofs.Sorting.{front_first-moves}
 use Rattle.canvas_doc.proofs.Respaced.{same-parents}
 
 count-some : {X : Type 0} (x : X) (xs : List X) (b : Bool) → length (cond b (x ∷ xs) xs) ≡ cond b 1 0 + length xs
@@ -59,42 +66,116 @@ pub map-same : (f g : Record → Record) → ((r : Record) → f r ≡ g r) → 
 map-same f g k [] = refl
 map-same f g k (r ∷ rs) = ap (λ x. x ∷ map f rs) (k r) ∙ ap (λ l. g r ∷ l) (map-same f g k rs)
 
-index-one : (r : Record) (xs : List Record) (b : Bool) → map (λ (s : Record). s.place.index) (xs ++ cond b (r ∷ []) []) ≡ cond b (map (λ (s : Record). s.place.index) xs ++ r.place.index ∷ []) (map (λ (s : Record). s.place.index) xs)
-index-one r xs true = map-append (λ (s : Record). s.place.index) xs (r ∷ [])
-index-one r xs false = ap (map (λ (s : Record). s.place.index)) (append-nil xs)
+-- of two children in the order the later one is in front
+later-front : (p : Parent) (rs : List Record) (order : List ℕ) (low high i k : ℕ) (r s : Record) → IsInPlaceOrder order rs → AreChildrenWithin p rs order low high → low ≤ i → i < k → k < high → slice_get rs (get_or order i 0) ≡ Some r → slice_get rs (get_or order k 0) ≡ Some s → is_in_front s r ≡ true
+later-front p rs order low high i k r s o w l m b e f =
+    let bound : high ≤ length order = w.bound in
+    let less : by_place r s ≡ Less = sym (at-places rs (get_or order i 0) (get_or order k 0) r s e f) ∙ far order rs o i k m (omega arith) in
+    in_front-later p r s (child-at p rs (get_or order i 0) r e (w.inside i l (omega arith))) (child-at p rs (get_or order k 0) s f (w.inside k (omega arith) b)) less
 
--- a step of the loop that collects the indexes
-pub indexes-more : (p : Parent) (rs : List Record) (i : ℕ) (r : Record) → i < length rs → r ≡ get_or rs i r → cond (is_child p r) (indexes p (take i rs) ++ r.place.index ∷ []) (indexes p (take i rs)) ≡ indexes p (take (i + 1) rs)
-indexes-more p rs i r h e =
-    sym (index-one r (filter (is_child p) (take i rs)) (is_child p r))
-    ∙ ap (λ (x : Record). map (λ (s : Record). s.place.index) (filter (is_child p) (take i rs) ++ cond (is_child p x) (x ∷ []) [])) e
-    ∙ ap (map (λ (s : Record). s.place.index)) (sym (filter_more (is_child p) rs i r h))
+-- the children that stand before one in the order are those with an index before its own
+before-in-order : (p : Parent) (rs : List Record) (order : List ℕ) (low high i k : ℕ) (r s : Record) → IsInPlaceOrder order rs → AreChildrenWithin p rs order low high → low ≤ i → i < high → low ≤ k → k < high → slice_get rs (get_or order i 0) ≡ Some r → slice_get rs (get_or order k 0) ≡ Some s → is_before s.place.index r.place.index ≡ nat_lt k i
+before-in-order p rs order low high i k r s o w a b l m e f = elim (cases_Bool (nat_lt k i)) [
+  | inl t ↦ later-front p rs order low high k i s r o w l (grind (arith, nat_tests)) b f e ∙ sym t
+  | inr n ↦ elim (cases_Bool (nat_lt i k)) [
+    | inl t ↦ before-asym r.place.index s.place.index (later-front p rs order low high i k r s o w a (grind (arith, nat_tests)) m e f) ∙ sym n
+    | inr g ↦ (
+        let same : k ≡ i = grind (arith, nat_tests) in
+        let both : Some s ≡ Some r = sym f ∙ ap (λ q. slice_get rs (get_or order q 0)) same ∙ e in
+        let is : s ≡ r = cc in
+        ap (λ (x : Record). is_before x.place.index r.place.index) is ∙ before-itself r.place.index ∙ sym n)
+  ]
+]
 
-abbrev pub key_of : Bor (List ℕ) → List ℕ
-key_of k = k.now
+count-step : (n m x : ℕ) (low : ℕ) → x ≡ min m n → cond (nat_lt (low + n) (low + m)) 1 0 + x ≡ min m (suc n)
+count-step n m x low e = elim (cases_Bool (nat_lt (low + n) (low + m))) [
+  | inl t ↦ rw t (let l : low + n < low + m = grind (arith, nat_tests) in omega arith)
+  | inr f ↦ rw f (let l : low + m ≤ low + n = grind (arith, nat_tests) in omega arith)
+]
 
--- the keys before one stand before the others
-pub keys-parted : (keys : List (Bor (List ℕ))) (key : List ℕ) → IsSortedBy (λ (a b : Bor (List ℕ)). is_before a.now b.now) keys → IsPartitionedBy (λ (k : Bor (List ℕ)). is_before k.now key) keys
-keys-parted keys key up = λ i j d l h t.
-    after-upto key (key_of (get_or keys j d)) (key_of (get_or keys i d)) t (sorted_far (λ (a b : Bor (List ℕ)). is_before a.now b.now) (ranks_by nat_list_cmp_total key_of) keys up i j d l h)
+abbrev index_in : Record → List ℕ
+index_in r = r.place.index
 
--- as many pass as stand before the point
-pub point-count : {X : Type 0} (p : X → Bool) (xs : List X) (i : ℕ) → i ≤ length xs → ((k : ℕ) (d : X) → k < i → p (get_or xs k d) ≡ true) → ((k : ℕ) (d : X) → i ≤ k → k < length xs → p (get_or xs k d) ≡ false) → count_by p xs ≡ i
-point-count p [] i h a b = omega arith
-point-count p (x ∷ xs) zero h a b =
-    let no : p x ≡ false = b 0 x (omega arith) (omega arith) in
-    let rest : count_by p xs ≡ 0 = point-count p xs 0 (omega arith) (λ k d l. absurd (omega arith)) (λ k d l m. b (suc k) d (omega arith) (omega arith)) in
-    count-cons p x xs ∙ ap (λ c. cond c 1 0 + count_by p xs) no ∙ zero-add (count_by p xs) ∙ rest
-point-count p (x ∷ xs) (suc i) h a b =
-    let yes : p x ≡ true = a 0 x (omega arith) in
-    let rest : count_by p xs ≡ i = point-count p xs i (omega arith) (λ k d l. a (suc k) d (omega arith)) (λ k d l m. b (suc k) d (omega arith) (omega arith)) in
-    let sum : 1 + i ≡ suc i = omega arith in
-    count-cons p x xs ∙ ap (λ c. cond c 1 0 + count_by p xs) yes ∙ ap (λ n. 1 + n) rest ∙ sum
+-- how many listed records come before a key, where those of the first m positions do
+count-listed : (rs : List Record) (order : List ℕ) (low n m : ℕ) (key : List ℕ)
+    → ((k : ℕ) → low ≤ k → k < low + n → get_or order k 0 < length rs)
+    → ((k : ℕ) (s : Record) → low ≤ k → k < low + n → slice_get rs (get_or order k 0) ≡ Some s → is_before s.place.index key ≡ nat_lt k (low + m))
+    → rank_among (map index_in (from_front rs order low n)) key ≡ min m n
+count-listed rs order low zero m key t h = omega arith
+count-listed rs order low (suc n) m key t h =
+    let s : Stands rs (get_or order (low + n) 0) = stands rs (get_or order (low + n) 0) (t (low + n) (omega arith) (omega arith)) in
+    let rest : rank_among (map index_in (from_front rs order low n)) key ≡ min m n = count-listed rs order low n m key (λ k l b. t k l (omega arith)) (λ k r l b e. h k r l (omega arith) e) in
+    let here : is_before s.it.place.index key ≡ nat_lt (low + n) (low + m) = h (low + n) s.it (omega arith) (omega arith) s.is in
+    ap (λ o. rank_among (map index_in (cons_option o (from_front rs order low n))) key) s.is
+    ∙ count-cons (λ k. is_before k key) s.it.place.index (map index_in (from_front rs order low n))
+    ∙ ap (λ b. cond b 1 0 + rank_among (map index_in (from_front rs order low n)) key) here
+    ∙ count-step n m (rank_among (map index_in (from_front rs order low n)) key) low rest
 
--- counted before or after the references are read
-pub count-read : (keys : List (Bor (List ℕ))) (key : List ℕ) → count_by (λ (k : Bor (List ℕ)). is_before k.now key) keys ≡ rank_among (map (λ (k : Bor (List ℕ)). k.now) keys) key
-count-read [] key = refl
-count-read (k ∷ ks) key =
-    count-cons (λ (q : Bor (List ℕ)). is_before q.now key) k ks
-    ∙ ap (λ n. cond (is_before k.now key) 1 0 + n) (count-read ks key)
-    ∙ sym (count-cons (λ q. is_before q key) k.now (map (λ (q : Bor (List ℕ)). q.now) ks))
+-- the rank of a child is its place among the children in the order
+rank-at : (p : Parent) (rs : List Record) (order : List ℕ) (low high i : ℕ) (r : Record) → HavePlaces rs → IsInPlaceOrder order rs → AreChildrenWithin p rs order low high → low ≤ i → i < high → slice_get rs (get_or order i 0) ≡ Some r → rank_among (indexes p rs) r.place.index ≡ i - low
+rank-at p rs order low high i r places o w a b e =
+    let kept : List Record = filter (is_child p) rs in
+    let listed : List Record = from_front rs order low (high - low) in
+    let bound : high ≤ length order = w.bound in
+    let here : low + (i - low) ≡ i = omega arith in
+    let moves : IsPermutation kept listed = subst (IsPermutation kept) (sym (children-listed p rs order low high places o w)) (front_first-moves kept) in
+    let least : min (i - low) (high - low) ≡ i - low = omega arith in
+    sym (sum_by-IsPermutation (λ k. cond (is_before k r.place.index) 1 0) (indexes p rs) (map index_in listed) (IsPermutation-map index_in kept listed moves))
+    ∙ count-listed rs order low (high - low) (i - low) r.place.index
+    (λ k l m. (o.each k (omega arith)).there)
+    (λ k s l m f. before-in-order p rs order low high i k r s o w a b l (omega arith) e f ∙ ap (nat_lt k) (sym here))
+    ∙ least
+
+-- a step of the loop that writes the ranks
+pub rank-written : (rs : List Record) (order : List ℕ) (low slot : ℕ) (ranks : List (Option ℕ)) → IsInPlaceOrder order rs → low ≤ slot → slot < length order → length ranks ≡ length rs
+    → ((k : ℕ) → low ≤ k → k < slot → get_or ranks (get_or order k 0) None ≡ Some (k - low))
+    → (k : ℕ) → low ≤ k → k < slot + 1 → get_or (set ranks (get_or order slot 0) (Some (slot - low))) (get_or order k 0) None ≡ Some (k - low)
+rank-written rs order low slot ranks o a b long h k l m = elim (cases_Bool (nat_lt k slot)) [
+  | inl t ↦ (
+      let before : k < slot = grind (arith, nat_tests) in
+      let other : get_or order k 0 ≢ get_or order slot 0 = λ e. true≢false (sym (eq-eqb (get_or order k 0) (get_or order slot 0) e) ∙ apart order rs o k slot 0 before b) in
+      get_or-set_other ranks (get_or order slot 0) (get_or order k 0) (Some (slot - low)) None other ∙ h k l before)
+  | inr f ↦ (
+      let same : k ≡ slot = grind (arith, nat_tests) in
+      let there : get_or order slot 0 < length ranks = subst (λ n. get_or order slot 0 < n) (sym long) ((o.each slot b).there) in
+      ap (λ q. get_or (set ranks (get_or order slot 0) (Some (slot - low))) (get_or order q 0) None) same
+      ∙ get_or-set_same ranks (get_or order slot 0) (Some (slot - low)) None there
+      ∙ ap (λ q. Some (q - low)) (sym same))
+]
+
+-- the table of ranks, once all are written
+record AreWritten (rs : List Record) (order : List ℕ) (low high : ℕ) (ranks : List (Option ℕ)) : Type 0 where
+  long : length ranks ≡ length rs
+  ranked : (k : ℕ) → low ≤ k → k < high → get_or ranks (get_or order k 0) None ≡ Some (k - low)
+  others : (j : ℕ) → j < length rs → ((k : ℕ) → low ≤ k → k < high → get_or order k 0 ≡ j → ⊥) → get_or ranks j None ≡ None
+
+rank-read : (p : Parent) (rs : List Record) (order : List ℕ) (low high : ℕ) (ranks : List (Option ℕ)) → HavePlaces rs → IsInPlaceOrder order rs → AreChildrenWithin p rs order low high → AreWritten rs order low high ranks → (j : ℕ) → j < length rs → (r : Record) → slice_get rs j ≡ Some r → get_or ranks j None ≡ child_rank p (indexes p rs) r
+rank-read p rs order low high ranks places o w written j l r e = elim (cases_Bool (is_child p r)) [
+  | inl t ↦ (
+      let i = index-of order rs o j l in
+      let there : slice_get rs (get_or order i.0 0) ≡ Some r = ap (slice_get rs) i.2 ∙ e in
+      let child : is_child_at p (slice_get rs (get_or order i.0 0)) ≡ true = ap (is_child_at p) there ∙ t in
+      let above : low ≤ i.0 = w.above i.0 i.1 child in
+      let below : i.0 < high = w.below i.0 i.1 child in
+      ap (λ q. get_or ranks q None) (sym i.2) ∙ written.ranked i.0 above below
+      ∙ ap Some (sym (rank-at p rs order low high i.0 r places o w above below there))
+      ∙ sym (ap (λ b. cond b (Some (rank_among (indexes p rs) r.place.index)) None) t))
+  | inr f ↦
+    written.others j l (λ k a b is. true≢false (sym (child-at p rs (get_or order k 0) r (ap (slice_get rs) is ∙ e) (w.inside k a b)) ∙ f))
+    ∙ sym (ap (λ b. cond b (Some (rank_among (indexes p rs) r.place.index)) None) f)
+]
+
+pub ranks-written : (p : Parent) (rs : List Record) (order : List ℕ) (low high : ℕ) (ranks : List (Option ℕ)) → HavePlaces rs → IsInPlaceOrder order rs → AreChildrenWithin p rs order low high → length ranks ≡ length rs
+    → ((k : ℕ) → low ≤ k → k < high → get_or ranks (get_or order k 0) None ≡ Some (k - low))
+    → ((j : ℕ) → j < length rs → ((k : ℕ) → low ≤ k → k < high → get_or order k 0 ≡ j → ⊥) → get_or ranks j None ≡ None)
+    → ranks ≡ map (child_rank p (indexes p rs)) rs
+ranks-written p rs order low high ranks places o w long ranked others =
+    let f : Record → Option ℕ = child_rank p (indexes p rs) in
+    same_lists ranks (map f rs) (long ∙ sym (length-map rs f))
+    (λ j d b.
+    let l : j < length rs = omega arith in
+    let s : Stands rs j = stands rs j l in
+    get_or_default ranks j d None b
+    ∙ rank-read p rs order low high ranks places o w (record { long = long; ranked = ranked; others = others }) j l s.it s.is
+    ∙ ap f (sym s.read)
+    ∙ sym (get_or-map f rs j s.it d l))

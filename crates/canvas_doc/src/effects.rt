@@ -1,26 +1,27 @@
 //! The document after a change.
 
-ghost use Rattle.std.specs.Prelude.{◌≡◌, ◌≤◌, ◌++◌, ◌∷◌, [], not, map, filter, length, All, IfOk, false, true};
-ghost use Rattle.canvas_doc.specs.Children.{is_child};
+ghost use Rattle.std.specs.Prelude.{◌≡◌, ◌≤◌, ◌++◌, ◌∷◌, [], not, map, filter, length, replicate, All, IfOk, None, false, true};
 ghost use Rattle.canvas_doc.specs.Contents.{AreRising, reaches_page};
 ghost use Rattle.canvas_doc.specs.Depth.{AreMarks};
-ghost use Rattle.canvas_doc.specs.Effect.{changed_by, respaced, respaced_among, rank_among, indexes, is_in_subtree};
-ghost use Rattle.std.specs.List.Sorted.{IsPermutation, IsSortedBy};
+ghost use Rattle.canvas_doc.specs.Effect.{changed_by, respaced, child_rank, indexes, is_in_subtree};
 ghost use Rattle.canvas_doc.specs.PlaceOrder.{IsInPlaceOrder};
 ghost use Rattle.canvas_doc.specs.Tree.{HavePlaces};
-ghost use Rattle.canvas_key.specs.Order.{is_before};
+ghost use Rattle.canvas_key.specs.Rank.{fresh_key};
 
 use crate::Document;
 use crate::ancestry::{STEPS, level_at, no_marks};
 use crate::edits::Change;
 use crate::lookup::position_of;
-use crate::place_order::{in_order, order_after_creation, order_after_deletion, order_after_move};
+use crate::place_order::{
+    children_range, in_order, order_after_creation, order_after_deletion, order_after_move,
+};
 use crate::records::{Parent, Place, Record};
 use crate::shared::SharedRecord;
-use canvas_key::{Key, fresh};
+use canvas_key::fresh;
 use canvas_plane::Pose;
 use canvas_shape::Kind;
 use std::alloc::{AllocError, Global};
+use std::ops::Range;
 
 impl Document {
     ghost use Rattle.std.specs.Prelude.{ℤ, true};
@@ -72,7 +73,7 @@ impl Document {
     fn with_new_indexes(&self, alloc: Global, parent: Parent) -> Result<Document, AllocError>
         ensures { IfOk result (λ after. after ≡ effect_of (Respace parent) self.now) }
     {
-        let records = all_respaced(alloc, &self.records, parent)?;
+        let records = all_respaced(alloc, &self.records, &self.order, parent)?;
         Ok(Document {
             records,
             order: self.order.clone()?,
@@ -305,84 +306,71 @@ fn without_marked(
 fn all_respaced(
     alloc: Global,
     records: &[SharedRecord],
+    order: &[u32],
     parent: Parent,
 ) -> Result<Vec<SharedRecord>, AllocError>
-    requires { length records.now ≤ 4096 }
+    requires few { length records.now ≤ 4096 }
+    requires places { HavePlaces records.now }
+    requires order { IsInPlaceOrder order.now records.now }
     ensures { IfOk result (λ all. all.items ≡ map (respaced parent records.now) records.now) }
 {
-    let order = sorted_indexes(alloc, records, parent)?;
+    let ranks = child_ranks(alloc, records, order, parent)?;
     let mut all = Vec::with_capacity(alloc, records.len())?;
-    for shape in records {
-        let spaced = respaced(alloc, &order, parent, shape)?;
+    for at in 0..records.len() {
+        let spaced = match ranks[at] {
+            Some(rank) => respaced(alloc, &records[at], rank)?,
+            None => records[at].share()?,
+        };
         all.push(spaced)?;
     }
     Ok(all)
 }
 
-// The indexes of the children of a parent, from back to front.
-fn sorted_indexes<'a>(
+// The rank of each child of a parent by position, from back to front, and none of other records.
+fn child_ranks(
     alloc: Global,
-    records: &'a [SharedRecord],
+    records: &[SharedRecord],
+    order: &[u32],
     parent: Parent,
-) -> Result<Vec<&'a Key>, AllocError>
-    ensures same { IfOk result (λ order. IsPermutation (indexes parent records.now) (map (λ key. key.now) order.items)) }
-    ensures sorted { IfOk result (λ order. IsSortedBy (λ a b. is_before a.now b.now) order.items) }
-    ensures few { IfOk result (λ order. length order.items ≤ length records.now) }
+) -> Result<Vec<Option<u32>>, AllocError>
+    requires few { length records.now ≤ 4096 }
+    requires places { HavePlaces records.now }
+    requires order { IsInPlaceOrder order.now records.now }
+    ensures { IfOk result (λ ranks. ranks.items ≡ map (child_rank parent (indexes parent records.now)) records.now) }
 {
-    let mut order = indexes(alloc, records, parent)?;
-    order.sort()?;
-    Ok(order)
-}
-
-// The indexes of the children of a parent.
-fn indexes<'a>(
-    alloc: Global,
-    records: &'a [SharedRecord],
-    parent: Parent,
-) -> Result<Vec<&'a Key>, AllocError>
-    ensures same { IfOk result (λ keys. map (λ key. key.now) keys.items ≡ indexes parent records.now) }
-    ensures few { IfOk result (λ keys. length keys.items ≤ length records.now) }
-{
-    let mut keys = Vec::new(alloc);
-    for shape in records {
-        if is_child(parent, shape) {
-            keys.push(&shape.place.index)?;
-        }
+    let Range { start, end } = children_range(records, order, parent);
+    let mut ranks = no_ranks(alloc, records.len())?;
+    for slot in start..end {
+        ranks[order[slot] as usize] = Some((slot - start) as u32);
     }
-    Ok(keys)
+    Ok(ranks)
 }
 
-fn is_child(parent: Parent, shape: &Record) -> bool
-    ensures { result ≡ is_child parent shape.now }
+fn no_ranks(alloc: Global, count: usize) -> Result<Vec<Option<u32>>, AllocError>
+    ensures { IfOk result (λ all. all.items ≡ replicate count None) }
 {
-    shape.place.parent == parent
+    vec![in alloc; None; count]
 }
 
-// A record with the index for its rank, if it is a child of the parent.
-fn respaced(
-    alloc: Global,
-    order: &[&Key],
-    parent: Parent,
-    shape: &SharedRecord,
-) -> Result<SharedRecord, AllocError>
-    requires sorted { IsSortedBy (λ a b. is_before a.now b.now) order.now }
-    requires few { length order.now ≤ 4096 }
-    ensures { IfOk result (λ after. after ≡ respaced_among parent (map (λ key. key.now) order.now) shape.now) }
+// A record with the index that stands for a rank: the same one, where it has that index.
+fn respaced(alloc: Global, shape: &SharedRecord, rank: u32) -> Result<SharedRecord, AllocError>
+    ensures { IfOk result (λ after. after ≡ record shape.now { place = record shape.now.place { index = fresh_key rank } }) }
 {
-    if is_child(parent, shape) {
-        let index = fresh(rank_among(order, &shape.place.index));
-        let after = moved(alloc, shape, &Place { parent, index })?;
-        SharedRecord::new(alloc, after)
-    } else {
-        shape.share()
+    let index = fresh(rank);
+    if shape.place.index == index {
+        return shape.share();
     }
-}
-
-// How many of the keys come before one.
-fn rank_among(order: &[&Key], index: &Key) -> u32
-    requires sorted { IsSortedBy (λ a b. is_before a.now b.now) order.now }
-    requires few { length order.now ≤ 4096 }
-    ensures { result ≡ rank_among (map (λ key. key.now) order.now) index.now }
-{
-    order.partition_point(|key| key.is_before(index)) as u32
+    SharedRecord::new(
+        alloc,
+        Record {
+            id: shape.id,
+            kind: shape.kind.try_clone(alloc)?,
+            place: Place {
+                parent: shape.place.parent,
+                index,
+            },
+            pose: shape.pose,
+            hidden: shape.hidden,
+        },
+    )
 }
