@@ -57,6 +57,14 @@ cut-twice false true false o h = refl
 cut-twice false false true o h = refl
 cut-twice false false false o h = refl
 
+-- what a leaf or a frame answers is seen through its clip where its box and its clip have a box in common
+pub cut-by-box : (held : ℤ → ℤ → Bool) (box clip common : PageBox) (answer o : Option Colour) (x y : ℤ) → ((x y : ℤ) → held x y ≡ true → is_in box x y ≡ true) → ((x y : ℤ) → is_in common x y ≡ (is_in box x y && is_in clip x y)) → answer ≡ seen (held x y) o → seen (is_in common x y) answer ≡ seen (is_in clip x y) answer
+cut-by-box held box clip common answer o x y has m e =
+    ap (seen (is_in common x y)) e
+    ∙ ap (λ b. seen b (seen (held x y) o)) (m x y)
+    ∙ cut-twice (held x y) (is_in box x y) (is_in clip x y) o (has x y)
+    ∙ ap (seen (is_in clip x y)) (sym e)
+
 -- a leaf is not seen where its box and its clip have a hidden box in common
 pub hidden-leaf : (items : List Item) (held : ℤ → ℤ → Bool) (box clip common : PageBox) (o : Option Colour) (x y : ℤ) → ((x y : ℤ) → held x y ≡ true → is_in box x y ≡ true) → ((x y : ℤ) → is_in common x y ≡ (is_in box x y && is_in clip x y)) → IsHidden items common → first_fill items x y ≡ or_else (first_fill items x y) (seen (is_in clip x y) (seen (held x y) o))
 hidden-leaf items held box clip common o x y has m h =

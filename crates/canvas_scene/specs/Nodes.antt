@@ -1,6 +1,11 @@
 -- The items of a tree, back to front: a branch's own, then its children's.
-use Rattle.std.specs.Prelude.{List, [], ◌∷◌, ◌++◌, Option, Some, None, map, Bool, cond}
+use Rattle.std.specs.Prelude.{List, [], ◌∷◌, ◌++◌, Option, Some, None, map, Bool, cond, ℤ}
+use Rattle.canvas_plane.specs.declared.Pose.{Pose}
+use Rattle.canvas_plane.specs.Motion.{carry}
 use Rattle.canvas_shape.specs.declared.Colour.{Colour}
+use Rattle.canvas_shape.specs.declared.Kind.{Kind}
+use Rattle.canvas_shape.specs.Inside.{holds_of}
+use Rattle.canvas_doc.specs.Picture.{kind_answer}
 use Rattle.canvas_scene.specs.declared.item.Item.{Item}
 use Rattle.canvas_scene.specs.declared.nodes.Node.{Node}
 use Rattle.canvas_scene.specs.declared.nodes.Node.TheOpen.{Node-F, Leaf, Branch}
@@ -37,3 +42,7 @@ node_items (Some n) = items_of n
 -- what is seen through a clip
 abbrev pub seen : Bool → Option Colour → Option Colour
 seen inside answer = cond inside answer None
+
+-- what a kind shows at a pixel, where the pose carries its own points to the page and `inner` is its children's answer
+abbrev pub shown_of : Kind → Pose → Option Colour → ℤ → ℤ → Option Colour
+shown_of kind page inner x y = kind_answer kind (holds_of kind (carry page) x y) inner

@@ -1,18 +1,38 @@
-//! The box of a polygon's vertices on the page.
+//! The boxes of the page in which shapes show.
 
-ghost use Rattle.std.specs.Prelude.{◌≡◌, ◌≤◌, ◌^◌, ℤ, map, true};
+ghost use Rattle.std.specs.Prelude.{◌≡◌, ◌≤◌, ◌^◌, ℤ, Option, map, true};
 ghost use Rattle.std.specs.Int.{int_max, int_min};
 ghost use Rattle.canvas_plane.specs.Motion.{carry, reach_of};
 ghost use Rattle.canvas_plane.specs.Page.{is_in};
 ghost use Rattle.canvas_shape.specs.Bounds.{bounds_of, dot_of, grown_to};
 ghost use Rattle.canvas_shape.specs.Edges.{is_in_polygon};
-ghost use Rattle.canvas_shape.specs.Inside.{AreVertices};
+ghost use Rattle.canvas_shape.specs.Inside.{AreVertices, IsSound};
+ghost use Rattle.canvas_shape.specs.declared.Colour.{Colour};
+ghost use Rattle.canvas_scene.specs.Nodes.{seen, shown_of};
 
 use canvas_plane::{PageBox, Point, Pose};
+use canvas_shape::{Carried, Kind};
 
-/// The box of vertices as a pose carries them to the page, from the least to the greatest
-/// coordinates. It takes no memory.
-pub(crate) fn carried_bounds(page: &Pose, points: &[Point]) -> PageBox
+/// The part of a clip in which a shape of a kind with all below it may be seen, where `page`
+/// carries its own points to the page.
+pub(crate) fn part_of(kind: &Kind, page: &Pose, clip: &PageBox) -> PageBox
+    requires kind { IsSound kind.now }
+    requires quarter { page.now.quarter ≤ 3 }
+    requires reach { reach_of page.now ≤ 2 ^ 26 }
+    ensures { (inner : Option Colour) (x y : ℤ) → seen (is_in result x y) (shown_of kind.now page.now inner x y) ≡ seen (is_in clip.now x y) (shown_of kind.now page.now inner x y) }
+{
+    match kind {
+        Kind::Group => *clip,
+        Kind::Frame { w, h, .. } => Carried::rect(page, *w, *h).page_box().meet(clip),
+        Kind::Rect { w, h, .. } => Carried::rect(page, *w, *h).page_box().meet(clip),
+        Kind::Ellipse { w, h, .. } => Carried::ellipse(page, *w, *h).page_box().meet(clip),
+        Kind::Polygon { points, .. } => carried_bounds(page, points.as_slice()).meet(clip),
+    }
+}
+
+// The box of vertices as a pose carries them to the page, from the least to the greatest
+// coordinates. It takes no memory.
+fn carried_bounds(page: &Pose, points: &[Point]) -> PageBox
     requires vertices { AreVertices points.now }
     requires quarter { page.now.quarter ≤ 3 }
     requires reach { reach_of page.now ≤ 2 ^ 26 }

@@ -20,6 +20,8 @@ pub(crate) struct Cells {
     window: Window,
     // A word for each row of cells, in which the least bit stands for the left cell.
     rows: [u64; 32],
+    // The same for the cells that have a pixel of a box whose cells were marked.
+    touched: [u64; 32],
 }
 
 // The columns or rows of cells from one up to another.
@@ -38,6 +40,7 @@ impl Cells {
         Cells {
             window: *window,
             rows: [0; 32],
+            touched: [0; 32],
         }
     }
 
@@ -51,6 +54,34 @@ impl Cells {
         for row in down.first..down.end {
             self.rows[row as usize] = with_bits(self.rows[row as usize], word);
         }
+        self.touch(part);
+    }
+
+    // Notes the cells that a box touches.
+    fn touch(&mut self, part: &PageBox)
+        ensures window { self.new.window ≡ self.old.window }
+        ensures rows { self.new.rows ≡ self.old.rows }
+    {
+        let across = run_touched(part.left, part.right, self.window.x(), self.window.w());
+        let down = run_touched(part.top, part.bottom, self.window.y(), self.window.h());
+        let word = bits(across);
+        for row in down.first..down.end {
+            self.touched[row as usize] = with_bits(self.touched[row as usize], word);
+        }
+    }
+
+    /// Whether each cell that a box touches is touched by a box whose cells were marked. If not,
+    /// some cell that it touches is not marked, and it lies within no such box.
+    pub(crate) fn may_cover(&self, part: &PageBox) -> bool {
+        let across = run_touched(part.left, part.right, self.window.x(), self.window.w());
+        let down = run_touched(part.top, part.bottom, self.window.y(), self.window.h());
+        let word = bits(across);
+        for row in down.first..down.end {
+            if !has_bits(self.touched[row as usize], word) {
+                return false;
+            }
+        }
+        true
     }
 
     /// Whether a box lies in the window, and each cell that it touches is marked.

@@ -49,16 +49,17 @@ pub(crate) fn branch<'a>(
     }
 }
 
-// Adds a node to those of the shapes in front of it.
+// Adds a node to those of the shapes in front of it, and says whether there is one.
 pub(crate) fn keep<'a>(
     nodes: &mut Vec<Node<'a>, &'a Bump>,
     node: Option<Node<'a>>,
-) -> Result<(), AllocError>
+) -> Result<bool, AllocError>
     ensures items { OnOk result (items_along (reverse nodes.new.items) ≡ node_items node.entry ++ items_along (reverse nodes.old.items)) }
     ensures nodes { OnOk result (nodes.new.items ≡ nodes.old.items ++ option_to_list node.entry) }
 {
-    if let Some(node) = node {
-        nodes.push(node)?;
-    }
-    Ok(())
+    let Some(node) = node else {
+        return Ok(false);
+    };
+    nodes.push(node)?;
+    Ok(true)
 }

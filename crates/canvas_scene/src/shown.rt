@@ -1,12 +1,12 @@
 //! What a walk from front to back has shown so far.
 
-ghost use Rattle.std.specs.Prelude.{◌≡◌, ◌++◌, ◌&&◌, [], ℤ, All, IfOk, IfSome, IsTrue, List, Some, int_le, reverse};
+ghost use Rattle.std.specs.Prelude.{◌≡◌, ◌++◌, ◌&&◌, [], ◌∷◌, ℤ, All, IfOk, IsTrue, List, Some, int_le, reverse};
 ghost use Rattle.canvas_plane.specs.Page.{is_in, IsWithin};
 ghost use Rattle.canvas_shape.specs.Leaves.{carried_holds};
 ghost use Rattle.canvas_doc.specs.Picture.{or_else};
 ghost use Rattle.canvas_scene.specs.declared.item.Item.{Item};
 ghost use Rattle.canvas_scene.specs.Covers.{first_fill, AreCellsHidden, IsHidden};
-ghost use Rattle.canvas_scene.specs.Nodes.{back_item, seen};
+ghost use Rattle.canvas_scene.specs.Nodes.{seen};
 
 use crate::Item;
 use crate::cells::Cells;
@@ -52,35 +52,46 @@ impl<'a> Shown<'a> {
     pub(crate) fn hides(&self, part: &PageBox) -> bool
         ensures { IsTrue result → IsHidden self.now part.now }
     {
-        part.is_empty() || self.cells.covers(part) || lies_within_one(part, &self.covers)
+        if part.is_empty() {
+            return true;
+        }
+        if !self.cells.may_cover(part) {
+            return false;
+        }
+        self.cells.covers(part) || lies_within_one(part, &self.covers)
     }
 
-    /// Adds a leaf behind all others, if anything of it may be seen, and gives its item.
+    /// Whether a box is hidden that the item added last may have hidden: where that one did not,
+    /// it says no.
+    pub(crate) fn hides_by_last(&self, part: &PageBox) -> bool
+        ensures { IsTrue result → IsHidden self.now part.now }
+    {
+        self.cells.covers(part) || lies_within_last(part, &self.covers)
+    }
+
+    /// Adds a leaf behind all others, and gives its item.
     pub(crate) fn add(
         &mut self,
         leaf: Carried<'a>,
         clip: &PageBox,
         fill: Colour,
-    ) -> Result<Option<Item<'a>>, AllocError>
+    ) -> Result<Item<'a>, AllocError>
         ensures fills { IfOk result (λ item. (x y : ℤ) → first_fill self.new x y ≡ or_else (first_fill self.old x y) (seen (is_in clip.now x y) (seen (carried_holds leaf.entry x y) (Some fill)))) }
-        ensures items { IfOk result (λ item. self.new ≡ self.old ++ back_item item) }
-        ensures clip { IfOk result (λ item. IfSome item (λ i. i.clip ≡ clip.now)) }
+        ensures items { IfOk result (λ item. self.new ≡ self.old ++ item ∷ []) }
+        ensures clip { IfOk result (λ item. item.clip ≡ clip.now) }
     {
-        let part = leaf.page_box().meet(clip);
-        if self.hides(&part) {
-            return Ok(None);
-        }
         let item = Item {
             leaf,
             clip: *clip,
             fill,
         };
         self.items.push(item)?;
-        if let Carried::Rect(_) = leaf {
+        if let Carried::Rect(shape) = leaf {
+            let part = shape.sides().meet(clip);
             self.cells.mark(&part);
             self.covers.push(part)?;
         }
-        Ok(Some(item))
+        Ok(item)
     }
 
     /// The items from back to front, in the arena.
@@ -103,6 +114,16 @@ fn lies_within_one(part: &PageBox, covers: &[PageBox]) -> bool
         }
     }
     false
+}
+
+// Whether the last of some boxes holds all that a box holds.
+fn lies_within_last(part: &PageBox, covers: &[PageBox]) -> bool
+    ensures { IsTrue result → (items : List Item) → All (IsHidden items) covers.now → IsHidden items part.now }
+{
+    match covers.last() {
+        Some(cover) => lies_within(part, cover),
+        None => false,
+    }
 }
 
 // Whether the edges of a box lie within those of another.

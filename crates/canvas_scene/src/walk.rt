@@ -4,16 +4,16 @@
 ghost use Rattle.std.specs.Prelude.{◌≡◌, ◌≤◌, ◌+◌, ◌*◌, ◌^◌, ◌++◌, ◌<◌, [], ◌∷◌, ℤ, All, IfOk, IfSome, OnOk, reverse, length, map, Some, true, false};
 ghost use Rattle.canvas_plane.specs.Motion.{carry, reach_of, size_of};
 ghost use Rattle.canvas_plane.specs.Page.{is_in};
-ghost use Rattle.canvas_shape.specs.Edges.{is_in_polygon};
-ghost use Rattle.canvas_shape.specs.Inside.{holds_of, AreVertices};
+ghost use Rattle.canvas_shape.specs.Inside.{AreVertices, IsSound};
 ghost use Rattle.canvas_shape.specs.Leaves.{carried_holds};
 ghost use Rattle.canvas_doc.specs.Tree.{IsInLimits};
 ghost use Rattle.canvas_doc.specs.Picture.{answer_among, answer_of, colour, or_else, or_white};
+ghost use Rattle.canvas_doc.specs.declared.records.Parent.TheVariants.{Shape};
 ghost use Rattle.canvas_scene.specs.Clips.{IsClipped};
 ghost use Rattle.canvas_scene.specs.Covers.{first_fill};
-ghost use Rattle.canvas_scene.specs.Nodes.{back_item, items_along, node_items, seen};
+ghost use Rattle.canvas_scene.specs.Nodes.{back_item, items_along, items_of, node_items, seen, shown_of};
 
-use crate::bounds::carried_bounds;
+use crate::bounds::part_of;
 use crate::nodes::{branch, keep, leaf};
 use crate::shown::Shown;
 use crate::{Item, Node};
@@ -76,8 +76,7 @@ fn nodes_among<'a>(
     let children = document.children(bump, parent)?;
     for child in &children {
         let node = node_of(bump, document, levels - 1, child, out, clip, shown)?;
-        keep(&mut nodes, node)?;
-        if shown.hides(clip) {
+        if keep(&mut nodes, node)? && shown.hides_by_last(clip) {
             break;
         }
     }
@@ -107,28 +106,52 @@ fn node_of<'a>(
         return Ok(None);
     }
     let page = shape.pose.then(out);
+    let part = part_of(&shape.kind, &page, clip);
+    if shown.hides(&part) {
+        return Ok(None);
+    }
+    let node = seen_node(bump, document, levels, shape, &page, clip, shown)?;
+    Ok(Some(node))
+}
+
+// The node of a shape with all below it, of which something may be seen. `page` carries its own
+// points to the page.
+#[cycle(walk)]
+#[inline(never)]
+fn seen_node<'a>(
+    bump: &'a Bump,
+    document: &Document,
+    levels: u32,
+    shape: &Record,
+    page: &Pose,
+    clip: &PageBox,
+    shown: &mut Shown<'a>,
+) -> Result<Node<'a>, AllocError>
+    requires kind { IsSound shape.now.kind }
+    requires quarter { page.now.quarter ≤ 3 }
+    requires reach { reach_of page.now + levels * 2 ^ 20 ≤ 2 ^ 26 }
+    ensures fills { IfOk result (λ node. (x y : ℤ) → first_fill shown.new x y ≡ or_else (first_fill shown.old x y) (seen (is_in clip.now x y) (shown_of shape.now.kind page.now (answer_among levels document.now.records (Shape shape.now.id) (carry page.now) x y) x y))) }
+    ensures items { IfOk result (λ node. shown.new ≡ shown.old ++ reverse (items_of node)) }
+    ensures clips { IfOk result (IsClipped clip.now) }
+{
     let inside = Parent::Shape(shape.id);
     match &shape.kind {
         Kind::Group => {
-            let nodes = nodes_among(bump, document, levels, inside, &page, clip, shown)?;
-            Ok(Some(branch(*clip, None, nodes)))
+            let nodes = nodes_among(bump, document, levels, inside, page, clip, shown)?;
+            Ok(branch(*clip, None, nodes))
         }
         Kind::Frame { w, h, fill } => {
-            let leaf = Carried::rect(&page, *w, *h);
+            let leaf = Carried::rect(page, *w, *h);
             let inner = clip.meet(&leaf.page_box());
-            if shown.hides(&inner) {
-                return Ok(None);
-            }
-            let nodes = nodes_among(bump, document, levels, inside, &page, &inner, shown)?;
+            let nodes = nodes_among(bump, document, levels, inside, page, &inner, shown)?;
             let back = back_of(leaf, clip, *fill, shown)?;
-            Ok(Some(branch(inner, back, nodes)))
+            Ok(branch(inner, back, nodes))
         }
-        Kind::Rect { w, h, fill } => leaf_of(Carried::rect(&page, *w, *h), clip, *fill, shown),
-        Kind::Ellipse { w, h, fill } => {
-            leaf_of(Carried::ellipse(&page, *w, *h), clip, *fill, shown)
-        }
+        Kind::Rect { w, h, fill } => leaf_of(Carried::rect(page, *w, *h), clip, *fill, shown),
+        Kind::Ellipse { w, h, fill } => leaf_of(Carried::ellipse(page, *w, *h), clip, *fill, shown),
         Kind::Polygon { points, fill } => {
-            polygon_of(bump, &page, points.as_slice(), clip, *fill, shown)
+            let vertices = carried(bump, page, points.as_slice())?;
+            leaf_of(Carried::polygon(vertices), clip, *fill, shown)
         }
     }
 }
@@ -144,51 +167,29 @@ fn back_of<'a>(
     ensures items { IfOk result (λ back. shown.new ≡ shown.old ++ back_item back) }
     ensures clip { IfOk result (λ back. IfSome back (λ i. i.clip ≡ clip.now)) }
 {
-    match fill {
-        Some(fill) => shown.add(leaf, clip, fill),
-        None => Ok(None),
+    let Some(fill) = fill else {
+        return Ok(None);
+    };
+    if shown.hides(&leaf.page_box().meet(clip)) {
+        return Ok(None);
     }
+    let item = shown.add(leaf, clip, fill)?;
+    Ok(Some(item))
 }
 
-// The node of a leaf, if anything of it may be seen.
+// The node of a leaf.
 fn leaf_of<'a>(
     shape: Carried<'a>,
     clip: &PageBox,
     fill: Colour,
     shown: &mut Shown<'a>,
-) -> Result<Option<Node<'a>>, AllocError>
+) -> Result<Node<'a>, AllocError>
     ensures fills { IfOk result (λ node. (x y : ℤ) → first_fill shown.new x y ≡ or_else (first_fill shown.old x y) (seen (is_in clip.now x y) (seen (carried_holds shape.entry x y) (Some fill)))) }
-    ensures items { IfOk result (λ node. shown.new ≡ shown.old ++ reverse (node_items node)) }
-    ensures clips { IfOk result (λ node. IfSome node (IsClipped clip.now)) }
+    ensures items { IfOk result (λ node. shown.new ≡ shown.old ++ reverse (items_of node)) }
+    ensures clips { IfOk result (IsClipped clip.now) }
 {
-    match shown.add(shape, clip, fill)? {
-        Some(item) => Ok(Some(leaf(item))),
-        None => Ok(None),
-    }
-}
-
-// The node of a polygon, if anything of it may be seen. Only then its vertices go into the arena.
-fn polygon_of<'a>(
-    bump: &'a Bump,
-    page: &Pose,
-    points: &[Point],
-    clip: &PageBox,
-    fill: Colour,
-    shown: &mut Shown<'a>,
-) -> Result<Option<Node<'a>>, AllocError>
-    requires vertices { AreVertices points.now }
-    requires quarter { page.now.quarter ≤ 3 }
-    requires reach { reach_of page.now ≤ 2 ^ 26 }
-    ensures fills { IfOk result (λ node. (x y : ℤ) → first_fill shown.new x y ≡ or_else (first_fill shown.old x y) (seen (is_in clip.now x y) (seen (is_in_polygon (map (carry page.now) points.now) x y) (Some fill)))) }
-    ensures items { IfOk result (λ node. shown.new ≡ shown.old ++ reverse (node_items node)) }
-    ensures clips { IfOk result (λ node. IfSome node (IsClipped clip.now)) }
-{
-    let part = carried_bounds(page, points).meet(clip);
-    if shown.hides(&part) {
-        return Ok(None);
-    }
-    let vertices = carried(bump, page, points)?;
-    leaf_of(Carried::polygon(vertices), clip, fill, shown)
+    let item = shown.add(shape, clip, fill)?;
+    Ok(leaf(item))
 }
 
 // Vertices as a pose carries them to the page, in the arena.

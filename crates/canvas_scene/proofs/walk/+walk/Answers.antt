@@ -1,4 +1,4 @@
-use Rattle.std.proofs.Common.{◌∙◌, refl, sym, ap, arith, rules, false, ◌+◌, ◌-◌, reverse, map, None, All, Bor, List, subst}
+use Rattle.std.proofs.Common.{◌∙◌, refl, sym, ap, arith, cond, rules, ◌+◌, ◌-◌, reverse, map, None, All, Bor, List, subst}
 use Rattle.canvas_plane.specs.Motion.{carry}
 use Rattle.canvas_plane.specs.Page.{is_in}
 use Rattle.canvas_shape.specs.Edges.{is_in_polygon}
@@ -12,12 +12,12 @@ use Rattle.canvas_doc.proofs.Walk.{answer-by, answer-children, answer-none}
 use Rattle.canvas_scene.specs.declared.nodes.Node.{Node}
 use Rattle.canvas_scene.specs.Clips.{IsClipped}
 use Rattle.canvas_scene.specs.Covers.{first_fill}
-use Rattle.canvas_scene.specs.Nodes.{items_along, items_of, node_items, seen}
+use Rattle.canvas_scene.specs.Nodes.{items_along, items_of, node_items, seen, shown_of}
 use Rattle.canvas_scene.proofs.Children.{child-all, left-more, left-none, left_from}
 use Rattle.canvas_scene.proofs.Clipping.{all-more, all-reversed, branch-clipped, meet-within}
 use Rattle.canvas_scene.proofs.Covering.{added-child, added-frame, hidden-box, hidden-frame}
 use Rattle.canvas_scene.proofs.Seen.{list-frame, list-more, list-none, ok-more, or_else-none, seen-none}
-use Rattle.canvas_scene.proofs.walk.+walk.Goals.{nodes_among-then-loop-child-test+in_ok-node+in_ok-keep+then-hides, nodes_among-else-loop-child-test}
+use Rattle.canvas_scene.proofs.walk.+walk.Goals.{nodes_among-then-loop-child-test+in_ok-node+in_ok-keep+then-branch+then-hides_by_last, nodes_among-else-loop-child-test}
 use Rattle.canvas_scene.proofs.walk.+walk.Goals as goal
 
 pub nodes_among-returns-then-levels-eq0-clause-fills : goal.nodes_among-returns-then-levels-eq0-clause-fills
@@ -56,7 +56,7 @@ nodes_among-returns-clause-fills t c = λ x y.
       | nodes_among-else-loop-child-test w ↦ rw w.shown-is (or_else-none (first_fill c.loop-child.shown x y)
           ∙ ap (or_else (first_fill c.loop-child.shown x y)) (seen-none inside ∙ ap (λ l. seen inside (first_answer answer l)) (sym (left-none items c.loop-child.child-index w.loop-child-test.false)))
           ∙ c.loop-child.invariant.left x y)
-      | nodes_among-then-loop-child-test+in_ok-node+in_ok-keep+then-hides w ↦ rw w.shown-is (hidden-box w.node_of.new.shown c.args.clip.now (first_answer answer (left_from (c.loop-child.child-index + 1) items)) x y (w.if-hides.ensures refl)
+      | nodes_among-then-loop-child-test+in_ok-node+in_ok-keep+then-branch+then-hides_by_last w ↦ rw w.shown-is (hidden-box w.node_of.new.shown c.args.clip.now (first_answer answer (left_from (c.loop-child.child-index + 1) items)) x y (w.if-hides_by_last.ensures refl)
           ∙ added-child inside (first_fill c.args.shown.now x y) (first_fill c.loop-child.shown x y) (first_fill w.node_of.new.shown x y) whole answer w.child-item.result.now _ _ (w.in_ok-node.ensures.fills x y) (left-more items c.loop-child.child-index w.child-item.result w.loop-child-test.true w.child-item.is) (c.loop-child.invariant.left x y))
     ]
 
@@ -65,57 +65,39 @@ nodes_among-returns-clause-clips t c =
     let P : List Node → Type 0 = λ l. All (IsClipped c.args.clip.now) l in
     let kept : All (IsClipped c.args.clip.now) c.loop-child-test.nodes.items = elim c.loop-child-test.branch [
       | nodes_among-else-loop-child-test w ↦ rw w.nodes-is c.loop-child.invariant.clips
-      | nodes_among-then-loop-child-test+in_ok-node+in_ok-keep+then-hides w ↦ rw w.nodes-is (all-more (IsClipped c.args.clip.now) c.loop-child.nodes.items w.keep.new.nodes.items w.in_ok-node.node w.in_ok-keep.ensures.nodes c.loop-child.invariant.clips w.in_ok-node.ensures.clips)
+      | nodes_among-then-loop-child-test+in_ok-node+in_ok-keep+then-branch+then-hides_by_last w ↦ rw w.nodes-is (all-more (IsClipped c.args.clip.now) c.loop-child.nodes.items w.keep.new.nodes.items w.in_ok-node.node w.in_ok-keep.ensures.nodes c.loop-child.invariant.clips w.in_ok-node.ensures.clips)
     ] in
     subst P (sym (c.into_bump_slice-2.ensures ∙ c.reverse.ensures.items)) (all-reversed (IsClipped c.args.clip.now) c.loop-child-test.nodes.items kept)
-
-pub node_of-returns-in_ok-nodes-in-Group-clause-fills : goal.node_of-returns-in_ok-nodes-in-Group-clause-fills
-node_of-returns-in_ok-nodes-in-Group-clause-fills t c = λ x y.
-    let inner = answer_among c.args.levels c.args.document.now.records (Shape c.args.shape.now.id) (carry c.then-page.result) x y in
-    c.in_ok-nodes-in-Group.ensures.fills x y
-    ∙ ap (λ o. or_else (first_fill c.args.shown.now x y) (seen (is_in c.args.clip.now x y) o))
-    (answer-by c.args.levels c.args.document.now.records (carry c.args.out.now) x y c.args.shape.now c.then-page.result Group false inner c.then-page.ensures.carries c.if-shape.false c.in-Group.is
-    (ap (λ k. holds_of k (carry c.then-page.result) x y) (sym c.in-Group.is)) refl)
-
-pub node_of-returns-in_ok-nodes-in-Group-clause-clips : goal.node_of-returns-in_ok-nodes-in-Group-clause-clips
-node_of-returns-in_ok-nodes-in-Group-clause-clips t c =
-    branch-clipped c.args.clip.now c.args.clip.now None c.in_ok-nodes-in-Group.nodes.now c.branch-clip.result c.branch-clip.ensures.pixels (λ x y h. h) tt c.in_ok-nodes-in-Group.ensures.clips
 
 pub node_of-returns-then-hides-clause-fills : goal.node_of-returns-then-hides-clause-fills
 node_of-returns-then-hides-clause-fills t c = λ x y.
     let inner = answer_among c.args.levels c.args.document.now.records (Shape c.args.shape.now.id) (carry c.then-page.result) x y in
-    hidden-frame c.args.shown.now c.args.clip.now c.page_box.result c.meet-inner.result (or_else inner c.in-Frame.fill) x y c.meet-inner.ensures.exact (c.if-hides.ensures refl)
+    hidden-box c.args.shown.now c.part_of-part.result (shown_of c.args.shape.now.kind c.then-page.result inner x y) x y (c.if-hides.ensures refl)
+    ∙ ap (or_else (first_fill c.args.shown.now x y)) (c.part_of-part.ensures inner x y)
     ∙ ap (λ o. or_else (first_fill c.args.shown.now x y) (seen (is_in c.args.clip.now x y) o))
-    (answer-by c.args.levels c.args.document.now.records (carry c.args.out.now) x y c.args.shape.now c.then-page.result (Frame c.in-Frame.w c.in-Frame.h c.in-Frame.fill) (is_in c.page_box.result x y) inner c.then-page.ensures.carries c.if-shape.false c.in-Frame.is
-    (ap (λ b. is_in b x y) (c.page_box.ensures.value ∙ c.rect-leaf.ensures.sides) ∙ ap (λ k. holds_of k (carry c.then-page.result) x y) (sym c.in-Frame.is)) refl)
+    (answer-by c.args.levels c.args.document.now.records (carry c.args.out.now) x y c.args.shape.now c.then-page.result c.args.shape.now.kind _ inner c.then-page.ensures.carries c.if-shape.false refl refl refl)
 
-pub node_of-returns-in_ok-back-in-Frame-clause-fills : goal.node_of-returns-in_ok-back-in-Frame-clause-fills
-node_of-returns-in_ok-back-in-Frame-clause-fills t c = λ x y.
+pub node_of-returns-clause-fills : goal.node_of-returns-clause-fills
+node_of-returns-clause-fills t c = λ x y.
     let inner = answer_among c.args.levels c.args.document.now.records (Shape c.args.shape.now.id) (carry c.then-page.result) x y in
+    c.in_ok-node.ensures.fills x y
+    ∙ ap (λ o. or_else (first_fill c.args.shown.now x y) (seen (is_in c.args.clip.now x y) o))
+    (answer-by c.args.levels c.args.document.now.records (carry c.args.out.now) x y c.args.shape.now c.then-page.result c.args.shape.now.kind _ inner c.then-page.ensures.carries c.if-shape.false refl refl refl)
+
+pub seen_node-returns-in_ok-nodes-in-Group-clause-clips : goal.seen_node-returns-in_ok-nodes-in-Group-clause-clips
+seen_node-returns-in_ok-nodes-in-Group-clause-clips t c =
+    branch-clipped c.args.clip.now c.args.clip.now None c.in_ok-nodes-in-Group.nodes.now c.branch-clip.result c.branch-clip.ensures.pixels (λ x y h. h) tt c.in_ok-nodes-in-Group.ensures.clips
+
+pub seen_node-returns-in_ok-back-in-Frame-clause-fills : goal.seen_node-returns-in_ok-back-in-Frame-clause-fills
+seen_node-returns-in_ok-back-in-Frame-clause-fills t c = λ x y.
+    let inner = answer_among c.args.levels c.args.document.now.records (Shape c.args.shape.now.id) (carry c.args.page.now) x y in
     let box = c.page_box.ensures.value ∙ c.rect-leaf.ensures.sides in
     added-frame (first_fill c.args.shown.now x y) (first_fill c.nodes_among-in-Frame.new.shown x y) (first_fill c.back_of.new.shown x y) c.in-Frame.fill inner (is_in c.args.clip.now x y) (is_in c.page_box.result x y) (is_in c.meet-inner.result x y) (c.meet-inner.ensures.exact x y)
     (c.in_ok-nodes-in-Frame.ensures.fills x y)
     (c.in_ok-back-in-Frame.ensures.fills x y ∙ ap (λ b. or_else (first_fill c.nodes_among-in-Frame.new.shown x y) (seen (is_in c.args.clip.now x y) (seen b c.in-Frame.fill))) (c.rect-leaf.ensures.pixels x y ∙ ap (λ b. is_in b x y) (sym box)))
-    ∙ ap (λ o. or_else (first_fill c.args.shown.now x y) (seen (is_in c.args.clip.now x y) o))
-    (answer-by c.args.levels c.args.document.now.records (carry c.args.out.now) x y c.args.shape.now c.then-page.result (Frame c.in-Frame.w c.in-Frame.h c.in-Frame.fill) (is_in c.page_box.result x y) inner c.then-page.ensures.carries c.if-shape.false c.in-Frame.is
-    (ap (λ b. is_in b x y) box ∙ ap (λ k. holds_of k (carry c.then-page.result) x y) (sym c.in-Frame.is)) refl)
+    ∙ ap (λ b. or_else (first_fill c.args.shown.now x y) (seen (is_in c.args.clip.now x y) (cond b (or_else inner c.in-Frame.fill) None))) (ap (λ b. is_in b x y) box)
+    ∙ ap (λ k. or_else (first_fill c.args.shown.now x y) (seen (is_in c.args.clip.now x y) (shown_of k c.args.page.now inner x y))) (sym c.in-Frame.is)
 
-pub node_of-returns-in_ok-back-in-Frame-clause-items : goal.node_of-returns-in_ok-back-in-Frame-clause-items
-node_of-returns-in_ok-back-in-Frame-clause-items t c =
-    list-frame c.args.shown.now c.nodes_among-in-Frame.new.shown c.back_of.new.shown (items_along c.in_ok-nodes-in-Frame.nodes.now) (items_of c.branch-inner.result) c.in_ok-back-in-Frame.back c.in_ok-nodes-in-Frame.ensures.items c.in_ok-back-in-Frame.ensures.items c.branch-inner.ensures.items
-
-pub node_of-returns-in_ok-back-in-Frame-clause-clips : goal.node_of-returns-in_ok-back-in-Frame-clause-clips
-node_of-returns-in_ok-back-in-Frame-clause-clips t c =
+pub seen_node-returns-in_ok-back-in-Frame-clause-clips : goal.seen_node-returns-in_ok-back-in-Frame-clause-clips
+seen_node-returns-in_ok-back-in-Frame-clause-clips t c =
     branch-clipped c.args.clip.now c.meet-inner.result c.in_ok-back-in-Frame.back c.in_ok-nodes-in-Frame.nodes.now c.branch-inner.result c.branch-inner.ensures.pixels (meet-within c.args.clip.now c.page_box.result c.meet-inner.result c.meet-inner.ensures.exact) c.in_ok-back-in-Frame.ensures.clip c.in_ok-nodes-in-Frame.ensures.clips
-
-pub node_of-returns-in-Polygon-clause-fills : goal.node_of-returns-in-Polygon-clause-fills
-node_of-returns-in-Polygon-clause-fills t c =
-    ok-more c.polygon_of.result _ _ (λ node h x y.
-    let page = c.then-page.result in
-    let held = is_in_polygon (map (carry page) c.as_slice.result.now) x y in
-    let inner = answer_among c.args.levels c.args.document.now.records (Shape c.args.shape.now.id) (carry page) x y in
-    h x y
-    ∙ ap (λ o. or_else (first_fill c.args.shown.now x y) (seen (is_in c.args.clip.now x y) o))
-    (answer-by c.args.levels c.args.document.now.records (carry c.args.out.now) x y c.args.shape.now page (Polygon c.in-Polygon.points c.in-Polygon.fill) held inner c.then-page.ensures.carries c.if-shape.false c.in-Polygon.is
-    (ap (λ l. is_in_polygon (map (carry page) l) x y) c.as_slice.ensures ∙ ap (λ k. holds_of k (carry page) x y) (sym c.in-Polygon.is)) refl))
-    c.polygon_of.ensures.fills

@@ -21,4 +21,4 @@ returns c = λ x y h.
     let across = simp to_z-of_z at c.run_within-across.ensures in
     let down = simp to_z-of_z at c.run_within-down.ensures in
     covered-more c.args.self.now.window c.args.self.now.rows c.loop-row.self.rows c.args.part.now c.x.result c.y.result c.w.result c.h.result c.bits-word.result c.run_within-across.result.first c.run_within-across.result.end c.run_within-down.result.first c.run_within-down.result.end c.x.ensures c.w.ensures.value c.y.ensures c.h.ensures.value c.loop-row.invariant.cells c.bits-word.ensures across down x y
-    (ap (λ w. covered w c.loop-row.self.rows x y) (sym c.loop-row.invariant.place) ∙ h)
+    (ap (λ w. covered w c.loop-row.self.rows x y) (sym (c.touch.ensures.window ∙ c.loop-row.invariant.place)) ∙ ap (λ rows. covered c.touch.new.self.window rows x y) (sym c.touch.ensures.rows) ∙ h)

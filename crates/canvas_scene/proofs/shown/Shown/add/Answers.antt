@@ -1,20 +1,16 @@
 use Rattle.std.proofs.Common.{◌≡◌, ◌∙◌, ◌++◌, ◌∷◌, [], All, List, Some, ap, refl, rules, subst, sym}
 use Rattle.canvas_plane.specs.declared.PageBox.{PageBox}
 use Rattle.canvas_plane.specs.Page.{is_in}
-use Rattle.canvas_shape.specs.Leaves.{carried_holds}
+use Rattle.canvas_shape.specs.Leaves.{carried_holds, page_box_of}
 use Rattle.canvas_scene.specs.declared.item.Item.{Item}
 use Rattle.canvas_scene.specs.Covers.{first_fill, IsHidden}
 use Rattle.canvas_scene.proofs.Covering.{added-item, cells-still-hidden, hidden-leaf, more-cells-hidden, one-more-hidden, rectangle-holds, still-hidden}
 use Rattle.canvas_scene.proofs.shown.Shown.add.Goals as goal
 
-pub returns-then-hides-clause-fills : goal.returns-then-hides-clause-fills
-returns-then-hides-clause-fills c = λ x y.
-    hidden-leaf c.args.self.now (carried_holds c.args.leaf) c.page_box.result c.args.clip.now c.meet-part.result (Some c.args.fill) x y c.page_box.ensures.has_all c.meet-part.ensures.exact (c.if-hides.ensures refl)
-
 pub invariant_of-self-in-Continue-branch-2 : goal.invariant_of-self-in-Continue-branch-2
 invariant_of-self-in-Continue-branch-2 c =
     let item : Item = record { leaf = c.args.leaf; clip = c.args.clip.now; fill = c.args.fill } in
-    let held = rectangle-holds c.args.leaf c.in-Rect.field-0 c.page_box.result c.args.clip.now c.meet-part.result c.args.fill c.in-Rect.is c.page_box.ensures.value c.meet-part.ensures.exact in (
+    let held = rectangle-holds c.args.leaf c.in-Rect.shape c.sides.result c.args.clip.now c.meet-part.result c.args.fill c.in-Rect.is (c.sides.ensures.value ∙ ap page_box_of (sym c.in-Rect.is)) c.meet-part.ensures.exact in (
       one-more-hidden c.self.inside.covers.items c.push-in-Rect.new.self.items c.self.inside.items.items c.push.new.self.items item c.meet-part.result c.in_ok-push.ensures.items c.in_ok-push-2.ensures.items held c.self.invariant.0,
       more-cells-hidden c.self.inside.cells c.mark.new.self c.self.inside.items.items c.push.new.self.items item c.meet-part.result c.in_ok-push.ensures.items c.mark.ensures held c.self.invariant.1,
     )
@@ -22,7 +18,7 @@ invariant_of-self-in-Continue-branch-2 c =
 pub invariant_of-self-in_err-push-2 : goal.invariant_of-self-in_err-push-2
 invariant_of-self-in_err-push-2 c =
     let item : Item = record { leaf = c.args.leaf; clip = c.args.clip.now; fill = c.args.fill } in
-    let held = rectangle-holds c.args.leaf c.in-Rect.field-0 c.page_box.result c.args.clip.now c.meet-part.result c.args.fill c.in-Rect.is c.page_box.ensures.value c.meet-part.ensures.exact in
+    let held = rectangle-holds c.args.leaf c.in-Rect.shape c.sides.result c.args.clip.now c.meet-part.result c.args.fill c.in-Rect.is (c.sides.ensures.value ∙ ap page_box_of (sym c.in-Rect.is)) c.meet-part.ensures.exact in
     let P : List PageBox → Type 0 = λ l. All (IsHidden c.push.new.self.items) l in (
       subst P (sym c.in_err-push-2.ensures.items) (still-hidden c.self.inside.covers.items c.self.inside.items.items c.push.new.self.items item c.in_ok-push.ensures.items c.self.invariant.0),
       more-cells-hidden c.self.inside.cells c.mark.new.self c.self.inside.items.items c.push.new.self.items item c.meet-part.result c.in_ok-push.ensures.items c.mark.ensures held c.self.invariant.1,
