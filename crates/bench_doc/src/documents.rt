@@ -6,8 +6,8 @@ use canvas_plane::{Point, Pose};
 use canvas_shape::{Colour, Kind, Points};
 use std::alloc::{AllocError, Global};
 
-/// How records hang together. Ids begin at 2, as where the first shape was deleted, and indexes stand in
-/// no order of the ids.
+/// How records hang together. Ids begin at 2, as where the first shape was deleted. Indexes stand in no order of the ids, with a
+/// gap behind each, so that new indexes are other ones.
 #[derive(Clone, Copy)]
 pub enum Layout {
     /// Groups on the page, each with 63 rectangles.
@@ -100,7 +100,7 @@ pub fn records(alloc: Global, layout: Layout, count: u32) -> Result<Vec<Record>,
             kind,
             place: Place {
                 parent,
-                index: fresh(id.wrapping_mul(1_597) % 4096),
+                index: fresh(id.wrapping_mul(1_597) % 4096 * 2),
             },
             pose: Pose::STILL,
             hidden: false,
