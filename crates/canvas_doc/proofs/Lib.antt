@@ -26,6 +26,7 @@ pub mod Misplaced
 pub mod Ordered
 pub mod Ranged
 pub mod Kept
+pub mod Inserted
 pub mod InOrder
 pub mod RestoredWell
 pub mod Saved

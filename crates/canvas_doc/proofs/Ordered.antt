@@ -25,7 +25,7 @@ use Rattle.std.proofs.Math.Dec.{eqb}
 use Rattle.canvas_doc.specs.declared.records.Record.{Record}
 use Rattle.canvas_doc.specs.Children.{same_parent}
 use Rattle.canvas_doc.specs.Listed.{holder_of}
-use Rattle.canvas_doc.specs.PlaceOrder.{by_parent, by_place, by_place_at, IsInPlaceOrder}
+use Rattle.canvas_doc.specs.PlaceOrder.{by_parent, by_place, by_place_at, IsNextInOrder, IsInPlaceOrder}
 use Rattle.canvas_doc.specs.Tree.{HavePlaces, IsElsewhere}
 use Rattle.canvas_doc.proofs.Placed.{then-eq, holder-eq}
 use Rattle.canvas_doc.proofs.RestoredWell.{same-parent-sym}
@@ -51,15 +51,18 @@ equal-from_eq Equal h = refl
 equal-from_eq Greater h = cc
 
 -- each place comes after all places before it
-pub far : (order : List ℕ) (rs : List Record) → IsInPlaceOrder order rs → (i j : ℕ) → i < j → j < length order → by_place_at rs (get_or order i 0) (get_or order j 0) ≡ Less
-far order rs h i zero l b = absurd (omega arith)
-far order rs h i (suc j) l b =
+pub rises-far : (order : List ℕ) (rs : List Record) → ((k : ℕ) → k < length order → IsNextInOrder order rs k) → (i j : ℕ) → i < j → j < length order → by_place_at rs (get_or order i 0) (get_or order j 0) ≡ Less
+rises-far order rs h i zero l b = absurd (omega arith)
+rises-far order rs h i (suc j) l b =
     let next : by_place_at rs (get_or order j 0) (get_or order (suc j) 0) ≡ Less =
-    less-from_lt (by_place_at rs (get_or order j 0) (get_or order (suc j) 0)) ((h.each (suc j) b).rising j (omega arith)) in
+    less-from_lt (by_place_at rs (get_or order j 0) (get_or order (suc j) 0)) ((h (suc j) b).rising j (omega arith)) in
     elim (cases_Bool (nat_lt i j)) [
-      | inl t ↦ (at-total rs).trans (get_or order i 0) (get_or order j 0) (get_or order (suc j) 0) (far order rs h i j (grind (arith, nat_tests)) (omega arith)) next
+      | inl t ↦ (at-total rs).trans (get_or order i 0) (get_or order j 0) (get_or order (suc j) 0) (rises-far order rs h i j (grind (arith, nat_tests)) (omega arith)) next
       | inr f ↦ (let e : j ≡ i = grind (arith, nat_tests) in subst (λ k. by_place_at rs (get_or order k 0) (get_or order (suc j) 0) ≡ Less) e next)
     ]
+
+pub far : (order : List ℕ) (rs : List Record) → IsInPlaceOrder order rs → (i j : ℕ) → i < j → j < length order → by_place_at rs (get_or order i 0) (get_or order j 0) ≡ Less
+far order rs h i j l b = rises-far order rs h.each i j l b
 
 -- no position stands twice
 pub apart : (order : List ℕ) (rs : List Record) → IsInPlaceOrder order rs → (i j d : ℕ) → i < j → j < length order → eqb (get_or order i d) (get_or order j d) ≡ false
@@ -137,7 +140,7 @@ tied-records rs h i j r s a b e f tied = elim (cases_Bool (nat_lt i j)) [
   ]
 ]
 
-tied-same : (rs : List Record) → HavePlaces rs → (i j : ℕ) → i < length rs → j < length rs → by_place_at rs i j ≡ Equal → i ≡ j
+pub tied-same : (rs : List Record) → HavePlaces rs → (i j : ℕ) → i < length rs → j < length rs → by_place_at rs i j ≡ Equal → i ≡ j
 tied-same rs h i j a b tied = elim (slice_get_cases rs i).1 [
   | inl x ↦ elim (slice_get_cases rs j).1 [
     | inl y ↦ tied-records rs h i j x.0 y.0 a b x.3 y.3
@@ -147,7 +150,7 @@ tied-same rs h i j a b tied = elim (slice_get_cases rs i).1 [
   | inr n ↦ absurd (omega (arith, n.0))
 ]
 
-less-unless : (o p : Ordering) → o ≡ ordering_reverse p → is_lt p ≡ false → (o ≡ Equal → ⊥) → is_lt o ≡ true
+pub less-unless : (o p : Ordering) → o ≡ ordering_reverse p → is_lt p ≡ false → (o ≡ Equal → ⊥) → is_lt o ≡ true
 less-unless o Less e h n = cc
 less-unless o Equal e h n = absurd (n e)
 less-unless o Greater e h n = ap is_lt e

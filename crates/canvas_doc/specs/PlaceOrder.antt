@@ -1,5 +1,5 @@
 -- The order of records by place.
-use Rattle.std.specs.Prelude.{ℕ, ◌≡◌, ◌<◌, ◌≤◌, ◌+◌, List, Bool, true, false, Option, Some, None, length, slice_index}
+use Rattle.std.specs.Prelude.{ℕ, ◌≡◌, ◌≢◌, ◌<◌, ◌≤◌, ◌+◌, List, Bool, true, false, Option, Some, None, length, slice_index}
 use Rattle.std.specs.List.{slice_get}
 use Rattle.std.specs.Option.{option_cmp}
 use Rattle.std.specs.Ordering.{nat_cmp, ordering_then, is_lt}
@@ -31,6 +31,12 @@ pub record IsNextInOrder (order : List ℕ) (rs : List Record) (k : ℕ) : Type 
 -- the positions of all records, each with a place after the one before it
 pub record IsInPlaceOrder (order : List ℕ) (rs : List Record) : Type 0 where
   pub complete : length order ≡ length rs
+  pub each : (k : ℕ) → k < length order → IsNextInOrder order rs k
+
+-- the positions of all records but one, each with a place after the one before it
+pub record IsInPlaceOrderBut (position : ℕ) (order : List ℕ) (rs : List Record) : Type 0 where
+  pub complete : length order + 1 ≡ length rs
+  pub other : (k : ℕ) → k < length order → slice_index order k ≢ position
   pub each : (k : ℕ) → k < length order → IsNextInOrder order rs k
 
 -- a well-formed document, and the order of its records

@@ -1,7 +1,7 @@
 //! The document after a change.
 
-ghost use Rattle.std.specs.Prelude.{◌≡◌, ◌≤◌, ◌++◌, ◌∷◌, [], not, map, filter, length, replicate, All, IfOk, None, false, true};
-ghost use Rattle.canvas_doc.specs.Contents.{AreRising, reaches_page};
+ghost use Rattle.std.specs.Prelude.{◌≡◌, ◌+◌, ◌≤◌, ◌++◌, ◌∷◌, [], not, map, filter, length, replicate, All, IfOk, None, false, true};
+ghost use Rattle.canvas_doc.specs.Contents.{AreRising, IsWellFormed, reaches_page};
 ghost use Rattle.canvas_doc.specs.Depth.{AreMarks};
 ghost use Rattle.canvas_doc.specs.Effect.{changed_by, respaced, child_rank, indexes, is_in_subtree};
 ghost use Rattle.canvas_doc.specs.PlaceOrder.{IsInPlaceOrder};
@@ -12,9 +12,7 @@ use crate::Document;
 use crate::ancestry::{STEPS, level_at, no_marks};
 use crate::edits::Change;
 use crate::lookup::position_of;
-use crate::place_order::{
-    children_range, in_order, order_after_creation, order_after_deletion, order_after_move,
-};
+use crate::place_order::{children_range, order_after_deletion, put_by_place, take_by_place};
 use crate::records::{Parent, Place, Record};
 use crate::shared::SharedRecord;
 use canvas_key::fresh;
@@ -24,7 +22,7 @@ use std::alloc::{AllocError, Global};
 use std::ops::Range;
 
 impl Document {
-    ghost use Rattle.std.specs.Prelude.{ℤ, true};
+    ghost use Rattle.std.specs.Prelude.{◌+◌, ℤ, true};
     ghost use Rattle.canvas_doc.specs.Effect.{changes_one, effect_of, Fits, SpacesOnly};
     ghost use Rattle.canvas_doc.specs.declared.edits.Change.TheVariants.{Respace};
     ghost use Rattle.canvas_doc.specs.Picture.{colour};
@@ -50,10 +48,7 @@ impl Document {
                     pose: *pose,
                     hidden: *hidden,
                 };
-                let shape = SharedRecord::new(alloc, shape)?;
-                let records = with_one_more(alloc, &self.records, shape)?;
-                let order = order_after_creation(alloc, &self.order, &records, self.records.len())?;
-                Document::with_candidate(alloc, records, self.next + 1, order)
+                self.with_record(alloc, shape)
             }
             Change::Delete { id } => {
                 let records = without(alloc, &self.records, *id)?;
@@ -67,6 +62,23 @@ impl Document {
             Change::Reshape { .. } => self.with_one_changed(alloc, change),
             Change::Show { .. } => self.with_one_changed(alloc, change),
         }
+    }
+
+    // The document with one more record.
+    fn with_record(&self, alloc: Global, shape: Record) -> Result<Document, AllocError>
+        requires { IsWellFormed (record { records = self.now.records ++ shape ∷ []; next = self.now.next + 1 }) }
+        ensures { IfOk result (λ after. after ≡ record { records = self.now.records ++ shape ∷ []; next = self.now.next + 1 }) }
+    {
+        let shape = SharedRecord::new(alloc, shape)?;
+        let records = with_one_more(alloc, &self.records, shape)?;
+        let mut order = Vec::with_capacity(alloc, self.order.len() + 1)?;
+        order.extend_from_slice(&self.order)?;
+        put_by_place(&mut order, &records, self.records.len())?;
+        Ok(Document {
+            records,
+            order,
+            next: self.next + 1,
+        })
     }
 
     // The document with new indexes for the children of a parent, which leave the order as it is.
@@ -88,7 +100,7 @@ impl Document {
         ensures { IfOk result (λ after. after ≡ effect_of change.now self.now) }
     {
         let records = changed(alloc, &self.records, change)?;
-        let order = self.order_after(alloc, &records, change)?;
+        let order = self.order_after(&records, change)?;
         Ok(Document {
             records,
             order,
@@ -99,7 +111,6 @@ impl Document {
     // The order after a change of one shape: only a move changes it.
     fn order_after(
         &self,
-        alloc: Global,
         records: &[SharedRecord],
         change: &Change,
     ) -> Result<Vec<u32>, AllocError>
@@ -109,8 +120,10 @@ impl Document {
     {
         if let Change::Move { id, .. } = change {
             if let Some(position) = position_of(&self.records, *id) {
-                let order = order_after_move(alloc, &self.order, records, position)?;
-                return in_order(alloc, records, order);
+                let mut order = self.order.clone()?;
+                take_by_place(&mut order, &self.records, position);
+                put_by_place(&mut order, records, position)?;
+                return Ok(order);
             }
         }
         self.order.clone()

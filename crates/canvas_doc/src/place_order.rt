@@ -1,12 +1,12 @@
 //! The order of a document's records by place: the children of a parent stand side by side in it,
 //! from back to front.
 
-ghost use Rattle.std.specs.Prelude.{◌≡◌, ◌≤◌, ◌<◌, IfOk, IsTrue, length};
+ghost use Rattle.std.specs.Prelude.{◌≡◌, ◌≤◌, ◌<◌, ℕ, IfOk, IsTrue, OnOk, false, length, slice_index, true};
 ghost use Rattle.std.specs.List.{range_with_len, slice_get};
 ghost use Rattle.std.specs.Ordering.{is_lt, is_le};
 ghost use Rattle.canvas_doc.specs.Contents.{IsWellFormed};
 ghost use Rattle.canvas_doc.specs.Listed.{holder_of};
-ghost use Rattle.canvas_doc.specs.PlaceOrder.{by_parent, by_place, by_place_at, has_parent_at, IsNextInOrder, IsInPlaceOrder, AreChildrenWithin};
+ghost use Rattle.canvas_doc.specs.PlaceOrder.{by_parent, by_place, by_place_at, has_parent_at, IsNextInOrder, IsInPlaceOrder, IsInPlaceOrderBut, AreChildrenWithin};
 ghost use Rattle.canvas_doc.specs.Tree.{HavePlaces};
 
 use crate::Document;
@@ -38,7 +38,7 @@ impl Document {
 }
 
 // The candidate, where it has the positions of all records by place, or these positions sorted.
-pub(crate) fn in_order(
+fn in_order(
     alloc: Global,
     records: &[SharedRecord],
     candidate: Vec<u32>,
@@ -178,49 +178,42 @@ pub(crate) fn holder_of(parent: Parent) -> Option<u32>
     }
 }
 
-// What the order may be once the last record was added.
-pub(crate) fn order_after_creation(
-    alloc: Global,
-    order: &[u32],
-    records: &[SharedRecord],
-    position: usize,
-) -> Result<Vec<u32>, AllocError>
-    requires { position ≤ 4096 }
-{
-    let mut after = Vec::with_capacity(alloc, order.len() + 1)?;
-    after.extend_from_slice(order)?;
-    put_by_place(&mut after, records, position as u32)?;
-    Ok(after)
-}
-
-// What the order may be once the record at a position was moved.
-pub(crate) fn order_after_move(
-    alloc: Global,
-    order: &[u32],
-    records: &[SharedRecord],
-    position: usize,
-) -> Result<Vec<u32>, AllocError>
-    requires { position ≤ 4096 }
-{
-    let mut after = Vec::with_capacity(alloc, order.len())?;
-    for other in order {
-        if *other as usize != position {
-            after.push(*other)?;
-        }
-    }
-    put_by_place(&mut after, records, position as u32)?;
-    Ok(after)
-}
-
-// Puts a position in front of those with later places.
-fn put_by_place(
+// Puts the position of a record, the only one that is missing, into the order.
+pub(crate) fn put_by_place(
     order: &mut Vec<u32>,
     records: &[SharedRecord],
-    position: u32,
-) -> Result<(), AllocError> {
-    let at = order.partition_point(|other| by_place_at(records, *other, position).is_lt());
-    order.insert(at, position)?;
+    position: usize,
+) -> Result<(), AllocError>
+    requires few { length records.now ≤ 4096 }
+    requires there { position < length records.now }
+    requires places { HavePlaces records.now }
+    requires order { IsInPlaceOrderBut position order.old.items records.now }
+    ensures { OnOk result (IsInPlaceOrder order.new.items records.now) }
+{
+    let at = count_before(order, records, position as u32);
+    order.insert(at, position as u32)?;
     Ok(())
+}
+
+// Takes the position of a record out of the order.
+pub(crate) fn take_by_place(order: &mut Vec<u32>, records: &[SharedRecord], position: usize)
+    requires few { length records.now ≤ 4096 }
+    requires there { position < length records.now }
+    requires order { IsInPlaceOrder order.old.items records.now }
+    ensures { IsInPlaceOrderBut position order.new.items records.now }
+{
+    let at = count_before(order, records, position as u32);
+    order.remove(at);
+}
+
+// How many positions of the order have places before that of another one.
+fn count_before(order: &[u32], records: &[SharedRecord], position: u32) -> usize
+    requires { (k : ℕ) → k < length order.now → IsNextInOrder order.now records.now k }
+    ensures bound { result ≤ length order.now }
+    ensures before { (k : ℕ) → k < result → is_lt (by_place_at records.now (slice_index order.now k) position) ≡ true }
+    ensures behind { (k : ℕ) → result ≤ k → k < length order.now → is_lt (by_place_at records.now (slice_index order.now k) position) ≡ false }
+{
+    order.partition_point(|other| by_place_at(records, *other, position).is_lt())
 }
 
 // What the order may be once records were left out.

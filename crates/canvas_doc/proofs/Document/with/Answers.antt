@@ -15,14 +15,14 @@ returns-in-Respace-clause-colours c =
     (λ after is _ x y. ap (λ (d : Contents). colour d.records x y) is ∙ colour-respaced p before.records (subst (λ (d : Contents). length d.records ≤ 4096) c.self.view_is c.self.invariant.well_formed.few) x y)
     c.with_new_indexes.ensures
 
-pub with_candidate-requires-in-Delete : goal.with_candidate-requires-in-Delete
-with_candidate-requires-in-Delete c =
+pub with_candidate-requires : goal.with_candidate-requires
+with_candidate-requires c =
     let id = c.in-Delete.id in
     let next = c.self.inside.next in
     let after : Contents = record { records = c.in_ok-records-in-Delete.records.items; next = next } in
     let e : effect_of c.args.change.now c.args.self.now ≡ after =
     ap (λ ch. effect_of ch c.args.self.now) c.in-Delete.is
     ∙ ap (effect_of (Delete id)) (sym c.self.view_is)
-    ∙ ap (λ rs. record { records = filter (λ r. not (is_in_subtree id rs r)) rs; next = next }) (sym c.deref-in-Delete.ensures.value)
+    ∙ ap (λ rs. record { records = filter (λ r. not (is_in_subtree id rs r)) rs; next = next }) (sym c.deref.ensures.value)
     ∙ ap (λ rs. record { records = rs; next = next }) (sym c.in_ok-records-in-Delete.ensures) in
     subst IsWellFormed e c.requires.left
