@@ -60,7 +60,7 @@ live-more columns column y k lt high live j d below =
     (cases_eq j k)
 
 -- the pixel of a row whose words all look the same past it
-pub row-fresh : (w : Window) (bs : List Block) (row : List (List ℕ)) (columns : List Column) (y k : ℕ) → length columns ≡ 4 → 4 ≤ k → length row ≤ 256 → AreColumns w bs row columns y → ((j : ℕ) (d : Column) → j < k → y < (get_or columns j d).until) → (x : ℕ) (d : List ℕ) → x < length row → get_or row x d ≡ shown w bs x y
+pub row-fresh : (w : Window) (bs : List Block) (row : List (List ℕ)) (columns : List Column) (y k : ℕ) → length columns ≡ 4 → 4 ≤ k → length row ≤ 256 → AreColumns w bs row columns y → ((j : ℕ) (d : Column) → j < k → y < (get_or columns j d).until) → (x : ℕ) (d : List ℕ) → x < length row → get_or row x d ≡ shown bs x y
 row-fresh w bs row [] y k four all narrow kept live x d lt = absurd (omega (arith, four))
 row-fresh w bs row (c ∷ cs) y k four all narrow kept live x d lt =
     let n = x / 64 in

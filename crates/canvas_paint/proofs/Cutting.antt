@@ -1,8 +1,11 @@
 -- Items cut to a window, and the words of their rows.
-use Rattle.std.proofs.Common.{◌≡◌, ℕ, ◌+◌, ◌-◌, ◌*◌, ◌<◌, ◌≤◌, max, min, List, [], ◌∷◌, ◌++◌, ℤ, Bool, true, false, ◌&&◌, cond, Option, Some, None, refl, sym, ap, ◌∙◌, arith, length, take, get_or, pos, ◌+ℤ◌, nat_le, nat_lt, ◌/◌, ◌%◌, slice_index}
+use Rattle.std.proofs.Common.{◌≡◌, ℕ, zero, suc, ◌+◌, ◌-◌, ◌*◌, ◌<◌, ◌≤◌, max, min, List, [], ◌∷◌, ◌++◌, ℤ, Bool, true, false, ◌&&◌, cond, Option, Some, None, refl, sym, ap, ◌∙◌, arith, length, take, get_or, pos, ◌+ℤ◌, nat_le, nat_lt, ◌/◌, ◌%◌, slice_index, ⊎_elim}
 use Rattle.std.specs.Prelude.{int_le, int_lt}
 use Rattle.std.proofs.Math.IntN.{+ℤ_assoc, pos-+ℤ-pos}
+use Rattle.std.proofs.Math.ListN.{get_or-append}
+use Rattle.std.proofs.Math.Seq.{get_or-append_seam}
 use Rattle.std.proofs.lemmas.List.{take_more}
+use Rattle.std.proofs.lemmas.Bool.{cases_lt}
 use Rattle.std.proofs.lemmas.Bool.Decides.{nat_tests}
 use Rattle.canvas_plane.specs.Page.{is_in}
 use Rattle.canvas_plane.specs.declared.Point.{Point}
@@ -32,12 +35,39 @@ part-none from to base i start end s e le lt =
     let out : is_within from (base + i) to ≡ false = grind (arith, nat_tests) in
     has-zero i ∙ sym out
 
--- the pixels between the ends of an ellipse's row
-pub ellipse-some : (w : Window) (box sides : PageBox) (k j from to : ℕ) (x x2 y s t : ℤ) (b : Bool) → b ≡ is_within from k to → nat_le from k ≡ int_le s (x +ℤ pos k) → nat_lt k to ≡ int_lt (x2 +ℤ pos k) t → x ≡ w.x → x2 ≡ w.x → ((z : ℤ) → is_from_to s z t ≡ is_in_ellipse sides z y) → y ≡ row_at w j → sides ≡ box → b ≡ is_in_ellipse box (column_at w k) (row_at w j)
-ellipse-some w box sides k j from to x x2 y s t b e f g ex ex2 h ey es =
-    e ∙ ap (λ u. u && nat_lt k to) (f ∙ ap (λ z. int_le s (z +ℤ pos k)) ex)
+-- the columns between the ends of an ellipse's row
+pub ellipse-between : (w : Window) (sides : PageBox) (k j from to : ℕ) (x x2 y s t : ℤ) → nat_le from k ≡ int_le s (x +ℤ pos k) → nat_lt k to ≡ int_lt (x2 +ℤ pos k) t → x ≡ w.x → x2 ≡ w.x → ((z : ℤ) → is_from_to s z t ≡ is_in_ellipse sides z y) → y ≡ row_at w j → is_within from k to ≡ is_in_ellipse sides (column_at w k) (row_at w j)
+ellipse-between w sides k j from to x x2 y s t f g ex ex2 h ey =
+    ap (λ u. u && nat_lt k to) (f ∙ ap (λ z. int_le s (z +ℤ pos k)) ex)
     ∙ ap (λ u. int_le s (column_at w k) && u) (g ∙ ap (λ z. int_lt (z +ℤ pos k) t) ex2)
-    ∙ h (column_at w k) ∙ ap (λ z. is_in_ellipse sides (column_at w k) z) ey ∙ ap (λ c. is_in_ellipse c (column_at w k) (row_at w j)) es
+    ∙ h (column_at w k) ∙ ap (λ z. is_in_ellipse sides (column_at w k) z) ey
+
+four-words : (test : ℕ → Bool) (a b c d n i : ℕ) → n < 4 → i < 64 → IsWord a (λ i. test (0 + i)) → IsWord b (λ i. test (64 + i)) → IsWord c (λ i. test (128 + i)) → IsWord d (λ i. test (192 + i)) → has (slice_index (a ∷ b ∷ c ∷ d ∷ []) n) i ≡ test (64 * n + i)
+four-words test a b c d zero i lt below p q r s = p i below
+four-words test a b c d (suc zero) i lt below p q r s = q i below
+four-words test a b c d (suc (suc zero)) i lt below p q r s = r i below
+four-words test a b c d (suc (suc (suc zero))) i lt below p q r s = s i below
+four-words test a b c d (suc (suc (suc (suc n)))) i lt below p q r s = absurd (omega arith)
+
+-- four words that have the columns of a test
+pub row-of-four : (test : ℕ → Bool) (a b c d k : ℕ) → k < 256 → IsWord a (λ i. test (0 + i)) → IsWord b (λ i. test (64 + i)) → IsWord c (λ i. test (128 + i)) → IsWord d (λ i. test (192 + i)) → row_has (a ∷ b ∷ c ∷ d ∷ []) k ≡ test k
+row-of-four test a b c d k lt p q r s =
+    let same : 64 * (k / 64) + k % 64 ≡ k = omega arith in
+    four-words test a b c d (k / 64) (k % 64) (omega arith) (omega arith) p q r s ∙ ap test same
+
+-- rows from `top` on that have the columns of a test, after one more
+pub more-rows : (test : ℕ → ℕ → Bool) (rows new : List (List ℕ)) (row : List ℕ) (top y width : ℕ) → top ≤ y → length rows ≡ y - top → new ≡ rows ++ row ∷ [] → ((k j : ℕ) → k < width → top ≤ j → j < y → row_has (get_or rows (j - top) []) k ≡ test k j) → ((k : ℕ) → k < width → row_has row k ≡ test k y) → (k j : ℕ) → k < width → top ≤ j → j < y + 1 → row_has (get_or new (j - top) []) k ≡ test k j
+more-rows test rows new row top y width le long e before last k j lt low high =
+    ap (λ l. row_has (get_or l (j - top) []) k) e
+    ∙ ⊎_elim
+    (λ (less : j < y). ap (λ r. row_has r k) (get_or-append rows (row ∷ []) [] (j - top) (omega arith)) ∙ before k j lt low less)
+    (λ (more : y ≤ j).
+    let same : y ≡ j = omega arith in
+    let at : j - top ≡ length rows = omega arith in
+    ap (λ n. row_has (get_or (rows ++ row ∷ []) n []) k) at
+    ∙ ap (λ r. row_has r k) (get_or-append_seam rows row [] [])
+    ∙ last k lt ∙ ap (test k) same)
+    (cases_lt j y)
 
 -- ---- which free pixels of a word a block holds
 
@@ -68,18 +98,18 @@ within-rows : (top bottom z : ℕ) → top ≤ z → z < bottom → is_within to
 within-rows top bottom z h k = grind (arith, nat_tests)
 
 -- none where it has no free column
-pub held-none : (w : Window) (b : Block) (free part reach base i z : ℕ) → IsWord part (λ i. is_within b.from (base + i) b.to) → IsWord reach (λ i. has free i && has part i) → reach ≡ 0 → i < 64 → has 0 i ≡ (has free i && block_holds w b (base + i) z)
-held-none w b free part reach base i z p r zero lt =
-    let out : (has free i && is_within b.from (base + i) b.to) ≡ false = ap (λ t. has free i && t) (sym (p i lt)) ∙ sym (r i lt) ∙ ap (λ n. has n i) zero ∙ has-zero i in
-    has-zero i ∙ no-column (has free i) (is_within b.from (base + i) b.to) (is_within b.top z b.bottom) (form_holds w b.form (base + i) z) out
+pub held-none : (w : Window) (b : Block) (free part reach base i z : ℕ) → IsWord part (λ i. is_within b.from (base + i) b.to) → IsWord reach (λ i. has free i && has part i) → reach ≡ 0 → i < 64 → has 0 i ≡ (has free i && block_holds b (base + i) z)
+held-none w b free part reach base i z p r e lt =
+    let out : (has free i && is_within b.from (base + i) b.to) ≡ false = ap (λ t. has free i && t) (sym (p i lt)) ∙ sym (r i lt) ∙ ap (λ n. has n i) e ∙ has-zero i in
+    has-zero i ∙ no-column (has free i) (is_within b.from (base + i) b.to) (is_within b.top z b.bottom) (form_holds b.form (base + i) z) out
 
 -- none in the rows above it
-pub held-above : (w : Window) (b : Block) (free base i z : ℕ) → z < b.top → has 0 i ≡ (has free i && block_holds w b (base + i) z)
-held-above w b free base i z lt = has-zero i ∙ no-row (has free i) (is_within b.from (base + i) b.to) (is_within b.top z b.bottom) (form_holds w b.form (base + i) z) (above-rows b.top b.bottom z lt)
+pub held-above : (w : Window) (b : Block) (free base i z : ℕ) → z < b.top → has 0 i ≡ (has free i && block_holds b (base + i) z)
+held-above w b free base i z lt = has-zero i ∙ no-row (has free i) (is_within b.from (base + i) b.to) (is_within b.top z b.bottom) (form_holds b.form (base + i) z) (above-rows b.top b.bottom z lt)
 
 -- none in the rows below it
-pub held-below : (w : Window) (b : Block) (free base i z : ℕ) → b.bottom ≤ z → has 0 i ≡ (has free i && block_holds w b (base + i) z)
-held-below w b free base i z le = has-zero i ∙ no-row (has free i) (is_within b.from (base + i) b.to) (is_within b.top z b.bottom) (form_holds w b.form (base + i) z) (below-rows b.top b.bottom z le)
+pub held-below : (w : Window) (b : Block) (free base i z : ℕ) → b.bottom ≤ z → has 0 i ≡ (has free i && block_holds b (base + i) z)
+held-below w b free base i z le = has-zero i ∙ no-row (has free i) (is_within b.from (base + i) b.to) (is_within b.top z b.bottom) (form_holds b.form (base + i) z) (below-rows b.top b.bottom z le)
 
 pub none-within : (free i : ℕ) → has 0 i ≡ true → has free i ≡ true
 none-within free i h = let e : false ≡ true = sym (has-zero i) ∙ h in cc
@@ -88,12 +118,12 @@ pub none-held : (i : ℕ) (held : Bool) → has 0 i ≡ true → held ≡ true
 none-held i held h = let e : false ≡ true = sym (has-zero i) ∙ h in cc
 
 -- those that its form holds, in its rows
-pub held-some : (w : Window) (b : Block) (form : Form) (free part reach row word base i y z : ℕ) → IsWord part (λ i. is_within b.from (base + i) b.to) → IsWord reach (λ i. has free i && has part i) → IsWord word (λ i. has reach i && has row i) → has row i ≡ form_holds w form (base + i) y → b.form ≡ form → b.top ≤ y → y < b.bottom → y ≤ z → z < y + 1 → i < 64 → has word i ≡ (has free i && block_holds w b (base + i) z)
+pub held-some : (w : Window) (b : Block) (form : Form) (free part reach row word base i y z : ℕ) → IsWord part (λ i. is_within b.from (base + i) b.to) → IsWord reach (λ i. has free i && has part i) → IsWord word (λ i. has reach i && has row i) → has row i ≡ form_holds form (base + i) y → b.form ≡ form → b.top ≤ y → y < b.bottom → y ≤ z → z < y + 1 → i < 64 → has word i ≡ (has free i && block_holds b (base + i) z)
 held-some w b form free part reach row word base i y z p r v f same top bottom low high lt =
     let at : y ≡ z = omega arith in
     v i lt ∙ ap (λ t. t && has row i) (r i lt) ∙ ap (λ t. (has free i && t) && has row i) (p i lt)
-    ∙ ap (λ t. (has free i && is_within b.from (base + i) b.to) && t) (f ∙ ap (λ g. form_holds w g (base + i) y) (sym same) ∙ ap (form_holds w b.form (base + i)) at)
-    ∙ in-rows (has free i) (is_within b.from (base + i) b.to) (is_within b.top z b.bottom) (form_holds w b.form (base + i) z) (within-rows b.top b.bottom z (omega arith) (omega arith))
+    ∙ ap (λ t. (has free i && is_within b.from (base + i) b.to) && t) (f ∙ ap (λ g. form_holds g (base + i) y) (sym same) ∙ ap (form_holds b.form (base + i)) at)
+    ∙ in-rows (has free i) (is_within b.from (base + i) b.to) (is_within b.top z b.bottom) (form_holds b.form (base + i) z) (within-rows b.top b.bottom z (omega arith) (omega arith))
 
 -- ---- the block of an item
 
@@ -136,11 +166,11 @@ some-of here false clip true form e f h = let z : false ≡ true = h refl in cc
 some-of here false clip false form e f h = ap (λ t. t && form) e
 
 -- the block of an item
-pub cut-some : (w : Window) (item : Item) (b : Block) (k j : ℕ) → (is_within b.from k b.to && is_within b.top j b.bottom) ≡ (is_in (page_box_of item.leaf) (column_at w k) (row_at w j) && is_in item.clip (column_at w k) (row_at w j)) → ((is_within b.from k b.to && is_within b.top j b.bottom) ≡ true → is_in (page_box_of item.leaf) (column_at w k) (row_at w j) ≡ true → form_holds w b.form k j ≡ carried_holds item.leaf (column_at w k) (row_at w j)) → ((x y : ℤ) → carried_holds item.leaf x y ≡ true → is_in (page_box_of item.leaf) x y ≡ true) → b.fill ≡ item.fill → block_fill w b k j ≡ fill_at item (column_at w k) (row_at w j)
+pub cut-some : (w : Window) (item : Item) (b : Block) (k j : ℕ) → (is_within b.from k b.to && is_within b.top j b.bottom) ≡ (is_in (page_box_of item.leaf) (column_at w k) (row_at w j) && is_in item.clip (column_at w k) (row_at w j)) → ((is_within b.from k b.to && is_within b.top j b.bottom) ≡ true → is_in (page_box_of item.leaf) (column_at w k) (row_at w j) ≡ true → form_holds b.form k j ≡ carried_holds item.leaf (column_at w k) (row_at w j)) → ((x y : ℤ) → carried_holds item.leaf x y ≡ true → is_in (page_box_of item.leaf) x y ≡ true) → b.fill ≡ item.fill → block_fill b k j ≡ fill_at item (column_at w k) (row_at w j)
 cut-some w item b k j e f h same =
     let x = column_at w k in
     let y = row_at w j in
-    ap (λ t. cond t (Some b.fill) None) (some-of (is_within b.from k b.to && is_within b.top j b.bottom) (is_in (page_box_of item.leaf) x y) (is_in item.clip x y) (carried_holds item.leaf x y) (form_holds w b.form k j) e f (h x y))
+    ap (λ t. cond t (Some b.fill) None) (some-of (is_within b.from k b.to && is_within b.top j b.bottom) (is_in (page_box_of item.leaf) x y) (is_in item.clip x y) (carried_holds item.leaf x y) (form_holds b.form k j) e f (h x y))
     ∙ ap (λ c. cond (item_holds item x y) (Some c) None) same
 
 and-right : (p q : Bool) → (p && q) ≡ true → q ≡ true
@@ -173,16 +203,16 @@ last_fill-more : (xs : List Item) (n : ℕ) (d : Item) (x y : ℤ) → n < lengt
 last_fill-more xs n d x y lt = ap (λ l. last_fill l x y) (take_more xs n d lt) ∙ last_fill-push (take n xs) (get_or xs n d) x y
 
 -- the block of one item more
-pub cut-push : (w : Window) (old new : List Block) (b : Block) (items : List Item) (n : ℕ) (i : Item) (k j : ℕ) (x y : ℤ) → n < length items → i ≡ get_or items n i → last_block_fill w old k j ≡ last_fill (take n items) x y → block_fill w b k j ≡ fill_at i x y → new ≡ old ++ b ∷ [] → last_block_fill w new k j ≡ last_fill (take (n + 1) items) x y
+pub cut-push : (w : Window) (old new : List Block) (b : Block) (items : List Item) (n : ℕ) (i : Item) (k j : ℕ) (x y : ℤ) → n < length items → i ≡ get_or items n i → last_block_fill old k j ≡ last_fill (take n items) x y → block_fill b k j ≡ fill_at i x y → new ≡ old ++ b ∷ [] → last_block_fill new k j ≡ last_fill (take (n + 1) items) x y
 cut-push w old new b items n i k j x y lt is o h e =
-    ap (λ l. last_block_fill w l k j) e ∙ last-push w old b k j
-    ∙ ap (λ f. or_else f (last_block_fill w old k j)) h
+    ap (λ l. last_block_fill l k j) e ∙ last-push w old b k j
+    ∙ ap (λ f. or_else f (last_block_fill old k j)) h
     ∙ ap (λ l. or_else (fill_at i x y) l) o
     ∙ ap (λ z. or_else (fill_at z x y) (last_fill (take n items) x y)) is
     ∙ sym (last_fill-more items n i x y lt)
 
 -- one item more that has no block
-pub cut-skip : (w : Window) (old : List Block) (items : List Item) (n : ℕ) (i : Item) (k j : ℕ) (x y : ℤ) → n < length items → i ≡ get_or items n i → last_block_fill w old k j ≡ last_fill (take n items) x y → None ≡ fill_at i x y → last_block_fill w old k j ≡ last_fill (take (n + 1) items) x y
+pub cut-skip : (w : Window) (old : List Block) (items : List Item) (n : ℕ) (i : Item) (k j : ℕ) (x y : ℤ) → n < length items → i ≡ get_or items n i → last_block_fill old k j ≡ last_fill (take n items) x y → None ≡ fill_at i x y → last_block_fill old k j ≡ last_fill (take (n + 1) items) x y
 cut-skip w old items n i k j x y lt is o e =
     o ∙ ap (λ t. or_else t (last_fill (take n items) x y)) e
     ∙ ap (λ z. or_else (fill_at z x y) (last_fill (take n items) x y)) is
@@ -196,15 +226,15 @@ and-out false r m e = refl
 columns-out : (from to k : ℕ) → to ≤ from → is_within from k to ≡ false
 columns-out from to k h = grind (arith, nat_tests)
 
-pub outside-rows : (w : Window) (b : Block) (k j : ℕ) → is_within b.top j b.bottom ≡ false → block_holds w b k j ≡ false
-outside-rows w b k j e = and-out (is_within b.from k b.to) (is_within b.top j b.bottom) (form_holds w b.form k j) e
+pub outside-rows : (w : Window) (b : Block) (k j : ℕ) → is_within b.top j b.bottom ≡ false → block_holds b k j ≡ false
+outside-rows w b k j e = and-out (is_within b.from k b.to) (is_within b.top j b.bottom) (form_holds b.form k j) e
 
 not-met : (p met : Bool) → (p ≡ true → met ≡ true) → met ≡ false → p ≡ false
 not-met true met h e = sym (h refl) ∙ e
 not-met false met h e = refl
 
-pub outside-columns : (w : Window) (b : Block) (k j : ℕ) (met : Bool) → (is_within b.from k b.to ≡ true → met ≡ true) → met ≡ false → block_holds w b k j ≡ false
-outside-columns w b k j met h e = ap (λ t. (t && is_within b.top j b.bottom) && form_holds w b.form k j) (not-met (is_within b.from k b.to) met h e)
+pub outside-columns : (w : Window) (b : Block) (k j : ℕ) (met : Bool) → (is_within b.from k b.to ≡ true → met ≡ true) → met ≡ false → block_holds b k j ≡ false
+outside-columns w b k j met h e = ap (λ t. (t && is_within b.top j b.bottom) && form_holds b.form k j) (not-met (is_within b.from k b.to) met h e)
 
 no-rows : (top bottom j : ℕ) → bottom ≤ top → is_within top j bottom ≡ false
 no-rows top bottom j h = grind (arith, nat_tests)

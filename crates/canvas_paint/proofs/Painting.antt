@@ -21,29 +21,29 @@ or_else-assoc None b c = refl
 or_else-assoc (Some x) b c = refl
 
 -- the blocks with one more
-pub last-push : (w : Window) (bs : List Block) (b : Block) (x y : ℕ) → last_block_fill w (bs ++ b ∷ []) x y ≡ or_else (block_fill w b x y) (last_block_fill w bs x y)
-last-push w [] b x y = or_else-none (block_fill w b x y)
+pub last-push : (w : Window) (bs : List Block) (b : Block) (x y : ℕ) → last_block_fill (bs ++ b ∷ []) x y ≡ or_else (block_fill b x y) (last_block_fill bs x y)
+last-push w [] b x y = or_else-none (block_fill b x y)
 last-push w (c ∷ bs) b x y =
-    ap (λ o. or_else o (block_fill w c x y)) (last-push w bs b x y)
-    ∙ or_else-assoc (block_fill w b x y) (last_block_fill w bs x y) (block_fill w c x y)
+    ap (λ o. or_else o (block_fill c x y)) (last-push w bs b x y)
+    ∙ or_else-assoc (block_fill b x y) (last_block_fill bs x y) (block_fill c x y)
 
 -- the blocks from one on
-first-drop : (w : Window) (bs : List Block) (at : ℕ) (b : Block) (x y : ℕ) → at < length bs → b ≡ get_or bs at b → first_block_fill w (drop at bs) x y ≡ or_else (block_fill w b x y) (first_block_fill w (drop (at + 1) bs) x y)
+first-drop : (w : Window) (bs : List Block) (at : ℕ) (b : Block) (x y : ℕ) → at < length bs → b ≡ get_or bs at b → first_block_fill (drop at bs) x y ≡ or_else (block_fill b x y) (first_block_fill (drop (at + 1) bs) x y)
 first-drop w bs at b x y lt is =
-    ap (λ l. first_block_fill w l x y) (drop_more bs at b lt)
-    ∙ ap (λ c. or_else (block_fill w c x y) (first_block_fill w (drop (at + 1) bs) x y)) (sym is)
+    ap (λ l. first_block_fill l x y) (drop_more bs at b lt)
+    ∙ ap (λ c. or_else (block_fill c x y) (first_block_fill (drop (at + 1) bs) x y)) (sym is)
 
 -- a block that does not hold the pixel adds nothing
-first-skip : (w : Window) (bs : List Block) (at : ℕ) (b : Block) (x y : ℕ) → at < length bs → b ≡ get_or bs at b → block_holds w b x y ≡ false → first_block_fill w (drop at bs) x y ≡ first_block_fill w (drop (at + 1) bs) x y
+first-skip : (w : Window) (bs : List Block) (at : ℕ) (b : Block) (x y : ℕ) → at < length bs → b ≡ get_or bs at b → block_holds b x y ≡ false → first_block_fill (drop at bs) x y ≡ first_block_fill (drop (at + 1) bs) x y
 first-skip w bs at b x y lt is e =
     first-drop w bs at b x y lt is
-    ∙ ap (λ t. or_else (cond t (Some b.fill) None) (first_block_fill w (drop (at + 1) bs) x y)) e
+    ∙ ap (λ t. or_else (cond t (Some b.fill) None) (first_block_fill (drop (at + 1) bs) x y)) e
 
 -- one that holds it gives its colour
-first-held : (w : Window) (bs : List Block) (at : ℕ) (b : Block) (x y : ℕ) → at < length bs → b ≡ get_or bs at b → block_holds w b x y ≡ true → first_block_fill w (drop at bs) x y ≡ Some b.fill
+first-held : (w : Window) (bs : List Block) (at : ℕ) (b : Block) (x y : ℕ) → at < length bs → b ≡ get_or bs at b → block_holds b x y ≡ true → first_block_fill (drop at bs) x y ≡ Some b.fill
 first-held w bs at b x y lt is e =
     first-drop w bs at b x y lt is
-    ∙ ap (λ t. or_else (cond t (Some b.fill) None) (first_block_fill w (drop (at + 1) bs) x y)) e
+    ∙ ap (λ t. or_else (cond t (Some b.fill) None) (first_block_fill (drop (at + 1) bs) x y)) e
 
 -- what is painted of a word, with the blocks from one on to look at
 pub record IsPainting (w : Window) (bs : List Block) (at y base end until free : ℕ) (old row : List (List ℕ)) : Type 0 where
@@ -51,8 +51,8 @@ pub record IsPainting (w : Window) (bs : List Block) (at y base end until free :
   pub live : y < until
   pub most : until ≤ end
   pub within : (i : ℕ) → i < 64 → has free i ≡ true → base + i < length row
-  pub waits : (i z : ℕ) → i < 64 → has free i ≡ true → y ≤ z → z < until → first_block_fill w bs (base + i) z ≡ first_block_fill w (drop at bs) (base + i) z
-  pub done : (i z : ℕ) (d : List ℕ) → i < 64 → base + i < length row → has free i ≡ false → y ≤ z → z < until → get_or row (base + i) d ≡ first_shown w bs (base + i) z
+  pub waits : (i z : ℕ) → i < 64 → has free i ≡ true → y ≤ z → z < until → first_block_fill bs (base + i) z ≡ first_block_fill (drop at bs) (base + i) z
+  pub done : (i z : ℕ) (d : List ℕ) → i < 64 → base + i < length row → has free i ≡ false → y ≤ z → z < until → get_or row (base + i) d ≡ first_shown bs (base + i) z
   pub outside : (x : ℕ) (d : List ℕ) → x < length row → is_within base x (base + 64) ≡ false → get_or row x d ≡ get_or old x d
 
 covers-in : (base word i : ℕ) → i < 64 → covers base word (base + i) ≡ has word i
@@ -121,7 +121,7 @@ more-painted w bs at y base end until free old row new b word last now next lt-b
           let was : (has free i && not (has word i)) ≡ true = sym (f i lt) ∙ on in
           let open-pixel : has free i ≡ true = and-left (has free i) (not (has word i)) was in
           let in-row : base + i < length row = h.within i lt open-pixel in
-          let misses : block_holds w b (base + i) z ≡ false = held-false (has free i) (block_holds w b (base + i) z) open-pixel (sym (held i z lt (omega arith) low (omega arith)) ∙ not-left (has free i) (has word i) was) in
+          let misses : block_holds b (base + i) z ≡ false = held-false (has free i) (block_holds b (base + i) z) open-pixel (sym (held i z lt (omega arith) low (omega arith)) ∙ not-left (has free i) (has word i) was) in
           h.waits i z lt open-pixel low (omega arith) ∙ first-skip w bs at b (base + i) z lt-bs is misses;
       done = λ i z k lt in-row off low high.
           let was : (has free i && not (has word i)) ≡ false = sym (f i lt) ∙ off in
@@ -129,7 +129,7 @@ more-painted w bs at y base end until free old row new b word last now next lt-b
           ⊎_elim
           (λ (on : has free i ≡ true).
           let hit : has word i ≡ true = not-right (has free i) (has word i) was on in
-          let holds : block_holds w b (base + i) z ≡ true = and-right (has free i) (block_holds w b (base + i) z) (sym (held i z lt (omega arith) low (omega arith)) ∙ hit) in
+          let holds : block_holds b (base + i) z ≡ true = and-right (has free i) (block_holds b (base + i) z) (sym (held i z lt (omega arith) low (omega arith)) ∙ hit) in
           put ∙ ap (λ t. cond t b.fill.0 (get_or row (base + i) k)) hit
           ∙ ap (λ o. (or_white o).0) (sym (h.waits i z lt on low (omega arith) ∙ first-held w bs at b (base + i) z lt-bs is holds)))
           (λ (no : has free i ≡ false).
@@ -166,7 +166,7 @@ none-painted w bs at y base end until free old row new b word last now next lt-b
     (λ x k lt. ap (λ l. get_or l x k) g ∙ sym (ap (λ t. cond t b.fill.0 (get_or row x k)) (no-cover base word x (off (x - base)))))
 
 -- what is left is white
-pub all-painted : (w : Window) (bs : List Block) (at y base end until free : ℕ) (old row new : List (List ℕ)) → IsPainting w bs at y base end until free old row → length new ≡ length row → (length bs ≤ at) ⊎ (free ≡ 0) → ((x : ℕ) (e : List ℕ) → x < length row → get_or new x e ≡ cond (covers base free x) white.0 (get_or row x e)) → (x z : ℕ) (d : List ℕ) → base ≤ x → x < base + 64 → x < length new → y ≤ z → z < until → get_or new x d ≡ first_shown w bs x z
+pub all-painted : (w : Window) (bs : List Block) (at y base end until free : ℕ) (old row new : List (List ℕ)) → IsPainting w bs at y base end until free old row → length new ≡ length row → (length bs ≤ at) ⊎ (free ≡ 0) → ((x : ℕ) (e : List ℕ) → x < length row → get_or new x e ≡ cond (covers base free x) white.0 (get_or row x e)) → (x z : ℕ) (d : List ℕ) → base ≤ x → x < base + 64 → x < length new → y ≤ z → z < until → get_or new x d ≡ first_shown bs x z
 all-painted w bs at y base end until free old row new h long stop g x z d low high lt above below =
     let i = x - base in
     let here : i < 64 = omega arith in
@@ -177,10 +177,10 @@ all-painted w bs at y base end until free old row new h long stop g x z d low hi
     ∙ ⊎_elim
     (λ (on : has free i ≡ true).
     put ∙ ap (λ t. cond t white.0 (get_or row (base + i) d)) on
-    ∙ ap (λ o. (or_white o).0) (sym (h.waits i z here on above below ∙ ap (λ l. first_block_fill w l (base + i) z) (drop_all at bs (none-left at (length bs) free i stop on)))))
+    ∙ ap (λ o. (or_white o).0) (sym (h.waits i z here on above below ∙ ap (λ l. first_block_fill l (base + i) z) (drop_all at bs (none-left at (length bs) free i stop on)))))
     (λ (no : has free i ≡ false). put ∙ ap (λ t. cond t white.0 (get_or row (base + i) d)) no ∙ h.done i z d here inside no above below)
     (cases_Bool (has free i))
-    ∙ ap (λ n. first_shown w bs n z) (sym same)
+    ∙ ap (λ n. first_shown bs n z) (sym same)
 
 pub outside-painted : (w : Window) (bs : List Block) (at y base end until free : ℕ) (old row new : List (List ℕ)) → IsPainting w bs at y base end until free old row → length new ≡ length row → ((x : ℕ) (e : List ℕ) → x < length row → get_or new x e ≡ cond (covers base free x) white.0 (get_or row x e)) → (x : ℕ) (d : List ℕ) → x < length new → is_within base x (base + 64) ≡ false → get_or new x d ≡ get_or old x d
 outside-painted w bs at y base end until free old row new h long g x d lt out =

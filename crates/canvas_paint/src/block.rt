@@ -9,20 +9,19 @@ ghost use Rattle.canvas_paint.specs.Blocks.{IsHeld, block_holds, column_at, cut_
 ghost use Rattle.canvas_shape.specs.Words.{has};
 ghost use Rattle.canvas_paint.specs.Words.{is_within, IsWord};
 
-use crate::leaf::{RowWords, ellipse_word, polygon_rows};
+use crate::leaf::{RowWords, ellipse_rows, polygon_rows};
 use crate::word::{PIXELS, both, part};
 use bumpalo::Bump;
 use canvas_plane::{PageBox, Window};
 use canvas_scene::Item;
-use canvas_shape::{Carried, Colour, LeafBox};
+use canvas_shape::{Carried, Colour};
 use std::alloc::AllocError;
 
 /// What of a block's columns and rows is held.
 #[derive(Clone, Copy)]
 pub(crate) enum Form<'a> {
     Whole,
-    Ellipse(LeafBox),
-    Polygon(RowWords<'a>),
+    Rows(RowWords<'a>),
 }
 
 /// An item in a window: the columns and the rows of the window that its leaf's box and its clip
@@ -61,7 +60,7 @@ pub(crate) fn place(edge: i64, origin: i32, size: u32) -> usize
     }
 }
 
-// What of its box a leaf holds in the rows from one up to another. Only a polygon takes memory.
+// What of its box a leaf holds in the rows from one up to another. A rectangle takes no memory.
 fn form_of<'a>(
     bump: &'a Bump,
     leaf: &Carried<'_>,
@@ -71,12 +70,12 @@ fn form_of<'a>(
 ) -> Result<Form<'a>, AllocError>
     requires rows { top < bottom }
     requires bottom { bottom ≤ window.now.h }
-    ensures { IfOk result (λ form. (k j : ℕ) → k < window.now.w → top ≤ j → j < bottom → is_in (page_box_of leaf.now) (column_at window.now k) (row_at window.now j) ≡ true → form_holds window.now form k j ≡ carried_holds leaf.now (column_at window.now k) (row_at window.now j)) }
+    ensures { IfOk result (λ form. (k j : ℕ) → k < window.now.w → top ≤ j → j < bottom → is_in (page_box_of leaf.now) (column_at window.now k) (row_at window.now j) ≡ true → form_holds form k j ≡ carried_holds leaf.now (column_at window.now k) (row_at window.now j)) }
 {
     match leaf {
         Carried::Rect(_) => Ok(Form::Whole),
-        Carried::Ellipse(sides) => Ok(Form::Ellipse(*sides)),
-        Carried::Polygon(vertices) => Ok(Form::Polygon(polygon_rows(
+        Carried::Ellipse(sides) => Ok(Form::Rows(ellipse_rows(bump, sides, window, top, bottom)?)),
+        Carried::Polygon(vertices) => Ok(Form::Rows(polygon_rows(
             bump, vertices, window, top, bottom,
         )?)),
     }
@@ -124,7 +123,7 @@ impl<'a> Block<'a> {
         end: usize,
     ) -> Result<Option<Block<'a>>, AllocError>
         requires { end ≤ window.now.h }
-        ensures { IfOk result (λ block. (k j : ℕ) → k < window.now.w → first ≤ j → j < end → cut_fill window.now block k j ≡ fill_at item.now (column_at window.now k) (row_at window.now j)) }
+        ensures { IfOk result (λ block. (k j : ℕ) → k < window.now.w → first ≤ j → j < end → cut_fill block k j ≡ fill_at item.now (column_at window.now k) (row_at window.now j)) }
     {
         let page_box = item.leaf.page_box();
         let region = Region::of(&page_box.meet(&item.clip), window, first, end);
@@ -174,12 +173,11 @@ impl<'a> Block<'a> {
 
     /// The pixels of the word at a column that the block holds in all its rows.
     pub(crate) fn covered(&self, base: usize) -> u64
-        ensures { (w : PageWindow) (i j : ℕ) → i < 64 → has result i ≡ true → is_within self.now.top j self.now.bottom ≡ true → block_holds w self.now (base + i) j ≡ true }
+        ensures { (w : PageWindow) (i j : ℕ) → i < 64 → has result i ≡ true → is_within self.now.top j self.now.bottom ≡ true → block_holds self.now (base + i) j ≡ true }
     {
         match &self.form {
             Form::Whole => part(self.from, self.to, base),
-            Form::Ellipse(_) => 0,
-            Form::Polygon(_) => 0,
+            Form::Rows(_) => 0,
         }
     }
 
@@ -210,11 +208,7 @@ impl<'a> Block<'a> {
                 word: reach,
                 until: self.bottom,
             },
-            Form::Ellipse(sides) => Held {
-                word: both(reach, ellipse_word(sides, window, base, y)),
-                until: y + 1,
-            },
-            Form::Polygon(rows) => Held {
+            Form::Rows(rows) => Held {
                 word: both(reach, rows.word(base, y)),
                 until: y + 1,
             },

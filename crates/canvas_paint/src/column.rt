@@ -111,7 +111,7 @@ fn paint_word(
     ensures until { y < result }
     ensures end { result ≤ end }
     ensures outside { (x : ℕ) (d : List ℕ) → x < length row.old → is_within base x (base + 64) ≡ false → slice_index_or row.new x d ≡ slice_index_or row.old x d }
-    ensures painted { (x z : ℕ) (d : List ℕ) → base ≤ x → x < base + 64 → x < length row.old → y ≤ z → z < result → slice_index_or row.new x d ≡ first_shown window.now active.now x z }
+    ensures painted { (x z : ℕ) (d : List ℕ) → base ≤ x → x < base + 64 → x < length row.old → y ≤ z → z < result → slice_index_or row.new x d ≡ first_shown active.now x z }
 {
     let mut free = part(0, row.len(), base);
     let mut until = end;

@@ -47,16 +47,42 @@ fn page_row(window: &Window, y: usize) -> i32
     window.y() + y as i32
 }
 
-/// The pixels of an ellipse in the word at a column of a window's row.
-pub(crate) fn ellipse_word(sides: &LeafBox, window: &Window, base: usize, y: usize) -> u64
-    requires row { y < window.now.h }
-    requires base { base < 256 }
-    ensures { (i : ℕ) → i < 64 → base + i < window.now.w → has result i ≡ is_in_ellipse (sides_of sides.now) (column_at window.now (base + i)) (row_at window.now y) }
+// The pixels of an ellipse in a window's row.
+fn ellipse_row(sides: &LeafBox, window: &Window, y: usize) -> [u64; 4]
+    requires { y < window.now.h }
+    ensures { (k : ℕ) → k < window.now.w → row_has result k ≡ is_in_ellipse (sides_of sides.now) (column_at window.now k) (row_at window.now y) }
 {
     let ends = sides.row_ends(page_row(window, y));
     let from = place(ends.from, window.x(), window.w());
     let to = place(ends.to, window.x(), window.w());
-    part(from, to, base)
+    [
+        part(from, to, 0),
+        part(from, to, PIXELS),
+        part(from, to, 2 * PIXELS),
+        part(from, to, 3 * PIXELS),
+    ]
+}
+
+/// The pixels of an ellipse in the rows of a window from one up to another.
+pub(crate) fn ellipse_rows<'a>(
+    bump: &'a Bump,
+    sides: &LeafBox,
+    window: &Window,
+    top: usize,
+    bottom: usize,
+) -> Result<RowWords<'a>, AllocError>
+    requires rows { top < bottom }
+    requires bottom { bottom ≤ window.now.h }
+    ensures { IfOk result (λ rows. (k j : ℕ) → k < window.now.w → top ≤ j → j < bottom → row_has (slice_index_or rows.words.now (j - rows.first) []) k ≡ is_in_ellipse (sides_of sides.now) (column_at window.now k) (row_at window.now j)) }
+{
+    let mut words = Vec::with_capacity(bump, bottom - top)?;
+    for y in top..bottom {
+        words.push(ellipse_row(sides, window, y))?;
+    }
+    Ok(RowWords {
+        first: top,
+        words: into_bump_slice(words),
+    })
 }
 
 /// The pixels of a polygon in the rows of a window from one up to another.

@@ -42,7 +42,7 @@ fn refresh<'a>(
     requires count { length columns.old ≡ 4 }
     requires kept { AreColumns window.now blocks.now row.old columns.old y }
     ensures kept { OnOk result (AreColumns window.now blocks.now row.new columns.new y) }
-    ensures fresh { OnOk result ((x : ℕ) (d : List ℕ) → x < length row.old → slice_index_or row.new x d ≡ shown window.now blocks.now x y) }
+    ensures fresh { OnOk result ((x : ℕ) (d : List ℕ) → x < length row.old → slice_index_or row.new x d ≡ shown blocks.now x y) }
 {
     for (k, column) in columns.iter_mut().enumerate() {
         column.refresh(blocks, window, PIXELS * k, y, row)?;
@@ -63,7 +63,7 @@ fn append_rows(
     requires rows { first ≤ end }
     requires end { end ≤ window.now.h }
     requires width { length row.old ≡ window.now.w }
-    ensures ok { OnOk result (out.new.items ≡ out.old.items ++ raster_of (shown window.now blocks.now) window.now.w first (end - first)) }
+    ensures ok { OnOk result (out.new.items ≡ out.old.items ++ raster_of (shown blocks.now) window.now.w first (end - first)) }
     ensures kept { take (length out.old.items) out.new.items ≡ out.old.items }
 {
     let mut columns = new_columns(alloc, blocks.len())?;
@@ -85,7 +85,7 @@ fn blocks_of<'a>(
     end: usize,
 ) -> Result<Vec<Block<'a>>, AllocError>
     requires { end ≤ window.now.h }
-    ensures { IfOk result (λ blocks. (k j : ℕ) → k < window.now.w → first ≤ j → j < end → last_block_fill window.now blocks.items k j ≡ last_fill items.now (column_at window.now k) (row_at window.now j)) }
+    ensures { IfOk result (λ blocks. (k j : ℕ) → k < window.now.w → first ≤ j → j < end → last_block_fill blocks.items k j ≡ last_fill items.now (column_at window.now k) (row_at window.now j)) }
 {
     let mut blocks = Vec::new(alloc);
     for item in items {

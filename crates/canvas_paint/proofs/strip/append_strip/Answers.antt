@@ -9,7 +9,7 @@ use Rattle.canvas_paint.proofs.strip.append_strip.Goals as goal
 pub returns-in-Ok-clause-ok : goal.returns-in-Ok-clause-ok
 returns-in-Ok-clause-ok c =
     c.in-Ok.ensures.ok
-    ∙ ap (λ l. l ++ raster_of (shown c.args.window.now c.deref.result.now) c.args.window.now.w c.args.first (c.args.end - c.args.first)) c.in_ok-reserve.ensures.items
+    ∙ ap (λ l. l ++ raster_of (shown c.deref.result.now) c.args.window.now.w c.args.first (c.args.end - c.args.first)) c.in_ok-reserve.ensures.items
     ∙ ap (λ l. c.args.out.now.items ++ l)
-    (raster-agree (shown c.args.window.now c.deref.result.now) (bytes_at (last_colour c.args.items.now) c.args.window.now) c.args.window.now.w c.args.first (c.args.end - c.args.first)
-    (λ x z p q r. ap (λ bs. shown c.args.window.now bs x z) c.deref.ensures.value ∙ ap (λ o. (or_white o).0) (c.in_ok-blocks.ensures x z p q (omega arith))))
+    (raster-agree (shown c.deref.result.now) (bytes_at (last_colour c.args.items.now) c.args.window.now) c.args.window.now.w c.args.first (c.args.end - c.args.first)
+    (λ x z p q r. ap (λ bs. shown bs x z) c.deref.ensures.value ∙ ap (λ o. (or_white o).0) (c.in_ok-blocks.ensures x z p q (omega arith))))

@@ -3,8 +3,5 @@ use Rattle.canvas_paint.specs.Blocks.{block_holds}
 use Rattle.canvas_paint.proofs.Cutting.{none-held}
 use Rattle.canvas_paint.proofs.block.Block.covered.Goals as goal
 
-pub returns-in-Ellipse : goal.returns-in-Ellipse
-returns-in-Ellipse c = λ w i j lt on rows. none-held i (block_holds w c.args.self.now (c.args.base + i) j) on
-
-pub returns-in-Polygon : goal.returns-in-Polygon
-returns-in-Polygon c = λ w i j lt on rows. none-held i (block_holds w c.args.self.now (c.args.base + i) j) on
+pub returns-in-Rows : goal.returns-in-Rows
+returns-in-Rows c = λ w i j lt on rows. none-held i (block_holds c.args.self.now (c.args.base + i) j) on
