@@ -1,13 +1,13 @@
 -- Bits of words as tests.
-use Rattle.std.proofs.Common.{◌≡◌, ℕ, zero, suc, ◌+◌, ◌-◌, ◌^◌, ◌%◌, ◌<◌, ◌≤◌, Bool, true, false, not, ◌&&◌, ◌==◌, subst, refl, sym, ap, ◌∙◌, arith, ⊎_elim, min}
+use Rattle.std.proofs.Common.{◌≡◌, ℕ, zero, suc, ◌+◌, ◌-◌, ◌^◌, ◌%◌, ◌<◌, ◌≤◌, Bool, true, false, not, ◌&&◌, ◌||◌, ◌==◌, subst, refl, sym, ap, ◌∙◌, arith, ⊎_elim, max, min}
 use Rattle.std.specs.Int.{bit_at, trailing_zeros, w64}
-use Rattle.std.specs.Int.RustNames.{bit_xor}
+use Rattle.std.specs.Int.RustNames.{bit_or, bit_xor}
 use lib.Bits.{bit_and}
 use Rattle.std.proofs.lemmas.Bool.{cases_lt}
 use Rattle.std.proofs.lemmas.Bool.Decides.{nat_tests}
 use native.Mathlib.Nat.{pow-le-pow_right}
 use lib.Count.{trailing_of_zero}
-use Rattle.std.proofs.lemmas.Nat.Bits.{bit_at_and, bit_at_xor, bit_at_not, bit_at-lt, bit_at-zero, bit_at_mask_inside, bit_at_mask_below, bit_at_mask_above, bit_at-trailing_zeros}
+use Rattle.std.proofs.lemmas.Nat.Bits.{bit_at_and, bit_at_or, bit_at_xor, bit_at_not, bit_at-lt, bit_at-zero, bit_at_mask_inside, bit_at_mask_below, bit_at_mask_above, bit_at-trailing_zeros}
 use Rattle.canvas_plane.specs.Motion.{not_same}
 use Rattle.canvas_shape.specs.Words.{has}
 use Rattle.canvas_paint.specs.Words.{is_within, IsWord, IsRun, IsLowest, HasNone}
@@ -30,6 +30,13 @@ bits-xor (suc zero) (suc (suc q)) h k = absurd (omega arith)
 pub has-and : (a b i : ℕ) → has (bit_and a b) i ≡ (has a i && has b i)
 unfolding has
 has-and a b i = ap (λ n. n == 1) (bit_at_and a b i) ∙ bits-and (bit_at a i) (bit_at b i) (bit_at-lt a i) (bit_at-lt b i)
+
+bits-or : (p q : ℕ) → p < 2 → q < 2 → (max p q == 1) ≡ ((p == 1) || (q == 1))
+bits-or p q h k = grind (arith, nat_tests)
+
+pub has-or : (a b i : ℕ) → has (bit_or a b) i ≡ (has a i || has b i)
+unfolding has
+has-or a b i = ap (λ n. n == 1) (bit_at_or a b i) ∙ bits-or (bit_at a i) (bit_at b i) (bit_at-lt a i) (bit_at-lt b i)
 
 pub has-without : (a b i : ℕ) → b < 2 ^ 64 → i < 64 → has (bit_and a (18446744073709551615 - b)) i ≡ (has a i && not (has b i))
 unfolding has

@@ -27,7 +27,6 @@ use Rattle.canvas_paint.specs.Blocks.{block_fill, block_holds, column_at, form_h
 use Rattle.canvas_shape.specs.Words.{has}
 use Rattle.canvas_paint.specs.Words.{is_within, IsWord}
 use Rattle.canvas_paint.proofs.Bits.{has-zero}
-use Rattle.canvas_paint.proofs.Painting.{last-push}
 
 -- no column of the word lies between the two
 pub part-none : (from to base i start end : ℕ) → start ≡ min (from - base) 64 → end ≡ min (to - base) 64 → end ≤ start → i < 64 → has 0 i ≡ is_within from (base + i) to
@@ -69,61 +68,9 @@ more-rows test rows new row top y width le long e before last k j lt low high =
     ∙ last k lt ∙ ap (test k) same)
     (cases_lt j y)
 
--- ---- which free pixels of a word a block holds
-
-no-column : (f c r m : Bool) → (f && c) ≡ false → false ≡ (f && ((c && r) && m))
-no-column true true r m e = cc
-no-column true false r m e = refl
-no-column false c r m e = refl
-
-no-row : (f c r m : Bool) → r ≡ false → false ≡ (f && ((c && r) && m))
-no-row true true true m e = cc
-no-row true true false m e = refl
-no-row true false r m e = refl
-no-row false c r m e = refl
-
-in-rows : (f c r m : Bool) → r ≡ true → ((f && c) && m) ≡ (f && ((c && r) && m))
-in-rows true true true m e = refl
-in-rows true true false m e = cc
-in-rows true false r m e = refl
-in-rows false c r m e = refl
-
-above-rows : (top bottom z : ℕ) → z < top → is_within top z bottom ≡ false
-above-rows top bottom z h = grind (arith, nat_tests)
-
-below-rows : (top bottom z : ℕ) → bottom ≤ z → is_within top z bottom ≡ false
-below-rows top bottom z h = grind (arith, nat_tests)
-
-within-rows : (top bottom z : ℕ) → top ≤ z → z < bottom → is_within top z bottom ≡ true
-within-rows top bottom z h k = grind (arith, nat_tests)
-
--- none where it has no free column
-pub held-none : (w : Window) (b : Block) (free part reach base i z : ℕ) → IsWord part (λ i. is_within b.from (base + i) b.to) → IsWord reach (λ i. has free i && has part i) → reach ≡ 0 → i < 64 → has 0 i ≡ (has free i && block_holds b (base + i) z)
-held-none w b free part reach base i z p r e lt =
-    let out : (has free i && is_within b.from (base + i) b.to) ≡ false = ap (λ t. has free i && t) (sym (p i lt)) ∙ sym (r i lt) ∙ ap (λ n. has n i) e ∙ has-zero i in
-    has-zero i ∙ no-column (has free i) (is_within b.from (base + i) b.to) (is_within b.top z b.bottom) (form_holds b.form (base + i) z) out
-
--- none in the rows above it
-pub held-above : (w : Window) (b : Block) (free base i z : ℕ) → z < b.top → has 0 i ≡ (has free i && block_holds b (base + i) z)
-held-above w b free base i z lt = has-zero i ∙ no-row (has free i) (is_within b.from (base + i) b.to) (is_within b.top z b.bottom) (form_holds b.form (base + i) z) (above-rows b.top b.bottom z lt)
-
--- none in the rows below it
-pub held-below : (w : Window) (b : Block) (free base i z : ℕ) → b.bottom ≤ z → has 0 i ≡ (has free i && block_holds b (base + i) z)
-held-below w b free base i z le = has-zero i ∙ no-row (has free i) (is_within b.from (base + i) b.to) (is_within b.top z b.bottom) (form_holds b.form (base + i) z) (below-rows b.top b.bottom z le)
-
-pub none-within : (free i : ℕ) → has 0 i ≡ true → has free i ≡ true
-none-within free i h = let e : false ≡ true = sym (has-zero i) ∙ h in cc
-
+-- none is no held one
 pub none-held : (i : ℕ) (held : Bool) → has 0 i ≡ true → held ≡ true
 none-held i held h = let e : false ≡ true = sym (has-zero i) ∙ h in cc
-
--- those that its form holds, in its rows
-pub held-some : (w : Window) (b : Block) (form : Form) (free part reach row word base i y z : ℕ) → IsWord part (λ i. is_within b.from (base + i) b.to) → IsWord reach (λ i. has free i && has part i) → IsWord word (λ i. has reach i && has row i) → has row i ≡ form_holds form (base + i) y → b.form ≡ form → b.top ≤ y → y < b.bottom → y ≤ z → z < y + 1 → i < 64 → has word i ≡ (has free i && block_holds b (base + i) z)
-held-some w b form free part reach row word base i y z p r v f same top bottom low high lt =
-    let at : y ≡ z = omega arith in
-    v i lt ∙ ap (λ t. t && has row i) (r i lt) ∙ ap (λ t. (has free i && t) && has row i) (p i lt)
-    ∙ ap (λ t. (has free i && is_within b.from (base + i) b.to) && t) (f ∙ ap (λ g. form_holds g (base + i) y) (sym same) ∙ ap (form_holds b.form (base + i)) at)
-    ∙ in-rows (has free i) (is_within b.from (base + i) b.to) (is_within b.top z b.bottom) (form_holds b.form (base + i) z) (within-rows b.top b.bottom z (omega arith) (omega arith))
 
 -- ---- the block of an item
 
@@ -202,39 +149,44 @@ last_fill-push (j ∷ xs) i x y =
 last_fill-more : (xs : List Item) (n : ℕ) (d : Item) (x y : ℤ) → n < length xs → last_fill (take (n + 1) xs) x y ≡ or_else (fill_at (get_or xs n d) x y) (last_fill (take n xs) x y)
 last_fill-more xs n d x y lt = ap (λ l. last_fill l x y) (take_more xs n d lt) ∙ last_fill-push (take n xs) (get_or xs n d) x y
 
--- the block of one item more
-pub cut-push : (w : Window) (old new : List Block) (b : Block) (items : List Item) (n : ℕ) (i : Item) (k j : ℕ) (x y : ℤ) → n < length items → i ≡ get_or items n i → last_block_fill old k j ≡ last_fill (take n items) x y → block_fill b k j ≡ fill_at i x y → new ≡ old ++ b ∷ [] → last_block_fill new k j ≡ last_fill (take (n + 1) items) x y
-cut-push w old new b items n i k j x y lt is o h e =
-    ap (λ l. last_block_fill l k j) e ∙ last-push w old b k j
-    ∙ ap (λ f. or_else f (last_block_fill old k j)) h
+-- one item more, of which a block may be put in front
+pub cut-more : (items : List Item) (n : ℕ) (i : Item) (x y : ℤ) (old new block : Option Colour) → n < length items → i ≡ get_or items n i → old ≡ last_fill (take n items) x y → block ≡ fill_at i x y → new ≡ or_else block old → new ≡ last_fill (take (n + 1) items) x y
+cut-more items n i x y old new block lt is o h e =
+    e ∙ ap (λ f. or_else f old) h
     ∙ ap (λ l. or_else (fill_at i x y) l) o
     ∙ ap (λ z. or_else (fill_at z x y) (last_fill (take n items) x y)) is
     ∙ sym (last_fill-more items n i x y lt)
 
--- one item more that has no block
-pub cut-skip : (w : Window) (old : List Block) (items : List Item) (n : ℕ) (i : Item) (k j : ℕ) (x y : ℤ) → n < length items → i ≡ get_or items n i → last_block_fill old k j ≡ last_fill (take n items) x y → None ≡ fill_at i x y → last_block_fill old k j ≡ last_fill (take (n + 1) items) x y
-cut-skip w old items n i k j x y lt is o e =
-    o ∙ ap (λ t. or_else t (last_fill (take n items) x y)) e
-    ∙ ap (λ z. or_else (fill_at z x y) (last_fill (take n items) x y)) is
-    ∙ sym (last_fill-more items n i x y lt)
+columns-out : (from to k : ℕ) → to ≤ from → is_within from k to ≡ false
+columns-out from to k h = grind (arith, nat_tests)
 
 and-out : (c r m : Bool) → r ≡ false → ((c && r) && m) ≡ false
 and-out true true m e = cc
 and-out true false m e = refl
 and-out false r m e = refl
 
-columns-out : (from to k : ℕ) → to ≤ from → is_within from k to ≡ false
-columns-out from to k h = grind (arith, nat_tests)
+above-rows : (top bottom j : ℕ) → j < top → is_within top j bottom ≡ false
+above-rows top bottom j h = grind (arith, nat_tests)
 
-pub outside-rows : (w : Window) (b : Block) (k j : ℕ) → is_within b.top j b.bottom ≡ false → block_holds b k j ≡ false
-outside-rows w b k j e = and-out (is_within b.from k b.to) (is_within b.top j b.bottom) (form_holds b.form k j) e
+below-rows : (top bottom j : ℕ) → bottom ≤ j → is_within top j bottom ≡ false
+below-rows top bottom j h = grind (arith, nat_tests)
+
+pub within-rows : (top bottom j : ℕ) → top ≤ j → j < bottom → is_within top j bottom ≡ true
+within-rows top bottom j h k = grind (arith, nat_tests)
+
+-- a block holds nothing above it and below it
+pub holds-above : (b : Block) (k j : ℕ) → j < b.top → block_holds b k j ≡ false
+holds-above b k j h = and-out (is_within b.from k b.to) (is_within b.top j b.bottom) (form_holds b.form k j) (above-rows b.top b.bottom j h)
+
+pub holds-below : (b : Block) (k j : ℕ) → b.bottom ≤ j → block_holds b k j ≡ false
+holds-below b k j h = and-out (is_within b.from k b.to) (is_within b.top j b.bottom) (form_holds b.form k j) (below-rows b.top b.bottom j h)
 
 not-met : (p met : Bool) → (p ≡ true → met ≡ true) → met ≡ false → p ≡ false
 not-met true met h e = sym (h refl) ∙ e
 not-met false met h e = refl
 
-pub outside-columns : (w : Window) (b : Block) (k j : ℕ) (met : Bool) → (is_within b.from k b.to ≡ true → met ≡ true) → met ≡ false → block_holds b k j ≡ false
-outside-columns w b k j met h e = ap (λ t. (t && is_within b.top j b.bottom) && form_holds b.form k j) (not-met (is_within b.from k b.to) met h e)
+pub outside-columns : (b : Block) (k j : ℕ) (met : Bool) → (is_within b.from k b.to ≡ true → met ≡ true) → met ≡ false → block_holds b k j ≡ false
+outside-columns b k j met h e = ap (λ t. (t && is_within b.top j b.bottom) && form_holds b.form k j) (not-met (is_within b.from k b.to) met h e)
 
 no-rows : (top bottom j : ℕ) → bottom ≤ top → is_within top j bottom ≡ false
 no-rows top bottom j h = grind (arith, nat_tests)

@@ -1,5 +1,6 @@
 pub mod Words
 pub mod Blocks
+pub mod Columns
 pub mod Strips
 pub mod FreeRows
 pub mod Workers

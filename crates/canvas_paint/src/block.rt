@@ -5,12 +5,12 @@ ghost use Rattle.canvas_plane.specs.declared.windows.Window.{Window as PageWindo
 ghost use Rattle.canvas_plane.specs.Page.{is_in};
 ghost use Rattle.canvas_shape.specs.Leaves.{carried_holds, page_box_of};
 ghost use Rattle.canvas_scene.specs.Items.{fill_at};
-ghost use Rattle.canvas_paint.specs.Blocks.{IsHeld, block_holds, column_at, cut_fill, form_holds, row_at};
+ghost use Rattle.canvas_paint.specs.Blocks.{column_at, cut_fill, form_holds, row_at};
 ghost use Rattle.canvas_shape.specs.Words.{has};
 ghost use Rattle.canvas_paint.specs.Words.{is_within, IsWord};
 
 use crate::leaf::{RowWords, ellipse_rows, polygon_rows};
-use crate::word::{PIXELS, both, part};
+use crate::word::{PIXELS, both};
 use bumpalo::Bump;
 use canvas_plane::{PageBox, Window};
 use canvas_scene::Item;
@@ -36,7 +36,7 @@ pub(crate) struct Block<'a> {
     pub form: Form<'a>,
 }
 
-/// The pixels of a word that a block holds, and up to which row it holds the same.
+/// Pixels of a word that are held, and up to which row they are the same.
 #[derive(Clone, Copy)]
 pub(crate) struct Held {
     pub word: u64,
@@ -148,65 +148,31 @@ impl<'a> Block<'a> {
     {
         self.from < base + PIXELS && base < self.to
     }
+}
 
-    /// Whether the block has a row.
-    pub(crate) fn has_row(&self, y: usize) -> bool
-        ensures { result ≡ is_within self.now.top y self.now.bottom }
+impl Form<'_> {
+    /// The pixels of a word's reach that are held in each row.
+    pub(crate) fn covered(&self, reach: u64) -> u64
+        ensures { (i k j : ℕ) → has result i ≡ true → (has reach i && form_holds self.now k j) ≡ true }
     {
-        self.top <= y && y < self.bottom
-    }
-
-    /// Up to which row the block has the rows from `y` on, or has none of them.
-    pub(crate) fn next_change(&self, y: usize) -> usize
-        requires { y < usize.MAX }
-        ensures after { y < result }
-        ensures same { (j : ℕ) → y ≤ j → j < result → is_within self.now.top j self.now.bottom ≡ is_within self.now.top y self.now.bottom }
-    {
-        if y < self.top {
-            self.top
-        } else if y < self.bottom {
-            self.bottom
-        } else {
-            usize::MAX
-        }
-    }
-
-    /// The pixels of the word at a column that the block holds in all its rows.
-    pub(crate) fn covered(&self, base: usize) -> u64
-        ensures { (w : PageWindow) (i j : ℕ) → i < 64 → has result i ≡ true → is_within self.now.top j self.now.bottom ≡ true → block_holds self.now (base + i) j ≡ true }
-    {
-        match &self.form {
-            Form::Whole => part(self.from, self.to, base),
+        match self {
+            Form::Whole => reach,
             Form::Rows(_) => 0,
         }
     }
 
-    /// Which free pixels of the word at a column the block holds in the row `y`.
-    pub(crate) fn held(&self, window: &Window, free: u64, base: usize, y: usize) -> Held
-        requires row { y < window.now.h }
+    /// The pixels of a word's reach that are held in the row `y`.
+    pub(crate) fn held(&self, reach: u64, base: usize, y: usize) -> Held
+        requires y { y < usize.MAX }
         requires base { base < 256 }
         requires whole { base % 64 ≡ 0 }
         ensures until { y < result.until }
-        ensures within { (i : ℕ) → i < 64 → has result.word i ≡ true → has free i ≡ true }
-        ensures exact { IsHeld window.now self.now free base y result.word result.until }
+        ensures exact { (i z : ℕ) → i < 64 → y ≤ z → z < result.until → has result.word i ≡ (has reach i && form_holds self.now (base + i) z) }
     {
-        let reach = both(free, part(self.from, self.to, base));
-        if reach == 0 {
-            return Held::NOTHING;
-        }
-        if self.bottom <= y {
-            return Held::NOTHING;
-        }
-        if y < self.top {
-            return Held {
-                word: 0,
-                until: self.top,
-            };
-        }
-        match &self.form {
+        match self {
             Form::Whole => Held {
                 word: reach,
-                until: self.bottom,
+                until: usize::MAX,
             },
             Form::Rows(rows) => Held {
                 word: both(reach, rows.word(base, y)),
@@ -214,12 +180,4 @@ impl<'a> Block<'a> {
             },
         }
     }
-}
-
-impl Held {
-    // No pixel, in any row.
-    const NOTHING: Held = Held {
-        word: 0,
-        until: usize::MAX,
-    };
 }

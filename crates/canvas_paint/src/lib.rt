@@ -1,6 +1,7 @@
 //! Pictures of display lists, row by row, each pixel written once.
 #![tactic(auto)]
 
+mod active;
 mod block;
 mod column;
 mod fault;

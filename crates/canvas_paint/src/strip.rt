@@ -3,7 +3,9 @@
 ghost use Rattle.std.specs.Prelude.{◌≡◌, ℕ, ◌+◌, ◌-◌, ◌*◌, ◌/◌, ◌<◌, ◌≤◌, ◌++◌, List, length, false, slice_index_or, IfOk, OnOk, OnErr, take, vec_len, All};
 ghost use Rattle.canvas_scene.specs.Items.{last_colour, last_fill};
 ghost use Rattle.canvas_scene.specs.Pictures.{raster_of, rows_of};
-ghost use Rattle.canvas_paint.specs.Blocks.{AreColumns, IsNew, column_at, last_block_fill, row_at, shown};
+ghost use Rattle.canvas_doc.specs.Picture.{or_else};
+ghost use Rattle.canvas_paint.specs.Blocks.{block_fill, column_at, row_at};
+ghost use Rattle.canvas_paint.specs.Columns.{AreColumns, IsNew, blocks_in, fill_in, shown_in};
 ghost use Rattle.canvas_paint.specs.Strips.{strip_start};
 
 use crate::block::Block;
@@ -18,83 +20,92 @@ use std::alloc::{AllocError, Global};
 /// How many words a row has.
 const WORDS: usize = 4;
 
-// The columns of a strip, of which no row was painted, each with room for so many blocks.
-fn new_columns<'a>(alloc: Global, room: usize) -> Result<Vec<Column<'a>>, AllocError>
-    ensures { IfOk result (λ columns. (vec_len columns ≡ 4) × All IsNew columns.items) }
+// Four columns of no block, of which no row was painted.
+fn new_columns<'a>(alloc: Global) -> Result<Vec<Column<'a>>, AllocError>
+    ensures count { IfOk result (λ columns. vec_len columns ≡ 4) }
+    ensures new { IfOk result (λ columns. All IsNew columns.items) }
+    ensures empty { IfOk result (λ columns. (k j : ℕ) → fill_in (blocks_in columns.items) k j ≡ None) }
 {
     let mut columns = Vec::with_capacity(alloc, WORDS)?;
     for _ in 0..WORDS {
-        columns.push(Column::new(alloc, room)?)?;
+        columns.push(Column::new(alloc))?;
     }
     Ok(columns)
 }
 
-// Paints anew the words of a row that have changed at the row `y`.
-fn refresh<'a>(
-    blocks: &[Block<'a>],
-    window: &Window,
-    y: usize,
-    row: &mut [Pixel],
-    columns: &mut [Column<'a>],
-) -> Result<(), AllocError>
-    requires y { y < window.now.h }
-    requires width { length row.old ≡ window.now.w }
+// Puts a block in front of the others in each column that it meets.
+fn add<'a>(block: &Block<'a>, columns: &mut [Column<'a>]) -> Result<(), AllocError>
     requires count { length columns.old ≡ 4 }
-    requires kept { AreColumns window.now blocks.now row.old columns.old y }
-    ensures kept { OnOk result (AreColumns window.now blocks.now row.new columns.new y) }
-    ensures fresh { OnOk result ((x : ℕ) (d : List ℕ) → x < length row.old → slice_index_or row.new x d ≡ shown blocks.now x y) }
+    requires new { All IsNew columns.old }
+    ensures new { OnOk result (All IsNew columns.new) }
+    ensures front { OnOk result ((k j : ℕ) → k < 256 → fill_in (blocks_in columns.new) k j ≡ or_else (block_fill block.now k j) (fill_in (blocks_in columns.old) k j)) }
 {
     for (k, column) in columns.iter_mut().enumerate() {
-        column.refresh(blocks, window, PIXELS * k, y, row)?;
+        column.add(block, PIXELS * k)?;
     }
     Ok(())
 }
 
-// Appends the rows of the picture of blocks from one up to another.
-fn append_rows(
-    alloc: Global,
-    blocks: &[Block<'_>],
-    window: &Window,
-    first: usize,
-    end: usize,
-    row: &mut [Pixel],
-    out: &mut Vec<u8>,
-) -> Result<(), AllocError>
-    requires rows { first ≤ end }
-    requires end { end ≤ window.now.h }
-    requires width { length row.old ≡ window.now.w }
-    ensures ok { OnOk result (out.new.items ≡ out.old.items ++ raster_of (shown blocks.now) window.now.w first (end - first)) }
-    ensures kept { take (length out.old.items) out.new.items ≡ out.old.items }
-{
-    let mut columns = new_columns(alloc, blocks.len())?;
-    let columns = columns.as_mut_slice();
-    for y in first..end {
-        refresh(blocks, window, y, row, columns)?;
-        out.extend_from_slice(row.as_flattened())?;
-    }
-    Ok(())
-}
-
-// The blocks of items in the rows of a window from one up to another.
-fn blocks_of<'a>(
+// The columns of items in the rows of a window from one up to another.
+fn columns_of<'a>(
     alloc: Global,
     bump: &'a Bump,
     items: &[Item<'_>],
     window: &Window,
     first: usize,
     end: usize,
-) -> Result<Vec<Block<'a>>, AllocError>
+) -> Result<Vec<Column<'a>>, AllocError>
     requires { end ≤ window.now.h }
-    ensures { IfOk result (λ blocks. (k j : ℕ) → k < window.now.w → first ≤ j → j < end → last_block_fill blocks.items k j ≡ last_fill items.now (column_at window.now k) (row_at window.now j)) }
+    ensures count { IfOk result (λ columns. vec_len columns ≡ 4) }
+    ensures new { IfOk result (λ columns. All IsNew columns.items) }
+    ensures fills { IfOk result (λ columns. (k j : ℕ) → k < window.now.w → first ≤ j → j < end → fill_in (blocks_in columns.items) k j ≡ last_fill items.now (column_at window.now k) (row_at window.now j)) }
 {
-    let mut blocks = Vec::new(alloc);
+    let mut columns = new_columns(alloc)?;
     for item in items {
         match Block::cut(bump, item, window, first, end)? {
-            Some(block) => blocks.push(block)?,
+            Some(block) => add(&block, columns.as_mut_slice())?,
             None => {}
         }
     }
-    Ok(blocks)
+    Ok(columns)
+}
+
+// Paints anew the words of a row that have changed at the row `y`.
+fn refresh(y: usize, row: &mut [Pixel], columns: &mut [Column<'_>]) -> Result<(), AllocError>
+    requires y { y < usize.MAX }
+    requires width { length row.old ≤ 256 }
+    requires count { length columns.old ≡ 4 }
+    requires kept { AreColumns row.old columns.old y }
+    ensures blocks { OnOk result (blocks_in columns.new ≡ blocks_in columns.old) }
+    ensures kept { OnOk result (AreColumns row.new columns.new y) }
+    ensures fresh { OnOk result ((x : ℕ) (d : List ℕ) → x < length row.old → slice_index_or row.new x d ≡ shown_in (blocks_in columns.old) x y) }
+{
+    for (k, column) in columns.iter_mut().enumerate() {
+        column.refresh(PIXELS * k, y, row)?;
+    }
+    Ok(())
+}
+
+// Appends the rows of the picture of columns from one up to another.
+fn append_rows(
+    columns: &mut [Column<'_>],
+    first: usize,
+    end: usize,
+    row: &mut [Pixel],
+    out: &mut Vec<u8>,
+) -> Result<(), AllocError>
+    requires rows { first ≤ end }
+    requires width { length row.old ≤ 256 }
+    requires count { length columns.old ≡ 4 }
+    requires new { All IsNew columns.old }
+    ensures ok { OnOk result (out.new.items ≡ out.old.items ++ raster_of (shown_in (blocks_in columns.old)) (length row.old) first (end - first)) }
+    ensures kept { take (length out.old.items) out.new.items ≡ out.old.items }
+{
+    for y in first..end {
+        refresh(y, row, columns)?;
+        out.extend_from_slice(row.as_flattened())?;
+    }
+    Ok(())
 }
 
 /// Appends the rows of a picture from one up to another: three bytes for each pixel, red, green
@@ -114,11 +125,11 @@ pub fn append_strip(
     let (first, end) = (first as usize, end as usize);
     let width = window.w() as usize;
     let bump = Bump::new(alloc);
-    let blocks = blocks_of(alloc, &bump, items, window, first, end)?;
+    let mut columns = columns_of(alloc, &bump, items, window, first, end)?;
     out.reserve(3 * width * (end - first))?;
     let mut row = [WHITE; 256];
     let before = out.len();
-    match append_rows(alloc, &blocks, window, first, end, &mut row[..width], out) {
+    match append_rows(columns.as_mut_slice(), first, end, &mut row[..width], out) {
         Ok(()) => Ok(()),
         Err(fault) => {
             out.truncate(before);

@@ -1,6 +1,7 @@
 //! Words of 64 pixels: bit i is the pixel i columns to the right of the word's first column.
 
-ghost use Rattle.std.specs.Prelude.{◌≡◌, ◌≤◌, ◌<◌, ◌+◌, ◌-◌, ◌^◌, ◌&&◌, ℕ, false, true, not, MatchOption};
+ghost use Rattle.std.specs.Prelude.{◌≡◌, ◌≤◌, ◌<◌, ◌+◌, ◌-◌, ◌^◌, ◌&&◌, ◌||◌, ℕ, false, true, not, MatchOption};
+ghost use Rattle.canvas_plane.specs.Motion.{not_same};
 ghost use Rattle.canvas_shape.specs.Words.{has};
 ghost use Rattle.canvas_paint.specs.Words.{is_within, HasNone, IsLowest, IsRun, IsWord};
 
@@ -56,6 +57,20 @@ pub(crate) fn without(a: u64, b: u64) -> u64
     ensures { IsWord result (λ i. has a i && not (has b i)) }
 {
     a & !b
+}
+
+/// The pixels of either word.
+pub(crate) fn either(a: u64, b: u64) -> u64
+    ensures { IsWord result (λ i. has a i || has b i) }
+{
+    a | b
+}
+
+/// The pixels of which one word has one and the other has not.
+pub(crate) fn differing(a: u64, b: u64) -> u64
+    ensures { IsWord result (λ i. not_same (has a i) (has b i)) }
+{
+    a ^ b
 }
 
 // The place of the first pixel of a word, or 64.

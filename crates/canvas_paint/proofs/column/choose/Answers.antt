@@ -1,40 +1,52 @@
-use Rattle.std.proofs.Common.{◌<◌, arith, ap, inr, sym, ◌∙◌}
-use Rattle.canvas_paint.proofs.Choosing.{all-chosen, choose-block, pass-block}
-use Rattle.canvas_paint.proofs.Cutting.{outside-columns, outside-rows}
+use Rattle.std.proofs.Common.{◌+◌, ◌<◌, ◌≡◌, ◌≤◌, arith, ap, inr, ◌∙◌, [], get_or, ◌-◌, refl}
+use Rattle.canvas_paint.specs.declared.block.Block.{Block}
+use Rattle.canvas_paint.specs.declared.block.Form.TheVariants.{Whole}
+use Rattle.canvas_paint.specs.Columns.{active_holds}
+use Rattle.canvas_paint.proofs.Choosing.{all-chosen, choose-block, none-reached, pass-block, reach-holds}
+use Rattle.canvas_paint.proofs.Cutting.{holds-above, holds-below, within-rows}
 use Rattle.canvas_paint.proofs.column.choose.Goals as goal
-use Rattle.canvas_paint.proofs.column.choose.Goals.{then-meets+then-has_row+in_ok-push, then-meets+else-has_row, else-meets}
+use Rattle.canvas_paint.proofs.column.choose.Goals.{then-y-block, else-y-block+then-y-block-2+then-reach-ne0+in_ok-push, else-y-block+then-y-block-2+else-reach-ne0, else-y-block+else-y-block-2}
 
 pub loop-left-preserved : goal.loop-left-preserved
 loop-left-preserved c =
-    let w = c.args.window.now in
     let bs = c.args.blocks.now in
-    let b = c.index-blocks-left.result in
-    elim c.if-meets.branch [
-      | then-meets+then-has_row+in_ok-push u ↦
-          choose-block w bs c.loop-left.active.items c.if-meets.active.items c.loop-left.left c.args.y c.args.base c.loop-left.free c.loop-left.end c.if-meets.end u.covered.result c.if-meets.free b
-          (omega arith) c.index-blocks-left.is (omega (arith, c.loop-left.invariant.live, u.next_change.ensures.after)) (omega arith)
+    let base = c.args.base in
+    let blank : Block = record { from = 0; to = 0; top = 0; bottom = 0; fill = record { 0 = [] }; form = Whole } in
+    let b : Block = get_or bs (c.loop-left.left - 1) blank in
+    elim c.if-y-block.branch [
+      | then-y-block u ↦
+          rw (u.active-is, u.free-is)
+          (pass-block c.args.width bs c.loop-left.active.items c.loop-left.left c.args.y base c.loop-left.free c.loop-left.end c.if-y-block.end b blank
+          (omega arith) refl (omega (arith, c.loop-left.invariant.live)) (omega arith)
+          (λ i j lt on p q. let above : j < b.top = omega arith in holds-above b (base + i) j above)
+          c.loop-left.invariant)
+      | else-y-block+then-y-block-2+then-reach-ne0+in_ok-push u ↦
+          choose-block c.args.width bs c.loop-left.active.items c.if-y-block.active.items c.loop-left.left c.args.y base c.loop-left.free c.loop-left.end c.if-y-block.end u.covered.result c.if-y-block.free b blank u.new.result
+          (omega arith) refl (omega (arith, c.loop-left.invariant.live)) (omega arith)
           (ap (λ v. v.items) u.active-is ∙ u.in_ok-push.ensures.items)
-          (λ i j lt p q on.
-          let near : j < u.next_change.result = omega arith in
-          u.covered.ensures w i j lt on (u.next_change.ensures.same j p near ∙ sym u.has_row.ensures ∙ u.if-has_row.true))
+          (ap (λ a. a.fill) u.new.ensures)
+          (λ i j lt on p q.
+          let low : b.top ≤ j = omega arith in
+          let high : j < b.bottom = omega arith in
+          ap (λ a. active_holds base a i j) u.new.ensures
+          ∙ reach-holds b c.loop-left.free u.part.result u.both-reach.result base i j (u.both-reach.ensures i lt) (u.part.ensures i lt) on (within-rows b.top b.bottom j low high))
+          (λ i j on. ap (λ a. active_holds base a i j) u.new.ensures ∙ u.covered.ensures i (base + i) j on)
           (rw u.free-is u.without-free.ensures)
           c.loop-left.invariant
-      | then-meets+else-has_row u ↦
+      | else-y-block+then-y-block-2+else-reach-ne0 u ↦
           rw (u.active-is, u.free-is)
-          (pass-block w bs c.loop-left.active.items c.loop-left.left c.args.y c.args.base c.loop-left.free c.loop-left.end c.if-meets.end b
-          (omega arith) c.index-blocks-left.is (omega (arith, c.loop-left.invariant.live, u.next_change.ensures.after)) (omega arith)
-          (λ k j low high p q.
-          let near : j < u.next_change.result = omega arith in
-          outside-rows w b k j (u.next_change.ensures.same j p near ∙ sym u.has_row.ensures ∙ u.if-has_row.false))
+          (pass-block c.args.width bs c.loop-left.active.items c.loop-left.left c.args.y base c.loop-left.free c.loop-left.end c.if-y-block.end b blank
+          (omega arith) refl (omega (arith, c.loop-left.invariant.live)) (omega arith)
+          (λ i j lt on p q. none-reached b c.loop-left.free u.part.result u.both-reach.result base i j (u.both-reach.ensures i lt) (u.part.ensures i lt) u.if-reach-ne0.false on)
           c.loop-left.invariant)
-      | else-meets u ↦
+      | else-y-block+else-y-block-2 u ↦
           rw (u.active-is, u.free-is)
-          (pass-block w bs c.loop-left.active.items c.loop-left.left c.args.y c.args.base c.loop-left.free c.loop-left.end c.if-meets.end b
-          (omega arith) c.index-blocks-left.is (omega (arith, c.loop-left.invariant.live)) (omega arith)
-          (λ k j low high p q. outside-columns w b k j c.meets.result (c.meets.ensures k low high) u.if-meets.false)
+          (pass-block c.args.width bs c.loop-left.active.items c.loop-left.left c.args.y base c.loop-left.free c.loop-left.end c.if-y-block.end b blank
+          (omega arith) refl (omega (arith, c.loop-left.invariant.live)) (omega arith)
+          (λ i j lt on p q. let below : b.bottom ≤ j = omega arith in holds-below b (base + i) j below)
           c.loop-left.invariant)
     ]
 
 pub returns-else-free-ne0-clause-chosen : goal.returns-else-free-ne0-clause-chosen
 returns-else-free-ne0-clause-chosen c =
-    all-chosen c.args.window.now c.args.blocks.now c.loop-left.active.items c.loop-left.left c.args.y c.args.base c.loop-left.free c.loop-left.end c.loop-left.invariant (inr (omega arith))
+    all-chosen c.args.width c.args.blocks.now c.loop-left.active.items c.loop-left.left c.args.y c.args.base c.loop-left.free c.loop-left.end c.loop-left.invariant (inr (omega arith))

@@ -1,7 +1,11 @@
-use Rattle.std.proofs.Common.{◌≡◌, ◌-◌, ◌++◌}
+use Rattle.std.proofs.Common.{◌≡◌, ◌-◌, ◌++◌, length}
 use Rattle.canvas_scene.specs.Pictures.{raster_of}
-use Rattle.canvas_paint.specs.Blocks.{AreColumns, shown}
+use Rattle.canvas_paint.specs.Columns.{AreColumns, blocks_in, shown_in}
 use Rattle.canvas_paint.proofs.strip.append_rows.Given as goal
 
 abbrev pub invariant-loop-y : goal.invariant-loop-y
-invariant-loop-y l = record { kept : AreColumns l.window l.blocks l.row l.columns l.y; bytes : l.out.items ≡ l.initial.out.items ++ raster_of (shown l.blocks) l.window.w l.first (l.y - l.first) }
+invariant-loop-y l = record {
+  kept : AreColumns l.row l.columns l.y;
+  blocks : blocks_in l.columns ≡ blocks_in l.initial.columns;
+  bytes : l.out.items ≡ l.initial.out.items ++ raster_of (shown_in (blocks_in l.initial.columns)) (length l.initial.row) l.first (l.y - l.first);
+}

@@ -1,7 +1,0 @@
-use Rattle.std.proofs.Common.{◌≡◌, ℕ, ◌<◌, ◌≤◌, take}
-use Rattle.canvas_scene.specs.Items.{last_fill}
-use Rattle.canvas_paint.specs.Blocks.{column_at, last_block_fill, row_at}
-use Rattle.canvas_paint.proofs.strip.blocks_of.Given as goal
-
-abbrev pub invariant-loop-item : goal.invariant-loop-item
-invariant-loop-item l = (k j : ℕ) → k < l.window.w → l.first ≤ j → j < l.end → last_block_fill l.blocks.items k j ≡ last_fill (take l.item-index l.items) (column_at l.window k) (row_at l.window j)
