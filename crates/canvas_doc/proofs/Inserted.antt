@@ -194,7 +194,7 @@ added-order order rs r o =
     }
 
 -- an id stands at one position
-id-only-here : (rs : List Record) (id at q : ℕ) (r : Record) → AreRising rs → StandsAt rs id at → q ≢ at → q < length rs → get_or rs q r ≡ r → (r.id == id) ≡ false
+pub id-only-here : (rs : List Record) (id at q : ℕ) (r : Record) → AreRising rs → StandsAt rs id at → q ≢ at → q < length rs → get_or rs q r ≡ r → (r.id == id) ≡ false
 id-only-here rs id at q r up stands other l here = other-id r.id id (λ e.
     let found : (get_or rs at r).id ≡ id = eqb-true (get_or rs at r).id id (found-has id rs (get_or rs at r) (stands.1 r)) in
     let own : (get_or rs q r).id ≡ r.id = ap (λ (x : Record). x.id) here in

@@ -84,7 +84,7 @@ pub unmoved-order : (ch : Change) (order : List ℕ) (rs : List Record) → ((id
 unmoved-order ch order rs n h = in_order-map (changed_by ch) order rs (same-places (changed_by ch) rs (λ r m. changed-place ch n r)) h
 
 -- no record has an id that is not there
-absent-id : (id : ℕ) (rs : List Record) (r : Record) → record_of id rs ≡ None → IsIn r rs → (r.id == id) ≡ false
+pub absent-id : (id : ℕ) (rs : List Record) (r : Record) → record_of id rs ≡ None → IsIn r rs → (r.id == id) ≡ false
 absent-id id [] r e m = absurd m
 absent-id id (x ∷ rs) r e m = elim (cases_Bool (x.id == id)) [
   | inl t ↦ (let some : Some x ≡ None = sym (ap (λ b. cond b (Some x) (record_of id rs)) t) ∙ e in cc)

@@ -1,5 +1,5 @@
 -- What a change does to a document, and which changes fit.
-use Rattle.std.specs.Prelude.{ℕ, zero, suc, ◌≡◌, ◌+◌, List, [], ◌∷◌, ◌++◌, ◌==◌, ◌&&◌, ◌||◌, not, cond, Option, Some, None, Bool, true, false, map, filter, IsSome, count_by}
+use Rattle.std.specs.Prelude.{ℕ, zero, suc, ◌≡◌, ◌<◌, ◌+◌, List, [], ◌∷◌, ◌++◌, ◌==◌, ◌&&◌, ◌||◌, not, cond, Option, Some, None, Bool, true, false, map, filter, IsSome, count_by, length, slice_index_or, slice_set}
 use Rattle.canvas_key.specs.Rank.{fresh_key}
 use Rattle.canvas_key.specs.Order.{is_before}
 use Rattle.canvas_key.specs.Text.{IsKey}
@@ -63,6 +63,11 @@ changed_by (Reshape id kind) r = cond (r.id == id) (record r { kind = kind }) r
 changed_by (Show id hidden) r = cond (r.id == id) (record r { hidden = hidden }) r
 changed_by (Delete id) r = r
 changed_by (Respace p) r = r
+
+-- the change replaces the record at a position, and no other
+pub record ReplacesAt (c : Change) (rs : List Record) (at : ℕ) : Type 0 where
+  pub there : at < length rs
+  pub only : (d : Record) → map (changed_by c) rs ≡ slice_set rs at (changed_by c (slice_index_or rs at d))
 
 -- the document after a change
 abbrev pub effect_of : Change → Contents → Contents

@@ -41,7 +41,11 @@ fn in_order<'a>(alloc: Global, records: &'a [SharedRecord]) -> Result<Vec<&'a Re
     Ok(all)
 }
 
-fn copies_of(alloc: Global, records: &[SharedRecord]) -> Result<Vec<SharedRecord>, AllocError>
+// The same records for another document.
+pub(crate) fn copies_of(
+    alloc: Global,
+    records: &[SharedRecord],
+) -> Result<Vec<SharedRecord>, AllocError>
     ensures { IfOk result (λ copies. copies.items ≡ records.now) }
 {
     let mut copies = Vec::with_capacity(alloc, records.len())?;

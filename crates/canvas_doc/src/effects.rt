@@ -1,15 +1,17 @@
 //! The document after a change.
 
-ghost use Rattle.std.specs.Prelude.{◌≡◌, ◌+◌, ◌≤◌, ◌++◌, ◌∷◌, [], not, map, filter, length, replicate, All, IfOk, None, false, true};
+ghost use Rattle.std.specs.Prelude.{◌≡◌, ◌+◌, ◌≤◌, ◌++◌, ◌∷◌, [], not, map, filter, length, replicate, ◌==◌, All, IfOk, MatchOption, None, false, true};
 ghost use Rattle.canvas_doc.specs.Contents.{AreRising, IsWellFormed, reaches_page};
+ghost use Rattle.canvas_doc.specs.declared.records.Record.{Record};
 ghost use Rattle.canvas_doc.specs.Depth.{AreMarks};
-ghost use Rattle.canvas_doc.specs.Effect.{changed_by, respaced, child_rank, indexes, is_in_subtree};
+ghost use Rattle.canvas_doc.specs.Effect.{changed_by, respaced, child_rank, indexes, is_in_subtree, ReplacesAt};
 ghost use Rattle.canvas_doc.specs.PlaceOrder.{IsInPlaceOrder};
 ghost use Rattle.canvas_doc.specs.Tree.{HavePlaces};
 ghost use Rattle.canvas_key.specs.Rank.{fresh_key};
 
 use crate::Document;
 use crate::ancestry::{STEPS, level_at, no_marks};
+use crate::copies::copies_of;
 use crate::edits::Change;
 use crate::lookup::position_of;
 use crate::place_order::{children_range, order_after_deletion, put_by_place, take_by_place};
@@ -130,37 +132,6 @@ impl Document {
     }
 }
 
-// A shape after a change of one shape's place, pose, kind or mark: most often the same one.
-#[inline(always)]
-fn changed_or_same(
-    alloc: Global,
-    shape: &SharedRecord,
-    change: &Change,
-) -> Result<SharedRecord, AllocError>
-    ensures { IfOk result (λ after. after ≡ changed_by change.now shape.now) }
-{
-    if is_changed(shape, change) {
-        SharedRecord::new(alloc, changed_by(alloc, shape, change)?)
-    } else {
-        shape.share()
-    }
-}
-
-// Whether a change may be one of this shape.
-fn is_changed(shape: &Record, change: &Change) -> bool
-    ensures { result ≡ false → changed_by change.now shape.now ≡ shape.now }
-{
-    match change {
-        Change::Move { id, .. } => shape.id == *id,
-        Change::Pose { id, .. } => shape.id == *id,
-        Change::Reshape { id, .. } => shape.id == *id,
-        Change::Show { id, .. } => shape.id == *id,
-        Change::Create { .. } => false,
-        Change::Delete { .. } => false,
-        Change::Respace { .. } => false,
-    }
-}
-
 fn changed_by(alloc: Global, shape: &Record, change: &Change) -> Result<Record, AllocError>
     ensures { IfOk result (λ after. after ≡ changed_by change.now shape.now) }
 {
@@ -253,14 +224,41 @@ fn changed(
     records: &[SharedRecord],
     change: &Change,
 ) -> Result<Vec<SharedRecord>, AllocError>
+    requires { AreRising records.now }
     ensures { IfOk result (λ all. all.items ≡ map (changed_by change.now) records.now) }
 {
-    let mut all = Vec::with_capacity(alloc, records.len())?;
-    for shape in records {
-        let after = changed_or_same(alloc, shape, change)?;
-        all.push(after)?;
+    let mut all = copies_of(alloc, records)?;
+    if let Some(at) = changed_position(records, change) {
+        let after = changed_by(alloc, &records[at], change)?;
+        all[at] = SharedRecord::new(alloc, after)?;
     }
     Ok(all)
+}
+
+// The position of the only record that a change replaces, if there is one.
+fn changed_position(records: &[SharedRecord], change: &Change) -> Option<usize>
+    requires { AreRising records.now }
+    ensures { MatchOption result (map (changed_by change.now) records.now ≡ records.now) (λ at. ReplacesAt change.now records.now at) }
+{
+    match changed_id(change) {
+        Some(id) => position_of(records, id),
+        None => None,
+    }
+}
+
+// The id of the only record that a change replaces, if there is one.
+fn changed_id(change: &Change) -> Option<u32>
+    ensures { MatchOption result ((r : Record) → changed_by change.now r ≡ r) (λ id. (r : Record) → (r.id == id) ≡ false → changed_by change.now r ≡ r) }
+{
+    match change {
+        Change::Move { id, .. } => Some(*id),
+        Change::Pose { id, .. } => Some(*id),
+        Change::Reshape { id, .. } => Some(*id),
+        Change::Show { id, .. } => Some(*id),
+        Change::Create { .. } => None,
+        Change::Delete { .. } => None,
+        Change::Respace { .. } => None,
+    }
 }
 
 // The records with one more at the end.
