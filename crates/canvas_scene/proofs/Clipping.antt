@@ -1,5 +1,5 @@
 -- The clips of branches.
-use Rattle.std.proofs.Common.{◌≡◌, List, [], ◌∷◌, ◌++◌, Bool, true, false, ◌&&◌, ◌||◌, cond, Option, Some, None, ℤ, map, refl, sym, ap, ◌∙◌, reverse, All, IfSome, append-nil, option_to_list, subst}
+use Rattle.std.proofs.Common.{◌≡◌, List, [], ◌∷◌, ◌++◌, Bool, true, false, ◌&&◌, ◌||◌, cond, Option, Some, None, ℤ, map, refl, sym, ap, ◌∙◌, reverse, All, IfSome, subst}
 use Rattle.std.proofs.lemmas.List.{reverse-append}
 use Rattle.std.proofs.lemmas.List.Elements.{All-head, All-push, All-tail}
 use Rattle.canvas_plane.specs.declared.PageBox.{PageBox}
@@ -73,11 +73,8 @@ all-reversed P (n ∷ ns) h =
     let Q : List Node → Type 0 = λ l. All P l in
     subst Q (sym (reverse-append (n ∷ []) ns)) (All-push P (reverse ns) n (all-reversed P ns (All-tail P n ns h)) (All-head P n ns h))
 
--- one node more, if there is one
-pub all-more : (P : Node → Type 0) (nodes news : List Node) (node : Option Node) → news ≡ nodes ++ option_to_list node → All P nodes → IfSome node P → All P news
-all-more P nodes news None e h k =
-    let Q : List Node → Type 0 = λ l. All P l in
-    subst Q (sym (e ∙ append-nil nodes)) h
-all-more P nodes news (Some n) e h k =
+-- one node more
+pub all-more : (P : Node → Type 0) (nodes news : List Node) (node : Node) → news ≡ nodes ++ node ∷ [] → All P nodes → P node → All P news
+all-more P nodes news n e h k =
     let Q : List Node → Type 0 = λ l. All P l in
     subst Q (sym e) (All-push P nodes n h k)

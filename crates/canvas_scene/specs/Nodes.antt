@@ -34,11 +34,6 @@ items_of = fold-Node (List Item) items_step
 abbrev pub items_along : List Node → List Item
 items_along nodes = joined (map items_of nodes)
 
--- the items of a node, if there is one
-abbrev pub node_items : Option Node → List Item
-node_items None = []
-node_items (Some n) = items_of n
-
 -- what is seen through a clip
 abbrev pub seen : Bool → Option Colour → Option Colour
 seen inside answer = cond inside answer None

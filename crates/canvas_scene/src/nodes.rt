@@ -1,8 +1,8 @@
 //! The tree of a scene.
 
-ghost use Rattle.std.specs.Prelude.{◌≡◌, ◌++◌, [], ◌∷◌, ℤ, OnOk, map, option_to_list, reverse, Some};
+ghost use Rattle.std.specs.Prelude.{◌≡◌, ◌++◌, [], ◌∷◌, ℤ, OnOk, map, reverse, Some};
 ghost use Rattle.canvas_scene.specs.Clips.{at_pixel, branch_at, leaf_at};
-ghost use Rattle.canvas_scene.specs.Nodes.{items_of, items_along, node_items, back_item};
+ghost use Rattle.canvas_scene.specs.Nodes.{items_of, items_along, back_item};
 
 use crate::Item;
 use bumpalo::Bump;
@@ -49,17 +49,14 @@ pub(crate) fn branch<'a>(
     }
 }
 
-// Adds a node to those of the shapes in front of it, and says whether there is one.
+// Adds a node to those of the shapes in front of it.
 pub(crate) fn keep<'a>(
     nodes: &mut Vec<Node<'a>, &'a Bump>,
-    node: Option<Node<'a>>,
-) -> Result<bool, AllocError>
-    ensures items { OnOk result (items_along (reverse nodes.new.items) ≡ node_items node.entry ++ items_along (reverse nodes.old.items)) }
-    ensures nodes { OnOk result (nodes.new.items ≡ nodes.old.items ++ option_to_list node.entry) }
+    node: Node<'a>,
+) -> Result<(), AllocError>
+    ensures items { OnOk result (items_along (reverse nodes.new.items) ≡ items_of node.entry ++ items_along (reverse nodes.old.items)) }
+    ensures nodes { OnOk result (nodes.new.items ≡ nodes.old.items ++ node.entry ∷ []) }
 {
-    let Some(node) = node else {
-        return Ok(false);
-    };
     nodes.push(node)?;
-    Ok(true)
+    Ok(())
 }

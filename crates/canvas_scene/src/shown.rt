@@ -52,13 +52,15 @@ impl<'a> Shown<'a> {
     pub(crate) fn hides(&self, part: &PageBox) -> bool
         ensures { IsTrue result → IsHidden self.now part.now }
     {
-        if part.is_empty() {
-            return true;
-        }
-        if !self.cells.may_cover(part) {
-            return false;
-        }
-        self.cells.covers(part) || lies_within_one(part, &self.covers)
+        part.is_empty() || self.covers_whole(part)
+    }
+
+    // Whether a box lies in marked cells or within one rectangle.
+    fn covers_whole(&self, part: &PageBox) -> bool
+        ensures { IsTrue result → IsHidden self.now part.now }
+    {
+        self.cells.may_cover(part)
+            && (self.cells.covers(part) || lies_within_one(part, &self.covers))
     }
 
     /// Whether a box is hidden that the item added last may have hidden: where that one did not,

@@ -1,17 +1,17 @@
 //! The walk that makes a scene, from front to back, cut by the clips on its way and by what it
 //! has shown.
 
-ghost use Rattle.std.specs.Prelude.{◌≡◌, ◌≤◌, ◌+◌, ◌*◌, ◌^◌, ◌++◌, ◌<◌, [], ◌∷◌, ℤ, All, IfOk, IfSome, OnOk, reverse, length, map, Some, true, false};
+ghost use Rattle.std.specs.Prelude.{◌≡◌, ◌≤◌, ◌+◌, ◌*◌, ◌^◌, ◌++◌, ◌<◌, [], ◌∷◌, ℤ, All, IfOk, IfSome, IsTrue, Option, reverse, map, Some, true, false};
 ghost use Rattle.canvas_plane.specs.Motion.{carry, reach_of, size_of};
 ghost use Rattle.canvas_plane.specs.Page.{is_in};
-ghost use Rattle.canvas_shape.specs.Inside.{AreVertices, IsSound};
+ghost use Rattle.canvas_shape.specs.Inside.{AreVertices, IsSound, holds_of};
+ghost use Rattle.canvas_shape.specs.declared.Colour.{Colour};
 ghost use Rattle.canvas_shape.specs.Leaves.{carried_holds};
-ghost use Rattle.canvas_doc.specs.Tree.{IsInLimits};
-ghost use Rattle.canvas_doc.specs.Picture.{answer_among, answer_of, colour, or_else, or_white};
+ghost use Rattle.canvas_doc.specs.Picture.{answer_among, colour, or_else, or_white, shape_answer};
 ghost use Rattle.canvas_doc.specs.declared.records.Parent.TheVariants.{Shape};
 ghost use Rattle.canvas_scene.specs.Clips.{IsClipped};
 ghost use Rattle.canvas_scene.specs.Covers.{first_fill};
-ghost use Rattle.canvas_scene.specs.Nodes.{back_item, items_along, items_of, node_items, seen, shown_of};
+ghost use Rattle.canvas_scene.specs.Nodes.{back_item, items_along, items_of, seen, shown_of};
 
 use crate::bounds::part_of;
 use crate::nodes::{branch, keep, leaf};
@@ -75,8 +75,13 @@ fn nodes_among<'a>(
     }
     let children = document.children(bump, parent)?;
     for child in &children {
-        let node = node_of(bump, document, levels - 1, child, out, clip, shown)?;
-        if keep(&mut nodes, node)? && shown.hides_by_last(clip) {
+        let page = child.pose.then(out);
+        if is_out_of_sight(child, &page, clip, shown) {
+            continue;
+        }
+        let node = seen_node(bump, document, levels - 1, child, &page, clip, shown)?;
+        keep(&mut nodes, node)?;
+        if shown.hides_by_last(clip) {
             break;
         }
     }
@@ -84,34 +89,16 @@ fn nodes_among<'a>(
     Ok(into_bump_slice(nodes))
 }
 
-// The node of a shape with all below it, if anything of it may be seen behind what is shown.
-#[cycle(walk)]
-fn node_of<'a>(
-    bump: &'a Bump,
-    document: &Document,
-    levels: u32,
-    shape: &Record,
-    out: &Pose,
-    clip: &PageBox,
-    shown: &mut Shown<'a>,
-) -> Result<Option<Node<'a>>, AllocError>
-    requires shape { IsInLimits shape.now }
-    requires quarter { out.now.quarter ≤ 3 }
-    requires reach { reach_of out.now + (levels + 1) * 2 ^ 20 ≤ 2 ^ 26 }
-    ensures fills { IfOk result (λ node. (x y : ℤ) → first_fill shown.new x y ≡ or_else (first_fill shown.old x y) (seen (is_in clip.now x y) (answer_of levels document.now.records (carry out.now) x y shape.now))) }
-    ensures items { IfOk result (λ node. shown.new ≡ shown.old ++ reverse (node_items node)) }
-    ensures clips { IfOk result (λ node. IfSome node (IsClipped clip.now)) }
+// Whether nothing of a shape with all below it may be seen behind what is shown, where `page`
+// carries its own points to the page.
+fn is_out_of_sight(shape: &Record, page: &Pose, clip: &PageBox, shown: &Shown<'_>) -> bool
+    requires kind { IsSound shape.now.kind }
+    requires quarter { page.now.quarter ≤ 3 }
+    requires reach { reach_of page.now ≤ 2 ^ 26 }
+    ensures nothing { IsTrue result → (inner : Option Colour) (x y : ℤ) → first_fill shown.now x y ≡ or_else (first_fill shown.now x y) (seen (is_in clip.now x y) (shape_answer shape.now (holds_of shape.now.kind (carry page.now) x y) inner)) }
+    ensures shown { result ≡ false → shape.now.hidden ≡ false }
 {
-    if shape.hidden {
-        return Ok(None);
-    }
-    let page = shape.pose.then(out);
-    let part = part_of(&shape.kind, &page, clip);
-    if shown.hides(&part) {
-        return Ok(None);
-    }
-    let node = seen_node(bump, document, levels, shape, &page, clip, shown)?;
-    Ok(Some(node))
+    shape.hidden || shown.hides(&part_of(&shape.kind, page, clip))
 }
 
 // The node of a shape with all below it, of which something may be seen. `page` carries its own

@@ -8,16 +8,16 @@ use Rattle.canvas_doc.specs.declared.records.Parent.TheVariants.{Shape}
 use Rattle.canvas_doc.specs.declared.records.Record.{Record}
 use Rattle.canvas_doc.specs.Picture.{answer_among, answer_of, first_answer, or_else}
 use Rattle.canvas_doc.specs.Tree.{IsInLimits}
-use Rattle.canvas_doc.proofs.Walk.{answer-by, answer-children, answer-none}
+use Rattle.canvas_doc.proofs.Walk.{answer-children, answer-none}
 use Rattle.canvas_scene.specs.declared.nodes.Node.{Node}
 use Rattle.canvas_scene.specs.Clips.{IsClipped}
 use Rattle.canvas_scene.specs.Covers.{first_fill}
-use Rattle.canvas_scene.specs.Nodes.{items_along, items_of, node_items, seen, shown_of}
-use Rattle.canvas_scene.proofs.Children.{child-all, left-more, left-none, left_from}
+use Rattle.canvas_scene.specs.Nodes.{items_along, items_of, seen, shown_of}
+use Rattle.canvas_scene.proofs.Children.{child-answered, child-unseen, left-more, left-none, left_from}
 use Rattle.canvas_scene.proofs.Clipping.{all-more, all-reversed, branch-clipped, meet-within}
-use Rattle.canvas_scene.proofs.Covering.{added-child, added-frame, hidden-box, hidden-frame}
+use Rattle.canvas_scene.proofs.Covering.{added-child, added-frame, hidden-box}
 use Rattle.canvas_scene.proofs.Seen.{list-frame, list-more, list-none, ok-more, or_else-none, seen-none}
-use Rattle.canvas_scene.proofs.walk.+walk.Goals.{nodes_among-then-loop-child-test+in_ok-node+in_ok-keep+then-branch+then-hides_by_last, nodes_among-else-loop-child-test}
+use Rattle.canvas_scene.proofs.walk.+walk.Goals.{nodes_among-then-loop-child-test+else-is_out_of_sight+in_ok-node+in_ok-keep+then-hides_by_last, nodes_among-else-loop-child-test}
 use Rattle.canvas_scene.proofs.walk.+walk.Goals as goal
 
 pub nodes_among-returns-then-levels-eq0-clause-fills : goal.nodes_among-returns-then-levels-eq0-clause-fills
@@ -33,16 +33,25 @@ nodes_among-loop-child-init t c = record {
   clips = search rules;
 }
 
-pub nodes_among-node_of-requires : goal.nodes_among-node_of-requires
-nodes_among-node_of-requires t c =
-    let items = c.deref-child-items.result.now in
-    let limits : All (λ (r : Bor Record). IsInLimits r.now) items = subst (λ (l : List (Bor Record)). All (λ (r : Bor Record). IsInLimits r.now) l) (sym c.deref-child-items.ensures.value) c.in_ok-children.ensures.limits in
-    (search rules, (child-all IsInLimits items c.loop-child.child-index c.child-item.result c.loop-child-test.true c.child-item.is limits, (c.requires.quarter, omega arith)))
+pub nodes_among-loop-child-preserved-then-is_out_of_sight : goal.nodes_among-loop-child-preserved-then-is_out_of_sight
+nodes_among-loop-child-preserved-then-is_out_of_sight t c = record {
+  left = λ x y.
+      let old = first_fill c.loop-child.shown x y in
+      let child = c.child-item.result.now in
+      let inner = answer_among (c.args.levels - 1) c.args.document.now.records (Shape child.id) (carry c.then-page.result) x y in
+      added-child (is_in c.args.clip.now x y) (first_fill c.args.shown.now x y) old old (answer_among c.args.levels c.args.document.now.records c.args.parent (carry c.args.out.now) x y) (answer_of (c.args.levels - 1) c.args.document.now.records (carry c.args.out.now) x y) child _ _
+      (child-unseen (c.args.levels - 1) c.args.document.now.records (carry c.args.out.now) x y child c.then-page.result (is_in c.args.clip.now x y) old c.then-page.ensures.carries (c.if-is_out_of_sight.ensures.nothing refl inner x y))
+      (left-more c.deref-child-items.result.now c.loop-child.child-index c.child-item.result c.loop-child-test.true c.child-item.is) (c.loop-child.invariant.left x y);
+  list = c.loop-child.invariant.list;
+  clips = c.loop-child.invariant.clips;
+}
 
 pub nodes_among-loop-child-preserved : goal.nodes_among-loop-child-preserved
 nodes_among-loop-child-preserved t c = record {
-  left = λ x y. added-child (is_in c.args.clip.now x y) (first_fill c.args.shown.now x y) (first_fill c.loop-child.shown x y) (first_fill c.node_of.new.shown x y) (answer_among c.args.levels c.args.document.now.records c.args.parent (carry c.args.out.now) x y) (answer_of (c.args.levels - 1) c.args.document.now.records (carry c.args.out.now) x y) c.child-item.result.now _ _ (c.in_ok-node.ensures.fills x y) (left-more c.deref-child-items.result.now c.loop-child.child-index c.child-item.result c.loop-child-test.true c.child-item.is) (c.loop-child.invariant.left x y);
-  list = list-more c.args.shown.now (items_along (reverse c.loop-child.nodes.items)) (node_items c.in_ok-node.node) (items_along (reverse c.keep.new.nodes.items)) c.loop-child.shown c.node_of.new.shown c.loop-child.invariant.list c.in_ok-node.ensures.items c.in_ok-keep.ensures.items;
+  left = λ x y. added-child (is_in c.args.clip.now x y) (first_fill c.args.shown.now x y) (first_fill c.loop-child.shown x y) (first_fill c.seen_node.new.shown x y) (answer_among c.args.levels c.args.document.now.records c.args.parent (carry c.args.out.now) x y) (answer_of (c.args.levels - 1) c.args.document.now.records (carry c.args.out.now) x y) c.child-item.result.now _ _
+      (child-answered (c.args.levels - 1) c.args.document.now.records (carry c.args.out.now) x y c.child-item.result.now c.then-page.result (is_in c.args.clip.now x y) (first_fill c.loop-child.shown x y) (first_fill c.seen_node.new.shown x y) c.then-page.ensures.carries (c.is_out_of_sight.ensures.shown c.if-is_out_of_sight.false) (c.in_ok-node.ensures.fills x y))
+      (left-more c.deref-child-items.result.now c.loop-child.child-index c.child-item.result c.loop-child-test.true c.child-item.is) (c.loop-child.invariant.left x y);
+  list = list-more c.args.shown.now (items_along (reverse c.loop-child.nodes.items)) (items_of c.in_ok-node.node) (items_along (reverse c.keep.new.nodes.items)) c.loop-child.shown c.seen_node.new.shown c.loop-child.invariant.list c.in_ok-node.ensures.items c.in_ok-keep.ensures.items;
   clips = all-more (IsClipped c.args.clip.now) c.loop-child.nodes.items c.keep.new.nodes.items c.in_ok-node.node c.in_ok-keep.ensures.nodes c.loop-child.invariant.clips c.in_ok-node.ensures.clips;
 }
 
@@ -56,8 +65,10 @@ nodes_among-returns-clause-fills t c = λ x y.
       | nodes_among-else-loop-child-test w ↦ rw w.shown-is (or_else-none (first_fill c.loop-child.shown x y)
           ∙ ap (or_else (first_fill c.loop-child.shown x y)) (seen-none inside ∙ ap (λ l. seen inside (first_answer answer l)) (sym (left-none items c.loop-child.child-index w.loop-child-test.false)))
           ∙ c.loop-child.invariant.left x y)
-      | nodes_among-then-loop-child-test+in_ok-node+in_ok-keep+then-branch+then-hides_by_last w ↦ rw w.shown-is (hidden-box w.node_of.new.shown c.args.clip.now (first_answer answer (left_from (c.loop-child.child-index + 1) items)) x y (w.if-hides_by_last.ensures refl)
-          ∙ added-child inside (first_fill c.args.shown.now x y) (first_fill c.loop-child.shown x y) (first_fill w.node_of.new.shown x y) whole answer w.child-item.result.now _ _ (w.in_ok-node.ensures.fills x y) (left-more items c.loop-child.child-index w.child-item.result w.loop-child-test.true w.child-item.is) (c.loop-child.invariant.left x y))
+      | nodes_among-then-loop-child-test+else-is_out_of_sight+in_ok-node+in_ok-keep+then-hides_by_last w ↦ rw w.shown-is (hidden-box w.seen_node.new.shown c.args.clip.now (first_answer answer (left_from (c.loop-child.child-index + 1) items)) x y (w.if-hides_by_last.ensures refl)
+          ∙ added-child inside (first_fill c.args.shown.now x y) (first_fill c.loop-child.shown x y) (first_fill w.seen_node.new.shown x y) whole answer w.child-item.result.now _ _
+          (child-answered (c.args.levels - 1) c.args.document.now.records (carry c.args.out.now) x y w.child-item.result.now w.then-page.result inside (first_fill c.loop-child.shown x y) (first_fill w.seen_node.new.shown x y) w.then-page.ensures.carries (w.is_out_of_sight.ensures.shown w.if-is_out_of_sight.false) (w.in_ok-node.ensures.fills x y))
+          (left-more items c.loop-child.child-index w.child-item.result w.loop-child-test.true w.child-item.is) (c.loop-child.invariant.left x y))
     ]
 
 pub nodes_among-returns-clause-clips : goal.nodes_among-returns-clause-clips
@@ -65,24 +76,9 @@ nodes_among-returns-clause-clips t c =
     let P : List Node → Type 0 = λ l. All (IsClipped c.args.clip.now) l in
     let kept : All (IsClipped c.args.clip.now) c.loop-child-test.nodes.items = elim c.loop-child-test.branch [
       | nodes_among-else-loop-child-test w ↦ rw w.nodes-is c.loop-child.invariant.clips
-      | nodes_among-then-loop-child-test+in_ok-node+in_ok-keep+then-branch+then-hides_by_last w ↦ rw w.nodes-is (all-more (IsClipped c.args.clip.now) c.loop-child.nodes.items w.keep.new.nodes.items w.in_ok-node.node w.in_ok-keep.ensures.nodes c.loop-child.invariant.clips w.in_ok-node.ensures.clips)
+      | nodes_among-then-loop-child-test+else-is_out_of_sight+in_ok-node+in_ok-keep+then-hides_by_last w ↦ rw w.nodes-is (all-more (IsClipped c.args.clip.now) c.loop-child.nodes.items w.keep.new.nodes.items w.in_ok-node.node w.in_ok-keep.ensures.nodes c.loop-child.invariant.clips w.in_ok-node.ensures.clips)
     ] in
     subst P (sym (c.into_bump_slice-2.ensures ∙ c.reverse.ensures.items)) (all-reversed (IsClipped c.args.clip.now) c.loop-child-test.nodes.items kept)
-
-pub node_of-returns-then-hides-clause-fills : goal.node_of-returns-then-hides-clause-fills
-node_of-returns-then-hides-clause-fills t c = λ x y.
-    let inner = answer_among c.args.levels c.args.document.now.records (Shape c.args.shape.now.id) (carry c.then-page.result) x y in
-    hidden-box c.args.shown.now c.part_of-part.result (shown_of c.args.shape.now.kind c.then-page.result inner x y) x y (c.if-hides.ensures refl)
-    ∙ ap (or_else (first_fill c.args.shown.now x y)) (c.part_of-part.ensures inner x y)
-    ∙ ap (λ o. or_else (first_fill c.args.shown.now x y) (seen (is_in c.args.clip.now x y) o))
-    (answer-by c.args.levels c.args.document.now.records (carry c.args.out.now) x y c.args.shape.now c.then-page.result c.args.shape.now.kind _ inner c.then-page.ensures.carries c.if-shape.false refl refl refl)
-
-pub node_of-returns-clause-fills : goal.node_of-returns-clause-fills
-node_of-returns-clause-fills t c = λ x y.
-    let inner = answer_among c.args.levels c.args.document.now.records (Shape c.args.shape.now.id) (carry c.then-page.result) x y in
-    c.in_ok-node.ensures.fills x y
-    ∙ ap (λ o. or_else (first_fill c.args.shown.now x y) (seen (is_in c.args.clip.now x y) o))
-    (answer-by c.args.levels c.args.document.now.records (carry c.args.out.now) x y c.args.shape.now c.then-page.result c.args.shape.now.kind _ inner c.then-page.ensures.carries c.if-shape.false refl refl refl)
 
 pub seen_node-returns-in_ok-nodes-in-Group-clause-clips : goal.seen_node-returns-in_ok-nodes-in-Group-clause-clips
 seen_node-returns-in_ok-nodes-in-Group-clause-clips t c =

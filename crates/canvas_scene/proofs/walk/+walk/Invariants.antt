@@ -9,13 +9,10 @@ use Rattle.canvas_scene.proofs.Children.{left_from}
 use Rattle.canvas_scene.proofs.walk.+walk.Given as goal
 
 abbrev pub decreases-nodes_among : goal.decreases-nodes_among
-decreases-nodes_among l = 3 * l.levels
-
-abbrev pub decreases-node_of : goal.decreases-node_of
-decreases-node_of l = 3 * l.levels + 2
+decreases-nodes_among l = 2 * l.levels
 
 abbrev pub decreases-seen_node : goal.decreases-seen_node
-decreases-seen_node l = 3 * l.levels + 1
+decreases-seen_node l = 2 * l.levels + 1
 
 abbrev pub invariant-nodes_among-loop-child : goal.invariant-nodes_among-loop-child
 invariant-nodes_among-loop-child l = record {
