@@ -79,13 +79,13 @@ fn rectangle(dice: &mut Dice) -> Kind {
     }
 }
 
-/// 1,000 records: 40 frames, in each a frame and a group, and in these eleven shapes each. They are spread on the page so that
-/// some 30 shapes meet a tile.
-pub fn nested(alloc: Global) -> Result<Document, AllocError> {
+/// 1,000 records: 40 frames on the page, which lie below a size in both directions, in each a frame and a group, and in these
+/// eleven shapes each.
+pub fn nested(alloc: Global, size: u32) -> Result<Document, AllocError> {
     let mut dice = Dice(2);
     let mut document = Document::empty(alloc);
     for _ in 0..40u32 {
-        let pose = dice.pose(1_050);
+        let pose = dice.pose(size);
         let outer = document.next_id();
         document = with(alloc, document, frame(&mut dice, 260), pose, Parent::Page)?;
         let inner = document.next_id();

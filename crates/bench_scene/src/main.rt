@@ -21,8 +21,15 @@ fn main(rt: HostRuntime) -> io::Result<()> {
     )?;
     report(
         &rt,
-        "1,000 mixed shapes in nested frames",
-        &documents::nested(rt.alloc())?,
+        "1,000 mixed shapes in nested frames, some 30 of which meet a tile",
+        &documents::nested(rt.alloc(), 1_050)?,
+        600,
+        60,
+    )?;
+    report(
+        &rt,
+        "1,000 mixed shapes in nested frames, some 45 of which meet a tile",
+        &documents::nested(rt.alloc(), 900)?,
         600,
         60,
     )?;
