@@ -70,16 +70,32 @@ impl<'a> Column<'a> {
         ensures outside { OnOk result ((x : ℕ) (d : List ℕ) → x < length row.old → is_within base x (base + 64) ≡ false → slice_index_or row.new x d ≡ slice_index_or row.old x d) }
     {
         if self.until <= y {
-            let all = part(0, row.len(), base);
-            let is_chosen = y < self.end;
-            if !is_chosen {
-                self.end = choose(&self.blocks, row.len(), base, y, &mut self.active)?;
-            }
-            let change = follow(self.active.as_mut_slice(), base, y, self.end);
-            let pixels = if is_chosen { both(all, change.pixels) } else { all };
-            paint_word(&self.active, base, pixels, row);
-            self.until = change.until;
+            self.repaint(base, y, row)?;
         }
+        Ok(())
+    }
+
+    // The same where the word changes, apart from the loop over rows in which it does not.
+    #[inline(never)]
+    fn repaint(&mut self, base: usize, y: usize, row: &mut [Pixel]) -> Result<(), AllocError>
+        requires y { y < usize.MAX }
+        requires base { base < 256 }
+        requires whole { base % 64 ≡ 0 }
+        requires kept { IsColumn base row.old self.old y }
+        ensures blocks { OnOk result (self.new.blocks.items ≡ self.old.blocks.items) }
+        ensures live { OnOk result (y < self.new.until) }
+        ensures kept { OnOk result (IsColumn base row.new self.new y) }
+        ensures outside { OnOk result ((x : ℕ) (d : List ℕ) → x < length row.old → is_within base x (base + 64) ≡ false → slice_index_or row.new x d ≡ slice_index_or row.old x d) }
+    {
+        let all = part(0, row.len(), base);
+        let is_chosen = y < self.end;
+        if !is_chosen {
+            self.end = choose(&self.blocks, row.len(), base, y, &mut self.active)?;
+        }
+        let change = follow(self.active.as_mut_slice(), base, y, self.end);
+        let pixels = if is_chosen { both(all, change.pixels) } else { all };
+        paint_word(&self.active, base, pixels, row);
+        self.until = change.until;
         Ok(())
     }
 }

@@ -26,8 +26,8 @@ fn put(row: &mut [Pixel], from: usize, to: usize, pattern: &[Pixel])
     row[from..to].copy_from_slice(&pattern[..to - from]);
 }
 
-// Fills the places of a row from one up to another.
-fn fill(row: &mut [Pixel], from: usize, to: usize, colour: Pixel)
+// Fills the places of a row from one up to another, many at once.
+fn fill_long(row: &mut [Pixel], from: usize, to: usize, colour: Pixel)
     requires ends { from ≤ to }
     requires within { to ≤ length row.old }
     ensures { (k : ℕ) (d : List ℕ) → k < length row.old → slice_index_or row.new k d ≡ (if is_within from k to then colour else slice_index_or row.old k d) }
@@ -39,6 +39,30 @@ fn fill(row: &mut [Pixel], from: usize, to: usize, colour: Pixel)
         at += PIECE;
     }
     put(row, at, to, &pattern);
+}
+
+// Fills the places of a row from one up to another, one by one.
+fn fill_short(row: &mut [Pixel], from: usize, to: usize, colour: Pixel)
+    requires ends { from ≤ to }
+    requires within { to ≤ length row.old }
+    ensures { (k : ℕ) (d : List ℕ) → k < length row.old → slice_index_or row.new k d ≡ (if is_within from k to then colour else slice_index_or row.old k d) }
+{
+    for at in from..to {
+        row[at] = colour;
+    }
+}
+
+// Fills the places of a row from one up to another.
+fn fill(row: &mut [Pixel], from: usize, to: usize, colour: Pixel)
+    requires ends { from ≤ to }
+    requires within { to ≤ length row.old }
+    ensures { (k : ℕ) (d : List ℕ) → k < length row.old → slice_index_or row.new k d ≡ (if is_within from k to then colour else slice_index_or row.old k d) }
+{
+    if to - from < PIECE {
+        fill_short(row, from, to, colour);
+    } else {
+        fill_long(row, from, to, colour);
+    }
 }
 
 /// Fills the pixels of a word that is put down from the column `base` on.

@@ -7,11 +7,11 @@ use Rattle.canvas_paint.specs.declared.column.Column.{Column}
 use Rattle.canvas_paint.specs.Columns.{IsChosen, active_fill, masked, masked_fill}
 use Rattle.canvas_paint.specs.Words.{covers}
 use Rattle.canvas_paint.proofs.Columns.{items-put, none-unchanged, refreshed, unchanged}
-use Rattle.canvas_paint.proofs.column.Column.refresh.Goals as goal
-use Rattle.canvas_paint.proofs.column.Column.refresh.Goals.{then-not-is_chosen+in_ok-self, else-not-is_chosen, then-is_chosen, else-is_chosen}
+use Rattle.canvas_paint.proofs.column.Column.repaint.Goals as goal
+use Rattle.canvas_paint.proofs.column.Column.repaint.Goals.{then-not-is_chosen+in_ok-self, else-not-is_chosen, then-is_chosen, else-is_chosen}
 
-pub returns-after-is_chosen-clause-kept : goal.returns-after-is_chosen-clause-kept
-returns-after-is_chosen-clause-kept c =
+pub returns-clause-kept : goal.returns-clause-kept
+returns-clause-kept c =
     let base = c.args.base in
     let y = c.args.y in
     let row = c.args.row.now in
@@ -30,7 +30,7 @@ returns-after-is_chosen-clause-kept c =
     ])
     (λ i z. c.follow-change.ensures.kept i z ∙ ap (λ l. active_fill base l i z) before)
     c.follow-change.ensures.exact
-    (λ k d lt. c.paint_word.ensures k d lt ∙ ap (λ l. cond (covers base c.if-is_chosen.pixels k) (masked l (k - base)) (get_or row k d)) (c.deref-then-self-y.ensures.value ∙ same))
+    (λ k d lt. c.paint_word.ensures k d lt ∙ ap (λ l. cond (covers base c.if-is_chosen.pixels k) (masked l (k - base)) (get_or row k d)) (c.deref-2.ensures.value ∙ same))
     (λ i d small lt off. elim c.if-is_chosen.branch [
       | then-is_chosen w ↦
           elim c.if-not-is_chosen.branch [
