@@ -97,8 +97,7 @@ pub(crate) fn polygon_rows<'a>(
     requires bottom { bottom ≤ window.now.h }
     ensures { IfOk result (λ rows. (k j : ℕ) → k < window.now.w → top ≤ j → j < bottom → row_has (slice_index_or rows.words.now (j - rows.first) []) k ≡ is_in_polygon vertices.now.points.now (column_at window.now k) (row_at window.now j)) }
 {
-    let mut flags = [EdgeFlags::none(); 256];
-    let rows = &mut flags[..bottom - top];
+    let rows = bump.try_alloc_slice_fill_clone(bottom - top, EdgeFlags::none())?;
     vertices.flag_rows(page_row(window, top), window.x(), window.w(), rows);
     Ok(RowWords {
         first: top,
