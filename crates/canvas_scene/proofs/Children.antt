@@ -1,5 +1,5 @@
 -- The children that a walk has still to go over, and what they answer.
-use Rattle.std.proofs.Common.{◌≡◌, ℕ, ◌+◌, ◌<◌, ◌≤◌, List, [], ◌∷◌, All, Bor, ℤ, drop, get_or, length, map, ap, refl, sym, subst, ◌∙◌, Bool, false, Option}
+use Rattle.std.proofs.Common.{◌≡◌, ℕ, ◌+◌, ◌<◌, ◌≤◌, List, [], ◌∷◌, Bor, ℤ, drop, get_or, length, map, ap, refl, sym, ◌∙◌, Bool, false, Option}
 use Rattle.std.proofs.lemmas.List.{drop_all, drop_more}
 use mathlib.Core.Path.{fun_ext}
 use Rattle.canvas_plane.specs.declared.Point.{Point}

@@ -72,17 +72,6 @@ hidden-leaf items held box clip common o x y has m h =
     ∙ ap (λ b. or_else (first_fill items x y) (seen b (seen (held x y) o))) (m x y)
     ∙ ap (or_else (first_fill items x y)) (cut-twice (held x y) (is_in box x y) (is_in clip x y) o (has x y))
 
-cut-frame : (clip box : Bool) (o : Option Colour) → seen (clip && box) o ≡ seen clip (seen box o)
-cut-frame true box o = refl
-cut-frame false box o = refl
-
--- a frame with all below it is not seen where its box and its clip have a hidden box in common
-pub hidden-frame : (items : List Item) (clip box common : PageBox) (o : Option Colour) (x y : ℤ) → ((x y : ℤ) → is_in common x y ≡ (is_in clip x y && is_in box x y)) → IsHidden items common → first_fill items x y ≡ or_else (first_fill items x y) (seen (is_in clip x y) (cond (is_in box x y) o None))
-hidden-frame items clip box common o x y m h =
-    hidden-box items common o x y h
-    ∙ ap (λ b. or_else (first_fill items x y) (seen b o)) (m x y)
-    ∙ ap (or_else (first_fill items x y)) (cut-frame (is_in clip x y) (is_in box x y) o)
-
 -- a box within a hidden one is hidden
 pub hidden-within : (items : List Item) (inner outer : PageBox) → IsWithin inner outer → IsHidden items outer → IsHidden items inner
 hidden-within items inner outer w h = λ x y e. h x y (w x y e)

@@ -1,11 +1,11 @@
 -- The last item of a tree against the first answer of a walk.
-use Rattle.std.proofs.Common.{◌≡◌, List, [], ◌∷◌, ◌++◌, Bool, true, false, ◌&&◌, cond, Option, Some, None, ℤ, refl, sym, ap, ◌∙◌, reverse, append_assoc, append-nil, Result, Ok, Err, IfOk}
+use Rattle.std.proofs.Common.{◌≡◌, List, [], ◌∷◌, ◌++◌, Bool, true, false, ◌&&◌, cond, Option, Some, None, ℤ, refl, sym, ap, ◌∙◌, reverse, append_assoc, append-nil}
 use Rattle.std.proofs.lemmas.List.{reverse-append}
 use Rattle.canvas_shape.specs.declared.Colour.{Colour}
 use Rattle.canvas_doc.specs.Picture.{or_else}
 use Rattle.canvas_scene.specs.declared.item.Item.{Item}
 use Rattle.canvas_scene.specs.Items.{fill_at, last_fill}
-use Rattle.canvas_scene.specs.Nodes.{back_item, seen}
+use Rattle.canvas_scene.specs.Nodes.{seen}
 
 pub or_else-none : (o : Option Colour) → o ≡ or_else o None
 or_else-none None = refl
@@ -47,18 +47,6 @@ frame-cases false false inner fill = refl
 
 -- ---- the list of items, from front to back
 
-reverse-back : (back : Option Item) → reverse (back_item back) ≡ back_item back
-reverse-back None = refl
-reverse-back (Some i) = refl
-
--- a frame's own item comes after its children's
-pub list-frame : (old mid new kids items : List Item) (back : Option Item) → mid ≡ old ++ reverse kids → new ≡ mid ++ back_item back → items ≡ back_item back ++ kids → new ≡ old ++ reverse items
-list-frame old mid new kids items back m n i =
-    n ∙ ap (λ l. l ++ back_item back) m ∙ append_assoc old (reverse kids) (back_item back)
-    ∙ ap (λ l. old ++ (reverse kids ++ l)) (sym (reverse-back back))
-    ∙ ap (λ l. old ++ l) (sym (reverse-append (back_item back) kids))
-    ∙ ap (λ l. old ++ reverse l) (sym i)
-
 -- the items of one child more come after those in front of it
 pub list-more : (start olds node news : List Item) (mid new : List Item) → mid ≡ start ++ reverse olds → new ≡ mid ++ reverse node → news ≡ node ++ olds → new ≡ start ++ reverse news
 list-more start olds node news mid new m n e =
@@ -67,8 +55,3 @@ list-more start olds node news mid new m n e =
 
 pub list-none : (old items : List Item) → items ≡ [] → old ≡ old ++ reverse items
 list-none old items e = sym (append-nil old) ∙ ap (λ l. old ++ reverse l) (sym e)
-
--- what follows of an answer
-pub ok-more : {A E : Type 0} (r : Result A E) (P Q : A → Type 0) → ((a : A) → P a → Q a) → IfOk r P → IfOk r Q
-ok-more (Ok a) P Q f h = f a h
-ok-more (Err e) P Q f h = h

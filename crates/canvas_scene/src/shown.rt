@@ -55,7 +55,9 @@ impl<'a> Shown<'a> {
         part.is_empty() || self.covers_whole(part)
     }
 
-    // Whether a box lies in marked cells or within one rectangle.
+    // Whether a box lies in marked cells or within one rectangle. Most boxes that are asked of are
+    // empty, and never come here.
+    #[inline(never)]
     fn covers_whole(&self, part: &PageBox) -> bool
         ensures { IsTrue result → IsHidden self.now part.now }
     {
@@ -63,8 +65,9 @@ impl<'a> Shown<'a> {
             && (self.cells.covers(part) || lies_within_one(part, &self.covers))
     }
 
-    /// Whether a box is hidden that the item added last may have hidden: where that one did not,
-    /// it says no.
+    /// Whether nothing behind may be seen in a box that was not hidden before the last items were
+    /// added. Of the rectangles it looks at the last alone, behind which nothing in the box was
+    /// added if it has all of it.
     pub(crate) fn hides_by_last(&self, part: &PageBox) -> bool
         ensures { IsTrue result → IsHidden self.now part.now }
     {

@@ -1,9 +1,8 @@
 use Rattle.std.proofs.Common.{◌∙◌, Some, ap, map, sym}
 use Rattle.canvas_plane.specs.Motion.{carry}
 use Rattle.canvas_shape.specs.Edges.{is_in_polygon}
-use Rattle.canvas_shape.specs.Inside.{holds_of}
 use Rattle.canvas_shape.specs.Leaves.{carried_holds}
-use Rattle.canvas_doc.specs.Picture.{kind_answer, or_else}
+use Rattle.canvas_doc.specs.Picture.{or_else}
 use Rattle.canvas_scene.specs.Nodes.{seen, shown_of}
 use Rattle.canvas_scene.proofs.Covering.{cut-by-box}
 use Rattle.canvas_scene.proofs.bounds.part_of.Goals as goal

@@ -1,13 +1,8 @@
-use Rattle.std.proofs.Common.{◌∙◌, refl, sym, ap, arith, cond, rules, ◌+◌, ◌-◌, reverse, map, None, All, Bor, List, subst}
+use Rattle.std.proofs.Common.{◌∙◌, refl, sym, ap, arith, cond, rules, ◌+◌, ◌-◌, reverse, None, All, List, subst}
 use Rattle.canvas_plane.specs.Motion.{carry}
 use Rattle.canvas_plane.specs.Page.{is_in}
-use Rattle.canvas_shape.specs.Edges.{is_in_polygon}
-use Rattle.canvas_shape.specs.Inside.{holds_of}
-use Rattle.canvas_shape.specs.declared.Kind.TheVariants.{Group, Frame, Polygon}
 use Rattle.canvas_doc.specs.declared.records.Parent.TheVariants.{Shape}
-use Rattle.canvas_doc.specs.declared.records.Record.{Record}
 use Rattle.canvas_doc.specs.Picture.{answer_among, answer_of, first_answer, or_else}
-use Rattle.canvas_doc.specs.Tree.{IsInLimits}
 use Rattle.canvas_doc.proofs.Walk.{answer-children, answer-none}
 use Rattle.canvas_scene.specs.declared.nodes.Node.{Node}
 use Rattle.canvas_scene.specs.Clips.{IsClipped}
@@ -16,7 +11,7 @@ use Rattle.canvas_scene.specs.Nodes.{items_along, items_of, seen, shown_of}
 use Rattle.canvas_scene.proofs.Children.{child-answered, child-unseen, left-more, left-none, left_from}
 use Rattle.canvas_scene.proofs.Clipping.{all-more, all-reversed, branch-clipped, meet-within}
 use Rattle.canvas_scene.proofs.Covering.{added-child, added-frame, hidden-box}
-use Rattle.canvas_scene.proofs.Seen.{list-frame, list-more, list-none, ok-more, or_else-none, seen-none}
+use Rattle.canvas_scene.proofs.Seen.{list-more, list-none, or_else-none, seen-none}
 use Rattle.canvas_scene.proofs.walk.+walk.Goals.{nodes_among-then-loop-child-test+else-is_out_of_sight+in_ok-node+in_ok-keep+then-hides_by_last, nodes_among-else-loop-child-test}
 use Rattle.canvas_scene.proofs.walk.+walk.Goals as goal
 

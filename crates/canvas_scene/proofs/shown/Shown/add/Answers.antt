@@ -1,10 +1,10 @@
-use Rattle.std.proofs.Common.{◌≡◌, ◌∙◌, ◌++◌, ◌∷◌, [], All, List, Some, ap, refl, rules, subst, sym}
+use Rattle.std.proofs.Common.{◌≡◌, ◌∙◌, ◌++◌, ◌∷◌, [], All, List, ap, refl, rules, subst, sym}
 use Rattle.canvas_plane.specs.declared.PageBox.{PageBox}
 use Rattle.canvas_plane.specs.Page.{is_in}
 use Rattle.canvas_shape.specs.Leaves.{carried_holds, page_box_of}
 use Rattle.canvas_scene.specs.declared.item.Item.{Item}
 use Rattle.canvas_scene.specs.Covers.{first_fill, IsHidden}
-use Rattle.canvas_scene.proofs.Covering.{added-item, cells-still-hidden, hidden-leaf, more-cells-hidden, one-more-hidden, rectangle-holds, still-hidden}
+use Rattle.canvas_scene.proofs.Covering.{added-item, cells-still-hidden, more-cells-hidden, one-more-hidden, rectangle-holds, still-hidden}
 use Rattle.canvas_scene.proofs.shown.Shown.add.Goals as goal
 
 pub invariant_of-self-in-Continue-branch-2 : goal.invariant_of-self-in-Continue-branch-2
