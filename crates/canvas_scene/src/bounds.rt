@@ -31,7 +31,8 @@ pub(crate) fn part_of(kind: &Kind, page: &Pose, clip: &PageBox) -> PageBox
 }
 
 // The box of vertices as a pose carries them to the page, from the least to the greatest
-// coordinates. It takes no memory.
+// coordinates. It takes no memory. Not inlined, its loop has the registers to itself.
+#[inline(never)]
 fn carried_bounds(page: &Pose, points: &[Point]) -> PageBox
     requires vertices { AreVertices points.now }
     requires quarter { page.now.quarter ≤ 3 }

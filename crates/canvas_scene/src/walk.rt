@@ -102,7 +102,7 @@ fn is_out_of_sight(shape: &Record, page: &Pose, clip: &PageBox, shown: &Shown<'_
 }
 
 // The node of a shape with all below it, of which something may be seen. `page` carries its own
-// points to the page.
+// points to the page. Not inlined, its room is made for such shapes alone.
 #[cycle(walk)]
 #[inline(never)]
 fn seen_node<'a>(
