@@ -122,10 +122,9 @@ flag-flipped words word at lt h i = elim (cases_eq (i / 64) (at / 64)) [
 ]
 
 -- which turns over the columns up to it
-pub toggled : (words : List ℕ) (word place : ℕ) → 0 < place → place ≤ 256 → length words ≡ 4 → ((j : ℕ) → has word j ≡ not_same (has (slice_index words ((place - 1) / 64)) j) (j == (place - 1) % 64)) → (i : ℕ) → is_held (slice_set words ((place - 1) / 64) word) i ≡ not_same (is_held words i) (nat_lt i place)
-toggled words word place some most four h i =
-    let at = place - 1 in
-    let e : suc at ≡ place = omega arith in
+pub toggled : (words : List ℕ) (word at : ℕ) → at < 256 → length words ≡ 4 → ((j : ℕ) → has word j ≡ not_same (has (slice_index words (at / 64)) j) (j == at % 64)) → (i : ℕ) → is_held (slice_set words (at / 64) word) i ≡ not_same (is_held words i) (nat_lt i (at + 1))
+toggled words word at most four h i =
+    let e : suc at ≡ at + 1 = omega arith in
     let inside : at / 64 < length words = omega arith in
     held-is (slice_set words (at / 64) word) i
     ∙ odd-same (flag (slice_set words (at / 64) word)) (λ j. not_same (flag words j) (j == at)) i (256 - i) (λ j le lt. flag-flipped words word at inside h j)

@@ -50,18 +50,18 @@ sum-below n m w a b h r s ew lt f g = record {
 one-times : (h : ℕ) → pos 1 *ℤ pos h ≡ pos h
 one-times h = omega (arith, ints)
 
-sum-more : (u v n m : ℤ) (h r s : ℕ) → 2 * h ≤ r + s → (u +ℤ u) +ℤ pos r ≡ n → (v +ℤ v) +ℤ pos s ≡ m → (((u +ℤ v) +ℤ pos h) +ℤ ((u +ℤ v) +ℤ pos h)) +ℤ pos (r + s - 2 * h) ≡ n +ℤ m
-sum-more u v n m h r s le e f = omega (arith, ints)
+sum-more : (u v n m : ℤ) (h r s rest : ℕ) → rest + 2 * h ≡ r + s → (u +ℤ u) +ℤ pos r ≡ n → (v +ℤ v) +ℤ pos s ≡ m → (((u +ℤ v) +ℤ pos h) +ℤ ((u +ℤ v) +ℤ pos h)) +ℤ pos rest ≡ n +ℤ m
+sum-more u v n m h r s rest er e f = omega (arith, ints)
 
 turn-more : (v w a b : ℤ) → v ≡ pos 1 +ℤ w → w ≡ b +ℤ a → v ≡ (a +ℤ b) +ℤ pos 1
 turn-more v w a b e f = omega (arith, ints)
 
-pub sum-above : (n m v w a b : ℤ) (h r s : ℕ) → v ≡ pos 1 +ℤ w → w ≡ b +ℤ a → 2 * h ≤ r + s → IsDivided n h a r → IsDivided m h b s → IsDivided (n +ℤ m) h v (r + s - 2 * h)
-sum-above n m v w a b h r s ev ew le f g =
+pub sum-above : (n m v w a b : ℤ) (h r s rest : ℕ) → v ≡ pos 1 +ℤ w → w ≡ b +ℤ a → rest + 2 * h ≡ r + s → IsDivided n h a r → IsDivided m h b s → IsDivided (n +ℤ m) h v rest
+sum-above n m v w a b h r s rest ev ew er f g =
     let rs = f.small in let ss = g.small in
     let e : ((a +ℤ b) +ℤ pos 1) *ℤ pos h ≡ (a *ℤ pos h +ℤ b *ℤ pos h) +ℤ pos h = times-add (a +ℤ b) (pos 1) h ∙ ap (λ u. u +ℤ pos 1 *ℤ pos h) (times-add a b h) ∙ ap (λ u. (a *ℤ pos h +ℤ b *ℤ pos h) +ℤ u) (one-times h) in
     record {
-      value = ap (λ u. (u *ℤ pos h +ℤ u *ℤ pos h) +ℤ pos (r + s - 2 * h)) (turn-more v w a b ev ew) ∙ ap (λ u. (u +ℤ u) +ℤ pos (r + s - 2 * h)) e ∙ sum-more (a *ℤ pos h) (b *ℤ pos h) n m h r s le f.value g.value;
+      value = ap (λ u. (u *ℤ pos h +ℤ u *ℤ pos h) +ℤ pos rest) (turn-more v w a b ev ew) ∙ ap (λ u. (u +ℤ u) +ℤ pos rest) e ∙ sum-more (a *ℤ pos h) (b *ℤ pos h) n m h r s rest er f.value g.value;
       small = omega arith;
     }
 

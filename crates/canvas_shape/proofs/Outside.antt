@@ -168,7 +168,7 @@ sides false true e = inr (refl, refl)
 sides false false e = absurd (false≢true e)
 
 -- left of both ends an edge counts where it crosses the row
-counts-left : (p q : Point) (x y : ℤ) → pos 0 ≤ℤ (p.x -ℤ x -ℤ pos 1) → pos 0 ≤ℤ (q.x -ℤ x -ℤ pos 1) → counts p q x y ≡ crosses_row p q y
+pub counts-left : (p q : Point) (x y : ℤ) → pos 0 ≤ℤ (p.x -ℤ x -ℤ pos 1) → pos 0 ≤ℤ (q.x -ℤ x -ℤ pos 1) → counts p q x y ≡ crosses_row p q y
 counts-left p q x y h g = elim (cases_Bool (crosses_row p q y)) [
   | inl e ↦
       ap (λ b. b && is_right_of p q x y) e ∙ elim (sides (int_le p.y y) (int_le q.y y) e) [ inl d ↦ down-left p q x y (le_test-true p.y y d.0) (le_test-false q.y y d.1) h g | inr u ↦ up-left p q x y (le_test-true q.y y u.1) (le_test-false p.y y u.0) h g ] ∙ sym e
@@ -176,7 +176,7 @@ counts-left p q x y h g = elim (cases_Bool (crosses_row p q y)) [
 ]
 
 -- from both ends on no edge counts
-counts-past : (p q : Point) (x y : ℤ) → ((p.x -ℤ x -ℤ pos 1) +ℤ pos 1) ≤ℤ pos 0 → ((q.x -ℤ x -ℤ pos 1) +ℤ pos 1) ≤ℤ pos 0 → counts p q x y ≡ false
+pub counts-past : (p q : Point) (x y : ℤ) → ((p.x -ℤ x -ℤ pos 1) +ℤ pos 1) ≤ℤ pos 0 → ((q.x -ℤ x -ℤ pos 1) +ℤ pos 1) ≤ℤ pos 0 → counts p q x y ≡ false
 counts-past p q x y h g = elim (cases_Bool (crosses_row p q y)) [
   | inl e ↦
       ap (λ b. b && is_right_of p q x y) e ∙ elim (sides (int_le p.y y) (int_le q.y y) e) [ inl d ↦ down-past p q x y (le_test-true p.y y d.0) (le_test-false q.y y d.1) h g | inr u ↦ up-past p q x y (le_test-true q.y y u.1) (le_test-false p.y y u.0) h g ]

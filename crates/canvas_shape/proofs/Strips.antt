@@ -1,5 +1,5 @@
 -- Edge flags of many rows.
-use Rattle.std.proofs.Common.{◌≡◌, ℕ, suc, ◌+◌, ◌<◌, ◌≤◌, ◌≢◌, List, ◌∷◌, length, get_or, slice_set, drop, ℤ, pos, ◌+ℤ◌, ◌≤ℤ◌, Bool, true, false, ◌&&◌, refl, sym, ap, ◌∙◌, arith, inl, inr, drop-cons, add-one}
+use Rattle.std.proofs.Common.{◌≡◌, ℕ, suc, ◌+◌, ◌<◌, ◌≤◌, ◌≢◌, List, ◌∷◌, length, get_or, slice_set, drop, ℤ, pos, ◌+ℤ◌, ◌-ℤ◌, ◌≤ℤ◌, ◌<ℤ◌, Bool, true, false, ◌&&◌, refl, sym, ap, ◌∙◌, arith, inl, inr, drop-cons, add-one}
 use Rattle.std.specs.Prelude.{int_le, int_lt, nat_lt, cond}
 use Rattle.std.specs.Int.{int_min, int_max}
 use Rattle.std.proofs.lemmas.Int.{ints}
@@ -11,7 +11,8 @@ use Rattle.canvas_plane.specs.Motion.{not_same}
 use Rattle.canvas_shape.specs.declared.edge_flags.EdgeFlags.{EdgeFlags}
 use Rattle.canvas_shape.specs.Edges.{counts, crosses_row, is_right_of, is_odd_along}
 use Rattle.canvas_shape.specs.Flags.{is_held}
-use Rattle.canvas_shape.proofs.Edge.{lt_test-false}
+use Rattle.canvas_shape.proofs.Edge.{lt_test-true, lt_test-false}
+use Rattle.canvas_shape.proofs.Outside.{counts-left, counts-past}
 use Rattle.canvas_shape.proofs.Odd.{same-false, not_same-assoc}
 
 not-past : (a y m : ℤ) → m ≤ℤ a → int_lt y m ≡ true → int_le a y ≡ false
@@ -64,16 +65,23 @@ row-below p q first m left old end count width j i hp hq place le below =
     kept-row old i width (counts p q (left +ℤ pos i) (first +ℤ pos j)) (below-none p q (left +ℤ pos i) (first +ℤ pos j) m hp hq (sym (place j below) ∙ le-ltb j end le))
 
 -- the columns before a place are those of the window before a threshold
-columns-before : (left t : ℤ) (place width i : ℕ) → place ≤ width → ((k : ℕ) → k < width → nat_lt k place ≡ int_lt (left +ℤ pos k) t) → nat_lt i place ≡ (nat_lt i width && int_lt (left +ℤ pos i) t)
+pub columns-before : (left t : ℤ) (place width i : ℕ) → place ≤ width → ((k : ℕ) → k < width → nat_lt k place ≡ int_lt (left +ℤ pos k) t) → nat_lt i place ≡ (nat_lt i width && int_lt (left +ℤ pos i) t)
 columns-before left t place width i le h = elim (cases_lt i width) [
   | inl lt ↦ h i lt ∙ ap (λ b. b && int_lt (left +ℤ pos i) t) (sym (lt-ltb i width lt))
   | inr ge ↦ le-ltb i place (omega arith) ∙ ap (λ b. b && int_lt (left +ℤ pos i) t) (sym (le-ltb i width ge))
 ]
 
--- a row in which the edge crosses
-pub crossed-row : (p q : Point) (y left t : ℤ) (old new : List ℕ) (place width i : ℕ) → crosses_row p q y ≡ true → ((x : ℤ) → crosses_row p q y ≡ true → counts p q x y ≡ int_lt x t) → place ≤ width → ((k : ℕ) → k < width → nat_lt k place ≡ int_lt (left +ℤ pos k) t) → is_held new i ≡ not_same (is_held old i) (nat_lt i place) → is_held new i ≡ not_same (is_held old i) (nat_lt i width && counts p q (left +ℤ pos i) y)
-crossed-row p q y left t old new place width i c h le columns e =
-    e ∙ ap (not_same (is_held old i)) (columns-before left t place width i le columns ∙ ap (λ b. nat_lt i width && b) (sym (h (left +ℤ pos i) c)))
+right-of : (a x : ℤ) → x <ℤ a → pos 0 ≤ℤ (a -ℤ x -ℤ pos 1)
+right-of a x h = omega (arith, ints)
+
+not-right-of : (a x : ℤ) → a ≤ℤ x → ((a -ℤ x -ℤ pos 1) +ℤ pos 1) ≤ℤ pos 0
+not-right-of a x h = omega (arith, ints)
+
+-- the threshold of an edge lies between its ends
+pub between-ends : (p q : Point) (y left right t : ℤ) → crosses_row p q y ≡ true → ((x : ℤ) → counts p q x y ≡ int_lt x t) → (left <ℤ p.x) × (p.x ≤ℤ right) → (left <ℤ q.x) × (q.x ≤ℤ right) → (left <ℤ t) × (t ≤ℤ right)
+between-ends p q y left right t c h hp hq =
+    (lt_test-true left t (sym (h left) ∙ counts-left p q left y (right-of p.x left hp.0) (right-of q.x left hq.0) ∙ c),
+     lt_test-false right t (sym (h right) ∙ counts-past p q right y (not-right-of p.x right hp.1) (not-right-of q.x right hq.1)))
 
 -- one more row is flagged
 pub rows-step : (rows start : List EdgeFlags) (new : EdgeFlags) (f : ℕ → ℕ → Bool) (k : ℕ) → k < length rows → ((d : EdgeFlags) (i : ℕ) → is_held new.words i ≡ not_same (is_held (get_or start k d).words i) (f k i)) → ((j i : ℕ) (d : EdgeFlags) → j < k → is_held (get_or rows j d).words i ≡ not_same (is_held (get_or start j d).words i) (f j i)) → (j i : ℕ) (d : EdgeFlags) → j < k + 1 → is_held (get_or (slice_set rows k new) j d).words i ≡ not_same (is_held (get_or start j d).words i) (f j i)

@@ -47,9 +47,16 @@ impl EdgeFlags {
         ensures { (i : ℕ) → is_held self.new.words i ≡ not_same (is_held self.old.words i) (nat_lt i place) }
     {
         if 0 < place {
-            let last = place - 1;
-            self.words[last / 64] = flipped(self.words[last / 64], (last % 64) as u32);
+            self.toggle_through((place - 1) as u8);
         }
+    }
+
+    /// Turns over all columns up to one, and that one too.
+    pub(crate) fn toggle_through(&mut self, last: u8)
+        ensures { (i : ℕ) → is_held self.new.words i ≡ not_same (is_held self.old.words i) (nat_lt i (last + 1)) }
+    {
+        let word = (last / 64) as usize;
+        self.words[word] = flipped(self.words[word], (last % 64) as u32);
     }
 
     /// Appends the held columns before `width`, of which the first is the pixel `left`, as spans that rise, lie apart and are

@@ -150,13 +150,16 @@ fn sum(a: Division, b: Division, height: u64) -> Division
     ensures bound { unsigned_abs result.whole ≤ unsigned_abs a.whole + 2 ^ 30 }
 {
     let whole = plus(b.whole, a.whole);
-    let rest = a.rest + b.rest;
-    if rest < 2 * height {
-        Division { whole, rest }
+    let room = 2 * height - b.rest;
+    if a.rest < room {
+        Division {
+            whole,
+            rest: a.rest + b.rest,
+        }
     } else {
         Division {
             whole: plus(1, whole),
-            rest: rest - 2 * height,
+            rest: a.rest - room,
         }
     }
 }

@@ -1,8 +1,10 @@
-use Rattle.canvas_shape.proofs.FlagLaws.{toggled}
-use Rattle.std.proofs.Common.{◌≡◌, length, arith}
+use Rattle.std.proofs.Common.{◌≡◌, ◌+◌, ◌-◌, ap, ◌∙◌, arith}
+use Rattle.std.specs.Prelude.{nat_lt}
+use Rattle.canvas_plane.specs.Motion.{not_same}
+use Rattle.canvas_shape.specs.Flags.{is_held}
 use Rattle.canvas_shape.proofs.edge_flags.EdgeFlags.toggle_before.Goals as goal
 
 pub returns-then-place-gt0 : goal.returns-then-place-gt0
-returns-then-place-gt0 c =
-    let four : length c.args.self.now.words ≡ 4 = omega arith in
-    toggled c.args.self.now.words c.flipped.result c.args.place c.if-place-gt0.true c.requires four c.flipped.ensures
+returns-then-place-gt0 c = λ i.
+    let same : c.args.place - 1 + 1 ≡ c.args.place = omega arith in
+    c.toggle_through.ensures i ∙ ap (λ n. not_same (is_held c.args.self.now.words i) (nat_lt i n)) same

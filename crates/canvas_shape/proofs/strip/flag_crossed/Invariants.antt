@@ -5,7 +5,7 @@ use Rattle.canvas_shape.specs.declared.edge_flags.EdgeFlags.{EdgeFlags}
 use Rattle.canvas_shape.specs.Edges.{counts}
 use Rattle.canvas_shape.specs.Flags.{is_held}
 use Rattle.canvas_shape.specs.Lines.{Follows}
-use Rattle.canvas_shape.proofs.strip.flag_edge.Given as goal
+use Rattle.canvas_shape.proofs.strip.flag_crossed.Given as goal
 
 abbrev pub invariant-loop-k : goal.invariant-loop-k
 invariant-loop-k l = record {

@@ -4,12 +4,12 @@ use Rattle.std.proofs.lemmas.Int.{to_z-of_z, ints}
 use Rattle.std.proofs.lemmas.Bool.{cases_lt}
 use Rattle.canvas_shape.specs.Flags.{is_held}
 use Rattle.canvas_shape.specs.Lines.{Follows}
-use Rattle.canvas_shape.proofs.Strips.{crosses-at, crossed-row, row-above, row-below, rows-after, rows-step}
+use Rattle.canvas_shape.proofs.Strips.{crosses-at, between-ends, row-above, row-below, rows-after, rows-step}
 use Rattle.canvas_shape.specs.Edges.{counts, crosses_row}
 use Rattle.canvas_plane.specs.Motion.{not_same}
-use Rattle.std.specs.Prelude.{nat_lt}
+use Rattle.std.specs.Prelude.{nat_lt, int_lt}
 use Rattle.std.proofs.lemmas.List.{get_or_default}
-use Rattle.canvas_shape.proofs.strip.flag_edge.Goals as goal
+use Rattle.canvas_shape.proofs.strip.flag_crossed.Goals as goal
 
 pub returns-then-end-start : goal.returns-then-end-start
 returns-then-end-start c = λ k i d lt.
@@ -67,17 +67,17 @@ loop-k-preserved c =
     let below : c.loop-k.k < length c.args.rows.now = omega (arith, c.places_before-end.ensures.within) in
     let next : row +ℤ pos 1 ≡ c.args.window.top +ℤ pos (c.loop-k.k + 1) = omega (arith, ints) in
     let cross : crosses_row c.args.from c.args.to row ≡ true = crosses-at c.args.from c.args.to c.args.window.top c.min.result c.max.result c.places_before-start.result c.places_before-end.result (length c.args.rows.now) c.loop-k.k (simp to_z-of_z at c.min.ensures.value) (simp to_z-of_z at c.max.ensures.value) (simp to_z-of_z at c.places_before-start.ensures.before) (simp to_z-of_z at c.places_before-end.ensures.before) (omega arith) c.loop-k-test.true below in
-    let columns = simp to_z-of_z at c.places_before.ensures.before in
     record {
       line = subst (λ z. Follows c.args.from c.args.to z c.next-line.result) next (c.next-line.ensures.follows c.args.from c.args.to row c.loop-k.invariant.line);
       x = subst (λ z. unsigned_abs z ≤ 2 ^ 27) (sym c.next-line.ensures.x) c.loop-k.invariant.x;
       here = omega (arith, c.next-line.ensures.here, c.loop-k.invariant.here);
       step = subst (λ z. unsigned_abs z ≤ 2 ^ 29) (sym c.next-line.ensures.step) c.loop-k.invariant.step;
-      before = rows-step c.loop-k.rows c.args.rows.now c.toggle_before.new.self (λ j i. nat_lt i c.args.window.width && counts c.args.from c.args.to (c.args.window.left +ℤ pos i) (c.args.window.top +ℤ pos j)) c.loop-k.k lt
-          (λ d i. crossed-row c.args.from c.args.to row c.args.window.left c.threshold.result (get_or c.args.rows.now c.loop-k.k d).words c.toggle_before.new.self.words c.places_before.result c.args.window.width i cross (λ z e. c.threshold.ensures c.args.from c.args.to z row c.loop-k.invariant.line e) c.places_before.ensures.within columns
-          (c.toggle_before.ensures i ∙ ap (λ r. not_same (is_held r.words i) (nat_lt i c.places_before.result)) (get_or_default c.loop-k.rows c.loop-k.k _ d lt ∙ c.loop-k.invariant.after c.loop-k.k d (omega arith))))
+      before = rows-step c.loop-k.rows c.args.rows.now c.flag_row.new.row (λ j i. nat_lt i c.args.window.width && counts c.args.from c.args.to (c.args.window.left +ℤ pos i) (c.args.window.top +ℤ pos j)) c.loop-k.k lt
+          (λ d i. (simp to_z-of_z at (c.flag_row.ensures i))
+            ∙ ap (λ r. not_same (is_held r.words i) (nat_lt i c.args.window.width && int_lt (c.args.window.left +ℤ pos i) c.threshold.result)) (get_or_default c.loop-k.rows c.loop-k.k _ d lt ∙ c.loop-k.invariant.after c.loop-k.k d (omega arith))
+            ∙ ap (λ b. not_same (is_held (get_or c.args.rows.now c.loop-k.k d).words i) (nat_lt i c.args.window.width && b)) (sym (c.threshold.ensures c.args.from c.args.to (c.args.window.left +ℤ pos i) row c.loop-k.invariant.line cross)))
           c.loop-k.invariant.before;
-      after = rows-after c.loop-k.rows c.args.rows.now c.toggle_before.new.self c.loop-k.k c.loop-k.invariant.after;
+      after = rows-after c.loop-k.rows c.args.rows.now c.flag_row.new.row c.loop-k.k c.loop-k.invariant.after;
     }
 
 pub returns : goal.returns
@@ -90,3 +90,16 @@ returns c = λ k i d lt.
       | inl above ↦ c.loop-k.invariant.before k i d above
       | inr below ↦ ap (λ r. is_held r.words i) (c.loop-k.invariant.after k d below) ∙ row-below c.args.from c.args.to c.args.window.top c.max.result c.args.window.left _ c.places_before-end.result (length c.args.rows.now) c.args.window.width k i (simp to_z-of_z at c.max.ensures.self_bound) (simp to_z-of_z at c.max.ensures.other_bound) (simp to_z-of_z at c.places_before-end.ensures.before) (omega arith) (omega arith)
     ]
+
+pub flag_row-requires : goal.flag_row-requires
+flag_row-requires c = λ e.
+    let fy : FitsSigned w64 c.args.from.y = search rules in
+    let ty : FitsSigned w64 c.args.to.y = search rules in
+    let y : FitsSigned w32 c.args.window.top = search rules in
+    let m : FitsSigned w64 c.min.result = search rules in
+    let n : FitsSigned w64 c.max.result = search rules in
+    let t : FitsSigned w64 c.threshold.result = search rules in
+    let row = c.args.window.top +ℤ pos c.loop-k.k in
+    let below : c.loop-k.k < length c.args.rows.now = omega (arith, c.places_before-end.ensures.within) in
+    let cross : crosses_row c.args.from c.args.to row ≡ true = crosses-at c.args.from c.args.to c.args.window.top c.min.result c.max.result c.places_before-start.result c.places_before-end.result (length c.args.rows.now) c.loop-k.k (simp to_z-of_z at c.min.ensures.value) (simp to_z-of_z at c.max.ensures.value) (simp to_z-of_z at c.places_before-start.ensures.before) (simp to_z-of_z at c.places_before-end.ensures.before) (omega arith) c.loop-k-test.true below in
+    simp to_z-of_z (between-ends c.args.from c.args.to row c.args.window.left (c.args.window.left +ℤ pos c.args.window.width) c.threshold.result cross (λ x. c.threshold.ensures c.args.from c.args.to x row c.loop-k.invariant.line cross) (c.requires.first e) (c.requires.second e))
