@@ -123,9 +123,3 @@ places-moved id pl (r ∷ rs) a f h = elim (cases_Bool (r.id == id)) [
   | inl t ↦ rw t (new-elsewhere id pl r rs (eqb-true r.id id t) a.0 f.1, places-moved id pl rs a.1 f.1 h.1)
   | inr n ↦ rw n (old-elsewhere id pl r rs n f.0 h.0, places-moved id pl rs a.1 f.1 h.1)
 ]
-
--- a step of a loop that pushes what each gives
-pub map-more : (f : Record → Record) (rs : List Record) (i : ℕ) (r pushed : Record) (old new : List Record) → i < length rs → r ≡ get_or rs i r → old ≡ map f (take i rs) → pushed ≡ f r → new ≡ old ++ pushed ∷ [] → new ≡ map f (take (i + 1) rs)
-map-more f rs i r pushed old new h e a b c =
-    c ∙ ap (λ l. l ++ pushed ∷ []) a ∙ ap (λ x. map f (take i rs) ++ x ∷ []) b
-    ∙ sym (ap (map f) (take_more rs i r h) ∙ map-append f (take i rs) (get_or rs i r ∷ []) ∙ ap (λ x. map f (take i rs) ++ f x ∷ []) (sym e))
