@@ -79,9 +79,10 @@ not-right-of a x h = omega (arith, ints)
 
 -- the threshold of an edge lies between its ends
 pub between-ends : (p q : Point) (y left right t : ℤ) → crosses_row p q y ≡ true → ((x : ℤ) → counts p q x y ≡ int_lt x t) → (left <ℤ p.x) × (p.x ≤ℤ right) → (left <ℤ q.x) × (q.x ≤ℤ right) → (left <ℤ t) × (t ≤ℤ right)
-between-ends p q y left right t c h hp hq =
-    (lt_test-true left t (sym (h left) ∙ counts-left p q left y (right-of p.x left hp.0) (right-of q.x left hq.0) ∙ c),
-     lt_test-false right t (sym (h right) ∙ counts-past p q right y (not-right-of p.x right hp.1) (not-right-of q.x right hq.1)))
+between-ends p q y left right t c h hp hq = (
+  lt_test-true left t (sym (h left) ∙ counts-left p q left y (right-of p.x left hp.0) (right-of q.x left hq.0) ∙ c),
+  lt_test-false right t (sym (h right) ∙ counts-past p q right y (not-right-of p.x right hp.1) (not-right-of q.x right hq.1)),
+)
 
 -- one more row is flagged
 pub rows-step : (rows start : List EdgeFlags) (new : EdgeFlags) (f : ℕ → ℕ → Bool) (k : ℕ) → k < length rows → ((d : EdgeFlags) (i : ℕ) → is_held new.words i ≡ not_same (is_held (get_or start k d).words i) (f k i)) → ((j i : ℕ) (d : EdgeFlags) → j < k → is_held (get_or rows j d).words i ≡ not_same (is_held (get_or start j d).words i) (f j i)) → (j i : ℕ) (d : EdgeFlags) → j < k + 1 → is_held (get_or (slice_set rows k new) j d).words i ≡ not_same (is_held (get_or start j d).words i) (f j i)

@@ -74,8 +74,8 @@ loop-k-preserved c =
       step = subst (λ z. unsigned_abs z ≤ 2 ^ 29) (sym c.next-line.ensures.step) c.loop-k.invariant.step;
       before = rows-step c.loop-k.rows c.args.rows.now c.flag_row.new.row (λ j i. nat_lt i c.args.window.width && counts c.args.from c.args.to (c.args.window.left +ℤ pos i) (c.args.window.top +ℤ pos j)) c.loop-k.k lt
           (λ d i. (simp to_z-of_z at (c.flag_row.ensures i))
-            ∙ ap (λ r. not_same (is_held r.words i) (nat_lt i c.args.window.width && int_lt (c.args.window.left +ℤ pos i) c.threshold.result)) (get_or_default c.loop-k.rows c.loop-k.k _ d lt ∙ c.loop-k.invariant.after c.loop-k.k d (omega arith))
-            ∙ ap (λ b. not_same (is_held (get_or c.args.rows.now c.loop-k.k d).words i) (nat_lt i c.args.window.width && b)) (sym (c.threshold.ensures c.args.from c.args.to (c.args.window.left +ℤ pos i) row c.loop-k.invariant.line cross)))
+          ∙ ap (λ r. not_same (is_held r.words i) (nat_lt i c.args.window.width && int_lt (c.args.window.left +ℤ pos i) c.threshold.result)) (get_or_default c.loop-k.rows c.loop-k.k _ d lt ∙ c.loop-k.invariant.after c.loop-k.k d (omega arith))
+          ∙ ap (λ b. not_same (is_held (get_or c.args.rows.now c.loop-k.k d).words i) (nat_lt i c.args.window.width && b)) (sym (c.threshold.ensures c.args.from c.args.to (c.args.window.left +ℤ pos i) row c.loop-k.invariant.line cross)))
           c.loop-k.invariant.before;
       after = rows-after c.loop-k.rows c.args.rows.now c.flag_row.new.row c.loop-k.k c.loop-k.invariant.after;
     }
