@@ -1,12 +1,11 @@
 -- Steps of painting a row column by column.
-use Rattle.std.proofs.Common.{◌≡◌, ℕ, ◌+◌, ◌-◌, ◌*◌, ◌/◌, ◌<◌, ◌≤◌, ◌≢◌, List, [], ◌∷◌, ◌++◌, Bool, true, false, ◌&&◌, cond, Option, None, All, refl, sym, ap, ◌∙◌, arith, length, get_or, map, take, drop, Vec, Global, ⊎_elim, set, length-set, get_or-set_same, get_or-set_other, subst}
+use Rattle.std.proofs.Common.{◌≡◌, ℕ, ◌+◌, ◌-◌, ◌*◌, ◌/◌, ◌<◌, ◌≤◌, ◌≢◌, List, [], ◌∷◌, ◌++◌, Bool, true, false, ◌&&◌, cond, All, refl, sym, ap, ◌∙◌, arith, length, get_or, take, drop, Vec, Global, ⊎_elim, set, length-set, get_or-set_same, get_or-set_other, subst}
 use Rattle.std.specs.Vec.{with_items}
 use Rattle.std.proofs.Math.Seq.{map-set_same, take-append_seam}
 use Rattle.std.proofs.lemmas.Bool.{cases_Bool, cases_eq, cases_lt}
 use Rattle.std.proofs.lemmas.Bool.Decides.{nat_tests}
 use Rattle.std.proofs.lemmas.List.{get_or-map}
 use Rattle.canvas_shape.specs.Words.{has}
-use Rattle.canvas_shape.specs.declared.Colour.{Colour}
 use Rattle.canvas_doc.specs.Picture.{or_else, or_white}
 use Rattle.canvas_scene.specs.Pictures.{raster_of}
 use Rattle.canvas_scene.proofs.Raster.{raster-agree}
@@ -16,24 +15,20 @@ use Rattle.canvas_paint.specs.declared.column.Column.{Column}
 use Rattle.canvas_paint.specs.Words.{covers, is_within}
 use Rattle.canvas_paint.specs.Blocks.{block_fill, last_block_fill, shown}
 use Rattle.canvas_paint.specs.Columns.{AreColumns, IsChosen, IsColumn, IsNew, active_fill, blocks_in, fill_in, masked, masked_fill, shown_in}
-use Rattle.canvas_paint.proofs.Painting.{at-place, covers-in, place-of}
+use Rattle.canvas_paint.proofs.Painting.{covers-in}
 
 -- ---- one column
-
--- no column of the word lies outside it
-pub outside-word : (base word x : ℕ) → is_within base x (base + 64) ≡ false → covers base word x ≡ false
-outside-word base word x e = ap (λ t. t && has word (x - base)) e
 
 -- the word of a row that was painted where it has changed
 pub refreshed : (base y : ℕ) (row new : List (List ℕ)) (mid active : List Active) (column : Column) (pixels : ℕ) → column.active.items ≡ active → length new ≡ length row → column.until ≤ column.end → IsChosen (length row) column.blocks.items mid base y column.end → ((i z : ℕ) → active_fill base active i z ≡ active_fill base mid i z) → ((i z : ℕ) → i < 64 → y ≤ z → z < column.until → masked_fill active i ≡ active_fill base active i z) → ((k : ℕ) (d : List ℕ) → k < length row → get_or new k d ≡ cond (covers base pixels k) (masked active (k - base)) (get_or row k d)) → ((i : ℕ) (d : List ℕ) → i < 64 → base + i < length row → has pixels i ≡ false → get_or row (base + i) d ≡ masked active i) → IsColumn base new column y
 refreshed base y row new mid active column pixels same-active long most chosen kept exact put rest =
     let shows : (i : ℕ) (d : List ℕ) → i < 64 → base + i < length row → get_or new (base + i) d ≡ masked active i = λ i d small lt.
-      let at : base + i - base ≡ i = omega arith in
-      put (base + i) d lt ∙ ap (λ t. cond t (masked active (base + i - base)) (get_or row (base + i) d)) (covers-in base pixels i small)
-      ∙ ⊎_elim
-      (λ (on : has pixels i ≡ true). ap (λ t. cond t (masked active (base + i - base)) (get_or row (base + i) d)) on ∙ ap (masked active) at)
-      (λ (off : has pixels i ≡ false). ap (λ t. cond t (masked active (base + i - base)) (get_or row (base + i) d)) off ∙ rest i d small lt off)
-      (cases_Bool (has pixels i)) in
+    let at : base + i - base ≡ i = omega arith in
+    put (base + i) d lt ∙ ap (λ t. cond t (masked active (base + i - base)) (get_or row (base + i) d)) (covers-in base pixels i small)
+    ∙ ⊎_elim
+    (λ (on : has pixels i ≡ true). ap (λ t. cond t (masked active (base + i - base)) (get_or row (base + i) d)) on ∙ ap (masked active) at)
+    (λ (off : has pixels i ≡ false). ap (λ t. cond t (masked active (base + i - base)) (get_or row (base + i) d)) off ∙ rest i d small lt off)
+    (cases_Bool (has pixels i)) in
     record {
       chosen = λ i j small lt p q. ap (λ l. active_fill base l i j) same-active ∙ kept i j ∙ chosen i j small (omega arith) p q;
       masks = λ before i d small lt. shows i d small (omega arith) ∙ ap (λ l. masked l i) (sym same-active);
@@ -66,13 +61,6 @@ none-unchanged base all i width lt e off = let z : true ≡ false = sym (inside-
 -- one that is unchanged is none of the changed ones
 pub unchanged : (base all pixels both i width : ℕ) → base + i < width → has all i ≡ is_within 0 (base + i) width → has both i ≡ (has all i && has pixels i) → has both i ≡ false → has pixels i ≡ false
 unchanged base all pixels both i width lt e f off = both-false (has all i) (has pixels i) (e ∙ inside-true (base + i) width lt) (sym f ∙ off)
-
-pub below-width : (base all i width : ℕ) → has all i ≡ is_within 0 (base + i) width → has all i ≡ true → base + i < width
-below-width base all i width e on = let h : is_within 0 (base + i) width ≡ true = sym e ∙ on in grind (arith, nat_tests)
-
-pub both-left : (p q : Bool) → (p && q) ≡ true → p ≡ true
-both-left true q e = refl
-both-left false q e = e
 
 -- ---- the columns of a row
 

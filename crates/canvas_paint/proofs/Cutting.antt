@@ -22,8 +22,7 @@ use Rattle.canvas_doc.specs.Picture.{or_else}
 use Rattle.canvas_scene.specs.Items.{fill_at, item_holds, last_fill}
 use Rattle.canvas_scene.specs.declared.item.Item.{Item}
 use Rattle.canvas_paint.specs.declared.block.Block.{Block}
-use Rattle.canvas_paint.specs.declared.block.Form.{Form}
-use Rattle.canvas_paint.specs.Blocks.{block_fill, block_holds, column_at, form_holds, last_block_fill, row_at, row_has}
+use Rattle.canvas_paint.specs.Blocks.{block_fill, block_holds, column_at, form_holds, row_at, row_has}
 use Rattle.canvas_shape.specs.Words.{has}
 use Rattle.canvas_paint.specs.Words.{is_within, IsWord}
 use Rattle.canvas_paint.proofs.Bits.{has-zero}

@@ -46,9 +46,6 @@ covers-in base word i h =
     let e : base + i - base ≡ i = omega arith in
     ap (λ t. t && has word (base + i - base)) inside ∙ ap (has word) e
 
-pub below-of : (x n : ℕ) → is_within 0 x n ≡ true → x < n
-below-of x n h = grind (arith, nat_tests)
-
 pub true-not : (x n : ℕ) → x < n → is_within 0 x n ≡ false → ⊥
 true-not x n lt h =
     let e : is_within 0 x n ≡ true = grind (arith, nat_tests) in

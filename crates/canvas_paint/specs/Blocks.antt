@@ -1,5 +1,5 @@
 -- Items as a window shows them: columns and rows of the window in place of pixels of the page.
-use Rattle.std.specs.Prelude.{◌≡◌, ℕ, ◌+◌, ◌*◌, ◌<◌, ◌≤◌, List, [], ◌∷◌, Bool, true, ◌&&◌, cond, Option, Some, None, ℤ, ◌+ℤ◌, pos, length, slice_index, slice_index_or, ◌-◌, ◌/◌, ◌%◌}
+use Rattle.std.specs.Prelude.{ℕ, List, [], ◌∷◌, Bool, true, ◌&&◌, cond, Option, Some, None, ℤ, ◌+ℤ◌, pos, slice_index, slice_index_or, ◌-◌, ◌/◌, ◌%◌}
 use Rattle.canvas_plane.specs.declared.windows.Window.{Window}
 use Rattle.canvas_shape.specs.declared.Colour.{Colour}
 use Rattle.canvas_doc.specs.Picture.{or_else, or_white}

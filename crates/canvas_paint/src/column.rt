@@ -93,7 +93,11 @@ impl<'a> Column<'a> {
             self.end = choose(&self.blocks, row.len(), base, y, &mut self.active)?;
         }
         let change = follow(self.active.as_mut_slice(), base, y, self.end);
-        let pixels = if is_chosen { both(all, change.pixels) } else { all };
+        let pixels = if is_chosen {
+            both(all, change.pixels)
+        } else {
+            all
+        };
         paint_word(&self.active, base, pixels, row);
         self.until = change.until;
         Ok(())

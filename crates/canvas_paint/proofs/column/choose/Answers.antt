@@ -1,4 +1,4 @@
-use Rattle.std.proofs.Common.{◌+◌, ◌<◌, ◌≡◌, ◌≤◌, arith, ap, inr, ◌∙◌, [], get_or, ◌-◌, refl}
+use Rattle.std.proofs.Common.{◌+◌, ◌<◌, ◌≤◌, arith, ap, inr, ◌∙◌, [], get_or, ◌-◌, refl}
 use Rattle.canvas_paint.specs.declared.block.Block.{Block}
 use Rattle.canvas_paint.specs.declared.block.Form.TheVariants.{Whole}
 use Rattle.canvas_paint.specs.Columns.{active_holds}
