@@ -136,7 +136,10 @@ fn tile(
 
 // Fills a tile with a ready row.
 fn fill(out: &mut Vec<u8>) -> io::Result<()> {
-    let row = [200u8; ROW];
+    let mut row = [0u8; ROW];
+    for (column, byte) in row.iter_mut().enumerate() {
+        *byte = (column % 256) as u8;
+    }
     out.reserve(256 * ROW)?;
     for _ in 0..256u32 {
         out.extend_from_slice(&row)?;

@@ -155,7 +155,8 @@ fn guessed_reach(rest: u64, w: u64, h: u64) -> u64
     ensures { result ≤ 65535 }
 {
     let root = f64::from(rest as u32).sqrt();
-    u64::from(saturating_f64_to_u16(root * f64::from(w as u32) / f64::from(h as u32)))
+    let slope = f64::from(w as u32) / f64::from(h as u32);
+    u64::from(saturating_f64_to_u16(root * slope))
 }
 
 fn square(a: u64) -> u64
