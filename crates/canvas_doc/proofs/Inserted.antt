@@ -162,8 +162,8 @@ take-from-order position at order rs o b here =
       each = λ k l. record {
         there = subst (λ q. q < length rs) (sym (old-read order at k b)) ((o.each (old_index at k) (old-bound at k (length order) b (omega arith))).there);
         rising = λ j e.
-        rises-at rs (get_or others j 0) (get_or others k 0) (get_or order (old_index at j) 0) (get_or order (old_index at (j + 1)) 0) (old-read order at j b) (ap (λ q. get_or others q 0) (sym e) ∙ old-read order at (j + 1) b)
-        (ap is_lt (far order rs o (old_index at j) (old_index at (j + 1)) (old-rises at j) (old-bound at (j + 1) (length order) b (omega arith))));
+            rises-at rs (get_or others j 0) (get_or others k 0) (get_or order (old_index at j) 0) (get_or order (old_index at (j + 1)) 0) (old-read order at j b) (ap (λ q. get_or others q 0) (sym e) ∙ old-read order at (j + 1) b)
+            (ap is_lt (far order rs o (old_index at j) (old_index at (j + 1)) (old-rises at j) (old-bound at (j + 1) (length order) b (omega arith))));
       };
     }
 
@@ -172,9 +172,9 @@ each-same : (order : List ℕ) (rs after : List Record) → length rs ≤ length
 each-same order rs after long same h k l = record {
   there = (let there : get_or order k 0 < length rs = (h k l).there in omega arith);
   rising = λ j e.
-  ap (λ o. is_lt (option_cmp by_place o (slice_get after (get_or order k 0)))) (same j (omega arith))
-  ∙ ap (λ o. is_lt (option_cmp by_place (slice_get rs (get_or order j 0)) o)) (same k l)
-  ∙ (h k l).rising j e;
+      ap (λ o. is_lt (option_cmp by_place o (slice_get after (get_or order k 0)))) (same j (omega arith))
+      ∙ ap (λ o. is_lt (option_cmp by_place (slice_get rs (get_or order j 0)) o)) (same k l)
+      ∙ (h k l).rising j e;
 }
 
 front-same : (rs : List Record) (r : Record) (at : ℕ) → at < length rs → slice_get (rs ++ r ∷ []) at ≡ slice_get rs at
@@ -212,8 +212,8 @@ others-same id place rs at q up stands other =
     slice_get-map (changed_by (Move id place)) rs q
     ∙ elim (slice_get_cases rs q).1 [
       | inl x ↦ ap (option_map (changed_by (Move id place))) x.2
-        ∙ ap (λ b. Some (cond b (record x.0 { place = place }) x.0)) (id-only-here rs id at q x.0 up stands other x.1 x.3)
-        ∙ sym x.2
+          ∙ ap (λ b. Some (cond b (record x.0 { place = place }) x.0)) (id-only-here rs id at q x.0 up stands other x.1 x.3)
+          ∙ sym x.2
       | inr n ↦ ap (option_map (changed_by (Move id place))) n.1 ∙ sym n.1
     ]
 

@@ -55,8 +55,8 @@ in_order-map g order rs keeps h =
       each = λ k b. record {
         there = subst (λ n. get_or order k 0 < n) (sym long) ((h.each k b).there);
         rising = λ j e.
-        ap is_lt (less-map g rs keeps (get_or order j 0) (get_or order k 0) ((h.each j (omega arith)).there) ((h.each k b).there)
-        (less-from_lt (by_place_at rs (get_or order j 0) (get_or order k 0)) ((h.each k b).rising j e)));
+            ap is_lt (less-map g rs keeps (get_or order j 0) (get_or order k 0) ((h.each j (omega arith)).there) ((h.each k b).there)
+            (less-from_lt (by_place_at rs (get_or order j 0) (get_or order k 0)) ((h.each k b).rising j e)));
       };
     }
 

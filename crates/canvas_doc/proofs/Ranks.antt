@@ -161,8 +161,8 @@ rank-read p rs order low high ranks places o w written j l r e = elim (cases_Boo
       ∙ ap Some (sym (rank-at p rs order low high i.0 r places o w above below there))
       ∙ sym (ap (λ b. cond b (Some (rank_among (indexes p rs) r.place.index)) None) t))
   | inr f ↦
-    written.others j l (λ k a b is. true≢false (sym (child-at p rs (get_or order k 0) r (ap (slice_get rs) is ∙ e) (w.inside k a b)) ∙ f))
-    ∙ sym (ap (λ b. cond b (Some (rank_among (indexes p rs) r.place.index)) None) f)
+      written.others j l (λ k a b is. true≢false (sym (child-at p rs (get_or order k 0) r (ap (slice_get rs) is ∙ e) (w.inside k a b)) ∙ f))
+      ∙ sym (ap (λ b. cond b (Some (rank_among (indexes p rs) r.place.index)) None) f)
 ]
 
 pub ranks-written : (p : Parent) (rs : List Record) (order : List ℕ) (low high : ℕ) (ranks : List (Option ℕ)) → HavePlaces rs → IsInPlaceOrder order rs → AreChildrenWithin p rs order low high → length ranks ≡ length rs

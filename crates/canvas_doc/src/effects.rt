@@ -111,11 +111,7 @@ impl Document {
     }
 
     // The order after a change of one shape: only a move changes it.
-    fn order_after(
-        &self,
-        records: &[SharedRecord],
-        change: &Change,
-    ) -> Result<Vec<u32>, AllocError>
+    fn order_after(&self, records: &[SharedRecord], change: &Change) -> Result<Vec<u32>, AllocError>
         requires changed { records.now ≡ map (changed_by change.now) self.now.records }
         requires places { HavePlaces records.now }
         ensures { IfOk result (λ order. IsInPlaceOrder order.items records.now) }

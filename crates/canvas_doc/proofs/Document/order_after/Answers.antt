@@ -34,7 +34,7 @@ returns c =
     let kept : IsInPlaceOrder order (map (changed_by c.args.change.now) before) =
     elim c.match-change.branch [
       | in-Move+in_default-position_of w ↦ subst (λ ch. IsInPlaceOrder order (map (changed_by ch) before)) (sym w.in-Move.is)
-        (absent-order w.in-Move.id w.in-Move.place order before (ap (λ rs. record_of w.in-Move.id rs) (sym w.deref.ensures.value) ∙ w.in_default-position_of.ensures) c.self.invariant.in_order)
+          (absent-order w.in-Move.id w.in-Move.place order before (ap (λ rs. record_of w.in-Move.id rs) (sym w.deref.ensures.value) ∙ w.in_default-position_of.ensures) c.self.invariant.in_order)
       | in_default w ↦ unmoved-order c.args.change.now order before w.in_default.not-Move c.self.invariant.in_order
     ] in
     MatchResult-weaker c.clone-2.result c.clone-2.ensures.cases

@@ -18,7 +18,7 @@ invariant_of-result c =
     record {
       well_formed = subst (λ rs. IsWellFormed (record { records = rs; next = c.self.inside.next })) e (respaced-well inside c.self.invariant.well_formed p);
       in_order =
-      subst (λ (l : List ℕ). IsInPlaceOrder l c.in_ok-records.records.items) (sym (each_same c.self.inside.order.items c.in_ok-clone.field-0.items (c.in_ok-clone.ensures.cases.0)))
-      (subst (IsInPlaceOrder c.self.inside.order.items) e
-      (in_order-map (respaced p before) c.self.inside.order.items before (respaced-order p before c.self.invariant.well_formed.few) c.self.invariant.in_order));
+          subst (λ (l : List ℕ). IsInPlaceOrder l c.in_ok-records.records.items) (sym (each_same c.self.inside.order.items c.in_ok-clone.field-0.items (c.in_ok-clone.ensures.cases.0)))
+          (subst (IsInPlaceOrder c.self.inside.order.items) e
+          (in_order-map (respaced p before) c.self.inside.order.items before (respaced-order p before c.self.invariant.well_formed.few) c.self.invariant.in_order));
     }

@@ -16,9 +16,9 @@ loop-slot-preserved c =
       long = length-set ranks (get_or order slot 0) (Some (slot - start)) ∙ c.loop-slot.invariant.long;
       ranked = rank-written c.args.records.now order start slot ranks c.requires.order c.loop-slot.auto.slot more c.loop-slot.invariant.long c.loop-slot.invariant.ranked;
       others = λ j l n.
-      let other : j ≢ get_or order slot 0 = λ e. n slot c.loop-slot.auto.slot (omega arith) c.loop-slot-test.true (sym e) in
-      get_or-set_other ranks (get_or order slot 0) j (Some (slot - start)) None other
-      ∙ c.loop-slot.invariant.others j l (λ k a b d. n k a (omega arith) d);
+          let other : j ≢ get_or order slot 0 = λ e. n slot c.loop-slot.auto.slot (omega arith) c.loop-slot-test.true (sym e) in
+          get_or-set_other ranks (get_or order slot 0) j (Some (slot - start)) None other
+          ∙ c.loop-slot.invariant.others j l (λ k a b d. n k a (omega arith) d);
     }
 
 pub returns : goal.returns
