@@ -5,6 +5,7 @@ use canvas_doc::Document;
 use canvas_paint::append_strip;
 use canvas_plane::Window;
 use canvas_scene::Scene;
+use std::alloc::Global;
 use std::io;
 use std::io::ErrorKind;
 use std::time::{Duration, Instant};
@@ -63,10 +64,41 @@ impl Cost {
     }
 }
 
+/// What all tiles share: the arena of scenes, a picture, and a ready row.
+#[derive(Drop)]
+struct Memory {
+    bump: Bump,
+    out: Vec<u8>,
+    row: [u8; ROW],
+}
+
+impl Memory {
+    fn new(alloc: Global) -> Memory {
+        let mut row = [0u8; ROW];
+        for (column, byte) in row.iter_mut().enumerate() {
+            *byte = (column % 256) as u8;
+        }
+        Memory {
+            bump: Bump::new(alloc),
+            out: Vec::new(alloc),
+            row,
+        }
+    }
+
+    // Fills a tile with the ready row.
+    fn fill(&mut self) -> io::Result<()> {
+        self.out.clear();
+        self.out.reserve(256 * ROW)?;
+        for _ in 0..256u32 {
+            self.out.extend_from_slice(&self.row)?;
+        }
+        Ok(())
+    }
+}
+
 /// The mean cost of some tiles of a document, whose left and top edges lie below `across`.
 pub fn timed(rt: &HostRuntime, document: &Document, across: u32, count: u32) -> io::Result<Cost> {
-    let mut bump = Bump::new(rt.alloc());
-    let mut out = Vec::new(rt.alloc());
+    let mut memory = Memory::new(rt.alloc());
     let mut all = Cost::NONE;
     let mut place = 7u32;
     for _ in 0..count {
@@ -74,7 +106,7 @@ pub fn timed(rt: &HostRuntime, document: &Document, across: u32, count: u32) -> 
         let x = within(place >> 16, across);
         let y = within(place >> 8, across);
         if let Ok(window) = Window::new(x, y, 256, 256) {
-            all = all.and(&least(rt, document, &window, &mut bump, &mut out)?);
+            all = all.and(&least(rt, document, &window, &mut memory)?);
         }
     }
     Ok(all.each(count))
@@ -85,12 +117,11 @@ fn least(
     rt: &HostRuntime,
     document: &Document,
     window: &Window,
-    bump: &mut Bump,
-    out: &mut Vec<u8>,
+    memory: &mut Memory,
 ) -> io::Result<Cost> {
-    let mut least = tile(rt, document, window, bump, out)?;
+    let mut least = tile(rt, document, window, memory)?;
     for _ in 1..ROUNDS {
-        let cost = tile(rt, document, window, bump, out)?;
+        let cost = tile(rt, document, window, memory)?;
         least = least.least(&cost);
     }
     Ok(least)
@@ -108,22 +139,21 @@ fn tile(
     rt: &HostRuntime,
     document: &Document,
     window: &Window,
-    bump: &mut Bump,
-    out: &mut Vec<u8>,
+    memory: &mut Memory,
 ) -> io::Result<Cost> {
     let start = Instant::now(rt)?;
-    let scene = Scene::build(bump, document, window)?;
+    let scene = Scene::build(&memory.bump, document, window)?;
     let cut = start.elapsed(rt)?;
-    out.clear();
+    let list = scene.display_list();
+    let items = list.len();
+    memory.out.clear();
     let start = Instant::now(rt)?;
-    append_strip(rt.alloc(), scene.display_list(), window, 0, window.h(), out)?;
+    append_strip(rt.alloc(), list, window, 0, window.h(), &mut memory.out)?;
     let painting = start.elapsed(rt)?;
-    let items = scene.display_list().len();
-    out.clear();
     let start = Instant::now(rt)?;
-    fill(out)?;
+    memory.fill()?;
     let filling = start.elapsed(rt)?;
-    match bump.reset() {
+    match memory.bump.reset() {
         Ok(()) => Ok(Cost {
             items,
             scene: nanoseconds(cut),
@@ -132,19 +162,6 @@ fn tile(
         }),
         Err(_fault) => Err(io::Error::from(ErrorKind::Other)),
     }
-}
-
-// Fills a tile with a ready row.
-fn fill(out: &mut Vec<u8>) -> io::Result<()> {
-    let mut row = [0u8; ROW];
-    for (column, byte) in row.iter_mut().enumerate() {
-        *byte = (column % 256) as u8;
-    }
-    out.reserve(256 * ROW)?;
-    for _ in 0..256u32 {
-        out.extend_from_slice(&row)?;
-    }
-    Ok(())
 }
 
 fn nanoseconds(time: Duration) -> u64 {
