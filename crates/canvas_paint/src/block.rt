@@ -1,13 +1,12 @@
 //! Items as a window shows them.
 
 ghost use Rattle.std.specs.Prelude.{◌≡◌, ℕ, ℤ, ◌+◌, ◌-◌, ◌<◌, ◌≤◌, ◌%◌, ◌&&◌, ◌+ℤ◌, pos, false, true, IfOk, int_le, int_lt, nat_le, nat_lt};
-ghost use Rattle.canvas_plane.specs.declared.windows.Window.{Window as PageWindow};
 ghost use Rattle.canvas_plane.specs.Page.{is_in};
 ghost use Rattle.canvas_shape.specs.Leaves.{carried_holds, page_box_of};
 ghost use Rattle.canvas_scene.specs.Items.{fill_at};
 ghost use Rattle.canvas_paint.specs.Blocks.{column_at, cut_fill, form_holds, row_at};
 ghost use Rattle.canvas_shape.specs.Words.{has};
-ghost use Rattle.canvas_paint.specs.Words.{is_within, IsWord};
+ghost use Rattle.canvas_paint.specs.Words.{is_within};
 
 use crate::leaf::{RowWords, ellipse_rows, polygon_rows};
 use crate::word::{PIXELS, both};

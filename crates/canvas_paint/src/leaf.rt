@@ -1,6 +1,6 @@
 //! Rows of ellipses and polygons as words.
 
-ghost use Rattle.std.specs.Prelude.{◌≡◌, ℕ, ℤ, ◌+◌, ◌<◌, ◌≤◌, ◌+ℤ◌, pos, length, ◌-◌, ◌%◌, IfOk, [], slice_index_or};
+ghost use Rattle.std.specs.Prelude.{◌≡◌, ℕ, ◌+◌, ◌<◌, ◌≤◌, length, ◌-◌, ◌%◌, IfOk, [], slice_index_or};
 ghost use Rattle.canvas_shape.specs.Leaves.{sides_of};
 ghost use Rattle.canvas_shape.specs.Ellipse.{is_in_ellipse};
 ghost use Rattle.canvas_shape.specs.Edges.{is_in_polygon};
