@@ -5,13 +5,18 @@ mod documents;
 mod tiles;
 
 use canvas_doc::Document;
+use std::time::{Duration, Instant};
 use std::{env, io};
 use tiles::timed;
+
+/// How many milliseconds the processor is kept busy before anything is timed, for it comes to its speed only then.
+const WARM_UP: u64 = 300;
 
 fn main(rt: HostRuntime) -> io::Result<()> {
     if !is_asked(&rt)? {
         return println!(rt; "bench_scene time: measures scenes and their painting");
     }
+    warm_up(&rt)?;
     report(
         &rt,
         "10 rectangles",
@@ -56,6 +61,16 @@ fn is_asked(rt: &HostRuntime) -> io::Result<bool> {
         is_asked = word.as_str() == "time";
     }
     Ok(is_asked)
+}
+
+fn warm_up(rt: &HostRuntime) -> io::Result<()> {
+    let start = Instant::now(rt)?;
+    for _ in 0..u32::MAX {
+        if Duration::from_millis(WARM_UP) <= start.elapsed(rt)? {
+            break;
+        }
+    }
+    Ok(())
 }
 
 // Prints what tiles of a document cost, of which the left and top edges lie within `across` of the origin.

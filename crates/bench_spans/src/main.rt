@@ -8,7 +8,7 @@ mod vertices;
 use canvas_plane::Pose;
 use canvas_shape::Carried;
 use rows::{Memory, Way};
-use std::time::Instant;
+use std::time::{Duration, Instant};
 use std::{env, fmt, io};
 use vertices::{crossing, frayed, round, scattered, star};
 
@@ -18,8 +18,12 @@ const TURNS: u32 = 16;
 /// How many such times are taken.
 const SAMPLES: u32 = 401;
 
+/// How many milliseconds the processor is kept busy before anything is timed, for it comes to its speed only then.
+const WARM_UP: u64 = 300;
+
 fn main(rt: HostRuntime) -> io::Result<()> {
     if is_to_time(&rt)? {
+        warm_up(&rt)?;
         time_boxes(&rt)?;
         time_polygons(&rt)
     } else {
@@ -32,6 +36,16 @@ fn is_to_time(rt: &HostRuntime) -> io::Result<bool> {
     let mut words = env::args(rt)?.skip(1);
     let is_time = words.next().is_some_and(|word| word.as_str() == "time");
     Ok(is_time && words.next().is_none())
+}
+
+fn warm_up(rt: &HostRuntime) -> io::Result<()> {
+    let start = Instant::now(rt)?;
+    for _ in 0..u32::MAX {
+        if Duration::from_millis(WARM_UP) <= start.elapsed(rt)? {
+            break;
+        }
+    }
+    Ok(())
 }
 
 fn time_boxes(rt: &HostRuntime) -> io::Result<()> {
