@@ -59,9 +59,12 @@ fn main(rt: HostRuntime) -> Result<()> {
         println!(rt; "{count} rectangles of up to {most} pixels")?;
         measure(&rt, alloc, &document)?;
     }
-    let document = scenes::polygons(alloc, 20, 64)?;
-    println!(rt; "20 polygons of 64 vertices")?;
-    measure(&rt, alloc, &document)
+    for count in [20, 80] {
+        let document = scenes::polygons(alloc, count, 64)?;
+        println!(rt; "{count} polygons of 64 vertices")?;
+        measure(&rt, alloc, &document)?;
+    }
+    Ok(())
 }
 
 /// Whether the program's first word is `time`.
