@@ -1,10 +1,9 @@
 -- A position taken out of the order of places, and put into it.
-use Rattle.std.proofs.Common.{◌≡◌, ◌≢◌, ℕ, zero, suc, ◌+◌, ◌-◌, ◌<◌, ◌≤◌, ◌==◌, List, [], ◌∷◌, ◌++◌, true, false, cond, nat_lt, Option, Some, None, refl, sym, ap, subst, ◌∙◌, arith, inl, inr, ◌⊎◌, map, length, get_or}
+use Rattle.std.proofs.Common.{◌≡◌, ◌≢◌, ℕ, zero, suc, ◌+◌, ◌-◌, ◌<◌, ◌≤◌, ◌==◌, List, [], ◌∷◌, ◌++◌, true, false, cond, nat_lt, Some, refl, sym, ap, subst, ◌∙◌, arith, inl, inr, ◌⊎◌, map, length, get_or}
 use Rattle.std.specs.List.{insert, remove, slice_get}
 use Rattle.std.specs.List.Sorted.{IsPartitionedBy}
 use Rattle.std.specs.Option.{option_cmp, option_map}
 use Rattle.std.specs.Ordering.{is_lt}
-use Rattle.std.specs.declared.cmp.Ordering.{Ordering}
 use Rattle.std.specs.declared.cmp.Ordering.TheVariants.{Less, Equal}
 use Rattle.std.proofs.lemmas.Bool.{cases_Bool, eq-eqb, eqb-true, true≢false}
 use Rattle.std.proofs.lemmas.Bool.Decides.{nat_tests}
@@ -15,7 +14,7 @@ use Rattle.std.proofs.lemmas.Option.{slice_get-map, slice_get_cases}
 use Rattle.canvas_doc.specs.declared.edits.Change.TheVariants.{Move}
 use Rattle.canvas_doc.specs.declared.records.Place.{Place}
 use Rattle.canvas_doc.specs.declared.records.Record.{Record}
-use Rattle.canvas_doc.specs.Contents.{record_of, AreRising, StandsAt}
+use Rattle.canvas_doc.specs.Contents.{AreRising, StandsAt}
 use Rattle.canvas_doc.specs.Effect.{changed_by}
 use Rattle.canvas_doc.specs.PlaceOrder.{by_place, by_place_at, IsNextInOrder, IsInPlaceOrder, IsInPlaceOrderBut}
 use Rattle.canvas_doc.specs.Tree.{HavePlaces}

@@ -1,5 +1,5 @@
 -- The order of the records' places, where each record is changed by itself.
-use Rattle.std.proofs.Common.{◌≡◌, ℕ, suc, zero, ◌<◌, ◌≤◌, ◌==◌, List, [], ◌∷◌, true, false, cond, Option, Some, None, refl, sym, ap, subst, ◌∙◌, arith, inl, inr, map, length, get_or}
+use Rattle.std.proofs.Common.{◌≡◌, ℕ, suc, zero, ◌<◌, ◌≤◌, ◌==◌, List, [], ◌∷◌, true, false, cond, Some, None, refl, sym, ap, subst, ◌∙◌, arith, inl, inr, map, length, get_or}
 use Rattle.std.specs.List.{slice_get}
 use Rattle.std.specs.Option.{option_cmp, option_map}
 use Rattle.std.specs.Ordering.{is_eq, is_lt, nat_cmp, ordering_then}

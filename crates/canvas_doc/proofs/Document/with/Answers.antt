@@ -1,7 +1,7 @@
-use Rattle.std.proofs.Common.{◌≡◌, ◌≤◌, ◌∙◌, ℤ, length, sym, ap, subst, map, filter, not}
+use Rattle.std.proofs.Common.{◌≡◌, ◌≤◌, ◌∙◌, ℤ, length, sym, ap, subst, filter, not}
 use Rattle.std.proofs.lemmas.Result.{IfOk-weaker}
 use Rattle.canvas_doc.specs.Contents.{Contents, IsWellFormed}
-use Rattle.canvas_doc.specs.Effect.{respaced, effect_of, is_in_subtree, SpacesOnly}
+use Rattle.canvas_doc.specs.Effect.{effect_of, is_in_subtree, SpacesOnly}
 use Rattle.canvas_doc.specs.declared.edits.Change.TheVariants.{Delete, Respace}
 use Rattle.canvas_doc.specs.Picture.{colour}
 use Rattle.canvas_doc.proofs.Respaced.{colour-respaced}

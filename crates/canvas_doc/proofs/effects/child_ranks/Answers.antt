@@ -1,4 +1,4 @@
-use Rattle.std.proofs.Common.{◌≡◌, ◌≤◌, ◌<◌, ◌∙◌, ◌-◌, ◌≢◌, ℕ, List, Option, Some, None, arith, length, get_or, sym}
+use Rattle.std.proofs.Common.{◌≤◌, ◌<◌, ◌∙◌, ◌-◌, ◌≢◌, ℕ, List, Option, Some, None, arith, length, get_or, sym}
 use Rattle.std.proofs.Math.ListN.{length-set}
 use Rattle.std.proofs.lemmas.List.{get_or-set_other}
 use Rattle.canvas_doc.proofs.Ranks.{rank-written, ranks-written}

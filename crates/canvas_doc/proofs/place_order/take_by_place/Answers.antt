@@ -1,4 +1,4 @@
-use Rattle.std.proofs.Common.{◌≡◌, ◌<◌, List, ℕ, ap, arith, get_or, length, subst, sym}
+use Rattle.std.proofs.Common.{◌≡◌, List, ℕ, ap, arith, length, subst, sym}
 use Rattle.canvas_doc.specs.declared.records.Record.{Record}
 use Rattle.canvas_doc.specs.PlaceOrder.{IsInPlaceOrderBut}
 use Rattle.canvas_doc.proofs.Inserted.{IsPlacedAt, stands-here, take-from-order}
