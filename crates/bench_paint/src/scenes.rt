@@ -1,4 +1,4 @@
-//! Documents to be painted, spread over the page's first tile and beyond.
+//! Documents to be painted, spread over the page's first tile and beyond it on all sides.
 
 use anyhow::Result;
 use canvas_doc::{Document, Edit, Parent, Spot};
@@ -6,8 +6,11 @@ use canvas_plane::{Point, Pose};
 use canvas_shape::{Colour, Kind, Points};
 use std::alloc::Global;
 
-/// How far shapes lie from the page's origin, in pixels.
-const ACROSS: u32 = 400;
+/// How many pixels shapes are spread over, in both directions.
+const ACROSS: u32 = 500;
+
+/// How far before the page's origin they begin.
+const BEFORE: i64 = 120;
 
 /// A document of rectangles with sides up to `most`.
 pub fn rectangles(alloc: Global, count: u32, most: u32) -> Result<Document> {
@@ -45,8 +48,8 @@ pub fn polygons(alloc: Global, count: u32, vertices: u32) -> Result<Document> {
 /// The document with a shape more in front, at a place that the dice give.
 fn with_shape(alloc: Global, document: Document, kind: Kind, dice: &mut Dice) -> Result<Document> {
     let pose = Pose {
-        dx: i64::from(dice.below(ACROSS)),
-        dy: i64::from(dice.below(ACROSS)),
+        dx: i64::from(dice.below(ACROSS)).saturating_sub(BEFORE),
+        dy: i64::from(dice.below(ACROSS)).saturating_sub(BEFORE),
         quarter: 0,
         flip: false,
     };
