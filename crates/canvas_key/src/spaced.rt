@@ -39,7 +39,8 @@ fn push_part(text: &mut ArrayVec<u8, KEY_LIMIT>, count: u8, power: u64, rest: u6
     }
 }
 
-// Appends a number in `count` digits.
+// Appends a number in `count` digits. One or two digits, which are those of nearly all siblings, want
+// no division but by 62.
 fn push_digits(text: &mut ArrayVec<u8, KEY_LIMIT>, count: u8, power: u64, rest: u64)
     requires power { power ≡ 62 ^ count }
     requires small { rest < power }
@@ -47,12 +48,16 @@ fn push_digits(text: &mut ArrayVec<u8, KEY_LIMIT>, count: u8, power: u64, rest: 
     requires room { length text.old.items + count ≤ 128 }
     ensures { text.new.items ≡ text.old.items ++ digits count rest }
 {
-    if count == 0 {
-        return;
+    if count > 2 {
+        let unit = power / 62;
+        text.push(digit_of((rest / unit) as u8));
+        push_digits(text, count - 1, unit, rest % unit);
+    } else if count == 2 {
+        text.push(digit_of((rest / 62) as u8));
+        text.push(digit_of((rest % 62) as u8));
+    } else if count == 1 {
+        text.push(digit_of(rest as u8));
     }
-    let unit = power / 62;
-    text.push(digit_of((rest / unit) as u8));
-    push_digits(text, count - 1, unit, rest % unit);
 }
 
 /// A law: fresh keys rise with their numbers.
