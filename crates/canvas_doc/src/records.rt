@@ -27,18 +27,20 @@ pub struct Place {
 }
 
 /// One shape of a document (tldraw's shape records: id, type, parent, index, place).
+// Fields lie in memory as declared: the place, by far the largest, comes last, so that a walk over
+// a scene finds kind, pose and mark side by side.
 #[derive(PartialEq, Drop)]
 pub struct Record {
     /// The shape's number, 1 to 4,294,967,294, never given twice in one history.
     pub id: u32,
     /// What it shows.
     pub kind: Kind,
-    /// Where it hangs.
-    pub place: Place,
     /// Carries its own coordinates to its parent's.
     pub pose: Pose,
     /// A hidden record hides all below it, too.
     pub hidden: bool,
+    /// Where it hangs.
+    pub place: Place,
 }
 
 impl Place {
@@ -63,9 +65,9 @@ impl Record {
         Ok(Record {
             id: self.id,
             kind: self.kind.try_clone(alloc)?,
-            place: self.place.copy(),
             pose: self.pose,
             hidden: self.hidden,
+            place: self.place.copy(),
         })
     }
 }
