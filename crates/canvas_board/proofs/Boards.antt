@@ -4,7 +4,7 @@ use Rattle.canvas_doc.specs.declared.edits.Change.{Change}
 use Rattle.canvas_doc.specs.declared.edits.Edit.{Edit}
 use Rattle.canvas_doc.specs.Contents.{Contents}
 use Rattle.canvas_doc.specs.Decision.{decision_of}
-use Rattle.canvas_doc.specs.Effect.{effect_of, Fits}
+use Rattle.canvas_doc.specs.Effect.{effect_of, Fits, new_id}
 use Rattle.canvas_doc.specs.History.{replay_of}
 use Rattle.canvas_doc.proofs.Histories.{replay-snoc}
 use Rattle.canvas_board.specs.declared.answers.Edited.{Edited}
@@ -12,7 +12,7 @@ use Rattle.canvas_board.specs.Seen.{Seen, Grows}
 use Rattle.canvas_board.specs.declared.fault.BoardFault.{BoardFault}
 use Rattle.canvas_board.specs.declared.fault.BoardFault.TheVariants.{OutOfMemory, Refused, VersionsSpent, Behind, Strangers, BadWorkers, BadSetting, NoView}
 use Rattle.canvas_board.specs.Alone.{Makes}
-use Rattle.canvas_board.specs.Steps.{Accepts, Edits, new_id}
+use Rattle.canvas_board.specs.Steps.{Accepts, Edits}
 
 -- nothing came in between
 pub grows-same : (s : Seen) → Grows s s

@@ -1,31 +1,21 @@
 -- What each call of a board may answer, and what it leaves.
 use Rattle.std.specs.Prelude.{◌≡◌, ◌≢◌, ℕ, ℤ, ◌<◌, ◌&&◌, nat_le, Bool, true, false, Option, Some, None, length, Result, Ok, Err}
 use Rattle.canvas_doc.specs.declared.edits.Change.{Change}
-use Rattle.canvas_doc.specs.declared.edits.Change.TheVariants as change
 use Rattle.canvas_doc.specs.declared.edits.Edit.{Edit}
 use Rattle.canvas_doc.specs.Decision.{decision_of}
-use Rattle.canvas_doc.specs.Effect.{Fits}
+use Rattle.canvas_doc.specs.Effect.{Fits, new_id}
 use Rattle.canvas_doc.specs.Picture.{colour}
 use Rattle.canvas_board.specs.declared.answers.Edited.{Edited}
 use Rattle.canvas_board.specs.declared.answers.Picture.{Picture}
 use Rattle.canvas_board.specs.declared.answers.Dot.{Dot}
 use Rattle.canvas_board.specs.declared.answers.Saved.{Saved}
+use Rattle.canvas_paint.specs.Workers.{are_workers}
 use Rattle.canvas_store.specs.Saved.{saved_text_of}
 use Rattle.canvas_board.specs.declared.fault.BoardFault.{BoardFault}
 use Rattle.canvas_board.specs.declared.fault.BoardFault.TheVariants.{OutOfMemory, Refused, VersionsSpent, Behind, Strangers, BadWorkers, BadSetting, NoView}
 use Rattle.canvas_plane.specs.declared.windows.Window.{Window}
 use Rattle.canvas_board.specs.Raster.{file_of}
 use Rattle.canvas_board.specs.Seen.{Seen, Grows, document_of, with_change}
-
--- the id of the shape that a change makes
-abbrev pub new_id : Change → Option ℕ
-new_id (change.Create id kind pose hidden place) = Some id
-new_id (change.Move id place) = None
-new_id (change.Pose id pose) = None
-new_id (change.Reshape id kind) = None
-new_id (change.Show id hidden) = None
-new_id (change.Delete id) = None
-new_id (change.Respace parent) = None
 
 -- An edit was accepted: at a board h that begins with the old front, the change was decided and put after h's front.
 pub record Accepts (s : Seen) (edit : Edit) (edited : Edited) (t : Seen) : Type 0 where
@@ -50,10 +40,6 @@ Edits s edit (Err NoView) t = (t ≡ s) × (s.alone ≡ false)
 Edits s edit (Err OutOfMemory) t = t ≡ s
 Edits s edit (Err BadWorkers) t = ⊥
 Edits s edit (Err BadSetting) t = ⊥
-
--- a number of workers is 1 to 16
-abbrev pub are_workers : ℕ → Bool
-are_workers workers = nat_le 1 workers && nat_le workers 16
 
 -- what a picture may answer, and what it leaves
 abbrev pub Paints : Seen → Window → ℕ → Result Picture BoardFault → Seen → Type 0

@@ -1,6 +1,5 @@
 ghost use Rattle.std.specs.Prelude.{◌≡◌};
 ghost use Rattle.canvas_board.specs.Alone.{Makes, Opens};
-ghost use Rattle.canvas_board.specs.Steps.{new_id};
 
 use crate::answers::{Dot, Edited, MOST_BYTES, Picture, Saved};
 use crate::board::Board;
@@ -74,7 +73,7 @@ impl Board for Alone {
         match made(self.alloc, &self.document, edit) {
             Err(fault) => Err(fault),
             Ok((change, after)) => {
-                let id = new_id(&change);
+                let id = change.new_id();
                 self.document = after;
                 self.number += 1;
                 let history = mem::replace(&mut self.history, History::new());
@@ -132,20 +131,5 @@ fn made(alloc: Global, document: &Document, edit: &Edit) -> Result<(Change, Docu
             Err(_) => Err(BoardFault::OutOfMemory),
             Ok(after) => Ok((change, after)),
         },
-    }
-}
-
-// The id of the shape that a change makes, if it makes one.
-fn new_id(change: &Change) -> Option<u32>
-    ensures { result ≡ new_id change.now }
-{
-    match change {
-        Change::Create { id, .. } => Some(*id),
-        Change::Move { .. } => None,
-        Change::Pose { .. } => None,
-        Change::Reshape { .. } => None,
-        Change::Show { .. } => None,
-        Change::Delete { .. } => None,
-        Change::Respace { .. } => None,
     }
 }

@@ -1,6 +1,6 @@
 ghost use Rattle.std.specs.Prelude.{◌≡◌, IfOk, true};
 ghost use Rattle.canvas_board.specs.Raster.{file_of};
-ghost use Rattle.canvas_board.specs.Steps.{are_workers};
+ghost use Rattle.canvas_paint.specs.Workers.{are_workers};
 
 use bumpalo::Bump;
 use canvas_doc::Document;

@@ -11,6 +11,16 @@ use Rattle.canvas_doc.specs.declared.edits.Change.TheVariants.{Create, Move, Pos
 use Rattle.canvas_doc.specs.Children.{is_child, is_in_front}
 use Rattle.canvas_doc.specs.Contents.{Contents, IsWellFormed, record_of}
 
+-- the id of the shape that a change makes, if it makes one
+abbrev pub new_id : Change → Option ℕ
+new_id (Create id kind pose hidden place) = Some id
+new_id (Move id place) = None
+new_id (Pose id pose) = None
+new_id (Reshape id kind) = None
+new_id (Show id hidden) = None
+new_id (Delete id) = None
+new_id (Respace parent) = None
+
 -- the records, with another one at an id
 abbrev pub at_id : ℕ → (Record → Record) → List Record → List Record
 at_id id change rs = map (λ r. cond (r.id == id) (change r) r) rs

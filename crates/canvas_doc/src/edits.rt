@@ -1,5 +1,8 @@
 //! Edits, which a document judges, and the changes that it decides.
 
+ghost use Rattle.std.specs.Prelude.{◌≡◌};
+ghost use Rattle.canvas_doc.specs.Effect.{new_id};
+
 use crate::records::{Parent, Place};
 use canvas_key::Key;
 use canvas_plane::Pose;
@@ -99,4 +102,21 @@ pub enum Change {
     Respace {
         parent: Parent,
     },
+}
+
+impl Change {
+    /// The id of the shape that the change makes, if it makes one.
+    pub fn new_id(&self) -> Option<u32>
+        ensures { result ≡ new_id self.now }
+    {
+        match self {
+            Change::Create { id, .. } => Some(*id),
+            Change::Move { .. } => None,
+            Change::Pose { .. } => None,
+            Change::Reshape { .. } => None,
+            Change::Show { .. } => None,
+            Change::Delete { .. } => None,
+            Change::Respace { .. } => None,
+        }
+    }
 }

@@ -13,7 +13,7 @@ use Rattle.canvas_doc.specs.declared.refusals.Refusal.{Refusal}
 use Rattle.canvas_doc.specs.Contents.{Contents}
 use Rattle.canvas_doc.specs.declared.refusals.Refusal.TheVariants.{OutOfMemory}
 use Rattle.canvas_doc.specs.Decision.{decision_of, IsAnswer}
-use Rattle.canvas_doc.specs.Effect.{effect_of, Fits}
+use Rattle.canvas_doc.specs.Effect.{effect_of, Fits, new_id}
 use Rattle.canvas_doc.specs.History.{AllFit, replay_of}
 use Rattle.canvas_doc.specs.Picture.{colour}
 use Rattle.canvas_doc.specs.Refused.{refusal_code}
@@ -27,7 +27,7 @@ use Rattle.canvas_world.specs.declared.entry.Entry.TheVariants as entry
 use Rattle.canvas_world.specs.declared.world.World.{World}
 use Rattle.canvas_world.specs.Pieces.{Work}
 use Rattle.canvas_world.specs.Past.{Past, View, changes_in, cuts_in, edits_in, view_in, with_decided}
-use Rattle.canvas_world.specs.Transcript.{answer_entry, edit_entry, is_whole, new_id, seat_of, seated_entry}
+use Rattle.canvas_world.specs.Transcript.{answer_entry, edit_entry, is_whole, seat_of, seated_entry}
 use Rattle.canvas_world.specs.Worlds.{Enters, EntersAny, EntersEdit, IsThere, IsWorld, work_at}
 
 -- the steps with one more

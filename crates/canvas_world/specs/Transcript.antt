@@ -2,10 +2,10 @@
 use Rattle.std.specs.Prelude.{ℕ, zero, suc, ◌+◌, ◌==◌, ◌&&◌, not, nat_le, nat_lt, List, [], ◌∷◌, take, Option, Some, None, Bool, true, false, if◌then◌else◌, Result, Ok, Err}
 use Rattle.std.specs.List.{list_all, list_any}
 use Rattle.canvas_doc.specs.declared.edits.Change.{Change}
-use Rattle.canvas_doc.specs.declared.edits.Change.TheVariants as change
 use Rattle.canvas_doc.specs.declared.refusals.Refusal.{Refusal}
 use Rattle.canvas_doc.specs.Contents.{Contents}
 use Rattle.canvas_doc.specs.Decision.{decision_of}
+use Rattle.canvas_doc.specs.Effect.{new_id}
 use Rattle.canvas_doc.specs.History.{replay_of}
 use Rattle.canvas_doc.specs.Picture.{colour}
 use Rattle.canvas_doc.specs.Refused.{refusal_code}
@@ -22,16 +22,6 @@ seat_of (Edit seat edit) = seat
 seat_of (Look seat window) = seat
 seat_of (Strip seat k n) = seat
 seat_of (Answer seat) = seat
-
--- the id of the shape that a change makes
-abbrev pub new_id : Change → Option ℕ
-new_id (change.Create id kind pose hidden place) = Some id
-new_id (change.Move id place) = None
-new_id (change.Pose id pose) = None
-new_id (change.Reshape id kind) = None
-new_id (change.Show id hidden) = None
-new_id (change.Delete id) = None
-new_id (change.Respace parent) = None
 
 -- the entry of an edit of which so much was decided after so many accepted ones
 abbrev pub edit_entry : ℕ → Result Change Refusal → Entry

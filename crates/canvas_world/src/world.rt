@@ -2,7 +2,6 @@
 
 ghost use Rattle.std.specs.Prelude.{◌≡◌, ◌<◌, ◌≤◌, ◌+◌, ◌^◌, [], IfOk, OnOk};
 ghost use Rattle.canvas_world.specs.declared.event.Event.TheVariants.{Look, Strip, Answer};
-ghost use Rattle.canvas_world.specs.Transcript.{new_id};
 ghost use Rattle.canvas_world.specs.Worlds.{Enters, EntersAny, EntersEdit, IsWorld};
 
 use crate::cut::Cut;
@@ -80,7 +79,7 @@ impl World {
                 self.version += 1;
                 Ok(Entry::Edited {
                     version: self.version,
-                    id: new_id(&change),
+                    id: change.new_id(),
                 })
             }
         }
@@ -131,20 +130,5 @@ impl World {
             window,
             raster,
         })
-    }
-}
-
-// The id of the shape that a change makes, if it makes one.
-fn new_id(change: &Change) -> Option<u32>
-    ensures { result ≡ new_id change.now }
-{
-    match change {
-        Change::Create { id, .. } => Some(*id),
-        Change::Move { .. } => None,
-        Change::Pose { .. } => None,
-        Change::Reshape { .. } => None,
-        Change::Show { .. } => None,
-        Change::Delete { .. } => None,
-        Change::Respace { .. } => None,
     }
 }
