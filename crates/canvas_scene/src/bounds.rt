@@ -1,17 +1,15 @@
 //! The boxes of the page in which shapes show.
 
 ghost use Rattle.std.specs.Prelude.{◌≡◌, ◌≤◌, ◌^◌, ℤ, Option, map, true};
-ghost use Rattle.std.specs.Int.{int_max, int_min};
 ghost use Rattle.canvas_plane.specs.Motion.{carry, reach_of};
 ghost use Rattle.canvas_plane.specs.Page.{is_in};
-ghost use Rattle.canvas_shape.specs.Bounds.{bounds_of, dot_of, grown_to};
 ghost use Rattle.canvas_shape.specs.Edges.{is_in_polygon};
 ghost use Rattle.canvas_shape.specs.Inside.{AreVertices, IsSound};
 ghost use Rattle.canvas_shape.specs.declared.Colour.{Colour};
 ghost use Rattle.canvas_scene.specs.Nodes.{seen, shown_of};
 
 use canvas_plane::{PageBox, Point, Pose};
-use canvas_shape::{Carried, Kind};
+use canvas_shape::{Carried, Kind, bounds};
 
 /// The part of a clip in which a shape of a kind with all below it may be seen, where `page`
 /// carries its own points to the page.
@@ -30,53 +28,32 @@ pub(crate) fn part_of(kind: &Kind, page: &Pose, clip: &PageBox) -> PageBox
     }
 }
 
-// The box of vertices as a pose carries them to the page, from the least to the greatest
-// coordinates. It takes no memory. Not inlined, its loop has the registers to itself.
-#[inline(never)]
+// A box of the page with all pixels of a polygon whose vertices a pose carries. Quarter turns and
+// flips make boxes into boxes, so two opposite corners of the vertices' own box are carried.
 fn carried_bounds(page: &Pose, points: &[Point]) -> PageBox
     requires vertices { AreVertices points.now }
     requires quarter { page.now.quarter ≤ 3 }
     requires reach { reach_of page.now ≤ 2 ^ 26 }
-    ensures value { result ≡ bounds_of (map (carry page.now) points.now) }
-    ensures has_all { (x y : ℤ) → is_in_polygon (map (carry page.now) points.now) x y ≡ true → is_in result x y ≡ true }
+    ensures { (x y : ℤ) → is_in_polygon (map (carry page.now) points.now) x y ≡ true → is_in result x y ≡ true }
 {
-    let mut bounds = dot(page.apply(points[0]));
-    for point in points {
-        bounds = grown(bounds, page.apply(*point));
-    }
-    bounds
+    let own = bounds(points);
+    bounds(&[page.apply(left_top(&own)), page.apply(right_bottom(&own))])
 }
 
-fn dot(point: Point) -> PageBox
-    ensures { result ≡ dot_of point }
+fn left_top(shape: &PageBox) -> Point
+    ensures { result ≡ record { x = shape.now.left; y = shape.now.top } }
 {
-    PageBox {
-        left: point.x,
-        top: point.y,
-        right: point.x,
-        bottom: point.y,
+    Point {
+        x: shape.left,
+        y: shape.top,
     }
 }
 
-fn grown(bounds: PageBox, point: Point) -> PageBox
-    ensures { result ≡ grown_to bounds point }
+fn right_bottom(shape: &PageBox) -> Point
+    ensures { result ≡ record { x = shape.now.right; y = shape.now.bottom } }
 {
-    PageBox {
-        left: lesser(bounds.left, point.x),
-        top: lesser(bounds.top, point.y),
-        right: greater(bounds.right, point.x),
-        bottom: greater(bounds.bottom, point.y),
+    Point {
+        x: shape.right,
+        y: shape.bottom,
     }
-}
-
-fn lesser(a: i64, b: i64) -> i64
-    ensures { result ≡ int_min a b }
-{
-    a.min(b)
-}
-
-fn greater(a: i64, b: i64) -> i64
-    ensures { result ≡ int_max a b }
-{
-    a.max(b)
 }

@@ -40,7 +40,7 @@ impl<'a> Scene<'a> {
         ensures clips { IfOk result (λ scene. All (IsClipped (box_of_window window.now)) (root_of scene)) }
         ensures order { IfOk result (λ scene. display_list_of scene ≡ items_along (root_of scene)) }
     {
-        let mut shown = Shown::new(bump, window);
+        let mut shown = Shown::new(bump, window)?;
         let root = nodes_of_page(bump, document, &window.page_box(), &mut shown)?;
         Ok(Scene {
             root,

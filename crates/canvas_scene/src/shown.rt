@@ -17,6 +17,9 @@ use canvas_shape::{Carried, Colour};
 use std::alloc::AllocError;
 use std::marker::Model;
 
+/// How many items and rectangles have room before memory grows: those of most windows.
+const ROOM: usize = 32;
+
 /// The items that a walk has come to, seen as their list from front to back. It keeps what each
 /// rectangle shows, and marks the window's cells that lie in one, so that what lies wholly behind
 /// one rectangle or wholly in marked cells makes no item.
@@ -37,14 +40,19 @@ impl<'a> Model for Shown<'a> {
 
 impl<'a> Shown<'a> {
     /// Nothing yet of a window.
-    pub(crate) fn new(bump: &'a Bump, window: &Window) -> Shown<'a>
-        ensures { result ≡ [] }
+    pub(crate) fn new(bump: &'a Bump, window: &Window) -> Result<Shown<'a>, AllocError>
+        ensures { IfOk result (λ shown. shown ≡ []) }
     {
-        Shown {
-            items: Vec::new(bump),
-            covers: Vec::new(bump),
+        Ok(Shown {
+            items: Vec::with_capacity(bump, ROOM)?,
+            covers: Vec::with_capacity(bump, ROOM)?,
             cells: Cells::new(window),
-        }
+        })
+    }
+
+    /// How many rectangles it keeps.
+    pub(crate) fn cover_count(&self) -> usize {
+        self.covers.len()
     }
 
     /// Whether nothing behind may be seen in a box, for it is empty, lies in marked cells or lies
@@ -65,13 +73,14 @@ impl<'a> Shown<'a> {
             && (self.cells.covers(part) || lies_within_one(part, &self.covers))
     }
 
-    /// Whether nothing behind may be seen in a box that was not hidden before the last items were
-    /// added. Of the rectangles it looks at the last alone, behind which nothing in the box was
-    /// added if it has all of it.
-    pub(crate) fn hides_by_last(&self, part: &PageBox) -> bool
+    /// Whether nothing behind may be seen in a box that was not hidden when it kept `before`
+    /// rectangles: without one more it is not hidden now. Of the rectangles it looks at the last
+    /// alone, behind which nothing in the box was added if it has all of it.
+    pub(crate) fn hides_by_last(&self, part: &PageBox, before: usize) -> bool
         ensures { IsTrue result → IsHidden self.now part.now }
     {
-        self.cells.covers(part) || lies_within_last(part, &self.covers)
+        before < self.covers.len()
+            && (self.cells.covers(part) || lies_within_last(part, &self.covers))
     }
 
     /// Adds a leaf behind all others, and gives its item.

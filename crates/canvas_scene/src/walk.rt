@@ -79,9 +79,10 @@ fn nodes_among<'a>(
         if is_out_of_sight(child, &page, clip, shown) {
             continue;
         }
+        let before = shown.cover_count();
         let node = seen_node(bump, document, levels - 1, child, &page, clip, shown)?;
         keep(&mut nodes, node)?;
-        if shown.hides_by_last(clip) {
+        if shown.hides_by_last(clip, before) {
             break;
         }
     }

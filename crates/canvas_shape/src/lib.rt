@@ -19,7 +19,7 @@ use canvas_plane::Point;
 pub use edge_flags::EdgeFlags;
 pub use ellipse::Ends;
 pub use parts::{LeafBox, Vertices};
-pub use polygon::Cuts;
+pub use polygon::{Cuts, bounds};
 use std::marker::Model;
 use thiserror::Error;
 

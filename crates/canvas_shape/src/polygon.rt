@@ -94,8 +94,10 @@ fn is_before(x: i32, edge: i64) -> bool
     i64::from(x) < edge
 }
 
-/// The box of the vertices.
-pub(crate) fn bounds(points: &[Point]) -> PageBox
+/// The box of points, from the least to the greatest coordinates. It holds every pixel of the
+/// polygon with these vertices.
+#[inline(always)]
+pub fn bounds(points: &[Point]) -> PageBox
     requires { 0 < length points.now }
     ensures value { result ≡ bounds_of points.now }
     ensures has_all { (x y : ℤ) → is_in_polygon points.now x y ≡ true → is_in result x y ≡ true }

@@ -1,17 +1,13 @@
-use Rattle.std.proofs.Common.{◌≡◌, ◌∙◌, ap, arith, map}
+use Rattle.std.proofs.Common.{◌∙◌, ap}
 use Rattle.canvas_plane.specs.Motion.{carry}
-use Rattle.canvas_plane.specs.Page.{is_in}
-use Rattle.canvas_shape.specs.Bounds.{bounds_of, grown_along}
-use Rattle.canvas_shape.proofs.Law.{bounds-have, held-in}
-use Rattle.canvas_scene.proofs.Bounded.{bounds-done, bounds-first}
+use Rattle.canvas_scene.proofs.Bounded.{carried-within, left_top-near, right_bottom-near}
 use Rattle.canvas_scene.proofs.bounds.carried_bounds.Goals as goal
 
-pub returns-clause-has_all : goal.returns-clause-has_all
-returns-clause-has_all c = λ x y h.
-    let vertices = map (carry c.args.page.now) c.args.points.now in
-    let box : c.loop-point.bounds ≡ bounds_of vertices =
-    bounds-done (carry c.args.page.now) c.loop-point.bounds (grown_along c.dot-bounds.result vertices) c.args.points.now c.loop-point.point-index c.loop-point-test.false c.loop-point.invariant
-    ∙ ap (λ b. grown_along b vertices) c.dot-bounds.ensures
-    ∙ ap (λ p. grown_along (record { left = p.x; top = p.y; right = p.x; bottom = p.y }) vertices) c.apply.ensures.value
-    ∙ bounds-first (carry c.args.page.now) c.args.points.now _ (omega (arith, c.requires.vertices.least)) in
-    ap (λ b. is_in b x y) box ∙ held-in (bounds_of vertices) vertices x y (bounds-have vertices) h
+pub apply-requires-clause-within : goal.apply-requires-clause-within
+apply-requires-clause-within c = left_top-near c.args.points.now c.bounds-own.result c.left_top.result c.bounds-own.ensures.value c.left_top.ensures c.requires.vertices.near
+
+pub apply-requires-2-clause-within : goal.apply-requires-2-clause-within
+apply-requires-2-clause-within c = right_bottom-near c.args.points.now c.bounds-own.result c.right_bottom.result c.bounds-own.ensures.value c.right_bottom.ensures c.requires.vertices.near
+
+pub returns : goal.returns
+returns c = carried-within c.args.page.now c.args.points.now c.bounds-own.result c.bounds.result c.apply.result c.apply-2.result c.requires.quarter c.bounds-own.ensures.value (c.apply.ensures.value ∙ ap (carry c.args.page.now) c.left_top.ensures) (c.apply-2.ensures.value ∙ ap (carry c.args.page.now) c.right_bottom.ensures) c.bounds.ensures.value

@@ -25,5 +25,5 @@ returns-in-Ellipse c = λ inner x y.
 
 pub returns-in-Polygon : goal.returns-in-Polygon
 returns-in-Polygon c = λ inner x y.
-    cut-by-box (is_in_polygon (map (carry c.args.page.now) c.as_slice.result.now)) c.carried_bounds.result c.args.clip.now c.meet-in-Polygon.result (shown_of c.args.kind.now c.args.page.now inner x y) (Some c.in-Polygon.fill) x y c.carried_bounds.ensures.has_all c.meet-in-Polygon.ensures.exact
+    cut-by-box (is_in_polygon (map (carry c.args.page.now) c.as_slice.result.now)) c.carried_bounds.result c.args.clip.now c.meet-in-Polygon.result (shown_of c.args.kind.now c.args.page.now inner x y) (Some c.in-Polygon.fill) x y c.carried_bounds.ensures c.meet-in-Polygon.ensures.exact
     (ap (λ k. shown_of k c.args.page.now inner x y) c.in-Polygon.is ∙ ap (λ l. seen (is_in_polygon (map (carry c.args.page.now) l) x y) (Some c.in-Polygon.fill)) (sym c.as_slice.ensures))
