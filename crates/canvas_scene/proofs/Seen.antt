@@ -1,6 +1,5 @@
 -- The last item of a tree against the first answer of a walk.
-use Rattle.std.proofs.Common.{◌≡◌, List, [], ◌∷◌, ◌++◌, Bool, true, false, ◌&&◌, cond, Option, Some, None, ℤ, refl, sym, ap, ◌∙◌, reverse, append_assoc, append-nil}
-use Rattle.std.proofs.lemmas.List.{reverse-append}
+use Rattle.std.proofs.Common.{◌≡◌, List, [], ◌∷◌, ◌++◌, Bool, true, false, ◌&&◌, cond, Option, Some, None, ℤ, refl, sym, ap, ◌∙◌, reverse, append-nil}
 use Rattle.canvas_shape.specs.declared.Colour.{Colour}
 use Rattle.canvas_doc.specs.Picture.{or_else}
 use Rattle.canvas_scene.specs.declared.item.Item.{Item}
@@ -46,12 +45,6 @@ frame-cases false true inner fill = refl
 frame-cases false false inner fill = refl
 
 -- ---- the list of items, from front to back
-
--- the items of one child more come after those in front of it
-pub list-more : (start olds node news : List Item) (mid new : List Item) → mid ≡ start ++ reverse olds → new ≡ mid ++ reverse node → news ≡ node ++ olds → new ≡ start ++ reverse news
-list-more start olds node news mid new m n e =
-    n ∙ ap (λ l. l ++ reverse node) m ∙ append_assoc start (reverse olds) (reverse node)
-    ∙ ap (λ l. start ++ l) (sym (reverse-append node olds)) ∙ ap (λ l. start ++ reverse l) (sym e)
 
 pub list-none : (old items : List Item) → items ≡ [] → old ≡ old ++ reverse items
 list-none old items e = sym (append-nil old) ∙ ap (λ l. old ++ reverse l) (sym e)

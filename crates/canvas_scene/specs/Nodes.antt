@@ -1,5 +1,5 @@
 -- The items of a tree, back to front: a branch's own, then its children's.
-use Rattle.std.specs.Prelude.{List, [], ◌∷◌, ◌++◌, Option, Some, None, map, Bool, cond, ℤ}
+use Rattle.std.specs.Prelude.{◌≡◌, List, [], ◌∷◌, ◌++◌, reverse, Option, Some, None, map, Bool, cond, ℤ}
 use Rattle.canvas_plane.specs.declared.Pose.{Pose}
 use Rattle.canvas_plane.specs.Motion.{carry}
 use Rattle.canvas_shape.specs.declared.Colour.{Colour}
@@ -33,6 +33,10 @@ items_of = fold-Node (List Item) items_step
 -- the items of nodes, one after another
 abbrev pub items_along : List Node → List Item
 items_along nodes = joined (map items_of nodes)
+
+-- after the items of the start, those of the nodes were shown, from front to back
+abbrev pub AreShown : List Item → List Item → List Node → Type 0
+AreShown start shown nodes = shown ≡ start ++ reverse (items_along (reverse nodes))
 
 -- what is seen through a clip
 abbrev pub seen : Bool → Option Colour → Option Colour

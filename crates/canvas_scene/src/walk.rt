@@ -1,7 +1,7 @@
 //! The walk that makes a scene, from front to back, cut by the clips on its way and by what it
 //! has shown.
 
-ghost use Rattle.std.specs.Prelude.{◌≡◌, ◌≤◌, ◌+◌, ◌*◌, ◌^◌, ◌++◌, ◌<◌, [], ◌∷◌, ℤ, All, IfOk, IfSome, IsTrue, Option, reverse, map, Some, true, false};
+ghost use Rattle.std.specs.Prelude.{◌≡◌, ◌≤◌, ◌+◌, ◌*◌, ◌^◌, ◌++◌, ◌<◌, [], ◌∷◌, ℤ, All, IfOk, IfSome, IsTrue, List, OnOk, Option, reverse, map, Some, true, false};
 ghost use Rattle.canvas_plane.specs.Motion.{carry, reach_of, size_of};
 ghost use Rattle.canvas_plane.specs.Page.{is_in};
 ghost use Rattle.canvas_shape.specs.Inside.{AreVertices, IsSound, holds_of};
@@ -11,7 +11,8 @@ ghost use Rattle.canvas_doc.specs.Picture.{answer_among, colour, or_else, or_whi
 ghost use Rattle.canvas_doc.specs.declared.records.Parent.TheVariants.{Shape};
 ghost use Rattle.canvas_scene.specs.Clips.{IsClipped};
 ghost use Rattle.canvas_scene.specs.Covers.{first_fill};
-ghost use Rattle.canvas_scene.specs.Nodes.{back_item, items_along, items_of, seen, shown_of};
+ghost use Rattle.canvas_scene.specs.Nodes.{AreShown, back_item, items_along, seen, shown_of};
+ghost use Rattle.canvas_scene.specs.declared.item.Item.{Item};
 
 use crate::bounds::part_of;
 use crate::nodes::{branch, keep, leaf};
@@ -80,8 +81,7 @@ fn nodes_among<'a>(
             continue;
         }
         let before = shown.cover_count();
-        let node = seen_node(bump, document, levels - 1, child, &page, clip, shown)?;
-        keep(&mut nodes, node)?;
+        add_node(document, levels - 1, child, &page, clip, shown, &mut nodes)?;
         if shown.hides_by_last(clip, before) {
             break;
         }
@@ -102,44 +102,51 @@ fn is_out_of_sight(shape: &Record, page: &Pose, clip: &PageBox, shown: &Shown<'_
     shape.hidden || shown.hides(&part_of(&shape.kind, page, clip))
 }
 
-// The node of a shape with all below it, of which something may be seen. `page` carries its own
-// points to the page. Not inlined, its room is made for such shapes alone.
+// Adds the node of a shape with all below it, of which something may be seen, to those in front of
+// it. `page` carries its own points to the page. Not inlined, its room is made for such shapes alone.
 #[cycle(walk)]
 #[inline(never)]
-fn seen_node<'a>(
-    bump: &'a Bump,
+fn add_node<'a>(
     document: &Document,
     levels: u32,
     shape: &Record,
     page: &Pose,
     clip: &PageBox,
     shown: &mut Shown<'a>,
-) -> Result<Node<'a>, AllocError>
+    nodes: &mut Vec<Node<'a>, &'a Bump>,
+) -> Result<(), AllocError>
     requires kind { IsSound shape.now.kind }
     requires quarter { page.now.quarter ≤ 3 }
     requires reach { reach_of page.now + levels * 2 ^ 20 ≤ 2 ^ 26 }
-    ensures fills { IfOk result (λ node. (x y : ℤ) → first_fill shown.new x y ≡ or_else (first_fill shown.old x y) (seen (is_in clip.now x y) (shown_of shape.now.kind page.now (answer_among levels document.now.records (Shape shape.now.id) (carry page.now) x y) x y))) }
-    ensures items { IfOk result (λ node. shown.new ≡ shown.old ++ reverse (items_of node)) }
-    ensures clips { IfOk result (IsClipped clip.now) }
+    ensures fills { OnOk result ((x y : ℤ) → first_fill shown.new x y ≡ or_else (first_fill shown.old x y) (seen (is_in clip.now x y) (shown_of shape.now.kind page.now (answer_among levels document.now.records (Shape shape.now.id) (carry page.now) x y) x y))) }
+    ensures items { OnOk result ((start : List Item) → AreShown start shown.old nodes.old.items → AreShown start shown.new nodes.new.items) }
+    ensures clips { OnOk result (All (IsClipped clip.now) nodes.old.items → All (IsClipped clip.now) nodes.new.items) }
 {
+    let bump: &'a Bump = *nodes.allocator();
     let inside = Parent::Shape(shape.id);
     match &shape.kind {
         Kind::Group => {
-            let nodes = nodes_among(bump, document, levels, inside, page, clip, shown)?;
-            Ok(branch(*clip, None, nodes))
+            let children = nodes_among(bump, document, levels, inside, page, clip, shown)?;
+            keep(nodes, branch(*clip, None, children))?;
+            Ok(())
         }
         Kind::Frame { w, h, fill } => {
             let leaf = Carried::rect(page, *w, *h);
             let inner = clip.meet(&leaf.page_box());
-            let nodes = nodes_among(bump, document, levels, inside, page, &inner, shown)?;
+            let children = nodes_among(bump, document, levels, inside, page, &inner, shown)?;
             let back = back_of(leaf, clip, *fill, shown)?;
-            Ok(branch(inner, back, nodes))
+            keep(nodes, branch(inner, back, children))?;
+            Ok(())
         }
-        Kind::Rect { w, h, fill } => leaf_of(Carried::rect(page, *w, *h), clip, *fill, shown),
-        Kind::Ellipse { w, h, fill } => leaf_of(Carried::ellipse(page, *w, *h), clip, *fill, shown),
+        Kind::Rect { w, h, fill } => {
+            add_leaf(Carried::rect(page, *w, *h), clip, *fill, shown, nodes)
+        }
+        Kind::Ellipse { w, h, fill } => {
+            add_leaf(Carried::ellipse(page, *w, *h), clip, *fill, shown, nodes)
+        }
         Kind::Polygon { points, fill } => {
             let vertices = carried(bump, page, points.as_slice())?;
-            leaf_of(Carried::polygon(vertices), clip, *fill, shown)
+            add_leaf(Carried::polygon(vertices), clip, *fill, shown, nodes)
         }
     }
 }
@@ -165,19 +172,21 @@ fn back_of<'a>(
     Ok(Some(item))
 }
 
-// The node of a leaf.
-fn leaf_of<'a>(
+// Adds the node of a leaf to those in front of it.
+fn add_leaf<'a>(
     shape: Carried<'a>,
     clip: &PageBox,
     fill: Colour,
     shown: &mut Shown<'a>,
-) -> Result<Node<'a>, AllocError>
-    ensures fills { IfOk result (λ node. (x y : ℤ) → first_fill shown.new x y ≡ or_else (first_fill shown.old x y) (seen (is_in clip.now x y) (seen (carried_holds shape.entry x y) (Some fill)))) }
-    ensures items { IfOk result (λ node. shown.new ≡ shown.old ++ reverse (items_of node)) }
-    ensures clips { IfOk result (IsClipped clip.now) }
+    nodes: &mut Vec<Node<'a>, &'a Bump>,
+) -> Result<(), AllocError>
+    ensures fills { OnOk result ((x y : ℤ) → first_fill shown.new x y ≡ or_else (first_fill shown.old x y) (seen (is_in clip.now x y) (seen (carried_holds shape.entry x y) (Some fill)))) }
+    ensures items { OnOk result ((start : List Item) → AreShown start shown.old nodes.old.items → AreShown start shown.new nodes.new.items) }
+    ensures clips { OnOk result (All (IsClipped clip.now) nodes.old.items → All (IsClipped clip.now) nodes.new.items) }
 {
     let item = shown.add(shape, clip, fill)?;
-    Ok(leaf(item))
+    keep(nodes, leaf(item))?;
+    Ok(())
 }
 
 // Vertices as a pose carries them to the page, in the arena.

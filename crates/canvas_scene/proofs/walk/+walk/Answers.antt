@@ -7,12 +7,12 @@ use Rattle.canvas_doc.proofs.Walk.{answer-children, answer-none}
 use Rattle.canvas_scene.specs.declared.nodes.Node.{Node}
 use Rattle.canvas_scene.specs.Clips.{IsClipped}
 use Rattle.canvas_scene.specs.Covers.{first_fill}
-use Rattle.canvas_scene.specs.Nodes.{items_along, items_of, seen, shown_of}
+use Rattle.canvas_scene.specs.Nodes.{items_along, seen, shown_of}
 use Rattle.canvas_scene.proofs.Children.{child-answered, child-unseen, left-more, left-none, left_from}
 use Rattle.canvas_scene.proofs.Clipping.{all-more, all-reversed, branch-clipped, meet-within}
 use Rattle.canvas_scene.proofs.Covering.{added-child, added-frame, hidden-box}
-use Rattle.canvas_scene.proofs.Seen.{list-more, list-none, or_else-none, seen-none}
-use Rattle.canvas_scene.proofs.walk.+walk.Goals.{nodes_among-then-loop-child-test+else-is_out_of_sight+in_ok-node+in_ok-keep+then-hides_by_last, nodes_among-else-loop-child-test}
+use Rattle.canvas_scene.proofs.Seen.{list-none, or_else-none, seen-none}
+use Rattle.canvas_scene.proofs.walk.+walk.Goals.{nodes_among-then-loop-child-test+else-is_out_of_sight+in_ok-add_node+then-hides_by_last, nodes_among-else-loop-child-test}
 use Rattle.canvas_scene.proofs.walk.+walk.Goals as goal
 
 pub nodes_among-returns-then-levels-eq0-clause-fills : goal.nodes_among-returns-then-levels-eq0-clause-fills
@@ -43,11 +43,11 @@ nodes_among-loop-child-preserved-then-is_out_of_sight t c = record {
 
 pub nodes_among-loop-child-preserved : goal.nodes_among-loop-child-preserved
 nodes_among-loop-child-preserved t c = record {
-  left = λ x y. added-child (is_in c.args.clip.now x y) (first_fill c.args.shown.now x y) (first_fill c.loop-child.shown x y) (first_fill c.seen_node.new.shown x y) (answer_among c.args.levels c.args.document.now.records c.args.parent (carry c.args.out.now) x y) (answer_of (c.args.levels - 1) c.args.document.now.records (carry c.args.out.now) x y) c.child-item.result.now _ _
-      (child-answered (c.args.levels - 1) c.args.document.now.records (carry c.args.out.now) x y c.child-item.result.now c.then-page.result (is_in c.args.clip.now x y) (first_fill c.loop-child.shown x y) (first_fill c.seen_node.new.shown x y) c.then-page.ensures.carries (c.is_out_of_sight.ensures.shown c.if-is_out_of_sight.false) (c.in_ok-node.ensures.fills x y))
+  left = λ x y. added-child (is_in c.args.clip.now x y) (first_fill c.args.shown.now x y) (first_fill c.loop-child.shown x y) (first_fill c.add_node.new.shown x y) (answer_among c.args.levels c.args.document.now.records c.args.parent (carry c.args.out.now) x y) (answer_of (c.args.levels - 1) c.args.document.now.records (carry c.args.out.now) x y) c.child-item.result.now _ _
+      (child-answered (c.args.levels - 1) c.args.document.now.records (carry c.args.out.now) x y c.child-item.result.now c.then-page.result (is_in c.args.clip.now x y) (first_fill c.loop-child.shown x y) (first_fill c.add_node.new.shown x y) c.then-page.ensures.carries (c.is_out_of_sight.ensures.shown c.if-is_out_of_sight.false) (c.in_ok-add_node.ensures.fills x y))
       (left-more c.deref-child-items.result.now c.loop-child.child-index c.child-item.result c.loop-child-test.true c.child-item.is) (c.loop-child.invariant.left x y);
-  list = list-more c.args.shown.now (items_along (reverse c.loop-child.nodes.items)) (items_of c.in_ok-node.node) (items_along (reverse c.keep.new.nodes.items)) c.loop-child.shown c.seen_node.new.shown c.loop-child.invariant.list c.in_ok-node.ensures.items c.in_ok-keep.ensures.items;
-  clips = all-more (IsClipped c.args.clip.now) c.loop-child.nodes.items c.keep.new.nodes.items c.in_ok-node.node c.in_ok-keep.ensures.nodes c.loop-child.invariant.clips c.in_ok-node.ensures.clips;
+  list = c.in_ok-add_node.ensures.items c.args.shown.now c.loop-child.invariant.list;
+  clips = c.in_ok-add_node.ensures.clips c.loop-child.invariant.clips;
 }
 
 pub nodes_among-returns-clause-fills : goal.nodes_among-returns-clause-fills
@@ -60,9 +60,9 @@ nodes_among-returns-clause-fills t c = λ x y.
       | nodes_among-else-loop-child-test w ↦ rw w.shown-is (or_else-none (first_fill c.loop-child.shown x y)
           ∙ ap (or_else (first_fill c.loop-child.shown x y)) (seen-none inside ∙ ap (λ l. seen inside (first_answer answer l)) (sym (left-none items c.loop-child.child-index w.loop-child-test.false)))
           ∙ c.loop-child.invariant.left x y)
-      | nodes_among-then-loop-child-test+else-is_out_of_sight+in_ok-node+in_ok-keep+then-hides_by_last w ↦ rw w.shown-is (hidden-box w.seen_node.new.shown c.args.clip.now (first_answer answer (left_from (c.loop-child.child-index + 1) items)) x y (w.if-hides_by_last.ensures refl)
-          ∙ added-child inside (first_fill c.args.shown.now x y) (first_fill c.loop-child.shown x y) (first_fill w.seen_node.new.shown x y) whole answer w.child-item.result.now _ _
-          (child-answered (c.args.levels - 1) c.args.document.now.records (carry c.args.out.now) x y w.child-item.result.now w.then-page.result inside (first_fill c.loop-child.shown x y) (first_fill w.seen_node.new.shown x y) w.then-page.ensures.carries (w.is_out_of_sight.ensures.shown w.if-is_out_of_sight.false) (w.in_ok-node.ensures.fills x y))
+      | nodes_among-then-loop-child-test+else-is_out_of_sight+in_ok-add_node+then-hides_by_last w ↦ rw w.shown-is (hidden-box w.add_node.new.shown c.args.clip.now (first_answer answer (left_from (c.loop-child.child-index + 1) items)) x y (w.if-hides_by_last.ensures refl)
+          ∙ added-child inside (first_fill c.args.shown.now x y) (first_fill c.loop-child.shown x y) (first_fill w.add_node.new.shown x y) whole answer w.child-item.result.now _ _
+          (child-answered (c.args.levels - 1) c.args.document.now.records (carry c.args.out.now) x y w.child-item.result.now w.then-page.result inside (first_fill c.loop-child.shown x y) (first_fill w.add_node.new.shown x y) w.then-page.ensures.carries (w.is_out_of_sight.ensures.shown w.if-is_out_of_sight.false) (w.in_ok-add_node.ensures.fills x y))
           (left-more items c.loop-child.child-index w.child-item.result w.loop-child-test.true w.child-item.is) (c.loop-child.invariant.left x y))
     ]
 
@@ -71,24 +71,26 @@ nodes_among-returns-clause-clips t c =
     let P : List Node → Type 0 = λ l. All (IsClipped c.args.clip.now) l in
     let kept : All (IsClipped c.args.clip.now) c.loop-child-test.nodes.items = elim c.loop-child-test.branch [
       | nodes_among-else-loop-child-test w ↦ rw w.nodes-is c.loop-child.invariant.clips
-      | nodes_among-then-loop-child-test+else-is_out_of_sight+in_ok-node+in_ok-keep+then-hides_by_last w ↦ rw w.nodes-is (all-more (IsClipped c.args.clip.now) c.loop-child.nodes.items w.keep.new.nodes.items w.in_ok-node.node w.in_ok-keep.ensures.nodes c.loop-child.invariant.clips w.in_ok-node.ensures.clips)
+      | nodes_among-then-loop-child-test+else-is_out_of_sight+in_ok-add_node+then-hides_by_last w ↦ rw w.nodes-is (w.in_ok-add_node.ensures.clips c.loop-child.invariant.clips)
     ] in
     subst P (sym (c.into_bump_slice-2.ensures ∙ c.reverse.ensures.items)) (all-reversed (IsClipped c.args.clip.now) c.loop-child-test.nodes.items kept)
 
-pub seen_node-returns-in_ok-nodes-in-Group-clause-clips : goal.seen_node-returns-in_ok-nodes-in-Group-clause-clips
-seen_node-returns-in_ok-nodes-in-Group-clause-clips t c =
-    branch-clipped c.args.clip.now c.args.clip.now None c.in_ok-nodes-in-Group.nodes.now c.branch-clip.result c.branch-clip.ensures.pixels (λ x y h. h) tt c.in_ok-nodes-in-Group.ensures.clips
+pub add_node-returns-in_ok-keep-in-Group-clause-clips : goal.add_node-returns-in_ok-keep-in-Group-clause-clips
+add_node-returns-in_ok-keep-in-Group-clause-clips t c = λ h.
+    all-more (IsClipped c.args.clip.now) c.args.nodes.now.items c.keep.new.nodes.items c.branch-clip.result c.in_ok-keep-in-Group.ensures.nodes h
+    (branch-clipped c.args.clip.now c.args.clip.now None c.in_ok-children-in-Group.children.now c.branch-clip.result c.branch-clip.ensures.pixels (λ x y h. h) tt c.in_ok-children-in-Group.ensures.clips)
 
-pub seen_node-returns-in_ok-back-in-Frame-clause-fills : goal.seen_node-returns-in_ok-back-in-Frame-clause-fills
-seen_node-returns-in_ok-back-in-Frame-clause-fills t c = λ x y.
+pub add_node-returns-in_ok-keep-in-Frame-clause-fills : goal.add_node-returns-in_ok-keep-in-Frame-clause-fills
+add_node-returns-in_ok-keep-in-Frame-clause-fills t c = λ x y.
     let inner = answer_among c.args.levels c.args.document.now.records (Shape c.args.shape.now.id) (carry c.args.page.now) x y in
     let box = c.page_box.ensures.value ∙ c.rect-leaf.ensures.sides in
     added-frame (first_fill c.args.shown.now x y) (first_fill c.nodes_among-in-Frame.new.shown x y) (first_fill c.back_of.new.shown x y) c.in-Frame.fill inner (is_in c.args.clip.now x y) (is_in c.page_box.result x y) (is_in c.meet-inner.result x y) (c.meet-inner.ensures.exact x y)
-    (c.in_ok-nodes-in-Frame.ensures.fills x y)
+    (c.in_ok-children-in-Frame.ensures.fills x y)
     (c.in_ok-back-in-Frame.ensures.fills x y ∙ ap (λ b. or_else (first_fill c.nodes_among-in-Frame.new.shown x y) (seen (is_in c.args.clip.now x y) (seen b c.in-Frame.fill))) (c.rect-leaf.ensures.pixels x y ∙ ap (λ b. is_in b x y) (sym box)))
     ∙ ap (λ b. or_else (first_fill c.args.shown.now x y) (seen (is_in c.args.clip.now x y) (cond b (or_else inner c.in-Frame.fill) None))) (ap (λ b. is_in b x y) box)
     ∙ ap (λ k. or_else (first_fill c.args.shown.now x y) (seen (is_in c.args.clip.now x y) (shown_of k c.args.page.now inner x y))) (sym c.in-Frame.is)
 
-pub seen_node-returns-in_ok-back-in-Frame-clause-clips : goal.seen_node-returns-in_ok-back-in-Frame-clause-clips
-seen_node-returns-in_ok-back-in-Frame-clause-clips t c =
-    branch-clipped c.args.clip.now c.meet-inner.result c.in_ok-back-in-Frame.back c.in_ok-nodes-in-Frame.nodes.now c.branch-inner.result c.branch-inner.ensures.pixels (meet-within c.args.clip.now c.page_box.result c.meet-inner.result c.meet-inner.ensures.exact) c.in_ok-back-in-Frame.ensures.clip c.in_ok-nodes-in-Frame.ensures.clips
+pub add_node-returns-in_ok-keep-in-Frame-clause-clips : goal.add_node-returns-in_ok-keep-in-Frame-clause-clips
+add_node-returns-in_ok-keep-in-Frame-clause-clips t c = λ h.
+    all-more (IsClipped c.args.clip.now) c.args.nodes.now.items c.keep-in-Frame.new.nodes.items c.branch-inner.result c.in_ok-keep-in-Frame.ensures.nodes h
+    (branch-clipped c.args.clip.now c.meet-inner.result c.in_ok-back-in-Frame.back c.in_ok-children-in-Frame.children.now c.branch-inner.result c.branch-inner.ensures.pixels (meet-within c.args.clip.now c.page_box.result c.meet-inner.result c.meet-inner.ensures.exact) c.in_ok-back-in-Frame.ensures.clip c.in_ok-children-in-Frame.ensures.clips)
