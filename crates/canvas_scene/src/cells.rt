@@ -84,7 +84,9 @@ impl Cells {
         true
     }
 
-    /// Whether a box lies in the window, and each cell that it touches is marked.
+    /// Whether a box lies in the window, and each cell that it touches is marked. Inlined, it shares
+    /// the cells that a box touches with `may_cover`.
+    #[inline(always)]
     pub(crate) fn covers(&self, part: &PageBox) -> bool
         ensures { IsTrue result → (x y : ℤ) → is_in part.now x y ≡ true → is_covered self.now x y ≡ true }
     {

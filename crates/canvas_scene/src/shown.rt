@@ -79,8 +79,15 @@ impl<'a> Shown<'a> {
     pub(crate) fn hides_by_last(&self, part: &PageBox, before: usize) -> bool
         ensures { IsTrue result → IsHidden self.now part.now }
     {
-        before < self.covers.len()
-            && (self.cells.covers(part) || lies_within_last(part, &self.covers))
+        before < self.covers.len() && self.covers_by_last(part)
+    }
+
+    // Whether a box lies in marked cells or within the last rectangle.
+    #[inline(never)]
+    fn covers_by_last(&self, part: &PageBox) -> bool
+        ensures { IsTrue result → IsHidden self.now part.now }
+    {
+        self.cells.covers(part) || lies_within_last(part, &self.covers)
     }
 
     /// Adds a leaf behind all others, and gives its item.
