@@ -1,5 +1,5 @@
 -- Items cut to a window, and the words of their rows.
-use Rattle.std.proofs.Common.{◌≡◌, ℕ, zero, suc, ◌+◌, ◌-◌, ◌*◌, ◌<◌, ◌≤◌, max, min, List, [], ◌∷◌, ◌++◌, ℤ, Bool, true, false, ◌&&◌, cond, Option, Some, None, refl, sym, ap, ◌∙◌, arith, length, take, get_or, pos, ◌+ℤ◌, nat_le, nat_lt, ◌/◌, ◌%◌, slice_index, ⊎_elim}
+use Rattle.std.proofs.Common.{◌≡◌, ℕ, zero, suc, ◌+◌, ◌-◌, ◌*◌, ◌<◌, ◌≤◌, max, min, List, [], ◌∷◌, ◌++◌, ℤ, Bool, true, false, ◌&&◌, cond, Option, Some, None, refl, sym, ap, ◌∙◌, arith, length, take, get_or, pos, ◌+ℤ◌, ◌-ℤ◌, nat_le, nat_lt, ◌/◌, ◌%◌, slice_index, ⊎_elim}
 use Rattle.std.specs.Prelude.{int_le, int_lt}
 use Rattle.std.proofs.Math.IntN.{+ℤ_assoc, pos-+ℤ-pos}
 use Rattle.std.proofs.Math.ListN.{get_or-append}
@@ -7,6 +7,7 @@ use Rattle.std.proofs.Math.Seq.{get_or-append_seam}
 use Rattle.std.proofs.lemmas.List.{take_more}
 use Rattle.std.proofs.lemmas.Bool.{cases_lt}
 use Rattle.std.proofs.lemmas.Bool.Decides.{nat_tests}
+use Rattle.std.proofs.lemmas.Int.{ints}
 use Rattle.canvas_plane.specs.Page.{is_in}
 use Rattle.canvas_plane.specs.declared.Point.{Point}
 use Rattle.canvas_shape.specs.Spans.{is_from_to}
@@ -224,3 +225,9 @@ polygon-rows w points flags words top n k j x y d lt wide narrow low inside ex e
     ∙ ap (λ t. t && is_in_polygon points (x +ℤ pos k) (y +ℤ pos (j - top))) on
     ∙ ap (λ z. is_in_polygon points (z +ℤ pos k) (y +ℤ pos (j - top))) ex
     ∙ ap (λ z. is_in_polygon points (column_at w k) z) down
+
+-- a row that lies as far from the first as a mirror image does
+pub mirror-row : (w : Window) (sides : PageBox) (x first mirror row : ℤ) (y n : ℕ) → first ≡ w.y → row ≡ row_at w y → pos n ≡ mirror -ℤ first → is_in_ellipse sides x mirror ≡ is_in_ellipse sides x row → is_in_ellipse sides x (row_at w n) ≡ is_in_ellipse sides x (row_at w y)
+mirror-row w sides x first mirror row y n ef er en same =
+    let at : row_at w n ≡ mirror = omega (arith, ints) in
+    ap (is_in_ellipse sides x) at ∙ same ∙ ap (is_in_ellipse sides x) er

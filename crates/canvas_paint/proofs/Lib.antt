@@ -6,3 +6,4 @@ pub mod Columns
 pub mod Cutting
 pub mod Fraying
 pub mod Joined
+pub mod RowWords

@@ -46,6 +46,14 @@ covers-in base word i h =
     let e : base + i - base ≡ i = omega arith in
     ap (λ t. t && has word (base + i - base)) inside ∙ ap (has word) e
 
+and-none : (p : Bool) → (p && false) ≡ false
+and-none true = refl
+and-none false = refl
+
+-- an empty word covers nothing
+pub none-covered : (base word x : ℕ) → word ≡ 0 → covers base word x ≡ false
+none-covered base word x e = ap (λ n. is_within base x (base + 64) && has n (x - base)) e ∙ ap (λ t. is_within base x (base + 64) && t) (has-zero (x - base)) ∙ and-none (is_within base x (base + 64))
+
 pub true-not : (x n : ℕ) → x < n → is_within 0 x n ≡ false → ⊥
 true-not x n lt h =
     let e : is_within 0 x n ≡ true = grind (arith, nat_tests) in

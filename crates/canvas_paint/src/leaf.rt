@@ -1,6 +1,6 @@
 //! Rows of ellipses and polygons as words.
 
-ghost use Rattle.std.specs.Prelude.{◌≡◌, ℕ, ◌+◌, ◌<◌, ◌≤◌, length, ◌-◌, ◌%◌, IfOk, [], slice_index_or};
+ghost use Rattle.std.specs.Prelude.{◌≡◌, ℕ, ℤ, ◌+◌, ◌<◌, ◌≤◌, length, ◌-◌, ◌%◌, IfOk, [], slice_index_or};
 ghost use Rattle.canvas_shape.specs.Leaves.{sides_of};
 ghost use Rattle.canvas_shape.specs.Ellipse.{is_in_ellipse};
 ghost use Rattle.canvas_shape.specs.Edges.{is_in_polygon};
@@ -10,7 +10,7 @@ ghost use Rattle.canvas_paint.specs.Blocks.{column_at, row_at, row_has};
 ghost use Rattle.canvas_shape.specs.Words.{has};
 
 use crate::block::place;
-use crate::word::{PIXELS, part};
+use crate::word::{PIXELS, row_between};
 use bumpalo::Bump;
 use bumpalo::collections::into_bump_slice;
 use canvas_plane::Window;
@@ -55,12 +55,38 @@ fn ellipse_row(sides: &LeafBox, window: &Window, y: usize) -> [u64; 4]
     let ends = sides.row_ends(page_row(window, y));
     let from = place(ends.from, window.x(), window.w());
     let to = place(ends.to, window.x(), window.w());
-    [
-        part(from, to, 0),
-        part(from, to, PIXELS),
-        part(from, to, 2 * PIXELS),
-        part(from, to, 3 * PIXELS),
-    ]
+    row_between(from, to)
+}
+
+// A row of a window in which an ellipse has the same columns: the mirror image of a row from top to bottom, or the row itself
+// where that one lies above the window.
+fn mirrored(sides: &LeafBox, window: &Window, y: usize) -> usize
+    requires { y < window.now.h }
+    ensures { (x : ℤ) → is_in_ellipse (sides_of sides.now) x (row_at window.now result) ≡ is_in_ellipse (sides_of sides.now) x (row_at window.now y) }
+{
+    let row = sides.mirror(page_row(window, y)) - i64::from(window.y());
+    if 0 <= row { row as usize } else { y }
+}
+
+// The pixels of an ellipse in a row of a window, below rows from `top` on that were made. No root is taken where they have the
+// mirror image of the row.
+fn next_ellipse_row(
+    made: &[[u64; 4]],
+    sides: &LeafBox,
+    window: &Window,
+    top: usize,
+    y: usize,
+) -> [u64; 4]
+    requires y { y < window.now.h }
+    requires made { (k j : ℕ) → k < window.now.w → top ≤ j → j < top + length made.now → row_has (slice_index_or made.now (j - top) []) k ≡ is_in_ellipse (sides_of sides.now) (column_at window.now k) (row_at window.now j) }
+    ensures { (k : ℕ) → k < window.now.w → row_has result k ≡ is_in_ellipse (sides_of sides.now) (column_at window.now k) (row_at window.now y) }
+{
+    let same = mirrored(sides, window, y);
+    if top <= same && same - top < made.len() {
+        made[same - top]
+    } else {
+        ellipse_row(sides, window, y)
+    }
 }
 
 /// The pixels of an ellipse in the rows of a window from one up to another.
@@ -77,7 +103,8 @@ pub(crate) fn ellipse_rows<'a>(
 {
     let mut words = Vec::with_capacity(bump, bottom - top)?;
     for y in top..bottom {
-        words.push(ellipse_row(sides, window, y))?;
+        let row = next_ellipse_row(&words, sides, window, top, y);
+        words.push(row)?;
     }
     Ok(RowWords {
         first: top,

@@ -66,7 +66,18 @@ fn fill(row: &mut [Pixel], from: usize, to: usize, colour: Pixel)
 }
 
 /// Fills the pixels of a word that is put down from the column `base` on.
+#[inline(always)]
 pub(crate) fn fill_word(row: &mut [Pixel], base: usize, word: u64, colour: Pixel)
+    requires { (i : ℕ) → i < 64 → has word i ≡ true → base + i < length row.old }
+    ensures { (k : ℕ) (d : List ℕ) → k < length row.old → slice_index_or row.new k d ≡ (if covers base word k then colour else slice_index_or row.old k d) }
+{
+    if word != 0 {
+        fill_runs(row, base, word, colour);
+    }
+}
+
+// The same, run by run.
+fn fill_runs(row: &mut [Pixel], base: usize, word: u64, colour: Pixel)
     requires { (i : ℕ) → i < 64 → has word i ≡ true → base + i < length row.old }
     ensures { (k : ℕ) (d : List ℕ) → k < length row.old → slice_index_or row.new k d ≡ (if covers base word k then colour else slice_index_or row.old k d) }
 {

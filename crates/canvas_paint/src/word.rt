@@ -3,6 +3,7 @@
 ghost use Rattle.std.specs.Prelude.{◌≡◌, ◌≤◌, ◌<◌, ◌+◌, ◌-◌, ◌^◌, ◌&&◌, ◌||◌, ℕ, false, true, not, MatchOption};
 ghost use Rattle.canvas_plane.specs.Motion.{not_same};
 ghost use Rattle.canvas_shape.specs.Words.{has};
+ghost use Rattle.canvas_paint.specs.Blocks.{row_has};
 ghost use Rattle.canvas_paint.specs.Words.{is_within, HasNone, IsLowest, IsRun, IsWord};
 
 /// How many pixels a word has.
@@ -43,6 +44,18 @@ pub(crate) fn part(from: usize, to: usize, base: usize) -> u64
     let start = from.saturating_sub(base).min(PIXELS);
     let end = to.saturating_sub(base).min(PIXELS);
     if start < end { between(start, end) } else { 0 }
+}
+
+/// The pixels of a row from one column up to another: four words.
+pub(crate) fn row_between(from: usize, to: usize) -> [u64; 4]
+    requires { to ≤ 256 }
+    ensures { (k : ℕ) → k < 256 → row_has result k ≡ is_within from k to }
+{
+    let mut row = [0; 4];
+    for n in from / PIXELS..to.div_ceil(PIXELS) {
+        row[n] = part(from, to, PIXELS * n);
+    }
+    row
 }
 
 /// The pixels of both words.

@@ -186,3 +186,15 @@ held-in b x y w h ew eh sw sh t =
     let down = near-side y b.top b.bottom h eh (elim (cases_lt m h) [ inl lt ↦ lt | inr le ↦ absurd (true≢false (sym near ∙ far-row n m w h sw (not-edge y b.top h le))) ]) in
     let across = near-side x b.left b.right w ew (elim (cases_lt n w) [ inl lt ↦ lt | inr le ↦ absurd (true≢false (sym near ∙ turned n m w h ∙ far-row m n h w sh (not-edge x b.left w le))) ]) in
     inside-at b x y across.0 across.1 down.0 down.1
+
+same-way : (top bottom y z : ℤ) → z ≡ top +ℤ bottom -ℤ pos 1 -ℤ y → unsigned_abs (offset z top (bottom -ℤ top)) ≡ unsigned_abs (offset y top (bottom -ℤ top))
+same-way top bottom y z e = omega (arith, ints)
+
+-- a row and its mirror image from top to bottom
+pub mirror-same : (b : PageBox) (x y z : ℤ) → z ≡ b.top +ℤ b.bottom -ℤ pos 1 -ℤ y → is_in_ellipse b x z ≡ is_in_ellipse b x y
+mirror-same b x y z e =
+    let w = b.right -ℤ b.left in
+    let h = b.bottom -ℤ b.top in
+    let test = λ (s : ℤ). int_le (squared (offset x b.left w) *ℤ squared h +ℤ s *ℤ squared w) (squared w *ℤ squared h) in
+    let same : squared (offset z b.top h) ≡ squared (offset y b.top h) = squared-abs (offset z b.top h) ∙ ap (λ n. pos (n * n)) (same-way b.top b.bottom y z e) ∙ sym (squared-abs (offset y b.top h)) in
+    ap test same

@@ -9,6 +9,9 @@ ghost use Rattle.canvas_shape.specs.Words.{has};
 pub(crate) fn odd_from(word: u64) -> u64
     ensures { (i : ℕ) → has result i ≡ is_odd_among (has word) i 64 }
 {
+    if word == 0 {
+        return 0;
+    }
     let two = folded(word, 1);
     let four = folded(two, 2);
     let eight = folded(four, 4);

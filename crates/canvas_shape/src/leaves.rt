@@ -144,6 +144,14 @@ impl LeafBox {
         row_ends(&self.sides(), y)
     }
 
+    /// The mirror image of the row `y`, from top to bottom: the ellipse that fills the box holds the same there.
+    pub fn mirror(&self, y: i32) -> i64
+        ensures same { (x : ℤ) → is_in_ellipse (sides_of self.now) x result ≡ is_in_ellipse (sides_of self.now) x y }
+        ensures bound { unsigned_abs result ≤ 2 ^ 32 }
+    {
+        self.top + self.bottom - 1 - i64::from(y)
+    }
+
     /// The box as plain data.
     pub fn sides(&self) -> PageBox
         ensures value { result ≡ sides_of self.now }

@@ -2,8 +2,7 @@ use Rattle.std.proofs.Common.{rules, ◌<◌, FitsSigned, arith, ◌∙◌}
 use Rattle.std.specs.Int.{w32, w64}
 use Rattle.std.proofs.lemmas.Int.{to_z-of_z}
 use Rattle.canvas_shape.specs.Leaves.{sides_of}
-use Rattle.canvas_paint.specs.Words.{is_within}
-use Rattle.canvas_paint.proofs.Cutting.{ellipse-between, row-of-four}
+use Rattle.canvas_paint.proofs.Cutting.{ellipse-between}
 use Rattle.canvas_paint.proofs.leaf.ellipse_row.Goals as goal
 
 pub returns : goal.returns
@@ -16,7 +15,7 @@ returns c = λ k lt.
     let s1 : k < c.w.result = omega arith in
     let s2 : k < c.w-2.result = omega arith in
     let narrow : k < 256 = omega arith in
-    row-of-four (λ k. is_within c.place-from.result k c.place-to.result) c.part.result c.part-2.result c.part-3.result c.part-4.result k narrow c.part.ensures c.part-2.ensures c.part-3.ensures c.part-4.ensures
+    c.row_between.ensures k narrow
     ∙ ellipse-between c.args.window.now (sides_of c.args.sides.now) k c.args.y c.place-from.result c.place-to.result c.x.result c.x-2.result c.page_row.result c.row_ends-ends.result.from c.row_ends-ends.result.to
     (simp to_z-of_z at (c.place-from.ensures.from k s1))
     (simp to_z-of_z at (c.place-to.ensures.to k s2))

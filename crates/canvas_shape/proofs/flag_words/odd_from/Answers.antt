@@ -1,7 +1,11 @@
-use Rattle.std.proofs.Common.{ℕ, Bool, refl}
+use Rattle.std.proofs.Common.{ℕ, Bool, ap, refl, sym, ◌∙◌}
 use Rattle.canvas_shape.specs.Words.{has}
-use Rattle.canvas_shape.proofs.Odd.{fold-first, fold-step}
+use Rattle.canvas_shape.proofs.Bits.{has-zero}
+use Rattle.canvas_shape.proofs.Odd.{fold-first, fold-step, odd-nowhere}
 use Rattle.canvas_shape.proofs.flag_words.odd_from.Goals as goal
+
+pub returns-then-word-eq0 : goal.returns-then-word-eq0
+returns-then-word-eq0 c = λ i. has-zero i ∙ sym (odd-nowhere (has c.args.word) i 64 (λ j low high. ap (λ n. has n j) c.if-word-eq0.true ∙ has-zero j))
 
 pub returns : goal.returns
 returns c =
