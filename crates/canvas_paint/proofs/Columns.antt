@@ -12,7 +12,7 @@ use Rattle.canvas_scene.proofs.Raster.{raster-agree}
 use Rattle.canvas_paint.specs.declared.active.Active.{Active}
 use Rattle.canvas_paint.specs.declared.block.Block.{Block}
 use Rattle.canvas_paint.specs.declared.column.Column.{Column}
-use Rattle.canvas_paint.specs.Words.{covers, is_within}
+use Rattle.canvas_paint.specs.Words.{covers, is_within, IsWord}
 use Rattle.canvas_paint.specs.Blocks.{block_fill, last_block_fill, shown}
 use Rattle.canvas_paint.specs.Columns.{AreColumns, IsChosen, IsColumn, IsNew, active_fill, blocks_in, fill_in, masked, masked_fill, shown_in}
 use Rattle.canvas_paint.proofs.Painting.{covers-in}
@@ -20,8 +20,8 @@ use Rattle.canvas_paint.proofs.Painting.{covers-in}
 -- ---- one column
 
 -- the word of a row that was painted where it has changed
-pub refreshed : (base y : ℕ) (row new : List (List ℕ)) (mid active : List Active) (column : Column) (pixels : ℕ) → column.active.items ≡ active → length new ≡ length row → column.until ≤ column.end → IsChosen (length row) column.blocks.items mid base y column.end → ((i z : ℕ) → active_fill base active i z ≡ active_fill base mid i z) → ((i z : ℕ) → i < 64 → y ≤ z → z < column.until → masked_fill active i ≡ active_fill base active i z) → ((k : ℕ) (d : List ℕ) → k < length row → get_or new k d ≡ cond (covers base pixels k) (masked active (k - base)) (get_or row k d)) → ((i : ℕ) (d : List ℕ) → i < 64 → base + i < length row → has pixels i ≡ false → get_or row (base + i) d ≡ masked active i) → IsColumn base new column y
-refreshed base y row new mid active column pixels same-active long most chosen kept exact put rest =
+pub refreshed : (base y : ℕ) (row new : List (List ℕ)) (mid active : List Active) (column : Column) (pixels : ℕ) → column.active.items ≡ active → length new ≡ length row → column.until ≤ column.end → IsChosen (length row) column.blocks.items mid base y column.end → IsWord column.inside (λ i. is_within 0 (base + i) (length row)) → ((i z : ℕ) → active_fill base active i z ≡ active_fill base mid i z) → ((i z : ℕ) → i < 64 → y ≤ z → z < column.until → masked_fill active i ≡ active_fill base active i z) → ((k : ℕ) (d : List ℕ) → k < length row → get_or new k d ≡ cond (covers base pixels k) (masked active (k - base)) (get_or row k d)) → ((i : ℕ) (d : List ℕ) → i < 64 → base + i < length row → has pixels i ≡ false → get_or row (base + i) d ≡ masked active i) → IsColumn base new column y
+refreshed base y row new mid active column pixels same-active long most chosen inside kept exact put rest =
     let shows : (i : ℕ) (d : List ℕ) → i < 64 → base + i < length row → get_or new (base + i) d ≡ masked active i = λ i d small lt.
     let at : base + i - base ≡ i = omega arith in
     put (base + i) d lt ∙ ap (λ t. cond t (masked active (base + i - base)) (get_or row (base + i) d)) (covers-in base pixels i small)
@@ -31,15 +31,16 @@ refreshed base y row new mid active column pixels same-active long most chosen k
     (cases_Bool (has pixels i)) in
     record {
       chosen = λ i j small lt p q. ap (λ l. active_fill base l i j) same-active ∙ kept i j ∙ chosen i j small (omega arith) p q;
+      inside = λ before i small. inside i small ∙ ap (is_within 0 (base + i)) (sym long);
       masks = λ before i d small lt. shows i d small (omega arith) ∙ ap (λ l. masked l i) (sym same-active);
       painted = λ x z d low high lt p q.
           let i = x - base in
           let same : base + i ≡ x = omega arith in
           let small : i < 64 = omega arith in
-          let inside : base + i < length row = omega arith in
+          let within : base + i < length row = omega arith in
           ap (λ n. get_or new n d) (sym same)
-          ∙ shows i d small inside
-          ∙ ap (λ o. (or_white o).0) (exact i z small p q ∙ kept i z ∙ chosen i z small inside p (omega arith))
+          ∙ shows i d small within
+          ∙ ap (λ o. (or_white o).0) (exact i z small p q ∙ kept i z ∙ chosen i z small within p (omega arith))
           ∙ ap (λ n. shown column.blocks.items n z) same;
     }
 
@@ -68,6 +69,7 @@ unchanged base all pixels both i width lt e f off = both-false (has all i) (has 
 later-column : (base : ℕ) (row : List (List ℕ)) (column : Column) (y : ℕ) → IsColumn base row column y → IsColumn base row column (y + 1)
 later-column base row column y h = record {
   chosen = λ i j a b p q. h.chosen i j a b (omega arith) q;
+  inside = λ before. h.inside (omega arith);
   masks = λ before i d a b. h.masks (omega arith) i d a b;
   painted = λ x z d a b c p q. h.painted x z d a b c (omega arith) q;
 }
@@ -79,6 +81,7 @@ later-columns row columns y h = λ k d lt. later-column (64 * k) row (get_or col
 pub same-row : (base : ℕ) (row new : List (List ℕ)) (column : Column) (y : ℕ) → length new ≡ length row → ((x : ℕ) (d : List ℕ) → base ≤ x → x < base + 64 → x < length row → get_or new x d ≡ get_or row x d) → IsColumn base row column y → IsColumn base new column y
 same-row base row new column y long same h = record {
   chosen = λ i j a b p q. h.chosen i j a (omega arith) p q;
+  inside = λ before i small. h.inside before i small ∙ ap (is_within 0 (base + i)) (sym long);
   masks = λ before i d a b. same (base + i) d (omega arith) (omega arith) (omega arith) ∙ h.masks before i d a (omega arith);
   painted = λ x z d a b c p q. same x d a b (omega arith) ∙ h.painted x z d a b (omega arith) p q;
 }
@@ -89,6 +92,7 @@ new-columns row columns y four new = λ k d lt.
     let h = new k d (omega arith) in
     record {
       chosen = λ i j a b p q. absurd (omega (arith, h.0));
+      inside = λ before i small. absurd (omega (arith, h.0));
       masks = λ before i d a b. absurd (omega (arith, h.0));
       painted = λ x z e a b c p q. absurd (omega (arith, h.1));
     }

@@ -1,11 +1,9 @@
 -- Items cut to a window, and the words of their rows.
-use Rattle.std.proofs.Common.{◌≡◌, ℕ, zero, suc, ◌+◌, ◌-◌, ◌*◌, ◌<◌, ◌≤◌, max, min, List, [], ◌∷◌, ◌++◌, ℤ, Bool, true, false, ◌&&◌, cond, Option, Some, None, refl, sym, ap, ◌∙◌, arith, length, take, get_or, pos, ◌+ℤ◌, ◌-ℤ◌, nat_le, nat_lt, ◌/◌, ◌%◌, slice_index, ⊎_elim}
+use Rattle.std.proofs.Common.{◌≡◌, ℕ, zero, suc, ◌+◌, ◌-◌, ◌*◌, ◌<◌, ◌≤◌, max, min, List, [], ◌∷◌, ◌++◌, ℤ, Bool, true, false, ◌&&◌, cond, Option, Some, None, refl, sym, ap, ◌∙◌, arith, length, take, get_or, pos, ◌+ℤ◌, ◌-ℤ◌, nat_le, nat_lt, ◌/◌, ◌%◌, slice_index, set, get_or-set_same, get_or-set_other, ◌≢◌, ⊎_elim}
 use Rattle.std.specs.Prelude.{int_le, int_lt}
 use Rattle.std.proofs.Math.IntN.{+ℤ_assoc, pos-+ℤ-pos}
-use Rattle.std.proofs.Math.ListN.{get_or-append}
-use Rattle.std.proofs.Math.Seq.{get_or-append_seam}
 use Rattle.std.proofs.lemmas.List.{take_more}
-use Rattle.std.proofs.lemmas.Bool.{cases_lt}
+use Rattle.std.proofs.lemmas.Bool.{cases_eq}
 use Rattle.std.proofs.lemmas.Bool.Decides.{nat_tests}
 use Rattle.std.proofs.lemmas.Int.{ints}
 use Rattle.canvas_plane.specs.Page.{is_in}
@@ -54,19 +52,17 @@ row-of-four test a b c d k lt p q r s =
     let same : 64 * (k / 64) + k % 64 ≡ k = omega arith in
     four-words test a b c d (k / 64) (k % 64) (omega arith) (omega arith) p q r s ∙ ap test same
 
--- rows from `top` on that have the columns of a test, after one more
-pub more-rows : (test : ℕ → ℕ → Bool) (rows new : List (List ℕ)) (row : List ℕ) (top y width : ℕ) → top ≤ y → length rows ≡ y - top → new ≡ rows ++ row ∷ [] → ((k j : ℕ) → k < width → top ≤ j → j < y → row_has (get_or rows (j - top) []) k ≡ test k j) → ((k : ℕ) → k < width → row_has row k ≡ test k y) → (k j : ℕ) → k < width → top ≤ j → j < y + 1 → row_has (get_or new (j - top) []) k ≡ test k j
-more-rows test rows new row top y width le long e before last k j lt low high =
-    ap (λ l. row_has (get_or l (j - top) []) k) e
-    ∙ ⊎_elim
-    (λ (less : j < y). ap (λ r. row_has r k) (get_or-append rows (row ∷ []) [] (j - top) (omega arith)) ∙ before k j lt low less)
-    (λ (more : y ≤ j).
-    let same : y ≡ j = omega arith in
-    let at : j - top ≡ length rows = omega arith in
-    ap (λ n. row_has (get_or (rows ++ row ∷ []) n []) k) at
-    ∙ ap (λ r. row_has r k) (get_or-append_seam rows row [] [])
-    ∙ last k lt ∙ ap (test k) same)
-    (cases_lt j y)
+-- rows from `top` on that have the columns of a test, with one more of them put down
+pub put-row : (test : ℕ → ℕ → Bool) (rows : List (List ℕ)) (row : List ℕ) (top n width : ℕ) → n < length rows → ((k j : ℕ) → k < width → top ≤ j → j < top + n → row_has (get_or rows (j - top) []) k ≡ test k j) → ((k : ℕ) → k < width → row_has row k ≡ test k (top + n)) → (k j : ℕ) → k < width → top ≤ j → j < top + (n + 1) → row_has (get_or (set rows n row) (j - top) []) k ≡ test k j
+put-row test rows row top n width inside before last k j lt low high =
+    ⊎_elim
+    (λ (e : j - top ≡ n).
+    let same : top + n ≡ j = omega arith in
+    let at : get_or (set rows n row) (j - top) [] ≡ row = ap (λ m. get_or (set rows n row) m []) e ∙ get_or-set_same rows n row [] inside in
+    ap (λ r. row_has r k) at ∙ last k lt ∙ ap (test k) same)
+    (λ (ne : j - top ≢ n).
+    ap (λ r. row_has r k) (get_or-set_other rows n (j - top) row [] ne) ∙ before k j lt low (omega arith))
+    (cases_eq (j - top) n)
 
 -- none is no held one
 pub none-held : (i : ℕ) (held : Bool) → has 0 i ≡ true → held ≡ true

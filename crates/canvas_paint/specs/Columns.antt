@@ -6,6 +6,7 @@ use Rattle.canvas_doc.specs.Picture.{or_else, or_white}
 use Rattle.canvas_paint.specs.declared.block.Block.{Block}
 use Rattle.canvas_paint.specs.declared.active.Active.{Active}
 use Rattle.canvas_paint.specs.declared.column.Column.{Column}
+use Rattle.canvas_paint.specs.Words.{IsWord, is_within}
 use Rattle.canvas_paint.specs.Blocks.{form_holds, last_block_fill, shown}
 
 -- the first colour that is there
@@ -37,9 +38,10 @@ IsChosen width bs active base y end = (i j : ℕ) → i < 64 → base + i < widt
 abbrev pub IsNew : Column → Type 0
 IsNew column = (column.end ≡ 0) × (column.until ≡ 0)
 
--- from the row y on, up to their own ends: the active blocks show what all do, and the word of a row has what their masks show and is the picture
+-- from the row y on, up to their own ends: the active blocks show what all do, the pixels that the row has are known, and the word of a row has what their masks show and is the picture
 pub record IsColumn (base : ℕ) (row : List (List ℕ)) (column : Column) (y : ℕ) : Type 0 where
   pub chosen : IsChosen (length row) column.blocks.items column.active.items base y column.end
+  pub inside : y < column.end → IsWord column.inside (λ i. is_within 0 (base + i) (length row))
   pub masks : y < column.end → (i : ℕ) (d : List ℕ) → i < 64 → base + i < length row → slice_index_or row (base + i) d ≡ masked column.active.items i
   pub painted : (x z : ℕ) (d : List ℕ) → base ≤ x → x < base + 64 → x < length row → y ≤ z → z < column.until → slice_index_or row x d ≡ shown column.blocks.items x z
 

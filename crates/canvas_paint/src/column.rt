@@ -23,22 +23,25 @@ pub(crate) struct Column<'a> {
     pub active: Vec<Active<'a>>,
     /// Up to which row they are these.
     pub end: usize,
+    /// Up to that row, the pixels of the word that a row has.
+    pub inside: u64,
     /// Up to which row the word stays the same.
     pub until: usize,
 }
 
 impl<'a> Column<'a> {
-    /// A column of no block, of which no row was painted.
-    pub(crate) fn new(alloc: Global) -> Column<'a>
-        ensures new { IsNew result }
-        ensures empty { vec_len result.blocks ≡ 0 }
+    /// A column of no block, with room for so many, of which no row was painted.
+    pub(crate) fn new(alloc: Global, room: usize) -> Result<Column<'a>, AllocError>
+        ensures new { IfOk result IsNew }
+        ensures empty { IfOk result (λ column. vec_len column.blocks ≡ 0) }
     {
-        Column {
-            blocks: Vec::new(alloc),
+        Ok(Column {
+            blocks: Vec::with_capacity(alloc, room)?,
             active: Vec::new(alloc),
             end: 0,
+            inside: 0,
             until: 0,
-        }
+        })
     }
 
     /// Puts a block in front of the others, if it meets the word at a column.
@@ -87,11 +90,12 @@ impl<'a> Column<'a> {
         ensures kept { OnOk result (IsColumn base row.new self.new y) }
         ensures outside { OnOk result ((x : ℕ) (d : List ℕ) → x < length row.old → is_within base x (base + 64) ≡ false → slice_index_or row.new x d ≡ slice_index_or row.old x d) }
     {
-        let all = part(0, row.len(), base);
         let is_chosen = y < self.end;
         if !is_chosen {
+            self.inside = part(0, row.len(), base);
             self.end = choose(&self.blocks, row.len(), base, y, &mut self.active)?;
         }
+        let all = self.inside;
         let change = follow(self.active.as_mut_slice(), base, y, self.end);
         let pixels = if is_chosen {
             both(all, change.pixels)

@@ -101,15 +101,11 @@ pub(crate) fn ellipse_rows<'a>(
     requires bottom { bottom ≤ window.now.h }
     ensures { IfOk result (λ rows. (k j : ℕ) → k < window.now.w → top ≤ j → j < bottom → row_has (slice_index_or rows.words.now (j - rows.first) []) k ≡ is_in_ellipse (sides_of sides.now) (column_at window.now k) (row_at window.now j)) }
 {
-    let mut words = Vec::with_capacity(bump, bottom - top)?;
-    for y in top..bottom {
-        let row = next_ellipse_row(&words, sides, window, top, y);
-        words.push(row)?;
+    let words = bump.try_alloc_slice_fill_clone(bottom - top, [0; 4])?;
+    for k in 0..words.len() {
+        words[k] = next_ellipse_row(&words[..k], sides, window, top, top + k);
     }
-    Ok(RowWords {
-        first: top,
-        words: into_bump_slice(words),
-    })
+    Ok(RowWords { first: top, words })
 }
 
 /// The pixels of a polygon in the rows of a window from one up to another.

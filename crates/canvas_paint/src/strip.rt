@@ -20,15 +20,15 @@ use std::alloc::{AllocError, Global};
 /// How many words a row has.
 const WORDS: usize = 4;
 
-// Four columns of no block, of which no row was painted.
-fn new_columns<'a>(alloc: Global) -> Result<Vec<Column<'a>>, AllocError>
+// Four columns of no block, each with room for so many, of which no row was painted.
+fn new_columns<'a>(alloc: Global, room: usize) -> Result<Vec<Column<'a>>, AllocError>
     ensures count { IfOk result (λ columns. vec_len columns ≡ 4) }
     ensures new { IfOk result (λ columns. All IsNew columns.items) }
     ensures empty { IfOk result (λ columns. (k j : ℕ) → fill_in (blocks_in columns.items) k j ≡ None) }
 {
     let mut columns = Vec::with_capacity(alloc, WORDS)?;
     for _ in 0..WORDS {
-        columns.push(Column::new(alloc))?;
+        columns.push(Column::new(alloc, room)?)?;
     }
     Ok(columns)
 }
@@ -60,7 +60,7 @@ fn columns_of<'a>(
     ensures new { IfOk result (λ columns. All IsNew columns.items) }
     ensures fills { IfOk result (λ columns. (k j : ℕ) → k < window.now.w → first ≤ j → j < end → fill_in (blocks_in columns.items) k j ≡ last_fill items.now (column_at window.now k) (row_at window.now j)) }
 {
-    let mut columns = new_columns(alloc)?;
+    let mut columns = new_columns(alloc, items.len())?;
     for item in items {
         match Block::cut(bump, item, window, first, end)? {
             Some(block) => add(&block, columns.as_mut_slice())?,

@@ -1,4 +1,4 @@
-use Rattle.std.proofs.Common.{rules, ◌≡◌, arith, pos, ◌∙◌, ◌+ℤ◌, ◌-ℤ◌, FitsSigned, w32, w64}
+use Rattle.std.proofs.Common.{rules, ◌≡◌, arith, pos, ◌∙◌, ◌-ℤ◌, FitsSigned, w32, w64}
 use Rattle.std.specs.Prelude.{unsigned_abs}
 use Rattle.std.proofs.lemmas.Int.{fits_signed_from_abs, ints, to_z-of_z}
 use Rattle.canvas_shape.specs.Leaves.{sides_of}

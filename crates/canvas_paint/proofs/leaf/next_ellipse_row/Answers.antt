@@ -1,4 +1,4 @@
-use Rattle.std.proofs.Common.{◌≡◌, ◌+◌, ◌-◌, arith, ◌∙◌}
+use Rattle.std.proofs.Common.{arith, ◌∙◌}
 use Rattle.canvas_paint.specs.Blocks.{column_at}
 use Rattle.canvas_paint.proofs.leaf.next_ellipse_row.Goals as goal
 
