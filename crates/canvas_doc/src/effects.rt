@@ -359,25 +359,22 @@ fn no_ranks(alloc: Global, count: usize) -> Result<Vec<Option<u32>>, AllocError>
     vec![in alloc; None; count]
 }
 
-// A record with the index that stands for a rank: the same one, where it has that index.
-fn respaced(alloc: Global, shape: &SharedRecord, rank: u32) -> Result<SharedRecord, AllocError>
+// A record with the index that stands for a rank, written at once where it shall lie.
+#[inline(always)]
+fn respaced(alloc: Global, shape: &Record, rank: u32) -> Result<SharedRecord, AllocError>
     ensures { IfOk result (λ after. after ≡ record shape.now { place = record shape.now.place { index = fresh_key rank } }) }
 {
-    let index = fresh(rank);
-    if shape.place.index == index {
-        return shape.share();
-    }
     SharedRecord::new(
         alloc,
         Record {
             id: shape.id,
             kind: shape.kind.try_clone(alloc)?,
-            place: Place {
-                parent: shape.place.parent,
-                index,
-            },
             pose: shape.pose,
             hidden: shape.hidden,
+            place: Place {
+                parent: shape.place.parent,
+                index: fresh(rank),
+            },
         },
     )
 }

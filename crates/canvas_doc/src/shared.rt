@@ -25,6 +25,7 @@ impl Model for SharedRecord {
 }
 
 impl SharedRecord {
+    #[inline(always)]
     pub(crate) fn new(alloc: Global, shape: Record) -> Result<SharedRecord, AllocError>
         ensures { IfOk result (λ shared. shared ≡ shape) }
     {

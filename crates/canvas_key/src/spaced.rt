@@ -12,14 +12,47 @@ use arrayvec::ArrayVec;
 /// The n-th fresh key, counted from 0: the integer part of rank n, so `a0`, `a1`, .., `az`, `b00`, .. These are
 /// the keys of siblings that are spaced anew, and those that fractional-indexing gives one after the other from
 /// `a0` on. They rise with n.
+#[inline(always)]
 pub fn fresh(n: u32) -> Key
     ensures value { result ≡ fresh_key n }
     ensures rank { part_of_rank (pos n) ≡ Some result }
     ensures key { IsKey result }
 {
+    Key {
+        text: part_of_rank(n),
+    }
+}
+
+// The integer part of a rank. Parts of one and two digits, which are those of nearly all siblings, are written at fixed
+// places of a text of their own, so that a caller that this is inlined in can write them where the key shall lie.
+#[inline(always)]
+fn part_of_rank(n: u32) -> ArrayVec<u8, KEY_LIMIT>
+    ensures { part_above 25 1 n ≡ Some result.items }
+{
+    if n < 62 {
+        let mut text = ArrayVec::new();
+        text.push(b'a');
+        text.push(digit_of(n as u8));
+        text
+    } else if n < 3_906 {
+        let rest = n - 62;
+        let mut text = ArrayVec::new();
+        text.push(b'b');
+        text.push(digit_of((rest / 62) as u8));
+        text.push(digit_of((rest % 62) as u8));
+        text
+    } else {
+        long_part(n)
+    }
+}
+
+// The integer part of any rank.
+fn long_part(n: u32) -> ArrayVec<u8, KEY_LIMIT>
+    ensures { part_above 25 1 n ≡ Some result.items }
+{
     let mut text = ArrayVec::new();
     push_part(&mut text, 1, 62, u64::from(n));
-    Key { text }
+    text
 }
 
 // Appends the part that is `rest` places above the first one of `count` digits.
@@ -39,8 +72,7 @@ fn push_part(text: &mut ArrayVec<u8, KEY_LIMIT>, count: u8, power: u64, rest: u6
     }
 }
 
-// Appends a number in `count` digits. One or two digits, which are those of nearly all siblings, want
-// no division but by 62.
+// Appends a number in `count` digits. The last two want no division but by 62.
 fn push_digits(text: &mut ArrayVec<u8, KEY_LIMIT>, count: u8, power: u64, rest: u64)
     requires power { power ≡ 62 ^ count }
     requires small { rest < power }
