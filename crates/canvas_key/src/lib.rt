@@ -19,7 +19,7 @@ mod text;
 use arrayvec::ArrayVec;
 use canvas_code::name_of;
 pub use gap::{between, defined_keys_lie_between};
-pub use spaced::{fresh, fresh_keys_rise, parts_are_in_order, ranks_number_the_parts};
+pub use spaced::{first_fresh, fresh, fresh_keys_rise, parts_are_in_order, ranks_number_the_parts};
 use std::marker::Model;
 use text::{fault_of, text_of};
 use thiserror::Error;

@@ -18,41 +18,75 @@ pub fn fresh(n: u32) -> Key
     ensures rank { part_of_rank (pos n) ≡ Some result }
     ensures key { IsKey result }
 {
-    Key {
-        text: part_of_rank(n),
-    }
+    let mut key = first_fresh();
+    key.make_fresh(n);
+    key
 }
 
-// The integer part of a rank. Parts of one and two digits, which are those of nearly all siblings, are written at fixed
-// places of a text of their own, so that a caller that this is inlined in can write them where the key shall lie.
+/// The first fresh key, `a0`: a constant, to be put where a key shall lie, and then to be turned there into another
+/// by `Key::make_fresh`.
 #[inline(always)]
-fn part_of_rank(n: u32) -> ArrayVec<u8, KEY_LIMIT>
-    ensures { part_above 25 1 n ≡ Some result.items }
-{
-    if n < 62 {
-        let mut text = ArrayVec::new();
-        text.push(b'a');
-        text.push(digit_of(n as u8));
-        text
-    } else if n < 3_906 {
-        let rest = n - 62;
-        let mut text = ArrayVec::new();
-        text.push(b'b');
-        text.push(digit_of((rest / 62) as u8));
-        text.push(digit_of((rest % 62) as u8));
-        text
-    } else {
-        long_part(n)
-    }
-}
-
-// The integer part of any rank.
-fn long_part(n: u32) -> ArrayVec<u8, KEY_LIMIT>
-    ensures { part_above 25 1 n ≡ Some result.items }
+pub fn first_fresh() -> Key
+    ensures value { result ≡ fresh_key 0 }
+    ensures key { IsKey result }
 {
     let mut text = ArrayVec::new();
-    push_part(&mut text, 1, 62, u64::from(n));
-    text
+    text.push(b'a');
+    // Eight bytes written one by one are kept apart from the other 120, which then are whole words to the compiler.
+    // After two bytes alone the rest would be copied by words that overlap, and each such copy stalls.
+    for _ in 0..7u32 {
+        text.push(b'0');
+    }
+    text.truncate(2);
+    Key { text }
+}
+
+impl Key {
+    /// Turns the key into the n-th fresh key, where it lies: what `fresh` gives, with no move of a key.
+    #[inline(always)]
+    pub fn make_fresh(&mut self, n: u32)
+        ensures { self.new ≡ fresh_key n }
+    {
+        write_part(&mut self.text, n);
+    }
+}
+
+// Writes the integer part of a rank over a text. Parts of one and two digits, which are those of nearly all siblings,
+// are written at fixed places.
+#[inline(always)]
+fn write_part(text: &mut ArrayVec<u8, KEY_LIMIT>, n: u32)
+    requires { 2 ≤ length text.old.items }
+    ensures { part_above 25 1 n ≡ Some text.new.items }
+{
+    if n < 62 {
+        write_start(text, b'a', digit_of(n as u8));
+    } else if n < 3_906 {
+        let rest = n - 62;
+        write_start(text, b'b', digit_of((rest / 62) as u8));
+        text.push(digit_of((rest % 62) as u8));
+    } else {
+        write_long_part(text, n);
+    }
+}
+
+// Makes a text these two bytes, where it has two or more.
+#[inline(always)]
+fn write_start(text: &mut ArrayVec<u8, KEY_LIMIT>, head: u8, digit: u8)
+    requires { 2 ≤ length text.old.items }
+    ensures { text.new.items ≡ head ∷ digit ∷ [] }
+{
+    text.truncate(2);
+    text[0] = head;
+    text[1] = digit;
+}
+
+// Writes the integer part of any rank over a text. If it made a text of its own, a caller that it is inlined in would
+// clear that one on every path.
+fn write_long_part(text: &mut ArrayVec<u8, KEY_LIMIT>, n: u32)
+    ensures { part_above 25 1 n ≡ Some text.new.items }
+{
+    text.clear();
+    push_part(text, 1, 62, u64::from(n));
 }
 
 // Appends the part that is `rest` places above the first one of `count` digits.

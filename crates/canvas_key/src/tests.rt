@@ -2,7 +2,7 @@ ghost use Rattle.std.specs.Prelude.{◌≡◌, ◌<◌, ◌↔◌, IsTrue};
 
 mod rows;
 
-use super::{Key, KeyFault, between, fresh};
+use super::{Key, KeyFault, between, first_fresh, fresh};
 use rows::{FRESH, READ, carries, ends, heads, long_texts, midpoints, prefixes, whole_parts};
 use std::test::Fail;
 
@@ -76,6 +76,31 @@ fn fresh_keys(rt: HostRuntime) {
         let key = fresh(*n);
         assert!(rt; key.bytes() == *want, "{n}");
         assert!(rt; key.copy() == key, "{n}");
+    }
+}
+
+// Whether a text, where it is a key, is made the n-th fresh one.
+fn is_made_fresh(text: &[u8], n: u32, want: &[u8]) -> bool {
+    match Key::read(text) {
+        Ok(mut key) => {
+            key.make_fresh(n);
+            key.bytes() == want
+        }
+        Err(_) => true,
+    }
+}
+
+// Over keys of 2 to 128 bytes, and over the fresh key before it.
+#[test]
+fn keys_made_fresh(rt: HostRuntime) {
+    let mut last = first_fresh();
+    assert!(rt; last.bytes() == &b"a0"[..]);
+    for (n, want) in FRESH.iter().rev() {
+        last.make_fresh(*n);
+        assert!(rt; last.bytes() == *want, "{n}");
+        for [text, _fault] in &READ {
+            assert!(rt; is_made_fresh(text, *n, want), "{n} over {}", text.len());
+        }
     }
 }
 
