@@ -1,13 +1,11 @@
 -- Looking an id up among records in rising id.
 use Rattle.std.proofs.Common.{◌≡◌, ℕ, zero, suc, ◌+◌, ◌-◌, ◌<◌, ◌≤◌, ◌==◌, List, [], ◌∷◌, true, false, Some, None, refl, sym, ap, ◌∙◌, arith, inl, inr, subst, length, get_or}
-use Rattle.std.specs.List.{AllByRecursion, slice_get}
-use Rattle.std.specs.List.Sorted.{IsSortedBy}
-use Rattle.std.specs.Ordering.{nat_cmp, is_lt}
+use Rattle.std.specs.List.{AllByRecursion}
+use Rattle.std.specs.Ordering.{nat_cmp}
 use Rattle.std.specs.declared.cmp.Ordering.TheVariants.{Less, Equal, Greater}
 use Rattle.std.proofs.lemmas.Bool.{cases_Bool, eq-eqb, eqb-true}
 use Rattle.std.proofs.lemmas.Bool.Decides.{nat_tests}
 use Rattle.std.proofs.lemmas.List.{get_or_default}
-use Rattle.std.proofs.lemmas.Option.{get_or_from_slice_get}
 use Rattle.canvas_doc.specs.declared.records.Record.{Record}
 use Rattle.canvas_doc.specs.Contents.{record_of, AreRising}
 
@@ -48,18 +46,11 @@ found-none (x ∷ rs) id h =
 pub cmp-Equal : (a b : ℕ) → nat_cmp a b ≡ Equal → a ≡ b
 cmp-Equal a b h = grind (arith, nat_tests)
 
-pub cmp-Less : (a b : ℕ) → nat_cmp a b ≡ Less → a ≡ b → ⊥
-cmp-Less a b h e = grind (arith, nat_tests)
+pub cmp-Less : (a b : ℕ) → nat_cmp a b ≡ Less → a < b
+cmp-Less a b h = grind (arith, nat_tests)
 
-pub cmp-Greater : (a b : ℕ) → nat_cmp a b ≡ Greater → a ≡ b → ⊥
-cmp-Greater a b h e = grind (arith, nat_tests)
-
-pub not-lt : (a b : ℕ) → a < b → is_lt (nat_cmp b a) ≡ false
-not-lt a b h = grind (arith, nat_tests)
-
--- what a binary search by id asks of the records
-pub sorted-ids : (rs : List Record) → AreRising rs → IsSortedBy (λ (a b : Record). is_lt (nat_cmp a.id b.id)) rs
-sorted-ids rs w = λ k d z l. not-lt (get_or rs k d).id (get_or rs (k + 1) d).id (rising-at rs k (k + 1) d w (omega arith) l)
+pub cmp-Greater : (a b : ℕ) → nat_cmp a b ≡ Greater → b < a
+cmp-Greater a b h = grind (arith, nat_tests)
 
 -- the record at a position has the id
 pub found-here : (rs : List Record) (i id : ℕ) (d : Record) → AreRising rs → i < length rs → (get_or rs i d).id ≡ id → record_of id rs ≡ Some (get_or rs i d)
@@ -88,17 +79,17 @@ rising-gap (x ∷ rs) (suc i) zero d w l h = absurd (omega arith)
 rising-gap (x ∷ rs) (suc i) (suc j) d w l h = let more : (get_or rs i d).id + j ≤ (get_or rs j d).id + i = rising-gap rs i j d w.1 (omega arith) (omega arith) in omega arith
 
 -- ids before a position that lies far enough below the last
-pub less-before : (rs : List Record) (id k : ℕ) (last r : Record) → AreRising rs → slice_get rs (length rs - 1) ≡ Some last → k + 1 + (last.id - id) < length rs → (get_or rs k r).id < id
-less-before rs id k last r w e h =
-    let there : get_or rs (length rs - 1) r ≡ last = get_or_from_slice_get rs (length rs - 1) last r e in
-    let gap : (get_or rs k r).id + (length rs - 1) ≤ (get_or rs (length rs - 1) r).id + k = rising-gap rs k (length rs - 1) r w (omega arith) (omega arith) in
-    let ids : (get_or rs (length rs - 1) r).id ≡ last.id = ap (λ (x : Record). x.id) there in
+pub less-before : (rs : List Record) (id k at : ℕ) (last r : Record) → AreRising rs → at < length rs → last ≡ get_or rs at last → k + (last.id - id) < at → (get_or rs k r).id < id
+less-before rs id k at last r w h e l =
+    let there : get_or rs at r ≡ last = get_or_default rs at r last h ∙ sym e in
+    let gap : (get_or rs k r).id + at ≤ (get_or rs at r).id + k = rising-gap rs k at r w (omega arith) h in
+    let ids : (get_or rs at r).id ≡ last.id = ap (λ (x : Record). x.id) there in
     omega arith
 
 -- ids from a position that lies far enough above the first
-pub greater-after : (rs : List Record) (id k : ℕ) (first r : Record) → AreRising rs → slice_get rs 0 ≡ Some first → k < length rs → id + 1 - first.id ≤ k → id < (get_or rs k r).id
+pub greater-after : (rs : List Record) (id k : ℕ) (first r : Record) → AreRising rs → first ≡ get_or rs 0 first → k < length rs → id + 1 - first.id ≤ k → id < (get_or rs k r).id
 greater-after rs id k first r w e h l =
-    let there : get_or rs 0 r ≡ first = get_or_from_slice_get rs 0 first r e in
+    let there : get_or rs 0 r ≡ first = get_or_default rs 0 r first (omega arith) ∙ sym e in
     let gap : (get_or rs 0 r).id + k ≤ (get_or rs k r).id + 0 = rising-gap rs 0 k r w (omega arith) h in
     let ids : (get_or rs 0 r).id ≡ first.id = ap (λ (x : Record). x.id) there in
     omega arith

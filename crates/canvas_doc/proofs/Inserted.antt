@@ -35,7 +35,7 @@ place-parted order rs position h i j e low b t =
       | inr f ↦ (let same : j ≡ i = grind (arith, nat_tests) in subst (λ k. is_lt (by_place_at rs (get_or order k 0) position) ≡ true) same later)
     ]
 
-rises-at : (rs : List Record) (a b c d : ℕ) → a ≡ c → b ≡ d → is_lt (by_place_at rs c d) ≡ true → is_lt (by_place_at rs a b) ≡ true
+pub rises-at : (rs : List Record) (a b c d : ℕ) → a ≡ c → b ≡ d → is_lt (by_place_at rs c d) ≡ true → is_lt (by_place_at rs a b) ≡ true
 rises-at rs a b c d e f h = ap (λ q. is_lt (by_place_at rs q b)) e ∙ ap (λ q. is_lt (by_place_at rs c q)) f ∙ h
 
 -- a position, and where those before and behind it by place stand

@@ -13,6 +13,7 @@ pub mod FitDelete
 pub mod Respaced
 pub mod Marks
 pub mod Ranks
+pub mod InRows
 pub mod Decided
 pub mod OneChanged
 pub mod Histories
@@ -27,6 +28,7 @@ pub mod Ordered
 pub mod Ranged
 pub mod Kept
 pub mod Inserted
+pub mod Deleted
 pub mod InOrder
 pub mod RestoredWell
 pub mod Saved

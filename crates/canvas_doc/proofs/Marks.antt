@@ -1,8 +1,6 @@
 -- Levels below a shape, found once for each record.
-use Rattle.std.proofs.Common.{◌≡◌, ℕ, zero, suc, ◌+◌, ◌-◌, ◌<◌, ◌≤◌, ◌==◌, List, [], ◌∷◌, Bool, true, false, cond, not, ◌&&◌, ◌||◌, Option, Some, None, refl, sym, ap, ◌∙◌, arith, inl, inr, subst, All, length, get_or, set, replicate, take, filter, ◌++◌}
-use Rattle.std.proofs.Common.{get_or-set_other, get_or-set_same}
-use Rattle.std.proofs.lemmas.Bool.{true≢false, and_parts, cases_eq}
-use Rattle.std.proofs.lemmas.List.{length-set, length-replicate}
+use Rattle.std.proofs.Common.{◌≡◌, ℕ, zero, suc, ◌+◌, ◌-◌, ◌<◌, ◌≤◌, ◌==◌, List, [], ◌∷◌, Bool, true, false, cond, not, ◌&&◌, ◌||◌, Option, Some, None, refl, sym, ap, ◌∙◌, arith, subst, All, length, get_or, take, filter, ◌++◌}
+use Rattle.std.proofs.lemmas.Bool.{true≢false, and_parts}
 use Rattle.std.proofs.lemmas.List.Elements.{filter_more}
 use Rattle.std.proofs.lemmas.Bool.Decides.{nat_tests}
 use Rattle.canvas_doc.specs.declared.records.Parent.{Parent}
@@ -10,7 +8,7 @@ use Rattle.canvas_doc.specs.declared.records.Parent.TheVariants.{Page, Shape}
 use Rattle.canvas_doc.specs.declared.records.Record.{Record}
 use Rattle.canvas_doc.specs.Contents.{record_of, is_container, reaches_from, reaches_page}
 use Rattle.canvas_doc.specs.Effect.{is_below, is_below_from, is_in_subtree}
-use Rattle.canvas_doc.specs.Depth.{levels_to, levels_from, levels_of, one_more, IsMark, AreMarks}
+use Rattle.canvas_doc.specs.Depth.{levels_to, levels_from, levels_of, one_more, IsMark}
 use Rattle.canvas_doc.proofs.Paths.{reaches-page, levels-page, levels-step, reaches-none, reaches-step}
 use Rattle.canvas_doc.proofs.FitDelete.{below-fuel}
 
@@ -64,9 +62,6 @@ level-below n p id rs s r level l other parent h e v =
     ∙ ap (λ q. one_more (levels_to 31 id rs q)) (sym parent)
     ∙ ap (λ b. cond b 1 (one_more (levels_to 31 id rs s.place.parent))) (sym other)
 
-pub level-itself : (id : ℕ) (rs : List Record) (s : Record) → (s.id == id) ≡ true → 1 ≡ levels_of id rs s
-level-itself id rs s h = ap (λ b. cond b 1 (one_more (levels_to 31 id rs s.place.parent))) (sym h)
-
 pub level-page : (id : ℕ) (rs : List Record) (s : Record) → (s.id == id) ≡ false → s.place.parent ≡ Page → 0 ≡ levels_of id rs s
 level-page id rs s h e =
     ap one_more (sym (levels-page 31 id rs)) ∙ ap (λ q. one_more (levels_to 31 id rs q)) (sym e) ∙ ap (λ b. cond b 1 (one_more (levels_to 31 id rs s.place.parent))) (sym h)
@@ -78,43 +73,9 @@ level-nowhere p id rs s h e f =
 pub level-blocked : (p n : ℕ) (rs : List Record) (s : Record) → n ≡ 0 → s.place.parent ≡ Shape p → reaches_page n rs s.place.parent ≡ true → ⊥
 level-blocked p n rs s z e h = true≢false (sym h ∙ ap (reaches_page n rs) e ∙ reaches-none n p rs z)
 
-zero-at : (n k : ℕ) → ◌≡◌ {A = ℕ} (get_or (replicate n 0) k 0) 0
-zero-at zero k = refl
-zero-at (suc n) zero = refl
-zero-at (suc n) (suc k) = zero-at n k
-
--- no mark
-pub no-marks : (id : ℕ) (rs : List Record) (marks : List ℕ) → marks ≡ replicate (length rs) 0 → AreMarks id rs marks
-no-marks id rs marks e = record {
-  long = ap length e ∙ length-replicate (length rs) 0;
-  each = λ k r l is. subst (λ m. IsMark m (levels_of id rs r)) (sym (ap (λ (x : List ℕ). get_or x k 0) e ∙ zero-at (length rs) k)) tt;
-}
-
 pub mark-known : (mark level : ℕ) → 0 < mark → IsMark mark level → mark - 1 ≡ level
 mark-known zero level h m = absurd (omega arith)
 mark-known (suc mark) level h m = let e : suc mark - 1 ≡ mark = omega arith in e ∙ m
-
-new-mark : (mark level : ℕ) → mark ≡ level → IsMark (mark + 1) level
-new-mark mark level e = let f : mark + 1 ≡ suc mark = omega arith in subst (λ m. IsMark m level) (sym f) e
-
--- a mark more
-pub marks-set : (id : ℕ) (rs : List Record) (marks : List ℕ) (at level : ℕ) (s : Record) → AreMarks id rs marks → at < length rs → s ≡ get_or rs at s → level ≡ levels_of id rs s → AreMarks id rs (set marks at (level + 1))
-marks-set id rs marks at level s m h is v = record {
-  long = length-set marks at (level + 1) ∙ m.long;
-  each = λ k r l e. elim (cases_eq k at) [
-    | inl same ↦ (
-        let inside : at < length marks = subst (λ n. at < n) (sym m.long) h in
-        let one : s ≡ r = is ∙ ap (λ i. get_or rs i s) (sym same) ∙ default rs k s r l ∙ sym e in
-        let here : get_or (set marks at (level + 1)) k 0 ≡ level + 1 = ap (λ i. get_or (set marks at (level + 1)) i 0) same ∙ get_or-set_same {A = ℕ} marks at (level + 1) 0 inside in
-        subst (λ x. IsMark x (levels_of id rs r)) (sym here) (new-mark level (levels_of id rs r) (v ∙ ap (levels_of id rs) one)))
-    | inr other ↦ subst (λ x. IsMark x (levels_of id rs r)) (sym (get_or-set_other {A = ℕ} marks at k (level + 1) 0 other)) (m.each k r l e)
-  ];
-}
-  where
-    default : (xs : List Record) (k : ℕ) (a b : Record) → k < length xs → get_or xs k a ≡ get_or xs k b
-    default [] k a b l = absurd (omega arith)
-    default (x ∷ xs) zero a b l = refl
-    default (x ∷ xs) (suc k) a b l = default xs k a b (omega arith)
 
 -- one of those that reach the page
 pub one-grounded : (rs : List Record) (at : ℕ) (r : Record) → All (λ (s : Record). reaches_page 31 rs s.place.parent ≡ true) rs → at < length rs → r ≡ get_or rs at r → reaches_page 31 rs r.place.parent ≡ true

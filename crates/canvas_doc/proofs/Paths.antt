@@ -62,9 +62,6 @@ found-after id at f k (r ∷ rs) =
     ap (λ o. cond ((cond (r.id == id) (f r) r).id == at) (Some (cond (r.id == id) (f r) r)) o) (found-after id at f k rs)
     ∙ found-cases id at f r (record_of at rs) (r.id == id) (r.id == at) refl refl (k r)
 
-reaches-changed : (id : ℕ) (u : Parent) (up : Parent → Bool) (o : Option Record) → reaches_from up (changed id (λ r. record r { place = record r.place { parent = u } }) o) ≡ reaches_from (λ q. up q) (changed id (λ r. record r { place = record r.place { parent = u } }) o)
-reaches-changed id u up o = refl
-
 -- one step up, after a shape was put under another parent
 pub reaches-step_after : (n id p : ℕ) (u : Parent) (rs : List Record) (r : Record) → 0 < n → Some r ≡ record_of p rs → reaches_page n (put_under id u rs) (Shape p) ≡ (is_container r.kind && reaches_page (n - 1) (put_under id u rs) (parent_after id u r))
 reaches-step_after n id p u rs r h e =

@@ -1,11 +1,14 @@
 -- Ranks of children, from their indexes in order.
-use Rattle.std.proofs.Common.{◌≡◌, ◌≢◌, ℕ, zero, suc, ◌+◌, ◌-◌, ◌<◌, ◌≤◌, List, [], ◌∷◌, Bool, true, false, cond, ◌&&◌, nat_lt, min, Option, Some, None, refl, sym, ap, subst, ◌∙◌, arith, inl, inr, map, filter, length, get_or, set, zero-add}
+use Rattle.std.proofs.Common.{◌≡◌, ◌≢◌, ℕ, zero, suc, ◌+◌, ◌-◌, ◌<◌, ◌≤◌, List, [], ◌∷◌, ◌++◌, Bool, true, false, cond, ◌&&◌, nat_lt, min, Option, Some, None, refl, sym, ap, subst, ◌∙◌, arith, inl, inr, map, filter, length, take, get_or, set, zero-add}
 use Rattle.std.specs.List.{cons_option, count_by, slice_get}
 use Rattle.std.specs.List.Sorted.{IsPermutation}
 use Rattle.std.specs.declared.cmp.Ordering.TheVariants.{Less}
 use Rattle.std.proofs.lemmas.Bool.{cases_Bool, eq-eqb, true≢false}
 use Rattle.std.proofs.lemmas.Bool.Decides.{nat_tests}
-use Rattle.std.proofs.lemmas.List.{get_or_default, get_or-map, get_or-set_other, get_or-set_same, length-map, same_lists}
+use Rattle.std.proofs.lemmas.List.{get_or_default, get_or-map, get_or-set_other, get_or-set_same, length-map, map-append, same_lists}
+use Rattle.std.proofs.lemmas.Option.{get_or_from_slice_get, slice_get_read}
+use Rattle.std.specs.Option.{unwrap_or}
+use Rattle.std.proofs.Math.Seq.{take-suc}
 use Rattle.std.proofs.lemmas.List.Sums.{length-filter}
 use Rattle.std.proofs.lemmas.List.Sorted.{sum_by-IsPermutation, IsPermutation-map}
 use Rattle.canvas_key.specs.Order.{is_before}
@@ -179,3 +182,35 @@ ranks-written p rs order low high ranks places o w long ranked others =
     ∙ rank-read p rs order low high ranks places o w (record { long = long; ranked = ranked; others = others }) j l s.it s.is
     ∙ ap f (sym s.read)
     ∙ sym (get_or-map f rs j s.it d l))
+
+ranked : (p : Parent) (r : Record) (n rank : ℕ) (b : Bool) → is_child p r ≡ b → cond b (Some n) None ≡ Some rank → record r { place = record r.place { index = fresh_key rank } } ≡ cond b (record r { place = record { parent = p; index = fresh_key n } }) r
+ranked p r n rank false h e = cc
+ranked p r n rank true h e =
+    let same : r.place.parent ≡ p = same-parents r.place.parent p h in
+    let number : n ≡ rank = ap (λ o. unwrap_or o 0) e in
+    rw (same, number) refl
+
+-- a record that has a rank gets the index that stands for it
+pub spaced-child : (p : Parent) (keys : List (List ℕ)) (r : Record) (rank : ℕ) → child_rank p keys r ≡ Some rank → record r { place = record r.place { index = fresh_key rank } } ≡ respaced_among p keys r
+spaced-child p keys r rank e = ranked p r (rank_among keys r.place.index) rank (is_child p r) refl e
+
+unranked : (p : Parent) (r : Record) (n : ℕ) (b : Bool) → cond b (Some n) None ≡ None → cond b (record r { place = record { parent = p; index = fresh_key n } }) r ≡ r
+unranked p r n false e = refl
+unranked p r n true e = cc
+
+-- a record that has none stays as it is
+pub spaced-other : (p : Parent) (keys : List (List ℕ)) (r : Record) → child_rank p keys r ≡ None → respaced_among p keys r ≡ r
+spaced-other p keys r e = unranked p r (rank_among keys r.place.index) (is_child p r) e
+
+-- the rank of the record at a position, read from the list of all
+pub read-rank : (f : Record → Option ℕ) (rs : List Record) (ranks : List (Option ℕ)) (at : ℕ) (o : Option ℕ) (r : Record) → ranks ≡ map f rs → at < length rs → r ≡ get_or rs at r → o ≡ get_or ranks at o → f r ≡ o
+read-rank f rs ranks at o r e l is read =
+    let long : length ranks ≡ length rs = ap length e ∙ length-map rs f in
+    ap f is ∙ sym (get_or-map f rs at r (f r) l) ∙ ap (λ xs. get_or xs at (f r)) (sym e)
+    ∙ get_or_from_slice_get ranks at o (f r) (slice_get_read ranks (length ranks) at o refl (omega arith) read)
+
+-- the records up to a position and the one there, each put through a function
+pub map-more : (f : Record → Record) (rs : List Record) (at : ℕ) (r : Record) → at < length rs → r ≡ get_or rs at r → map f (take (at + 1) rs) ≡ map f (take at rs) ++ f r ∷ []
+map-more f rs at r l is =
+    let next : at + 1 ≡ suc at = omega arith in
+    ap (λ n. map f (take n rs)) next ∙ ap (map f) (take-suc rs at r l ∙ ap (λ x. take at rs ++ x ∷ []) (sym is)) ∙ map-append f (take at rs) (r ∷ [])

@@ -10,5 +10,6 @@ pub mod History
 pub mod Depth
 pub mod Fitting
 pub mod Restored
+pub mod Rows
 pub mod Listed
 pub mod PlaceOrder

@@ -1,5 +1,5 @@
 -- The order of records by place.
-use Rattle.std.specs.Prelude.{ℕ, ◌≡◌, ◌≢◌, ◌<◌, ◌≤◌, ◌+◌, List, Bool, true, false, Option, Some, None, length, slice_index}
+use Rattle.std.specs.Prelude.{ℕ, ◌≡◌, ◌≢◌, ◌<◌, ◌≤◌, ◌+◌, List, Bool, true, false, Option, Some, None, All, length, slice_index, slice_index_or}
 use Rattle.std.specs.List.{slice_get}
 use Rattle.std.specs.Option.{option_cmp}
 use Rattle.std.specs.Ordering.{nat_cmp, ordering_then, is_lt}
@@ -8,7 +8,7 @@ use Rattle.std.specs.declared.cmp.Ordering.{Ordering}
 use Rattle.canvas_doc.specs.declared.records.Parent.{Parent}
 use Rattle.canvas_doc.specs.declared.records.Record.{Record}
 use Rattle.canvas_doc.specs.Children.{is_child}
-use Rattle.canvas_doc.specs.Contents.{Contents, IsWellFormed}
+use Rattle.canvas_doc.specs.Contents.{Contents, IsWellFormed, record_of}
 use Rattle.canvas_doc.specs.Listed.{holder_of}
 
 -- the page before all shapes, and these by their ids
@@ -38,6 +38,15 @@ pub record IsInPlaceOrderBut (position : ℕ) (order : List ℕ) (rs : List Reco
   pub complete : length order + 1 ≡ length rs
   pub other : (k : ℕ) → k < length order → slice_index order k ≢ position
   pub each : (k : ℕ) → k < length order → IsNextInOrder order rs k
+
+-- each of these records is the one of its id in the whole list
+abbrev pub ArePartOf : List Record → List Record → Type 0
+ArePartOf rs left = All (λ r. record_of r.id rs ≡ Some r) left
+
+-- where a record of the list has a position among those left, the same record stands there
+pub record AreSameAt (positions : List (Option ℕ)) (rs left : List Record) : Type 0 where
+  pub there : (k p : ℕ) → slice_index_or positions k None ≡ Some p → p < length left
+  pub same : (k p : ℕ) → slice_index_or positions k None ≡ Some p → slice_get left p ≡ slice_get rs k
 
 -- a well-formed document, and the order of its records
 pub record IsKeptInOrder (d : Contents) (order : List ℕ) : Type 0 where

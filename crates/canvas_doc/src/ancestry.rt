@@ -10,21 +10,21 @@ ghost use Rattle.canvas_doc.specs.Decision.{has_shape, has_parent, can_have_chil
 
 use crate::lookup::{find, position_of};
 use crate::records::{Parent, Record};
-use crate::shared::SharedRecord;
+use crate::rows::Records;
 use canvas_shape::Kind;
 use std::alloc::{AllocError, Global};
 
 /// How many steps up lead from a parent to the page at most.
 pub(crate) const STEPS: u32 = 31;
 
-pub(crate) fn has_shape(records: &[SharedRecord], id: u32) -> bool
+pub(crate) fn has_shape(records: &Records, id: u32) -> bool
     requires { AreRising records.now }
     ensures { result ≡ has_shape records.now id }
 {
     find(records, id).is_some()
 }
 
-pub(crate) fn has_parent(records: &[SharedRecord], parent: Parent) -> bool
+pub(crate) fn has_parent(records: &Records, parent: Parent) -> bool
     requires { AreRising records.now }
     ensures { result ≡ has_parent records.now parent }
 {
@@ -55,7 +55,7 @@ fn holds_container(shape: Option<&Record>) -> bool
     }
 }
 
-pub(crate) fn can_have_children(records: &[SharedRecord], parent: Parent) -> bool
+pub(crate) fn can_have_children(records: &Records, parent: Parent) -> bool
     requires { AreRising records.now }
     ensures { result ≡ can_have_children records.now parent }
 {
@@ -67,7 +67,7 @@ pub(crate) fn can_have_children(records: &[SharedRecord], parent: Parent) -> boo
 
 // Whether a parent is the shape or lies below it.
 #[tactic(auto, using(crate::proofs::Paths::below_rules))]
-pub(crate) fn is_below(records: &[SharedRecord], steps: u32, id: u32, parent: Parent) -> bool
+pub(crate) fn is_below(records: &Records, steps: u32, id: u32, parent: Parent) -> bool
     requires { AreRising records.now }
     ensures { result ≡ is_below steps id records.now parent }
 {
@@ -93,7 +93,7 @@ pub(crate) fn is_below(records: &[SharedRecord], steps: u32, id: u32, parent: Pa
 
 // Whether following parents reaches the page.
 #[tactic(auto, using(crate::proofs::Paths::reach_rules))]
-pub(crate) fn reaches_page(records: &[SharedRecord], steps: u32, parent: Parent) -> bool
+pub(crate) fn reaches_page(records: &Records, steps: u32, parent: Parent) -> bool
     requires { AreRising records.now }
     ensures { result ≡ reaches_page steps records.now parent }
 {
@@ -130,13 +130,7 @@ fn parent_after(shape: &Record, id: u32, under: Parent) -> Parent
 
 // Whether following parents reaches the page once a shape hangs under another parent.
 #[tactic(auto, using(crate::proofs::Paths::reach_rules))]
-fn reaches_page_after(
-    records: &[SharedRecord],
-    steps: u32,
-    id: u32,
-    under: Parent,
-    parent: Parent,
-) -> bool
+fn reaches_page_after(records: &Records, steps: u32, id: u32, under: Parent, parent: Parent) -> bool
     requires { AreRising records.now }
     ensures { result ≡ reaches_page steps (put_under id under records.now) parent }
 {
@@ -162,11 +156,12 @@ fn reaches_page_after(
 }
 
 // Whether some record lies too deep once a shape hangs under another parent.
-pub(crate) fn lies_too_deep(records: &[SharedRecord], id: u32, under: Parent) -> bool
+pub(crate) fn lies_too_deep(records: &Records, id: u32, under: Parent) -> bool
     requires { AreRising records.now }
     ensures { result ≡ lies_too_deep records.now id under }
 {
-    for shape in records {
+    for at in 0..records.len() {
+        let shape = records.at(at);
         let parent = parent_after(shape, id, under);
         let reaches = reaches_page_after(records, STEPS, id, under, parent);
         if !reaches {
@@ -178,7 +173,7 @@ pub(crate) fn lies_too_deep(records: &[SharedRecord], id: u32, under: Parent) ->
 
 // How many shapes lie on the path from a parent to the page.
 #[tactic(auto, using(crate::proofs::Paths::depth_rules))]
-fn depth_of(records: &[SharedRecord], steps: u32, parent: Parent) -> u32
+fn depth_of(records: &Records, steps: u32, parent: Parent) -> u32
     requires { AreRising records.now }
     ensures value { result ≡ depth_of steps records.now parent }
     ensures small { result ≤ steps }
@@ -207,7 +202,7 @@ fn one_more(levels: u32) -> u32
 
 // How many shapes lie on the path from a parent up to a shape, both counted.
 #[tactic(auto, using(crate::proofs::Paths::level_rules))]
-fn levels_to(records: &[SharedRecord], steps: u32, id: u32, parent: Parent) -> u32
+fn levels_to(records: &Records, steps: u32, id: u32, parent: Parent) -> u32
     requires rising { AreRising records.now }
     requires steps { steps ≤ 32 }
     ensures value { result ≡ levels_to steps id records.now parent }
@@ -233,7 +228,7 @@ fn levels_to(records: &[SharedRecord], steps: u32, id: u32, parent: Parent) -> u
     }
 }
 
-fn levels_of(records: &[SharedRecord], id: u32, shape: &Record) -> u32
+fn levels_of(records: &Records, id: u32, shape: &Record) -> u32
     requires { AreRising records.now }
     ensures value { result ≡ levels_of id records.now shape.now }
     ensures small { result ≤ 32 }
@@ -246,7 +241,7 @@ fn levels_of(records: &[SharedRecord], id: u32, shape: &Record) -> u32
 }
 
 // Whether the depth of a parent and the height of a subtree are together above 32.
-pub(crate) fn is_above_32(alloc: Global, records: &[SharedRecord], id: u32, parent: Parent) -> bool
+pub(crate) fn is_above_32(alloc: Global, records: &Records, id: u32, parent: Parent) -> bool
     requires rising { AreRising records.now }
     requires grounded { All (λ r. reaches_page 31 records.now r.place.parent ≡ true) records.now }
     ensures { result ≡ is_above_32 records.now id parent }
@@ -256,7 +251,7 @@ pub(crate) fn is_above_32(alloc: Global, records: &[SharedRecord], id: u32, pare
 
 // The height of a subtree, each record looked at once; where there is no memory for marks, by
 // walking up from each record.
-fn height_of(alloc: Global, records: &[SharedRecord], id: u32) -> u32
+fn height_of(alloc: Global, records: &Records, id: u32) -> u32
     requires rising { AreRising records.now }
     requires grounded { All (λ r. reaches_page 31 records.now r.place.parent ≡ true) records.now }
     ensures value { result ≡ height_of id records.now }
@@ -268,11 +263,7 @@ fn height_of(alloc: Global, records: &[SharedRecord], id: u32) -> u32
     }
 }
 
-pub(crate) fn no_marks(
-    alloc: Global,
-    records: &[SharedRecord],
-    id: u32,
-) -> Result<Vec<u8>, AllocError>
+pub(crate) fn no_marks(alloc: Global, records: &Records, id: u32) -> Result<Vec<u8>, AllocError>
     ensures { IfOk result (λ marks. AreMarks id records.now marks.items) }
 {
     let marks = zeros(alloc, records.len())?;
@@ -285,19 +276,19 @@ fn zeros(alloc: Global, count: usize) -> Result<Vec<u8>, AllocError>
     vec![in alloc; 0u8; count]
 }
 
-fn walked_height(records: &[SharedRecord], id: u32) -> u32
+fn walked_height(records: &Records, id: u32) -> u32
     requires { AreRising records.now }
     ensures value { result ≡ height_of id records.now }
     ensures small { result ≤ 32 }
 {
     let mut height: u32 = 0;
-    for shape in records {
-        height = height.max(levels_of(records, id, shape));
+    for at in 0..records.len() {
+        height = height.max(levels_of(records, id, records.at(at)));
     }
     height
 }
 
-fn marked_height(records: &[SharedRecord], marks: &mut [u8], id: u32) -> u32
+fn marked_height(records: &Records, marks: &mut [u8], id: u32) -> u32
     requires rising { AreRising records.now }
     requires grounded { All (λ r. reaches_page 31 records.now r.place.parent ≡ true) records.now }
     requires marks { AreMarks id records.now marks.old }
@@ -314,13 +305,7 @@ fn marked_height(records: &[SharedRecord], marks: &mut [u8], id: u32) -> u32
 // How many levels a record lies below a shape, the shape itself at 1, or 0 where it lies elsewhere;
 // found once and marked for the records below it.
 #[cycle(levels)]
-pub(crate) fn level_at(
-    records: &[SharedRecord],
-    marks: &mut [u8],
-    steps: u32,
-    id: u32,
-    at: usize,
-) -> u8
+pub(crate) fn level_at(records: &Records, marks: &mut [u8], steps: u32, id: u32, at: usize) -> u8
     requires rising { AreRising records.now }
     requires marks { AreMarks id records.now marks.old }
     requires at { at < length records.now }
@@ -334,19 +319,13 @@ pub(crate) fn level_at(
     if mark > 0 {
         return mark - 1;
     }
-    let level = level_above(records, marks, steps, id, &records[at]);
+    let level = level_above(records, marks, steps, id, records.at(at));
     marks[at] = level + 1;
     level
 }
 
 #[cycle(levels)]
-fn level_above(
-    records: &[SharedRecord],
-    marks: &mut [u8],
-    steps: u32,
-    id: u32,
-    shape: &Record,
-) -> u8
+fn level_above(records: &Records, marks: &mut [u8], steps: u32, id: u32, shape: &Record) -> u8
     requires rising { AreRising records.now }
     requires marks { AreMarks id records.now marks.old }
     requires steps { steps ≤ 31 }

@@ -10,7 +10,7 @@ ghost use Rattle.canvas_doc.specs.Tree.{IsInLimits, HavePlaces};
 use crate::Document;
 use crate::place_order::children_range;
 use crate::records::{Parent, Record};
-use crate::shared::SharedRecord;
+use crate::rows::Records;
 use canvas_plane::Pose;
 use canvas_shape::{Colour, Kind};
 use std::ops::Range;
@@ -26,7 +26,7 @@ impl Document {
 }
 
 // The colour of a pixel among records.
-fn colour_among(records: &[SharedRecord], order: &[u32], at: Pixel) -> Colour
+fn colour_among(records: &Records, order: &[u32], at: Pixel) -> Colour
     requires order { IsInPlaceOrder order.now records.now }
     requires places { HavePlaces records.now }
     requires limits { All IsInLimits records.now }
@@ -58,7 +58,7 @@ struct Pixel {
 // the foremost child that has one. A child behind one that has answered is never asked.
 #[cycle(walk)]
 fn answer_among(
-    records: &[SharedRecord],
+    records: &Records,
     order: &[u32],
     levels: u32,
     parent: Parent,
@@ -77,7 +77,7 @@ fn answer_among(
     }
     let Range { start, end } = children_range(records, order, parent);
     for slot in (start..end).rev() {
-        let shape: &Record = &records[order[slot] as usize];
+        let shape = records.at(order[slot] as usize);
         let answer = answer_of(records, order, levels - 1, shape, out, at);
         if answer.is_some() {
             return answer;
@@ -89,7 +89,7 @@ fn answer_among(
 // What a shape answers with all below it.
 #[cycle(walk)]
 fn answer_of(
-    records: &[SharedRecord],
+    records: &Records,
     order: &[u32],
     levels: u32,
     shape: &Record,

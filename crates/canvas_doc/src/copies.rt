@@ -3,7 +3,7 @@
 ghost use Rattle.std.specs.Prelude.{◌≡◌, IfOk, map};
 ghost use Rattle.canvas_doc.specs.Contents.{AreRising, IsWellFormed};
 
-use crate::shared::SharedRecord;
+use crate::rows::Records;
 use crate::{Document, Record};
 use std::alloc::{AllocError, Global};
 
@@ -21,36 +21,20 @@ impl Document {
     pub fn try_clone(&self, alloc: Global) -> Result<Document, AllocError>
         ensures { IfOk result (λ clone. clone ≡ self.now) }
     {
-        let records = copies_of(alloc, &self.records)?;
         Ok(Document {
-            records,
+            records: self.records.try_clone(alloc)?,
             order: self.order.clone()?,
             next: self.next,
         })
     }
 }
 
-fn in_order<'a>(alloc: Global, records: &'a [SharedRecord]) -> Result<Vec<&'a Record>, AllocError>
+fn in_order<'a>(alloc: Global, records: &'a Records) -> Result<Vec<&'a Record>, AllocError>
     ensures { IfOk result (λ all. map (λ shape. shape.now) all.items ≡ records.now) }
 {
     let mut all = Vec::with_capacity(alloc, records.len())?;
-    for shape in records {
-        let shape: &'a Record = shape;
-        all.push(shape)?;
+    for at in 0..records.len() {
+        all.push(records.at(at))?;
     }
     Ok(all)
-}
-
-// The same records for another document.
-pub(crate) fn copies_of(
-    alloc: Global,
-    records: &[SharedRecord],
-) -> Result<Vec<SharedRecord>, AllocError>
-    ensures { IfOk result (λ copies. copies.items ≡ records.now) }
-{
-    let mut copies = Vec::with_capacity(alloc, records.len())?;
-    for shape in records {
-        copies.push(shape.share()?)?;
-    }
-    Ok(copies)
 }

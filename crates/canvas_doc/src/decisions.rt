@@ -17,7 +17,7 @@ use crate::edits::{Change, Edit, Spot};
 use crate::lookup::find;
 use crate::records::{Parent, Place, Record};
 use crate::refusals::Refusal;
-use crate::shared::SharedRecord;
+use crate::rows::Records;
 use crate::spots::index_at;
 use canvas_key::Key;
 use canvas_plane::Pose;
@@ -39,12 +39,7 @@ impl Document {
 }
 
 // The change, or the refusal.
-fn decision(
-    alloc: Global,
-    records: &[SharedRecord],
-    next: u32,
-    edit: &Edit,
-) -> Result<Change, Refusal>
+fn decision(alloc: Global, records: &Records, next: u32, edit: &Edit) -> Result<Change, Refusal>
     requires rising { AreRising records.now }
     requires grounded { All (λ r. reaches_page 31 records.now r.place.parent ≡ true) records.now }
     ensures value { IsAnswer result (decision_of edit.now (record { records = records.now; next = next })) }
@@ -82,7 +77,7 @@ fn decision(
 
 // The index of a new shape, or why it is refused.
 fn create_index(
-    records: &[SharedRecord],
+    records: &Records,
     next: u32,
     kind: &Kind,
     pose: &Pose,
@@ -123,7 +118,7 @@ fn create_index(
 // Another place, or why it is refused.
 fn decide_move(
     alloc: Global,
-    records: &[SharedRecord],
+    records: &Records,
     id: u32,
     parent: Parent,
     spot: &Spot,
@@ -143,7 +138,7 @@ fn decide_move(
 // The index of a moved shape, or why the move is refused.
 fn move_index(
     alloc: Global,
-    records: &[SharedRecord],
+    records: &Records,
     id: u32,
     parent: Parent,
     spot: &Spot,
@@ -172,7 +167,7 @@ fn move_index(
 }
 
 // Another pose, or why it is refused.
-fn decide_pose(records: &[SharedRecord], id: u32, pose: Pose) -> Result<Change, Refusal>
+fn decide_pose(records: &Records, id: u32, pose: Pose) -> Result<Change, Refusal>
     requires { AreRising records.now }
     ensures value { result ≡ pose_decision id pose records.now }
     ensures key { IfOk result HasKey }
@@ -187,12 +182,7 @@ fn decide_pose(records: &[SharedRecord], id: u32, pose: Pose) -> Result<Change, 
 }
 
 // Another kind, or why it is refused.
-fn decide_reshape(
-    alloc: Global,
-    records: &[SharedRecord],
-    id: u32,
-    kind: &Kind,
-) -> Result<Change, Refusal>
+fn decide_reshape(alloc: Global, records: &Records, id: u32, kind: &Kind) -> Result<Change, Refusal>
     requires { AreRising records.now }
     ensures value { IsAnswer result (reshape_decision id kind.now records.now) }
     ensures exact { takes_memory kind.now ≡ false → result ≡ reshape_decision id kind.now records.now }
@@ -206,7 +196,7 @@ fn decide_reshape(
 }
 
 // Whether a shape may have another kind, or why it may not.
-fn judge_reshape(records: &[SharedRecord], id: u32, kind: &Kind) -> Result<(), Refusal>
+fn judge_reshape(records: &Records, id: u32, kind: &Kind) -> Result<(), Refusal>
     requires { AreRising records.now }
     ensures { result ≡ reshape_judgement id kind.now records.now }
 {
@@ -226,7 +216,7 @@ fn judge_reshape(records: &[SharedRecord], id: u32, kind: &Kind) -> Result<(), R
 }
 
 // Hidden or shown, or why it is refused.
-fn decide_show(records: &[SharedRecord], id: u32, hidden: bool) -> Result<Change, Refusal>
+fn decide_show(records: &Records, id: u32, hidden: bool) -> Result<Change, Refusal>
     requires { AreRising records.now }
     ensures value { result ≡ show_decision id hidden records.now }
     ensures key { IfOk result HasKey }
@@ -238,7 +228,7 @@ fn decide_show(records: &[SharedRecord], id: u32, hidden: bool) -> Result<Change
 }
 
 // Without a shape, or why it is refused.
-fn decide_delete(records: &[SharedRecord], id: u32) -> Result<Change, Refusal>
+fn decide_delete(records: &Records, id: u32) -> Result<Change, Refusal>
     requires { AreRising records.now }
     ensures value { result ≡ delete_decision id records.now }
     ensures key { IfOk result HasKey }
@@ -250,7 +240,7 @@ fn decide_delete(records: &[SharedRecord], id: u32) -> Result<Change, Refusal>
 }
 
 // New indexes for children, or why they are refused.
-fn decide_respace(records: &[SharedRecord], parent: Parent) -> Result<Change, Refusal>
+fn decide_respace(records: &Records, parent: Parent) -> Result<Change, Refusal>
     requires { AreRising records.now }
     ensures value { result ≡ respace_decision parent records.now }
     ensures key { IfOk result HasKey }

@@ -11,13 +11,12 @@ ghost use Rattle.canvas_key.specs.Rank.{fresh_key};
 
 use crate::Document;
 use crate::ancestry::{STEPS, level_at, no_marks};
-use crate::copies::copies_of;
 use crate::edits::Change;
+use crate::gathering::{Gathering, ROW};
 use crate::lookup::position_of;
 use crate::place_order::{children_range, order_after_deletion, put_by_place, take_by_place};
 use crate::records::{Parent, Place, Record};
-use crate::shared::SharedRecord;
-use canvas_key::fresh;
+use crate::rows::Records;
 use canvas_plane::Pose;
 use canvas_shape::Kind;
 use std::alloc::{AllocError, Global};
@@ -56,7 +55,11 @@ impl Document {
                 let records = without(alloc, &self.records, *id)?;
                 let order = order_after_deletion(alloc, &self.order, &self.records, &records)?;
                 let next = self.next;
-                Document::with_candidate(alloc, records, next, order)
+                Ok(Document {
+                    records,
+                    order,
+                    next,
+                })
             }
             Change::Respace { parent } => self.with_new_indexes(alloc, *parent),
             Change::Move { .. } => self.with_one_changed(alloc, change),
@@ -71,8 +74,7 @@ impl Document {
         requires { IsWellFormed (record { records = self.now.records ++ shape ∷ []; next = self.now.next + 1 }) }
         ensures { IfOk result (λ after. after ≡ record { records = self.now.records ++ shape ∷ []; next = self.now.next + 1 }) }
     {
-        let shape = SharedRecord::new(alloc, shape)?;
-        let records = with_one_more(alloc, &self.records, shape)?;
+        let records = self.records.with_one_more(alloc, shape)?;
         let mut order = Vec::with_capacity(alloc, self.order.len() + 1)?;
         order.extend_from_slice(&self.order)?;
         put_by_place(&mut order, &records, self.records.len())?;
@@ -111,7 +113,7 @@ impl Document {
     }
 
     // The order after a change of one shape: only a move changes it.
-    fn order_after(&self, records: &[SharedRecord], change: &Change) -> Result<Vec<u32>, AllocError>
+    fn order_after(&self, records: &Records, change: &Change) -> Result<Vec<u32>, AllocError>
         requires changed { records.now ≡ map (changed_by change.now) self.now.records }
         requires places { HavePlaces records.now }
         ensures { IfOk result (λ order. IsInPlaceOrder order.items records.now) }
@@ -215,24 +217,22 @@ fn shown(alloc: Global, shape: &Record, hidden: bool) -> Result<Record, AllocErr
 }
 
 // The records after a change of one shape's place, pose, kind or mark.
-fn changed(
-    alloc: Global,
-    records: &[SharedRecord],
-    change: &Change,
-) -> Result<Vec<SharedRecord>, AllocError>
-    requires { AreRising records.now }
-    ensures { IfOk result (λ all. all.items ≡ map (changed_by change.now) records.now) }
+fn changed(alloc: Global, records: &Records, change: &Change) -> Result<Records, AllocError>
+    requires rising { AreRising records.now }
+    requires few { length records.now ≤ 4096 }
+    ensures { IfOk result (λ all. all ≡ map (changed_by change.now) records.now) }
 {
-    let mut all = copies_of(alloc, records)?;
-    if let Some(at) = changed_position(records, change) {
-        let after = changed_by(alloc, &records[at], change)?;
-        all[at] = SharedRecord::new(alloc, after)?;
+    match changed_position(records, change) {
+        Some(at) => {
+            let after = changed_by(alloc, records.at(at), change)?;
+            records.with_replaced(alloc, at, after)
+        }
+        None => records.try_clone(alloc),
     }
-    Ok(all)
 }
 
 // The position of the only record that a change replaces, if there is one.
-fn changed_position(records: &[SharedRecord], change: &Change) -> Option<usize>
+fn changed_position(records: &Records, change: &Change) -> Option<usize>
     requires { AreRising records.now }
     ensures { MatchOption result (map (changed_by change.now) records.now ≡ records.now) (λ at. ReplacesAt change.now records.now at) }
 {
@@ -257,31 +257,12 @@ fn changed_id(change: &Change) -> Option<u32>
     }
 }
 
-// The records with one more at the end.
-fn with_one_more(
-    alloc: Global,
-    records: &[SharedRecord],
-    shape: SharedRecord,
-) -> Result<Vec<SharedRecord>, AllocError>
-    ensures { IfOk result (λ all. all.items ≡ records.now ++ shape ∷ []) }
-{
-    let mut all = Vec::with_capacity(alloc, records.len() + 1)?;
-    for other in records {
-        all.push(other.share()?)?;
-    }
-    all.push(shape)?;
-    Ok(all)
-}
-
 // The records without a shape and all below it.
-fn without(
-    alloc: Global,
-    records: &[SharedRecord],
-    id: u32,
-) -> Result<Vec<SharedRecord>, AllocError>
+fn without(alloc: Global, records: &Records, id: u32) -> Result<Records, AllocError>
     requires rising { AreRising records.now }
     requires grounded { All (λ r. reaches_page 31 records.now r.place.parent ≡ true) records.now }
-    ensures { IfOk result (λ all. all.items ≡ filter (λ r. not (is_in_subtree id records.now r)) records.now) }
+    requires few { length records.now ≤ 4096 }
+    ensures { IfOk result (λ all. all ≡ filter (λ r. not (is_in_subtree id records.now r)) records.now) }
 {
     let mut marks = no_marks(alloc, records, id)?;
     without_marked(alloc, records, &mut marks, id)
@@ -289,54 +270,62 @@ fn without(
 
 fn without_marked(
     alloc: Global,
-    records: &[SharedRecord],
+    records: &Records,
     marks: &mut [u8],
     id: u32,
-) -> Result<Vec<SharedRecord>, AllocError>
+) -> Result<Records, AllocError>
     requires rising { AreRising records.now }
     requires grounded { All (λ r. reaches_page 31 records.now r.place.parent ≡ true) records.now }
+    requires few { length records.now ≤ 4096 }
     requires marks { AreMarks id records.now marks.old }
-    ensures { IfOk result (λ all. all.items ≡ filter (λ r. not (is_in_subtree id records.now r)) records.now) }
+    ensures { IfOk result (λ all. all ≡ filter (λ r. not (is_in_subtree id records.now r)) records.now) }
 {
-    let mut all = Vec::with_capacity(alloc, records.len())?;
+    let mut all = Gathering::new(alloc, records.len(), 0)?;
+    // The first record that is left and not yet put there.
+    let mut from: usize = 0;
     for at in 0..records.len() {
-        let level = level_at(records, marks, STEPS, id, at);
-        if level == 0 {
-            let same = records[at].share()?;
-            all.push(same)?;
+        if level_at(records, marks, STEPS, id, at) > 0 {
+            if from < at {
+                all = all.keep(records, from, at)?;
+            }
+            from = at + 1;
         }
     }
-    Ok(all)
+    all.keep(records, from, records.len())?.finish()
 }
 
 // The records, with new indexes for the children of a parent.
 fn all_respaced(
     alloc: Global,
-    records: &[SharedRecord],
+    records: &Records,
     order: &[u32],
     parent: Parent,
-) -> Result<Vec<SharedRecord>, AllocError>
+) -> Result<Records, AllocError>
     requires few { length records.now ≤ 4096 }
     requires places { HavePlaces records.now }
     requires order { IsInPlaceOrder order.now records.now }
-    ensures { IfOk result (λ all. all.items ≡ map (respaced parent records.now) records.now) }
+    ensures { IfOk result (λ all. all ≡ map (respaced parent records.now) records.now) }
 {
     let ranks = child_ranks(alloc, records, order, parent)?;
-    let mut all = Vec::with_capacity(alloc, records.len())?;
+    let mut all = Gathering::new(alloc, records.len(), ROW)?;
+    // The first record that keeps its index and is not yet put there.
+    let mut from: usize = 0;
     for at in 0..records.len() {
-        let spaced = match ranks[at] {
-            Some(rank) => respaced(alloc, &records[at], rank)?,
-            None => records[at].share()?,
-        };
-        all.push(spaced)?;
+        if let Some(rank) = ranks[at] {
+            if from < at {
+                all = all.keep(records, from, at)?;
+            }
+            all = all.add_respaced(records.at(at), rank)?;
+            from = at + 1;
+        }
     }
-    Ok(all)
+    all.keep(records, from, records.len())?.finish()
 }
 
 // The rank of each child of a parent by position, from back to front, and none of other records.
 fn child_ranks(
     alloc: Global,
-    records: &[SharedRecord],
+    records: &Records,
     order: &[u32],
     parent: Parent,
 ) -> Result<Vec<Option<u32>>, AllocError>
@@ -357,24 +346,4 @@ fn no_ranks(alloc: Global, count: usize) -> Result<Vec<Option<u32>>, AllocError>
     ensures { IfOk result (λ all. all.items ≡ replicate count None) }
 {
     vec![in alloc; None; count]
-}
-
-// A record with the index that stands for a rank, written at once where it shall lie.
-#[inline(always)]
-fn respaced(alloc: Global, shape: &Record, rank: u32) -> Result<SharedRecord, AllocError>
-    ensures { IfOk result (λ after. after ≡ record shape.now { place = record shape.now.place { index = fresh_key rank } }) }
-{
-    SharedRecord::new(
-        alloc,
-        Record {
-            id: shape.id,
-            kind: shape.kind.try_clone(alloc)?,
-            pose: shape.pose,
-            hidden: shape.hidden,
-            place: Place {
-                parent: shape.place.parent,
-                index: fresh(rank),
-            },
-        },
-    )
 }

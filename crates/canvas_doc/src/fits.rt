@@ -11,7 +11,7 @@ use crate::ancestry::{has_parent, has_shape, is_container, lies_too_deep, reache
 use crate::decisions::is_pose;
 use crate::edits::Change;
 use crate::records::{Parent, Place, Record};
-use crate::shared::SharedRecord;
+use crate::rows::Records;
 use crate::spots::is_taken;
 use canvas_plane::Pose;
 use canvas_shape::Kind;
@@ -25,18 +25,18 @@ impl Document {
     }
 }
 
-fn has_no_child(records: &[SharedRecord], id: u32) -> bool
+fn has_no_child(records: &Records, id: u32) -> bool
     ensures { result ≡ has_no_child id records.now }
 {
-    for shape in records {
-        if shape.place.parent == Parent::Shape(id) {
+    for at in 0..records.len() {
+        if records.at(at).place.parent == Parent::Shape(id) {
             return false;
         }
     }
     true
 }
 
-fn fits_test(records: &[SharedRecord], next: u32, change: &Change) -> bool
+fn fits_test(records: &Records, next: u32, change: &Change) -> bool
     requires { AreRising records.now }
     ensures value { result ≡ fits_test change.now (record { records = records.now; next = next }) }
     ensures key { IsTrue result → HasKey change.now }
@@ -59,13 +59,7 @@ fn fits_test(records: &[SharedRecord], next: u32, change: &Change) -> bool
 }
 
 // Whether a new shape may be put here.
-fn can_be_created(
-    records: &[SharedRecord],
-    next: u32,
-    kind: &Kind,
-    pose: &Pose,
-    place: &Place,
-) -> bool
+fn can_be_created(records: &Records, next: u32, kind: &Kind, pose: &Pose, place: &Place) -> bool
     requires { AreRising records.now }
     ensures value { result ≡ creation_test kind.now pose.now place.now (record { records = records.now; next = next }) }
     ensures key { IsTrue result → IsKey place.now.index }
@@ -92,7 +86,7 @@ fn can_be_created(
 }
 
 // Whether a shape may be moved here.
-fn can_be_moved(records: &[SharedRecord], id: u32, place: &Place) -> bool
+fn can_be_moved(records: &Records, id: u32, place: &Place) -> bool
     requires { AreRising records.now }
     ensures value { result ≡ move_test id place.now records.now }
     ensures key { IsTrue result → IsKey place.now.index }
@@ -107,7 +101,7 @@ fn can_be_moved(records: &[SharedRecord], id: u32, place: &Place) -> bool
 }
 
 // Whether a shape may have this kind.
-fn can_be_reshaped(records: &[SharedRecord], id: u32, kind: &Kind) -> bool
+fn can_be_reshaped(records: &Records, id: u32, kind: &Kind) -> bool
     requires { AreRising records.now }
     ensures { result ≡ kind_test id kind.now records.now }
 {

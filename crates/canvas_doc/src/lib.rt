@@ -12,13 +12,14 @@ mod decisions;
 mod edits;
 mod effects;
 mod fits;
+mod gathering;
 mod lookup;
 mod order;
 mod place_order;
 mod records;
 mod refusals;
 mod restored;
-mod shared;
+mod rows;
 mod spots;
 
 pub use edits::{Change, Edit, Spot};
@@ -26,15 +27,15 @@ use lookup::find;
 pub use records::{Parent, Place, Record};
 pub use refusals::Refusal;
 pub use restored::TreeFault;
-use shared::SharedRecord;
+use rows::Records;
 use std::alloc::Global;
 use std::marker::Model;
 
 /// A design document: records in a page tree, and the next id. It is always well formed.
 #[derive(Drop)]
 pub struct Document {
-    // In rising id, each shared with the documents before and after a change that left it as it was.
-    records: Vec<SharedRecord>,
+    // In rising id, in rows that are shared with the documents before and after a change that left them as they were.
+    records: Records,
     // The positions of the records by place: by the parent, then by the index.
     order: Vec<u32>,
     next: u32,
@@ -46,9 +47,9 @@ impl Model for Document {
 
     ghost Value = { Contents };
 
-    ghost view = { λ d. record { records = d.records.items; next = d.next } };
+    ghost view = { λ d. record { records = d.records; next = d.next } };
 
-    ghost invariant = { λ d. IsKeptInOrder (record { records = d.records.items; next = d.next }) d.order.items };
+    ghost invariant = { λ d. IsKeptInOrder (record { records = d.records; next = d.next }) d.order.items };
 }
 
 impl Document {
@@ -59,7 +60,7 @@ impl Document {
         ensures { result ≡ record { records = []; next = 1 } }
     {
         Document {
-            records: Vec::new(alloc),
+            records: Records::none(alloc),
             order: Vec::new(alloc),
             next: 1,
         }

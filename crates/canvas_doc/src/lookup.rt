@@ -6,55 +6,73 @@ ghost use Rattle.canvas_doc.specs.declared.records.Record.{Record};
 ghost use Rattle.canvas_doc.specs.Contents.{record_of, AreRising, StandsAt};
 
 use crate::records::Record;
-use crate::shared::SharedRecord;
+use crate::rows::Records;
+use std::cmp::Ordering;
 
 // The record of an id.
-pub(crate) fn find(records: &[SharedRecord], id: u32) -> Option<&Record>
+pub(crate) fn find(records: &Records, id: u32) -> Option<&Record>
     requires { AreRising records.now }
     ensures { option_copied result ≡ record_of id records.now }
 {
     match position_of(records, id) {
-        Some(at) => Some(&records[at]),
+        Some(at) => Some(records.at(at)),
         None => None,
     }
 }
 
 // The position of an id, by binary search among those where it can stand: one alone, while no shape
 // between the first and the last was deleted.
-pub(crate) fn position_of(records: &[SharedRecord], id: u32) -> Option<usize>
+pub(crate) fn position_of(records: &Records, id: u32) -> Option<usize>
     requires { AreRising records.now }
     ensures { MatchOption result (record_of id records.now ≡ None) (λ at. StandsAt records.now id at) }
 {
     let low = least_position(records, id);
     let end = end_of_positions(records, id);
-    match records[low..end].binary_search_by_key(&id, |shape| shape.id) {
-        Ok(at) => Some(low + at),
-        Err(_) => None,
+    position_within(records, id, low, end)
+}
+
+// The position of an id, by halves, from `low` up to `end`.
+fn position_within(records: &Records, id: u32, low: usize, end: usize) -> Option<usize>
+    requires rising { AreRising records.now }
+    requires less { (k : ℕ) (r : Record) → k < low → (slice_index_or records.now k r).id < id }
+    requires greater { (k : ℕ) (r : Record) → end ≤ k → k < length records.now → id < (slice_index_or records.now k r).id }
+    requires end { end ≤ length records.now }
+    ensures { MatchOption result (record_of id records.now ≡ None) (λ at. StandsAt records.now id at) }
+{
+    if low >= end {
+        return None;
+    }
+    let middle = low + (end - low) / 2;
+    match records.at(middle).id.cmp(&id) {
+        Ordering::Less => position_within(records, id, middle + 1, end),
+        Ordering::Equal => Some(middle),
+        Ordering::Greater => position_within(records, id, low, middle),
     }
 }
 
 // A position with lesser ids before it: ids rise by 1 at least up to the last.
-fn least_position(records: &[SharedRecord], id: u32) -> usize
+fn least_position(records: &Records, id: u32) -> usize
     requires { AreRising records.now }
     ensures bound { result ≤ length records.now }
     ensures less { (k : ℕ) (r : Record) → k < result → (slice_index_or records.now k r).id < id }
 {
-    match records.last() {
-        Some(last) => (records.len() - 1).saturating_sub(last.id.saturating_sub(id) as usize),
-        None => 0,
+    if records.len() == 0 {
+        return 0;
     }
+    let last = records.len() - 1;
+    last.saturating_sub(records.at(last).id.saturating_sub(id) as usize)
 }
 
 // A position with greater ids from it on: ids rise by 1 at least from the first.
-fn end_of_positions(records: &[SharedRecord], id: u32) -> usize
+fn end_of_positions(records: &Records, id: u32) -> usize
     requires { AreRising records.now }
     ensures bound { result ≤ length records.now }
     ensures greater { (k : ℕ) (r : Record) → result ≤ k → k < length records.now → id < (slice_index_or records.now k r).id }
 {
-    match records.first() {
-        Some(first) => (id as usize + 1)
-            .saturating_sub(first.id as usize)
-            .min(records.len()),
-        None => 0,
+    if records.len() == 0 {
+        return 0;
     }
+    (id as usize + 1)
+        .saturating_sub(records.at(0).id as usize)
+        .min(records.len())
 }

@@ -8,7 +8,7 @@ ghost use Rattle.canvas_doc.specs.Tree.{HavePlaces, IsInLimits};
 use crate::Document;
 use crate::place_order::children_range;
 use crate::records::{Parent, Record};
-use crate::shared::SharedRecord;
+use crate::rows::Records;
 use std::alloc::{AllocError, Allocator};
 use std::ops::Range;
 
@@ -29,7 +29,7 @@ impl Document {
 // All children of `parent`, from front to back.
 fn children<'a, A: Allocator>(
     alloc: A,
-    records: &'a [SharedRecord],
+    records: &'a Records,
     order: &[u32],
     parent: Parent,
 ) -> Result<Vec<&'a Record, A>, AllocError>
@@ -42,8 +42,7 @@ fn children<'a, A: Allocator>(
     let Range { start, end } = children_range(records, order, parent);
     let mut list = Vec::with_capacity(alloc, end.saturating_sub(start))?;
     for at in (start..end).rev() {
-        let shape: &'a Record = &records[order[at] as usize];
-        list.push(shape)?;
+        list.push(records.at(order[at] as usize))?;
     }
     Ok(list)
 }

@@ -4,85 +4,19 @@
 ghost use Rattle.std.specs.Prelude.{◌≡◌, ◌≤◌, ◌<◌, ℕ, IfOk, IsTrue, OnOk, false, length, slice_index, true};
 ghost use Rattle.std.specs.List.{range_with_len, slice_get};
 ghost use Rattle.std.specs.Ordering.{is_lt, is_le};
-ghost use Rattle.canvas_doc.specs.Contents.{IsWellFormed};
+ghost use Rattle.canvas_doc.specs.Contents.{AreRising};
 ghost use Rattle.canvas_doc.specs.Listed.{holder_of};
-ghost use Rattle.canvas_doc.specs.PlaceOrder.{by_parent, by_place, by_place_at, has_parent_at, IsNextInOrder, IsInPlaceOrder, IsInPlaceOrderBut, AreChildrenWithin};
+ghost use Rattle.canvas_doc.specs.PlaceOrder.{by_parent, by_place, by_place_at, has_parent_at, ArePartOf, AreSameAt, IsNextInOrder, IsInPlaceOrder, IsInPlaceOrderBut, AreChildrenWithin};
 ghost use Rattle.canvas_doc.specs.Tree.{HavePlaces};
 
-use crate::Document;
 use crate::records::{Parent, Record};
-use crate::shared::SharedRecord;
+use crate::rows::Records;
 use std::alloc::{AllocError, Global};
 use std::cmp::Ordering;
 use std::ops::Range;
 
-impl Document {
-    // The document of these records. The order is the candidate, or is made anew where the
-    // candidate is not in order.
-    pub(crate) fn with_candidate(
-        alloc: Global,
-        records: Vec<SharedRecord>,
-        next: u32,
-        candidate: Vec<u32>,
-    ) -> Result<Document, AllocError>
-        requires { IsWellFormed (record { records = records.items; next = next }) }
-        ensures { IfOk result (λ document. document ≡ record { records = records.items; next = next }) }
-    {
-        let order = in_order(alloc, &records, candidate)?;
-        Ok(Document {
-            records,
-            order,
-            next,
-        })
-    }
-}
-
-// The candidate, where it has the positions of all records by place, or these positions sorted.
-fn in_order(
-    alloc: Global,
-    records: &[SharedRecord],
-    candidate: Vec<u32>,
-) -> Result<Vec<u32>, AllocError>
-    requires few { length records.now ≤ 4096 }
-    requires places { HavePlaces records.now }
-    ensures { IfOk result (λ order. IsInPlaceOrder order.items records.now) }
-{
-    if is_in_order(records, &candidate) {
-        Ok(candidate)
-    } else {
-        sorted_positions(alloc, records)
-    }
-}
-
-// Whether these are the positions of all records, each with a place before the next one's.
-fn is_in_order(records: &[SharedRecord], order: &[u32]) -> bool
-    ensures { IsTrue result → IsInPlaceOrder order.now records.now }
-{
-    if order.len() != records.len() {
-        return false;
-    }
-    for at in 0..order.len() {
-        if !is_next(records, order, at) {
-            return false;
-        }
-    }
-    true
-}
-
-// Whether a record's position stands at an index of the order, and its place comes after the
-// place before it.
-fn is_next(records: &[SharedRecord], order: &[u32], at: usize) -> bool
-    requires { at < length order.now }
-    ensures { IsTrue result → IsNextInOrder order.now records.now at }
-{
-    if order[at] as usize >= records.len() {
-        return false;
-    }
-    at == 0 || by_place_at(records, order[at - 1], order[at]).is_lt()
-}
-
 // The positions of all records, sorted by place.
-fn sorted_positions(alloc: Global, records: &[SharedRecord]) -> Result<Vec<u32>, AllocError>
+pub(crate) fn sorted_positions(alloc: Global, records: &Records) -> Result<Vec<u32>, AllocError>
     requires few { length records.now ≤ 4096 }
     requires places { HavePlaces records.now }
     ensures { IfOk result (λ order. IsInPlaceOrder order.items records.now) }
@@ -105,11 +39,7 @@ fn positions(alloc: Global, count: usize) -> Result<Vec<u32>, AllocError>
 }
 
 // Where the children of a parent stand in the order, from back to front.
-pub(crate) fn children_range(
-    records: &[SharedRecord],
-    order: &[u32],
-    parent: Parent,
-) -> Range<usize>
+pub(crate) fn children_range(records: &Records, order: &[u32], parent: Parent) -> Range<usize>
     requires { IsInPlaceOrder order.now records.now }
     ensures { AreChildrenWithin parent records.now order.now result.start result.end }
 {
@@ -119,7 +49,7 @@ pub(crate) fn children_range(
 }
 
 // Whether the parent of the record at a position comes before another.
-fn comes_before(records: &[SharedRecord], at: u32, parent: Parent) -> bool
+fn comes_before(records: &Records, at: u32, parent: Parent) -> bool
     ensures { result ≡ has_parent_at is_lt parent (slice_get records.now at) }
 {
     match records.get(at as usize) {
@@ -129,7 +59,7 @@ fn comes_before(records: &[SharedRecord], at: u32, parent: Parent) -> bool
 }
 
 // Whether the parent of the record at a position comes before another, or is that one.
-fn comes_before_or_hangs(records: &[SharedRecord], at: u32, parent: Parent) -> bool
+fn comes_before_or_hangs(records: &Records, at: u32, parent: Parent) -> bool
     ensures { result ≡ has_parent_at is_le parent (slice_get records.now at) }
 {
     match records.get(at as usize) {
@@ -139,7 +69,7 @@ fn comes_before_or_hangs(records: &[SharedRecord], at: u32, parent: Parent) -> b
 }
 
 // How the places of the records at two positions compare; a position of no record comes first.
-fn by_place_at(records: &[SharedRecord], at: u32, other: u32) -> Ordering
+fn by_place_at(records: &Records, at: u32, other: u32) -> Ordering
     ensures { result ≡ by_place_at records.now at other }
 {
     match (records.get(at as usize), records.get(other as usize)) {
@@ -181,7 +111,7 @@ pub(crate) fn holder_of(parent: Parent) -> Option<u32>
 // Puts the position of a record, the only one that is missing, into the order.
 pub(crate) fn put_by_place(
     order: &mut Vec<u32>,
-    records: &[SharedRecord],
+    records: &Records,
     position: usize,
 ) -> Result<(), AllocError>
     requires few { length records.now ≤ 4096 }
@@ -196,7 +126,7 @@ pub(crate) fn put_by_place(
 }
 
 // Takes the position of a record out of the order.
-pub(crate) fn take_by_place(order: &mut Vec<u32>, records: &[SharedRecord], position: usize)
+pub(crate) fn take_by_place(order: &mut Vec<u32>, records: &Records, position: usize)
     requires few { length records.now ≤ 4096 }
     requires there { position < length records.now }
     requires order { IsInPlaceOrder order.old.items records.now }
@@ -207,7 +137,7 @@ pub(crate) fn take_by_place(order: &mut Vec<u32>, records: &[SharedRecord], posi
 }
 
 // How many positions of the order have places before that of another one.
-fn count_before(order: &[u32], records: &[SharedRecord], position: u32) -> usize
+fn count_before(order: &[u32], records: &Records, position: u32) -> usize
     requires { (k : ℕ) → k < length order.now → IsNextInOrder order.now records.now k }
     ensures bound { result ≤ length order.now }
     ensures before { (k : ℕ) → k < result → is_lt (by_place_at records.now (slice_index order.now k) position) ≡ true }
@@ -216,20 +146,48 @@ fn count_before(order: &[u32], records: &[SharedRecord], position: u32) -> usize
     order.partition_point(|other| by_place_at(records, *other, position).is_lt())
 }
 
-// What the order may be once records were left out.
+// The order once records were left out: the positions of those that are left, as they stood, or sorted
+// where one of them is missing.
 pub(crate) fn order_after_deletion(
     alloc: Global,
     order: &[u32],
-    records: &[SharedRecord],
-    left: &[SharedRecord],
+    records: &Records,
+    left: &Records,
 ) -> Result<Vec<u32>, AllocError>
-    requires { length records.now ≤ 4096 }
+    requires few { length records.now ≤ 4096 }
+    requires few_left { length left.now ≤ 4096 }
+    requires rising { AreRising records.now }
+    requires order { IsInPlaceOrder order.now records.now }
+    requires part { ArePartOf records.now left.now }
+    requires places { HavePlaces left.now }
+    ensures { IfOk result (λ after. IsInPlaceOrder after.items left.now) }
+{
+    let after = positions_kept(alloc, order, records, left)?;
+    if after.len() == left.len() {
+        Ok(after)
+    } else {
+        sorted_positions(alloc, left)
+    }
+}
+
+// The positions of records that are left, each with a place after the one before it.
+fn positions_kept(
+    alloc: Global,
+    order: &[u32],
+    records: &Records,
+    left: &Records,
+) -> Result<Vec<u32>, AllocError>
+    requires few { length records.now ≤ 4096 }
+    requires rising { AreRising records.now }
+    requires order { IsInPlaceOrder order.now records.now }
+    requires part { ArePartOf records.now left.now }
+    ensures { IfOk result (λ after. (k : ℕ) → k < length after.items → IsNextInOrder after.items left.now k) }
 {
     let positions = positions_left(alloc, records, left)?;
     let mut after = Vec::with_capacity(alloc, left.len())?;
-    for at in order {
-        if let Some(Some(position)) = positions.get(*at as usize) {
-            after.push(*position)?;
+    for slot in 0..order.len() {
+        if let Some(position) = positions[order[slot] as usize] {
+            after.push(position)?;
         }
     }
     Ok(after)
@@ -238,15 +196,19 @@ pub(crate) fn order_after_deletion(
 // The position among those left of each record that is left, of which both lists have rising ids.
 fn positions_left(
     alloc: Global,
-    records: &[SharedRecord],
-    left: &[SharedRecord],
+    records: &Records,
+    left: &Records,
 ) -> Result<Vec<Option<u32>>, AllocError>
-    requires { length records.now ≤ 4096 }
+    requires few { length records.now ≤ 4096 }
+    requires rising { AreRising records.now }
+    requires part { ArePartOf records.now left.now }
+    ensures long { IfOk result (λ positions. length positions.items ≡ length records.now) }
+    ensures same { IfOk result (λ positions. AreSameAt positions.items records.now left.now) }
 {
     let mut positions = Vec::with_capacity(alloc, records.len())?;
     let mut next: usize = 0;
-    for shape in records {
-        if next < left.len() && left[next].id == shape.id {
+    for at in 0..records.len() {
+        if next < left.len() && left.at(next).id == records.at(at).id {
             positions.push(Some(next as u32))?;
             next += 1;
         } else {

@@ -13,8 +13,9 @@ ghost use Rattle.canvas_doc.specs.Listed.{GivesFirsts, holder_of, has_place};
 ghost use Rattle.canvas_doc.specs.declared.restored.TreeFault.TheVariants.{OutOfMemory};
 
 use crate::ancestry::{STEPS, is_container};
-use crate::place_order::holder_of;
-use crate::shared::SharedRecord;
+use crate::gathering::{Gathering, ROW};
+use crate::place_order::{holder_of, sorted_positions};
+use crate::rows::Records;
 use crate::{Document, Parent, Record};
 use std::alloc::{AllocError, Global};
 use std::collections::{BTreeMap, BTreeSet};
@@ -89,9 +90,22 @@ impl Document {
         if let Some(position) = tree_fault(alloc, &records)? {
             return Err(TreeFault::BadTree { position });
         }
-        let records = shared(alloc, by_id(records)?)?;
-        let document = Document::with_candidate(alloc, records, next, Vec::new(alloc))?;
+        let records = in_rows(alloc, by_id(records)?)?;
+        let document = Document::of_sorted(alloc, records, next)?;
         Ok(document)
+    }
+
+    // The document of records in rising id.
+    fn of_sorted(alloc: Global, records: Records, next: u32) -> Result<Document, AllocError>
+        requires { IsWellFormed (record { records = records; next = next }) }
+        ensures { IfOk result (λ document. document ≡ record { records = records; next = next }) }
+    {
+        let order = sorted_positions(alloc, &records)?;
+        Ok(Document {
+            records,
+            order,
+            next,
+        })
     }
 }
 
@@ -110,15 +124,16 @@ fn by_id(mut records: Vec<Record>) -> Result<Vec<Record>, AllocError>
     Ok(records)
 }
 
-// The records, ready to be shared.
-fn shared(alloc: Global, records: Vec<Record>) -> Result<Vec<SharedRecord>, AllocError>
-    ensures { IfOk result (λ all. all.items ≡ records.items) }
+// The records, in rows that can be shared.
+fn in_rows(alloc: Global, records: Vec<Record>) -> Result<Records, AllocError>
+    requires { length records.items ≤ 4096 }
+    ensures { IfOk result (λ all. all ≡ records.items) }
 {
-    let mut all = Vec::with_capacity(alloc, records.len())?;
+    let mut all = Gathering::new(alloc, records.len(), ROW)?;
     for shape in records {
-        all.push(SharedRecord::new(alloc, shape)?)?;
+        all = all.add(shape)?;
     }
-    Ok(all)
+    all.finish()
 }
 
 // The least position of a record that does not belong to a page tree.

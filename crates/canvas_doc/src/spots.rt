@@ -13,12 +13,12 @@ use crate::edits::Spot;
 use crate::lookup::find;
 use crate::records::{Parent, Record};
 use crate::refusals::Refusal;
-use crate::shared::SharedRecord;
+use crate::rows::Records;
 use canvas_key::{Key, between};
 
 // The index of a spot among the children of a parent but for one shape.
 pub(crate) fn index_at(
-    records: &[SharedRecord],
+    records: &Records,
     own: u32,
     parent: Parent,
     spot: &Spot,
@@ -42,7 +42,7 @@ pub(crate) fn index_at(
 }
 
 // The index just in front of a sibling.
-fn index_over(records: &[SharedRecord], own: u32, parent: Parent, id: u32) -> Result<Key, Refusal>
+fn index_over(records: &Records, own: u32, parent: Parent, id: u32) -> Result<Key, Refusal>
     requires { AreRising records.now }
     ensures value { result ≡ index_at (Spot.Over id) (siblings own parent records.now) }
     ensures key { IfOk result IsKey }
@@ -80,7 +80,7 @@ fn is_sibling(own: u32, parent: Parent, shape: &Record) -> bool
 
 // The least index among the siblings above a bound.
 fn least_above<'a>(
-    records: &'a [SharedRecord],
+    records: &'a Records,
     own: u32,
     parent: Parent,
     bound: Option<&Key>,
@@ -89,8 +89,8 @@ fn least_above<'a>(
     ensures apart { AreApart (option_copied bound.entry) (option_copied result) }
 {
     let mut least: Option<&'a Key> = None;
-    for shape in records {
-        let shape: &'a Record = shape;
+    for at in 0..records.len() {
+        let shape = records.at(at);
         if is_sibling(own, parent, shape) && is_above(bound, &shape.place.index) {
             least = Some(lesser(least, &shape.place.index));
         }
@@ -117,12 +117,12 @@ fn lesser<'a>(other: Option<&'a Key>, index: &'a Key) -> &'a Key
 }
 
 // The greatest index among the siblings.
-fn greatest_index<'a>(records: &'a [SharedRecord], own: u32, parent: Parent) -> Option<&'a Key>
+fn greatest_index<'a>(records: &'a Records, own: u32, parent: Parent) -> Option<&'a Key>
     ensures { option_copied result ≡ greatest_index (siblings own parent records.now) }
 {
     let mut greatest: Option<&'a Key> = None;
-    for shape in records {
-        let shape: &'a Record = shape;
+    for at in 0..records.len() {
+        let shape = records.at(at);
         if is_sibling(own, parent, shape) {
             greatest = Some(greater(greatest, &shape.place.index));
         }
@@ -140,15 +140,21 @@ fn greater<'a>(other: Option<&'a Key>, index: &'a Key) -> &'a Key
 }
 
 // Whether a sibling has the index.
-pub(crate) fn is_taken(records: &[SharedRecord], own: u32, parent: Parent, key: &Key) -> bool
+pub(crate) fn is_taken(records: &Records, own: u32, parent: Parent, key: &Key) -> bool
     ensures value { result ≡ is_taken key.now (siblings own parent records.now) }
     ensures key { IsKey key.now }
 {
     has_index(records, own, parent, key.bytes())
 }
 
-fn has_index(records: &[SharedRecord], own: u32, parent: Parent, text: &[u8]) -> bool
+fn has_index(records: &Records, own: u32, parent: Parent, text: &[u8]) -> bool
     ensures { result ≡ list_any (λ s. is_sibling own parent s && is_same s.place.index text.now) records.now }
 {
-    records.iter().any(|shape| is_sibling(own, parent, shape) && shape.place.index.bytes() == text)
+    for at in 0..records.len() {
+        let shape = records.at(at);
+        if is_sibling(own, parent, shape) && shape.place.index.bytes() == text {
+            return true;
+        }
+    }
+    false
 }

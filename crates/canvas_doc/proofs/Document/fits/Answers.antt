@@ -6,4 +6,4 @@ use Rattle.canvas_doc.proofs.Document.fits.Goals as goal
 pub returns : goal.returns
 returns c =
     fits-decides _ c.args.self.now c.self.invariant.well_formed c.self.view_is c.args.change.now c.fits_test.result c.fits_test.ensures.key
-    (c.fits_test.ensures.value ∙ ap (λ rs. fits_test c.args.change.now (record { records = rs; next = c.self.inside.next })) c.deref.ensures.value ∙ ap (fits_test c.args.change.now) c.self.view_is)
+    (c.fits_test.ensures.value ∙ ap (fits_test c.args.change.now) c.self.view_is)

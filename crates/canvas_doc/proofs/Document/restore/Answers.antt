@@ -1,14 +1,18 @@
-use Rattle.std.proofs.Common.{rules, All, ◌≡◌, ◌∙◌, ◌<◌, ◌^◌, None, subst, sym, arith}
+use Rattle.std.proofs.Common.{rules, All, ◌≡◌, ◌∙◌, ◌<◌, ◌≤◌, ◌^◌, List, None, length, subst, sym, arith}
 use Rattle.canvas_key.specs.Text.{IsKey}
 use Rattle.canvas_doc.specs.declared.records.Record.{Record}
 use Rattle.canvas_doc.specs.Contents.{IsWellFormed}
 use Rattle.canvas_doc.specs.Restored.{record_fault, tree_fault}
 use Rattle.canvas_doc.proofs.Saved.{restoration_of-same}
-use Rattle.canvas_doc.proofs.RestoredWell.{restores-well}
+use Rattle.canvas_doc.proofs.RestoredWell.{length-by_id, restores-well}
 use Rattle.canvas_doc.proofs.Document.restore.Goals as goal
 
-pub with_candidate-requires : goal.with_candidate-requires
-with_candidate-requires c =
+pub in_rows-requires : goal.in_rows-requires
+in_rows-requires c =
+    subst (λ (rs : List Record). length rs ≤ 4096) (sym c.in_ok-by_id.ensures) (rw length-by_id c.requires.few)
+
+pub of_sorted-requires : goal.of_sorted-requires
+of_sorted-requires c =
     let fits : c.args.next < 2 ^ 32 = omega arith in
     let none : c.in_ok-position.field-0 ≡ None = search rules in
     let keys : All (λ (r : Record). IsKey r.place.index) c.args.records.items = subst (All (λ (r : Record). IsKey r.place.index)) c.deref-2.ensures.value (c.in_ok-position.ensures.keys none) in

@@ -1,9 +1,12 @@
-use Rattle.std.proofs.Common.{◌≡◌, ◌≤◌, ◌∙◌, ℤ, length, sym, ap, subst, filter, not}
+use Rattle.std.proofs.Common.{◌≡◌, ◌≤◌, ◌∙◌, Bool, List, ℤ, length, sym, ap, subst, not}
 use Rattle.std.proofs.lemmas.Result.{IfOk-weaker}
+use Rattle.canvas_doc.specs.declared.records.Record.{Record}
 use Rattle.canvas_doc.specs.Contents.{Contents, IsWellFormed}
 use Rattle.canvas_doc.specs.Effect.{effect_of, is_in_subtree, SpacesOnly}
 use Rattle.canvas_doc.specs.declared.edits.Change.TheVariants.{Delete, Respace}
+use Rattle.canvas_doc.specs.PlaceOrder.{ArePartOf}
 use Rattle.canvas_doc.specs.Picture.{colour}
+use Rattle.canvas_doc.proofs.Deleted.{part-filter}
 use Rattle.canvas_doc.proofs.Respaced.{colour-respaced}
 use Rattle.canvas_doc.proofs.Document.with.Goals as goal
 
@@ -15,14 +18,22 @@ returns-in-Respace-clause-colours c =
     (λ after is _ x y. ap (λ (d : Contents). colour d.records x y) is ∙ colour-respaced p before.records (subst (λ (d : Contents). length d.records ≤ 4096) c.self.view_is c.self.invariant.well_formed.few) x y)
     c.with_new_indexes.ensures
 
-pub with_candidate-requires : goal.with_candidate-requires
-with_candidate-requires c =
+pub order_after_deletion-requires-clause-part : goal.order_after_deletion-requires-clause-part
+order_after_deletion-requires-clause-part c =
+    let rs : List Record = c.self.inside.records in
+    let t : Record → Bool = λ r. not (is_in_subtree c.in-Delete.id rs r) in
+    subst (ArePartOf rs) (sym c.in_ok-records-in-Delete.ensures) (part-filter t rs c.self.invariant.well_formed.rising)
+
+pub invariant_of-result : goal.invariant_of-result
+invariant_of-result c =
     let id = c.in-Delete.id in
     let next = c.self.inside.next in
-    let after : Contents = record { records = c.in_ok-records-in-Delete.records.items; next = next } in
+    let after : Contents = record { records = c.in_ok-records-in-Delete.records; next = next } in
     let e : effect_of c.args.change.now c.args.self.now ≡ after =
     ap (λ ch. effect_of ch c.args.self.now) c.in-Delete.is
     ∙ ap (effect_of (Delete id)) (sym c.self.view_is)
-    ∙ ap (λ rs. record { records = filter (λ r. not (is_in_subtree id rs r)) rs; next = next }) (sym c.deref.ensures.value)
     ∙ ap (λ rs. record { records = rs; next = next }) (sym c.in_ok-records-in-Delete.ensures) in
-    subst IsWellFormed e c.requires.left
+    record {
+      well_formed = subst IsWellFormed e c.requires.left;
+      in_order = c.in_ok-order-in-Delete.ensures;
+    }

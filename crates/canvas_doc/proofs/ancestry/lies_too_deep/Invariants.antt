@@ -4,5 +4,5 @@ use Rattle.canvas_doc.specs.Contents.{reaches_page}
 use Rattle.canvas_doc.specs.Decision.{put_under, parent_after}
 use Rattle.canvas_doc.proofs.ancestry.lies_too_deep.Given as goal
 
-abbrev pub invariant-loop-shape : goal.invariant-loop-shape
-invariant-loop-shape l = list_all (λ r. reaches_page 31 (put_under l.id l.under l.records) (parent_after l.id l.under r)) (take l.shape-index l.records) ≡ true
+abbrev pub invariant-loop-at : goal.invariant-loop-at
+invariant-loop-at l = list_all (λ r. reaches_page 31 (put_under l.id l.under l.records) (parent_after l.id l.under r)) (take l.at l.records) ≡ true

@@ -1,10 +1,9 @@
-use Rattle.std.proofs.Common.{◌≡◌, ℕ, List, Option, ◌∙◌, refl, sym, ap, arith, true, false, get_or, ◌-◌}
+use Rattle.std.proofs.Common.{◌≡◌, ℕ, List, Option, ◌∙◌, refl, sym, ap, arith, true, false, ◌-◌}
 use Rattle.std.specs.Option.{is_some}
 use Rattle.canvas_plane.specs.Motion.{carry}
 use Rattle.canvas_shape.specs.declared.Colour.{Colour}
 use Rattle.canvas_doc.specs.declared.records.Record.{Record}
 use Rattle.canvas_doc.specs.Picture.{answer_of, first_answer}
-use Rattle.canvas_doc.proofs.Found.{stands-at}
 use Rattle.canvas_doc.proofs.Ranged.{children-listed, front-step, from_front}
 use Rattle.canvas_doc.proofs.Walk.{answer-by, answer-children, answer-none, first-answer, silent-rest}
 use Rattle.canvas_doc.proofs.colour.+walk.Goals as goal
@@ -32,10 +31,10 @@ answer_among-loop-slot-preserved t c =
     let order : List ℕ = c.args.order.now in
     let start : ℕ = c.children_range-start.result.start in
     let slot : ℕ = c.loop-slot.slot in
-    let r : Record = c.deref-shape.result.now in
+    let r : Record = c.at-shape.result.now in
     silent-rest (answer_of (c.args.levels - 1) rs (carry c.args.out.now) c.args.at.x c.args.at.y) r
     (from_front rs order start (slot - 1 - start)) (from_front rs order start (slot - start)) (from_front rs order start (c.children_range-start.result.end - start))
-    (front-step rs order start slot r c.loop-slot-test.true ((c.requires.order.each (slot - 1) (omega (arith, c.children_range-start.ensures.bound))).there) (stands-at rs (get_or order (slot - 1) 0) c.index-records-order.result r c.deref-shape.ensures c.index-records-order.is))
+    (front-step rs order start slot r c.loop-slot-test.true ((c.requires.order.each (slot - 1) (omega (arith, c.children_range-start.ensures.bound))).there) c.at-shape.ensures)
     (ap is_some (sym c.answer_of-answer.ensures) ∙ sym c.is_some.ensures ∙ c.if-is_some.false)
     c.loop-slot.invariant
 
@@ -46,11 +45,11 @@ answer_among-returns-then-is_some t c =
     let start : ℕ = c.children_range-start.result.start in
     let end : ℕ = c.children_range-start.result.end in
     let slot : ℕ = c.loop-slot.slot in
-    let r : Record = c.deref-shape.result.now in
+    let r : Record = c.at-shape.result.now in
     let f : Record → Option Colour = answer_of (c.args.levels - 1) rs (carry c.args.out.now) c.args.at.x c.args.at.y in
     c.answer_of-answer.ensures
     ∙ first-answer f r (from_front rs order start (slot - 1 - start)) (from_front rs order start (slot - start)) (from_front rs order start (end - start))
-    (front-step rs order start slot r c.loop-slot-test.true ((c.requires.order.each (slot - 1) (omega (arith, c.children_range-start.ensures.bound))).there) (stands-at rs (get_or order (slot - 1) 0) c.index-records-order.result r c.deref-shape.ensures c.index-records-order.is))
+    (front-step rs order start slot r c.loop-slot-test.true ((c.requires.order.each (slot - 1) (omega (arith, c.children_range-start.ensures.bound))).there) c.at-shape.ensures)
     (ap is_some (sym c.answer_of-answer.ensures) ∙ sym c.is_some.ensures ∙ c.if-is_some.true)
     c.loop-slot.invariant
     ∙ ap (first_answer f) (children-listed c.args.parent rs order start end c.requires.places c.requires.order c.children_range-start.ensures)

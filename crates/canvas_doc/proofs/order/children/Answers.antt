@@ -1,8 +1,7 @@
-use Rattle.std.proofs.Common.{◌∙◌, ◌++◌, ◌-◌, All, Bor, List, arith, get_or, map, subst, sym, ap}
+use Rattle.std.proofs.Common.{◌∙◌, ◌++◌, ◌-◌, All, Bor, List, arith, map, subst, sym, ap}
 use Rattle.std.proofs.lemmas.List.{map-append}
 use Rattle.canvas_doc.specs.declared.records.Record.{Record}
 use Rattle.canvas_doc.specs.Tree.{IsInLimits}
-use Rattle.canvas_doc.proofs.Found.{stands-at}
 use Rattle.canvas_doc.proofs.Ranged.{children-listed, front-end, front-more, from_front}
 use Rattle.canvas_doc.proofs.Sorting.{all-by_reference, all-children, record_of}
 use Rattle.canvas_doc.proofs.order.children.Goals as goal
@@ -15,8 +14,8 @@ pub loop-at-preserved : goal.loop-at-preserved
 loop-at-preserved g c =
     let start = c.children_range-start.result.start in
     let all : List Record = from_front c.args.records.now c.args.order.now start (c.children_range-start.result.end - start) in
-    front-more c.args.records.now c.args.order.now start c.loop-at.at c.deref-shape.result.now (map record_of c.loop-at.list.items) (map record_of c.push.new.self.items) all c.loop-at-test.true
-    ((c.requires.order.each (c.loop-at.at - 1) (omega (arith, c.children_range-start.ensures.bound))).there) (stands-at c.args.records.now (get_or c.args.order.now (c.loop-at.at - 1) 0) c.index-records-order.result c.deref-shape.result.now c.deref-shape.ensures c.index-records-order.is)
+    front-more c.args.records.now c.args.order.now start c.loop-at.at c.at.result.now (map record_of c.loop-at.list.items) (map record_of c.push.new.self.items) all c.loop-at-test.true
+    ((c.requires.order.each (c.loop-at.at - 1) (omega (arith, c.children_range-start.ensures.bound))).there) c.at.ensures
     (ap (map record_of) c.in_ok-push.ensures.items ∙ map-append record_of c.loop-at.list.items _) c.loop-at.invariant
 
 pub returns-clause-children : goal.returns-clause-children

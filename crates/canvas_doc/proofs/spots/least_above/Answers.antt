@@ -1,21 +1,20 @@
-use Rattle.std.proofs.Common.{◌∙◌, sym, ap, subst, Bool, Option, Some, List, ℕ, take}
+use Rattle.std.proofs.Common.{◌∙◌, sym, ap, arith, subst, Bool, Option, Some, List, ℕ, take}
 use Rattle.std.specs.Option.{option_copied}
 use Rattle.canvas_key.specs.Order.{AreApart}
 use Rattle.canvas_doc.specs.declared.records.Record.{Record}
 use Rattle.canvas_doc.specs.Siblings.{is_sibling, siblings, is_above}
 use Rattle.canvas_doc.proofs.Spotted.{least_with, least-more, least-apart, both-hold, first-fails, second-fails}
-use Rattle.canvas_doc.proofs.Found.{stands-at}
 use Rattle.canvas_doc.proofs.spots.least_above.Goals as goal
 use Rattle.canvas_doc.proofs.spots.least_above.Goals.{then-is_sibling+then-is_above, else-is_sibling, else-is_sibling-via-then-is_sibling+else-is_above, else-is_sibling-via-else-is_sibling}
 
-pub loop-shape-preserved : goal.loop-shape-preserved
-loop-shape-preserved c =
-    let r : Record = c.deref-shape.result.now in
+pub loop-at-preserved : goal.loop-at-preserved
+loop-at-preserved c =
+    let r : Record = c.at-shape.result.now in
     let bound : Option (List ℕ) = option_copied c.args.bound in
-    let old : Option (List ℕ) = option_copied c.loop-shape.least in
+    let old : Option (List ℕ) = option_copied c.loop-at.least in
     let sibling : Bool = is_sibling c.args.own c.args.parent r in
     let above : Bool = is_above bound r.place.index in
-    let more = least-more bound c.args.own c.args.parent c.args.records.now c.loop-shape.shape-index r old c.loop-shape-test.true (stands-at c.args.records.now c.loop-shape.shape-index c.shape-item.result c.deref-shape.result.now c.deref-shape.ensures c.shape-item.is) c.loop-shape.invariant in
+    let more = least-more bound c.args.own c.args.parent c.args.records.now c.loop-at.at r old (omega arith) c.at-shape.ensures c.loop-at.invariant in
     elim c.if-is_sibling.branch [
       | then-is_sibling+then-is_above w ↦
           ap option_copied w.least-is ∙ ap Some w.lesser.ensures
@@ -29,4 +28,4 @@ loop-shape-preserved c =
     ]
 
 pub returns-clause-apart : goal.returns-clause-apart
-returns-clause-apart c = subst (AreApart (option_copied c.args.bound)) (sym c.loop-shape.invariant) (least-apart (option_copied c.args.bound) (siblings c.args.own c.args.parent (take c.loop-shape.shape-index c.args.records.now)))
+returns-clause-apart c = subst (AreApart (option_copied c.args.bound)) (sym c.loop-at.invariant) (least-apart (option_copied c.args.bound) (siblings c.args.own c.args.parent (take c.loop-at.at c.args.records.now)))

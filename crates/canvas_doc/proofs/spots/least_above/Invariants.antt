@@ -3,5 +3,5 @@ use Rattle.std.specs.Option.{option_copied}
 use Rattle.canvas_doc.specs.Siblings.{siblings, least_above}
 use Rattle.canvas_doc.proofs.spots.least_above.Given as goal
 
-abbrev pub invariant-loop-shape : goal.invariant-loop-shape
-invariant-loop-shape l = option_copied l.least ≡ least_above (option_copied l.bound) (siblings l.own l.parent (take l.shape-index l.records))
+abbrev pub invariant-loop-at : goal.invariant-loop-at
+invariant-loop-at l = option_copied l.least ≡ least_above (option_copied l.bound) (siblings l.own l.parent (take l.at l.records))
