@@ -17,4 +17,6 @@ mod refused;
 #[cfg(test)]
 mod shapes;
 #[cfg(test)]
+mod shared_rows;
+#[cfg(test)]
 mod viewed;
