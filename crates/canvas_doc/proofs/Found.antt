@@ -58,10 +58,6 @@ found-here rs i id d w h e =
     let r : Record = get_or rs i d in
     sym (found-at rs i id r w h (get_or_default rs i d r h) e)
 
--- a record that equals the one at a position stands there, too
-pub stands-at : (rs : List Record) (i : ℕ) (s r : Record) → r ≡ s → s ≡ get_or rs i s → r ≡ get_or rs i r
-stands-at rs i s r e h = rw e h
-
 -- ids rise by 1 at least
 gap-above : (n : ℕ) (rs : List Record) (j : ℕ) (d : Record) → AllByRecursion (λ (s : Record). n < s.id) rs → AreRising rs → j < length rs → n + suc j ≤ (get_or rs j d).id
 gap-above n [] j d a w h = absurd (omega arith)

@@ -7,7 +7,6 @@ ghost use Rattle.canvas_doc.specs.Depth.{AreMarks};
 ghost use Rattle.canvas_doc.specs.Effect.{changed_by, respaced, child_rank, indexes, is_in_subtree, ReplacesAt};
 ghost use Rattle.canvas_doc.specs.PlaceOrder.{IsInPlaceOrder};
 ghost use Rattle.canvas_doc.specs.Tree.{HavePlaces};
-ghost use Rattle.canvas_key.specs.Rank.{fresh_key};
 
 use crate::Document;
 use crate::ancestry::{STEPS, level_at, no_marks};

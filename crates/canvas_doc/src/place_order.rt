@@ -1,7 +1,7 @@
 //! The order of a document's records by place: the children of a parent stand side by side in it,
 //! from back to front.
 
-ghost use Rattle.std.specs.Prelude.{◌≡◌, ◌≤◌, ◌<◌, ℕ, IfOk, IsTrue, OnOk, false, length, slice_index, true};
+ghost use Rattle.std.specs.Prelude.{◌≡◌, ◌≤◌, ◌<◌, ℕ, IfOk, OnOk, false, length, slice_index, true};
 ghost use Rattle.std.specs.List.{range_with_len, slice_get};
 ghost use Rattle.std.specs.Ordering.{is_lt, is_le};
 ghost use Rattle.canvas_doc.specs.Contents.{AreRising};

@@ -1,6 +1,6 @@
 //! Documents from lists of records.
 
-ghost use Rattle.std.specs.Prelude.{◌≡◌, ◌≤◌, ◌+◌, ◌⊎◌, ◌&&◌, ◌||◌, ◌==◌, Ok, Err, IfOk, MatchResult, OnOk, All, Some, None, length, take, not};
+ghost use Rattle.std.specs.Prelude.{◌≡◌, ◌≤◌, ◌⊎◌, ◌&&◌, ◌||◌, ◌==◌, Ok, Err, IfOk, MatchResult, OnOk, All, Some, None, length, take, not};
 ghost use Rattle.std.specs.Option.{option_copied};
 ghost use Rattle.std.specs.List.{list_any, slice_get};
 ghost use Rattle.canvas_doc.specs.declared.records.Record.{Record};
