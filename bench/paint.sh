@@ -1,5 +1,6 @@
 #!/usr/bin/env bash
-# What a picture of 256 by 256 pixels costs, painted as one strip and by 1, 2 and 4 workers.
+# What a picture of 256 by 256 pixels costs: its items painted as one strip and by 1, 2 and 4 workers, a strip each; and its
+# document, painted by up to 1, 2, 4 and 16 workers.
 # Builds the program first, which proves it.
 set -eu
 

@@ -7,6 +7,7 @@ Prints each case that fails, and a last line 'N passed, M failed'; the status is
 """
 
 import os
+import re
 import subprocess
 import sys
 from pathlib import Path
@@ -64,6 +65,16 @@ def read_fault():
     yield "a read that fails", (done.stdout, done.stderr, done.returncode), (b"", b"canvas: 71 ReadFault\n", 4)
 
 
+def readme_command():
+    """The first command of README.md, and what stands there that it writes: lines, and at the end bytes as hex digits in brackets."""
+    section = (TOP / "README.md").read_text().partition("## Two commands")[2]
+    command, wanted = re.findall(r"^```\n(.*?)^```", section, re.M | re.S)[:2]
+    lines, _, raster = wanted.rpartition("(")
+    digits = "".join(re.findall(r"\b[0-9a-f]{6}\b", raster))
+    done = subprocess.run(["bash", "-c", command], cwd=TOP, capture_output=True, timeout=SECONDS)
+    yield "the first command of README.md", (done.stdout, done.returncode), (lines.encode() + bytes.fromhex(digits), 0)
+
+
 def waiting_client():
     """A client that sends its next bytes only when it has the reply to the last."""
     child = subprocess.Popen([PROGRAM, "script"], stdin=subprocess.PIPE, stdout=subprocess.PIPE, bufsize=0)
@@ -84,7 +95,7 @@ def waiting_client():
 
 def main():
     passed = failed = 0
-    for cases in (usage_faults, sessions, read_fault, waiting_client):
+    for cases in (usage_faults, sessions, read_fault, waiting_client, readme_command):
         for name, got, wanted in cases():
             if got == wanted:
                 passed += 1

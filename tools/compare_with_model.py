@@ -9,7 +9,7 @@ Prints what differs, and a last line 'N passed, M failed'; the status is 1 where
 import random
 import sys
 
-from canvas_client import Canvas
+from canvas_client import Canvas, Refused
 from plain_model import Model
 
 
@@ -51,10 +51,11 @@ def differs(chance):
     with Canvas() as canvas:
         for _ in range(chance.randrange(1, 40)):
             line = request(chance, containers[-8:])
-            reply, _ = canvas.ask(**line)
-            if not reply["ok"]:
-                return f"{line} was refused: {reply}"
-            if reply["id"] != model.create(line):
+            try:
+                reply, _ = canvas.ask(**line)
+            except Refused as refused:
+                return f"{line} was refused: {refused}"
+            if reply["id"] != model.edit(line):
                 return f"{line} got the id {reply['id']}"
             if line["shape"]["kind"] in ("group", "frame"):
                 containers.append(reply["id"])

@@ -1,7 +1,32 @@
-"""A plain, slow model of the picture: which colour a document shows at a pixel, walked from front to back.
+"""A plain, slow model of a document: what each edit does or is refused as, and which colour a pixel has.
 
-It is written from the rules in docs/PROTOCOL.md and shares nothing with the program, so that the two can be compared.
+It is written from the rules in docs/PROTOCOL.md and docs/DOCUMENTS.md and shares nothing with the program, so that the two can
+be compared. Index keys are those of key_rows.py.
 """
+
+import json
+
+import key_rows
+
+MOST_RECORDS = 4096
+MOST_DEPTH = 32
+MOST_IDS = 4294967295
+MOST_SIDE = 65536
+MOST_COORDINATE = 1 << 20
+WHITE = "ffffff"
+
+
+class Refused(Exception):
+    """An edit that the document does not allow."""
+
+    def __init__(self, code):
+        super().__init__(code)
+        self.code = code
+
+
+def refuse_if(wrong, code):
+    if wrong:
+        raise Refused(code)
 
 
 def carried(pose, point):
@@ -14,10 +39,29 @@ def carried(pose, point):
     return x + pose.get("dx", 0), y + pose.get("dy", 0)
 
 
-def box_of(shape, out):
-    """The carried box of a shape with sides: left, top, right, bottom."""
-    (x1, y1), (x2, y2) = out((0, 0)), out((shape["w"], shape["h"]))
-    return min(x1, x2), min(y1, y2), max(x1, x2), max(y1, y2)
+def box_of(points):
+    """The least box of some points: left, top, right, bottom."""
+    across, down = [x for x, _ in points], [y for _, y in points]
+    return min(across), min(down), max(across), max(down)
+
+
+def meet(a, b):
+    """What two boxes have in common; None stands for the whole page."""
+    if a is None or b is None:
+        return a or b
+    return max(a[0], b[0]), max(a[1], b[1]), min(a[2], b[2]), min(a[3], b[3])
+
+
+def in_box(box, x, y):
+    left, top, right, bottom = box
+    return left <= x < right and top <= y < bottom
+
+
+def in_ellipse(box, x, y):
+    left, top, right, bottom = box
+    w, h = right - left, bottom - top
+    across, down = 2 * x + 1 - 2 * left - w, 2 * y + 1 - 2 * top - h
+    return across**2 * h**2 + down**2 * w**2 <= w**2 * h**2
 
 
 def crosses(start, end, x, y):
@@ -30,58 +74,210 @@ def crosses(start, end, x, y):
     return side * height > 0
 
 
-def holds(shape, out, x, y):
-    """Whether a shape holds a pixel, where `out` carries its points to the page."""
-    if shape["kind"] == "group":
-        return False
-    if shape["kind"] == "polygon":
-        points = [out(tuple(point)) for point in shape["points"]]
-        return sum(crosses(points[k - 1], points[k], x, y) for k in range(len(points))) % 2 == 1
-    left, top, right, bottom = box_of(shape, out)
-    if shape["kind"] != "ellipse":
-        return left <= x < right and top <= y < bottom
-    w, h = right - left, bottom - top
-    across, down = 2 * x + 1 - 2 * left - w, 2 * y + 1 - 2 * top - h
-    return across**2 * h**2 + down**2 * w**2 <= w**2 * h**2
+def in_polygon(points, x, y):
+    return sum(crosses(points[k - 1], points[k], x, y) for k in range(len(points))) % 2 == 1
+
+
+def check_shape(shape):
+    """The sides, and then the points, of a shape."""
+    if "w" in shape:
+        refuse_if(not (1 <= shape["w"] <= MOST_SIDE and 1 <= shape["h"] <= MOST_SIDE), 8)
+
+
+def check_polygon(shape):
+    if "points" in shape:
+        small = all(abs(c) <= MOST_COORDINATE for point in shape["points"] for c in point)
+        refuse_if(not (3 <= len(shape["points"]) <= 256 and small), 10)
+
+
+def check_pose(pose):
+    reach = max(abs(pose.get("dx", 0)), abs(pose.get("dy", 0)))
+    refuse_if(reach > MOST_COORDINATE or pose.get("quarter", 0) > 3, 9)
 
 
 class Model:
-    """A document that only grows at its front: create requests with a shape, a pose, a parent and a mark."""
+    """A document, empty at first: records by their ids."""
 
     def __init__(self):
         self.records = {}
-        self.children = {}
+        self.next = 1
+        self._leaves = None
 
-    def create(self, request):
-        number = len(self.records) + 1
-        self.records[number] = request
-        self.children.setdefault(request.get("parent"), []).insert(0, number)
-        return number
+    @classmethod
+    def opened(cls, text):
+        """The document of a saved text."""
+        model, saved = cls(), json.loads(text)
+        model.next = saved["next"]
+        for record in saved["shapes"]:
+            model.records[record.pop("id")] = record
+        return model
 
-    def answer(self, parent, out, x, y):
-        """The first answer of a parent's children, from front to back, or None."""
-        for number in self.children.get(parent, []):
-            record = self.records[number]
-            if record.get("hidden", False):
-                continue
-            shape, pose = record["shape"], record.get("pose", {})
-            inner = lambda point, pose=pose: out(carried(pose, point))
-            if shape["kind"] == "group":
-                found = self.answer(number, inner, x, y)
-            elif not holds(shape, inner, x, y):
-                continue
-            elif shape["kind"] == "frame":
-                found = self.answer(number, inner, x, y) or shape.get("fill")
-            else:
-                found = shape["fill"]
-            if found:
-                return found
+    # -- edits -------------------------------------------------------------------------------------------------------
+
+    def edit(self, request):
+        """Makes an edit; gives the id of a shape that was made, or None. Raises Refused."""
+        made = getattr(self, "_" + request["verb"])(request)
+        self._leaves = None
+        return made
+
+    def refusal(self, request):
+        """The code that an edit is refused with, or None where it is allowed; the document stays."""
+        records, number, leaves = dict(self.records), self.next, self._leaves
+        try:
+            self.edit(request)
+        except Refused as refused:
+            return refused.code
+        finally:
+            self.records, self.next, self._leaves = records, number, leaves
         return None
 
+    def children(self, parent):
+        """The ids of a parent's children, from front to back."""
+        found = [number for number, record in self.records.items() if record["parent"] == parent]
+        return sorted(found, key=lambda number: self.records[number]["index"], reverse=True)
+
+    def _line(self, number):
+        """A shape and all that it lies in, up to the page."""
+        line = []
+        while number is not None:
+            line.append(number)
+            number = self.records[number]["parent"]
+        return line
+
+    def _height(self, number):
+        return 1 + max((self._height(child) for child in self.children(number)), default=0)
+
+    def _known(self, number):
+        refuse_if(number not in self.records, 2)
+        return self.records[number]
+
+    def _check_parent(self, parent):
+        if parent is not None:
+            refuse_if(parent not in self.records, 3)
+            refuse_if(self.records[parent]["shape"]["kind"] not in ("group", "frame"), 4)
+
+    def _index(self, parent, spot, moved):
+        """The key of a spot among the parent's other children."""
+        keys = {number: self.records[number]["index"] for number in self.children(parent) if number != moved}
+        rising = sorted(keys.values())
+        if spot == "front":
+            low, high = (rising[-1] if rising else None), None
+        elif spot == "back":
+            low, high = None, (rising[0] if rising else None)
+        elif "over" in spot:
+            refuse_if(spot["over"] not in keys, 11)
+            low = keys[spot["over"]]
+            high = next((key for key in rising if key > low), None)
+        else:
+            refuse_if(spot["at"] in rising, 12)
+            return spot["at"]
+        try:
+            return key_rows.between(low, high)
+        except key_rows.NoRoom:
+            raise Refused(13) from None
+
+    def _create(self, request):
+        shape, pose, parent = request["shape"], request.get("pose", {}), request.get("parent")
+        self._check_parent(parent)
+        refuse_if(len(self._line(parent)) + 1 > MOST_DEPTH, 6)
+        refuse_if(len(self.records) >= MOST_RECORDS, 7)
+        refuse_if(self.next == MOST_IDS, 15)
+        check_shape(shape)
+        check_pose(pose)
+        check_polygon(shape)
+        index = self._index(parent, request.get("spot", "front"), None)
+        number, self.next = self.next, self.next + 1
+        hidden = request.get("hidden", False)
+        self.records[number] = {"shape": shape, "pose": pose, "parent": parent, "index": index, "hidden": hidden}
+        return number
+
+    def _move(self, request):
+        number, parent = request["id"], request["parent"]
+        record = self._known(number)
+        self._check_parent(parent)
+        refuse_if(number in self._line(parent), 5)
+        refuse_if(len(self._line(parent)) + self._height(number) > MOST_DEPTH, 6)
+        index = self._index(parent, request["spot"], number)
+        self.records[number] = {**record, "parent": parent, "index": index}
+
+    def _pose(self, request):
+        record = self._known(request["id"])
+        check_pose(request["pose"])
+        self.records[request["id"]] = {**record, "pose": request["pose"]}
+
+    def _reshape(self, request):
+        record, shape = self._known(request["id"]), request["shape"]
+        refuse_if(record["shape"]["kind"] != shape["kind"], 14)
+        check_shape(shape)
+        check_polygon(shape)
+        self.records[request["id"]] = {**record, "shape": shape}
+
+    def _show(self, request):
+        record = self._known(request["id"])
+        self.records[request["id"]] = {**record, "hidden": request["hidden"]}
+
+    def _delete(self, request):
+        self._known(request["id"])
+        self._take_out(request["id"])
+
+    def _take_out(self, number):
+        for child in self.children(number):
+            self._take_out(child)
+        del self.records[number]
+
+    def _respace(self, request):
+        self._check_parent(request["parent"])
+        for place, number in enumerate(reversed(self.children(request["parent"]))):
+            self.records[number] = {**self.records[number], "index": key_rows.fresh(place)}
+
+    # -- pictures ----------------------------------------------------------------------------------------------------
+
+    def _leaves_of(self, parent, out, clip):
+        """What may give a colour, from front to back: whether it holds a pixel, what clips it, and its colour."""
+        for number in self.children(parent):
+            record = self.records[number]
+            if record["hidden"]:
+                continue
+            shape, pose = record["shape"], record["pose"]
+            inner = lambda point, pose=pose: out(carried(pose, point))
+            if shape["kind"] == "group":
+                yield from self._leaves_of(number, inner, clip)
+            elif shape["kind"] == "polygon":
+                points = [inner(tuple(point)) for point in shape["points"]]
+                yield in_polygon, points, clip, shape["fill"]
+            else:
+                box = box_of([inner((0, 0)), inner((shape["w"], shape["h"]))])
+                if shape["kind"] == "frame":
+                    yield from self._leaves_of(number, inner, meet(clip, box))
+                if shape.get("fill"):
+                    yield in_ellipse if shape["kind"] == "ellipse" else in_box, box, clip, shape["fill"]
+
     def colour(self, x, y):
-        return self.answer(None, lambda point: point, x, y) or "ffffff"
+        """The colour of a pixel: that of the first leaf that holds it, walked from front to back."""
+        if self._leaves is None:
+            self._leaves = list(self._leaves_of(None, lambda point: point, None))
+        for holds, where, clip, fill in self._leaves:
+            if (clip is None or in_box(clip, x, y)) and holds(where, x, y):
+                return fill.lower()
+        return WHITE
 
     def image(self, x, y, w, h):
         """The P6 file of a window."""
         raster = b"".join(bytes.fromhex(self.colour(x + i, y + j)) for j in range(h) for i in range(w))
         return b"P6\n%d %d\n255\n" % (w, h) + raster
+
+    # -- the saved text ----------------------------------------------------------------------------------------------
+
+    def saved(self):
+        """The text of the saved document."""
+        shapes = []
+        for number, record in sorted(self.records.items()):
+            pose = {"dx": 0, "dy": 0, "flip": False, "quarter": 0, **record["pose"]}
+            shape = dict(record["shape"])
+            if shape["kind"] == "frame":
+                shape.setdefault("fill", None)
+            if shape.get("fill"):
+                shape["fill"] = shape["fill"].lower()
+            shapes.append({**record, "id": number, "pose": pose, "shape": shape})
+        saved = {"format": 1, "next": self.next, "shapes": shapes}
+        return json.dumps(saved, separators=(",", ":"), sort_keys=True).encode()

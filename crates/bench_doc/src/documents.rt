@@ -1,10 +1,11 @@
 //! Documents to be edited.
 
+use canvas_code::OutOfMemory;
 use canvas_doc::{Document, Parent, Place, Record, TreeFault};
 use canvas_key::fresh;
 use canvas_plane::{Point, Pose};
 use canvas_shape::{Colour, Kind, Points};
-use std::alloc::{AllocError, Global};
+use std::alloc::Global;
 
 /// How records hang together. Ids begin at 2, as where the first shape was deleted. Indexes stand in no order of the ids, with a
 /// gap behind each, so that new indexes are other ones.
@@ -41,7 +42,7 @@ impl Layout {
 }
 
 /// A triangle or a rectangle.
-pub fn leaf(alloc: Global, layout: Layout, side: u32) -> Result<Kind, AllocError> {
+pub fn leaf(alloc: Global, layout: Layout, side: u32) -> Result<Kind, OutOfMemory> {
     let fill = Colour([1, 2, 3]);
     match layout {
         Layout::Triangles => {
@@ -85,7 +86,7 @@ fn hung(layout: Layout, id: u32) -> (Parent, bool) {
 }
 
 /// The first records of a layout.
-pub fn records(alloc: Global, layout: Layout, count: u32) -> Result<Vec<Record>, AllocError> {
+pub fn records(alloc: Global, layout: Layout, count: u32) -> Result<Vec<Record>, OutOfMemory> {
     let mut records = Vec::new(alloc);
     for number in 0..count {
         let id = number.saturating_add(2);

@@ -1,15 +1,16 @@
 //! One edit of each sort.
 
 use crate::documents::{Layout, leaf};
+use canvas_code::OutOfMemory;
 use canvas_doc::{Edit, Parent, Spot};
 use canvas_plane::Pose;
-use std::alloc::{AllocError, Global};
+use std::alloc::Global;
 
 /// A leaf of every layout.
 const LEAF: u32 = 4_000;
 
 /// A new leaf. The document must have room for it.
-pub fn create(alloc: Global, layout: Layout) -> Result<Edit, AllocError> {
+pub fn create(alloc: Global, layout: Layout) -> Result<Edit, OutOfMemory> {
     Ok(Edit::Create {
         kind: leaf(alloc, layout, 7)?,
         pose: Pose::STILL,
@@ -37,7 +38,7 @@ fn moved(layout: Layout) -> (u32, Parent) {
 }
 
 /// All edits but `Create`, each with its name.
-pub fn others(alloc: Global, layout: Layout) -> Result<[(&'static str, Edit); 6], AllocError> {
+pub fn others(alloc: Global, layout: Layout) -> Result<[(&'static str, Edit); 6], OutOfMemory> {
     let (id, parent) = moved(layout);
     Ok([
         (

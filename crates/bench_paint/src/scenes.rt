@@ -27,42 +27,96 @@ pub fn rectangles(alloc: Global, count: u32, most: u32) -> Result<Document> {
     Ok(document)
 }
 
+/// A document of ellipses with sides up to `most`.
+pub fn ellipses(alloc: Global, count: u32, most: u32) -> Result<Document> {
+    let mut dice = Dice(9);
+    let mut document = Document::empty(alloc);
+    for _ in 0..count {
+        let kind = Kind::Ellipse {
+            w: dice.below(most).saturating_add(1),
+            h: dice.below(most).saturating_add(1),
+            fill: dice.colour(),
+        };
+        document = with_shape(alloc, document, kind, &mut dice)?;
+    }
+    Ok(document)
+}
+
 /// A document of polygons with so many vertices each.
 pub fn polygons(alloc: Global, count: u32, vertices: u32) -> Result<Document> {
     let mut dice = Dice(11);
     let mut document = Document::empty(alloc);
     for _ in 0..count {
-        let mut points = Points::new(alloc);
-        for _ in 0..vertices {
-            points.push(Point {
-                x: i64::from(dice.below(120)),
-                y: i64::from(dice.below(120)),
-            })?;
-        }
-        let fill = dice.colour();
-        document = with_shape(alloc, document, Kind::Polygon { points, fill }, &mut dice)?;
+        let kind = polygon(alloc, vertices, &mut dice)?;
+        document = with_shape(alloc, document, kind, &mut dice)?;
     }
     Ok(document)
 }
 
+/// A document of polygons with so many vertices each, of which frames of 8 by 8 pixels show parts.
+pub fn framed(alloc: Global, count: u32, vertices: u32) -> Result<Document> {
+    let mut dice = Dice(13);
+    let mut document = Document::empty(alloc);
+    for _ in 0..count {
+        let parent = Parent::Shape(document.next_id());
+        let frame = Kind::Frame {
+            w: 8,
+            h: 8,
+            fill: None,
+        };
+        document = with_shape(alloc, document, frame, &mut dice)?;
+        let kind = polygon(alloc, vertices, &mut dice)?;
+        document = with_child(alloc, document, kind, at(-56, -56), parent)?;
+    }
+    Ok(document)
+}
+
+/// A polygon of so many vertices, 120 across, that crosses itself.
+fn polygon(alloc: Global, vertices: u32, dice: &mut Dice) -> Result<Kind> {
+    let mut points = Points::new(alloc);
+    for _ in 0..vertices {
+        points.push(Point {
+            x: i64::from(dice.below(120)),
+            y: i64::from(dice.below(120)),
+        })?;
+    }
+    let fill = dice.colour();
+    Ok(Kind::Polygon { points, fill })
+}
+
 /// The document with a shape more in front, at a place that the dice give.
 fn with_shape(alloc: Global, document: Document, kind: Kind, dice: &mut Dice) -> Result<Document> {
-    let pose = Pose {
-        dx: i64::from(dice.below(ACROSS)).saturating_sub(BEFORE),
-        dy: i64::from(dice.below(ACROSS)).saturating_sub(BEFORE),
+    let dx = i64::from(dice.below(ACROSS)).saturating_sub(BEFORE);
+    let dy = i64::from(dice.below(ACROSS)).saturating_sub(BEFORE);
+    with_child(alloc, document, kind, at(dx, dy), Parent::Page)
+}
+
+/// The pose that moves by so much.
+fn at(dx: i64, dy: i64) -> Pose {
+    Pose {
+        dx,
+        dy,
         quarter: 0,
         flip: false,
+    }
+}
+
+/// The document with a shape in front of a parent's children.
+fn with_child(
+    alloc: Global,
+    document: Document,
+    kind: Kind,
+    pose: Pose,
+    parent: Parent,
+) -> Result<Document> {
+    let edit = Edit::Create {
+        kind,
+        pose,
+        hidden: false,
+        parent,
+        spot: Spot::Front,
     };
-    let change = document.decide(
-        alloc,
-        &Edit::Create {
-            kind,
-            pose,
-            hidden: false,
-            parent: Parent::Page,
-            spot: Spot::Front,
-        },
-    )?;
+    let change = document.decide(alloc, &edit)?;
     Ok(document.with(alloc, &change)?)
 }
 

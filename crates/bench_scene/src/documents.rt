@@ -1,9 +1,10 @@
 //! Documents to be timed.
 
+use canvas_code::OutOfMemory;
 use canvas_doc::{Document, Edit, Parent, Spot};
 use canvas_plane::{Point, Pose};
 use canvas_shape::{Colour, Kind, Points};
-use std::alloc::{AllocError, Global};
+use std::alloc::Global;
 
 // Numbers that look random.
 #[derive(Drop)]
@@ -45,7 +46,7 @@ fn with(
     kind: Kind,
     pose: Pose,
     parent: Parent,
-) -> Result<Document, AllocError> {
+) -> Result<Document, OutOfMemory> {
     let edit = Edit::Create {
         kind,
         pose,
@@ -60,7 +61,7 @@ fn with(
 }
 
 /// Rectangles with sides of 20 to 300 on the page, which lie below a size in both directions.
-pub fn rectangles(alloc: Global, count: u32, size: u32) -> Result<Document, AllocError> {
+pub fn rectangles(alloc: Global, count: u32, size: u32) -> Result<Document, OutOfMemory> {
     let mut dice = Dice(1);
     let mut document = Document::empty(alloc);
     for _ in 0..count {
@@ -81,7 +82,7 @@ fn rectangle(dice: &mut Dice) -> Kind {
 
 /// 1,000 records: 40 frames on the page, which lie below a size in both directions, in each a frame and a group, and in these
 /// eleven shapes each.
-pub fn nested(alloc: Global, size: u32) -> Result<Document, AllocError> {
+pub fn nested(alloc: Global, size: u32) -> Result<Document, OutOfMemory> {
     let mut dice = Dice(2);
     let mut document = Document::empty(alloc);
     for _ in 0..40u32 {
@@ -112,7 +113,7 @@ fn mixed(
     document: Document,
     dice: &mut Dice,
     parent: u32,
-) -> Result<Document, AllocError> {
+) -> Result<Document, OutOfMemory> {
     let mut document = document;
     for _ in 0..11u32 {
         let kind = small(alloc, dice)?;
@@ -135,7 +136,7 @@ fn frame(dice: &mut Dice, side: u32) -> Kind {
 }
 
 // A rectangle, an ellipse or a polygon with sides of 10 to 70.
-fn small(alloc: Global, dice: &mut Dice) -> Result<Kind, AllocError> {
+fn small(alloc: Global, dice: &mut Dice) -> Result<Kind, OutOfMemory> {
     let w = dice.below(60).saturating_add(10);
     let h = dice.below(60).saturating_add(10);
     let fill = dice.fill();
@@ -155,7 +156,7 @@ fn small(alloc: Global, dice: &mut Dice) -> Result<Kind, AllocError> {
 }
 
 /// 200 stars of 256 vertices each, 200 across, spread on the page.
-pub fn polygons(alloc: Global) -> Result<Document, AllocError> {
+pub fn polygons(alloc: Global) -> Result<Document, OutOfMemory> {
     let mut dice = Dice(3);
     let mut document = Document::empty(alloc);
     for _ in 0..200u32 {
@@ -169,7 +170,7 @@ pub fn polygons(alloc: Global) -> Result<Document, AllocError> {
 }
 
 // The vertices of a star round the origin, each turned on by a 256th of the circle.
-fn star(alloc: Global, dice: &mut Dice) -> Result<Points, AllocError> {
+fn star(alloc: Global, dice: &mut Dice) -> Result<Points, OutOfMemory> {
     let mut points = Points::new(alloc);
     let (mut x, mut y) = (1i64 << 20, 0i64);
     for _ in 0..256u32 {
@@ -196,7 +197,7 @@ fn turned(along: i64, across: i64) -> i64 {
 }
 
 /// 4,000 records, each tenth a group on the page with nine rectangles in it, all over one another.
-pub fn overdraw(alloc: Global) -> Result<Document, AllocError> {
+pub fn overdraw(alloc: Global) -> Result<Document, OutOfMemory> {
     let mut dice = Dice(4);
     let mut document = Document::empty(alloc);
     for _ in 0..400u32 {

@@ -4,6 +4,7 @@
 mod documents;
 mod tiles;
 
+use anyhow::Result;
 use canvas_doc::Document;
 use std::time::{Duration, Instant};
 use std::{env, io};
@@ -12,9 +13,10 @@ use tiles::timed;
 /// How many milliseconds the processor is kept busy before anything is timed, for it comes to its speed only then.
 const WARM_UP: u64 = 300;
 
-fn main(rt: HostRuntime) -> io::Result<()> {
+fn main(rt: HostRuntime) -> Result<()> {
     if !is_asked(&rt)? {
-        return println!(rt; "bench_scene time: measures scenes and their painting");
+        println!(rt; "bench_scene time: measures scenes and their painting")?;
+        return Ok(());
     }
     warm_up(&rt)?;
     report(
@@ -80,7 +82,7 @@ fn report(
     document: &Document,
     across: u32,
     count: u32,
-) -> io::Result<()> {
+) -> Result<()> {
     let cost = timed(rt, document, across, count)?;
     println!(rt;
         "{name}: {} records, {} items a tile; filling {} ns, scene {} ns, painting {} ns; ratios {} of 1000, painting alone {}",
@@ -91,7 +93,8 @@ fn report(
         cost.painting,
         share(cost.filling, cost.scene.saturating_add(cost.painting)),
         share(cost.filling, cost.painting)
-    )
+    )?;
+    Ok(())
 }
 
 // How many thousandths one time is of another.

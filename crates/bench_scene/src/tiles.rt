@@ -1,5 +1,6 @@
 //! What a tile costs.
 
+use anyhow::Result;
 use bumpalo::Bump;
 use canvas_doc::Document;
 use canvas_paint::append_strip;
@@ -86,7 +87,7 @@ impl Memory {
     }
 
     // Fills a tile with the ready row.
-    fn fill(&mut self) -> io::Result<()> {
+    fn fill(&mut self) -> Result<()> {
         self.out.clear();
         self.out.reserve(256 * ROW)?;
         for _ in 0..256u32 {
@@ -97,7 +98,7 @@ impl Memory {
 }
 
 /// The mean cost of some tiles of a document, whose left and top edges lie below `across`.
-pub fn timed(rt: &HostRuntime, document: &Document, across: u32, count: u32) -> io::Result<Cost> {
+pub fn timed(rt: &HostRuntime, document: &Document, across: u32, count: u32) -> Result<Cost> {
     let mut memory = Memory::new(rt.alloc());
     let mut all = Cost::NONE;
     let mut place = 7u32;
@@ -118,7 +119,7 @@ fn least(
     document: &Document,
     window: &Window,
     memory: &mut Memory,
-) -> io::Result<Cost> {
+) -> Result<Cost> {
     let mut least = tile(rt, document, window, memory)?;
     for _ in 1..ROUNDS {
         let cost = tile(rt, document, window, memory)?;
@@ -140,7 +141,7 @@ fn tile(
     document: &Document,
     window: &Window,
     memory: &mut Memory,
-) -> io::Result<Cost> {
+) -> Result<Cost> {
     let start = Instant::now(rt)?;
     let scene = Scene::build(&memory.bump, document, window)?;
     let cut = start.elapsed(rt)?;
@@ -160,7 +161,7 @@ fn tile(
             painting: nanoseconds(painting),
             filling: nanoseconds(filling),
         }),
-        Err(_fault) => Err(io::Error::from(ErrorKind::Other)),
+        Err(_fault) => Err(io::Error::from(ErrorKind::Other).into()),
     }
 }
 

@@ -59,7 +59,8 @@ fn append_row_by_row(
     out: &mut Vec<Span>,
 ) -> Result<(), AllocError> {
     for y in 0..SIDE as i32 {
-        leaf.row_spans_with(cuts, y, 0, SIDE as i32, out)?;
+        leaf.row_spans_with(cuts, y, 0, SIDE as i32, out)
+            .map_err(|_| AllocError)?;
     }
     Ok(())
 }
@@ -71,7 +72,7 @@ fn append_together(
 ) -> Result<(), AllocError> {
     vertices.flag_rows(0, 0, SIDE, rows);
     for row in rows.iter() {
-        row.append_spans(0, SIDE, out)?;
+        row.append_spans(0, SIDE, out).map_err(|_| AllocError)?;
     }
     Ok(())
 }

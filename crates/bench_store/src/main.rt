@@ -3,6 +3,7 @@
 
 use canvas_doc::Document;
 use canvas_store::{export, import};
+use std::alloc::AllocError;
 use std::io;
 use std::io::{ErrorKind, Read};
 use std::time::{Duration, Instant};
@@ -22,7 +23,7 @@ fn main(rt: HostRuntime) -> io::Result<()> {
         let document = opened(&rt, &text)?;
         opening = opening.min(start.elapsed(&rt)?);
         let start = Instant::now(&rt)?;
-        let saved = export(rt.alloc(), &document)?;
+        let saved = export(rt.alloc(), &document).map_err(|_| AllocError)?;
         saving = saving.min(start.elapsed(&rt)?);
         if saved != text {
             return Err(io::Error::from(ErrorKind::InvalidData));

@@ -5,30 +5,26 @@ use Rattle.canvas_doc.specs.declared.edits.Edit.{Edit}
 use Rattle.canvas_doc.specs.Contents.{Contents}
 use Rattle.canvas_doc.specs.Decision.{decision_of}
 use Rattle.canvas_doc.specs.Effect.{effect_of, Fits, new_id}
-use Rattle.canvas_doc.specs.History.{replay_of}
-use Rattle.canvas_doc.proofs.Histories.{replay-snoc}
-use Rattle.canvas_board.specs.declared.answers.Edited.{Edited}
-use Rattle.canvas_board.specs.Seen.{Seen, Grows}
+use Rattle.canvas_doc.specs.History.{replay_of, AllFit}
+use Rattle.canvas_doc.proofs.Histories.{replay-snoc, all_fit-snoc}
+use Rattle.canvas_line.specs.declared.fault.Edited.{Edited}
+use Rattle.canvas_board.specs.Seen.{Seen, Grows, IsSound}
 use Rattle.canvas_board.specs.declared.fault.BoardFault.{BoardFault}
 use Rattle.canvas_board.specs.declared.fault.BoardFault.TheVariants.{OutOfMemory, Refused, VersionsSpent, Behind, Strangers, BadWorkers, BadSetting, NoView}
-use Rattle.canvas_board.specs.Alone.{Makes}
+use Rattle.canvas_board.specs.Alone.{Makes, alone_board}
 use Rattle.canvas_board.specs.Steps.{Accepts, Edits}
 
 -- nothing came in between
-pub grows-same : (s : Seen) → Grows s s
-grows-same s = record { more = []; fits = tt; room = omega arith; same = ap (λ (f : List Change). record { opening = s.opening; limit = s.limit; front = f; alone = s.alone }) (sym (append-nil s.front)); alone = λ h. refl }
-
--- the board of one caller
-abbrev pub alone_board : Contents → ℕ → List Change → Seen
-alone_board opening limit front = record { opening = opening; limit = limit; front = front; alone = true }
+pub grows-same : (s : Seen) → IsSound s → Grows s s
+grows-same s sound = record { more = []; same = ap (λ (f : List Change). record { opening = s.opening; limit = s.limit; front = f; alone = s.alone }) (sym (append-nil s.front)); sound = sound; alone = λ h. refl }
 
 -- an edit is accepted at the board as it is
 pub accepts-alone : (opening : Contents) (limit : ℕ) (front new : List Change) (document : Contents) (edit : Edit) (change : Change) (edited : Edited)
-    → document ≡ replay_of opening front → length front < limit → decision_of edit document ≡ Ok change → Fits change document → new ≡ front ++ change ∷ []
+    → document ≡ replay_of opening front → AllFit opening front → length front < limit → decision_of edit document ≡ Ok change → Fits change document → new ≡ front ++ change ∷ []
     → edited.number ≡ length new → edited.id ≡ new_id change → Accepts (alone_board opening limit front) edit edited (alone_board opening limit new)
-accepts-alone opening limit front new document edit change edited current room decided fits after number id = record {
+accepts-alone opening limit front new document edit change edited current fit room decided fits after number id = record {
   h = alone_board opening limit front;
-  begins = grows-same (alone_board opening limit front);
+  begins = grows-same (alone_board opening limit front) (record { fits = fit; within = omega arith });
   room = room;
   change = change;
   decided = ap (decision_of edit) (sym current) ∙ decided;
@@ -44,14 +40,29 @@ pub current-more : (opening : Contents) (front new : List Change) (document afte
 current-more opening front new document after change current effect more =
     effect ∙ ap (effect_of change) current ∙ sym (replay-snoc opening front change) ∙ ap (replay_of opening) (sym more)
 
+-- the longer history fits too
+pub all_fit-more : (opening : Contents) (front new : List Change) (document : Contents) (change : Change) → document ≡ replay_of opening front
+    → AllFit opening front → Fits change document → new ≡ front ++ change ∷ [] → AllFit opening new
+all_fit-more opening front new document change current fit fits more =
+    subst (AllFit opening) (sym more) (all_fit-snoc opening front change fit (subst (Fits change) current fits))
+
 -- an edit is refused at the board as it is
 pub refused-alone : (opening : Contents) (limit : ℕ) (front : List Change) (document : Contents) (edit : Edit) (fault : BoardFault)
-    → document ≡ replay_of opening front → length front < limit → Makes document edit (Err fault) → Edits (alone_board opening limit front) edit (Err fault) (alone_board opening limit front)
-refused-alone opening limit front document edit OutOfMemory current room made = refl
-refused-alone opening limit front document edit (Refused why) current room made = (grows-same (alone_board opening limit front), room, ap (decision_of edit) (sym current) ∙ made)
-refused-alone opening limit front document edit VersionsSpent current room made = absurd made
-refused-alone opening limit front document edit (Behind desk seen) current room made = absurd made
-refused-alone opening limit front document edit (Strangers own found) current room made = absurd made
-refused-alone opening limit front document edit BadWorkers current room made = absurd made
-refused-alone opening limit front document edit BadSetting current room made = absurd made
-refused-alone opening limit front document edit NoView current room made = absurd made
+    → document ≡ replay_of opening front → AllFit opening front → length front < limit → Makes document edit (Err fault) → Edits (alone_board opening limit front) edit (Err fault) (alone_board opening limit front)
+refused-alone opening limit front document edit OutOfMemory current fit room made = (
+  refl,
+  record {
+    h = alone_board opening limit front;
+    begins = grows-same (alone_board opening limit front) (record { fits = fit; within = omega arith });
+    room = room;
+    change = made.0;
+    decided = ap (decision_of edit) (sym current) ∙ made.1;
+  },
+)
+refused-alone opening limit front document edit (Refused why) current fit room made = (grows-same (alone_board opening limit front) (record { fits = fit; within = omega arith }), room, ap (decision_of edit) (sym current) ∙ made)
+refused-alone opening limit front document edit VersionsSpent current fit room made = absurd made
+refused-alone opening limit front document edit (Behind desk seen) current fit room made = absurd made
+refused-alone opening limit front document edit (Strangers own found) current fit room made = absurd made
+refused-alone opening limit front document edit BadWorkers current fit room made = absurd made
+refused-alone opening limit front document edit BadSetting current fit room made = absurd made
+refused-alone opening limit front document edit NoView current fit room made = absurd made

@@ -3,4 +3,5 @@ pub mod Seen
 pub mod Steps
 pub mod Fault
 pub mod Alone
+pub mod Shared
 pub mod Past

@@ -1,5 +1,5 @@
 -- What a board is seen as.
-use Rattle.std.specs.Prelude.{◌≡◌, ℕ, ◌-◌, ◌≤◌, Bool, true, List, [], ◌∷◌, ◌++◌, length}
+use Rattle.std.specs.Prelude.{◌≡◌, ℕ, ◌≤◌, Bool, true, List, [], ◌∷◌, ◌++◌, length}
 use Rattle.canvas_doc.specs.declared.edits.Change.{Change}
 use Rattle.canvas_doc.specs.Contents.{Contents}
 use Rattle.canvas_doc.specs.History.{replay_of, AllFit}
@@ -11,9 +11,10 @@ pub record Seen : Type 0 where
   pub front : List Change
   pub alone : Bool
 
--- the board of an opening document, with nothing accepted yet
-abbrev pub opened : Contents → ℕ → Bool → Seen
-opened document limit alone = record { opening = document; limit = limit; front = []; alone = alone }
+-- each change of the front fits where it stands, and all are within the limit
+pub record IsSound (s : Seen) : Type 0 where
+  pub fits : AllFit s.opening s.front
+  pub within : length s.front ≤ s.limit
 
 -- the document after the front
 abbrev pub document_of : Seen → Contents
@@ -23,10 +24,9 @@ document_of s = replay_of s.opening s.front
 abbrev pub with_change : Seen → Change → Seen
 with_change s change = record { opening = s.opening; limit = s.limit; front = s.front ++ change ∷ []; alone = s.alone }
 
--- The same board with a front that begins with the old one, each new change fitting where it stands and all within the limit. Of a board that is alone the front is the old one.
+-- The same board with a front that begins with the old one, and is sound. Of a board that is alone the front is the old one.
 pub record Grows (s t : Seen) : Type 0 where
   pub more : List Change
-  pub fits : AllFit (document_of s) more
-  pub room : length more ≤ s.limit - length s.front
   pub same : t ≡ record { opening = s.opening; limit = s.limit; front = s.front ++ more; alone = s.alone }
+  pub sound : IsSound t
   pub alone : s.alone ≡ true → more ≡ []

@@ -1,11 +1,11 @@
 -- What each call of a board may answer, and what it leaves.
-use Rattle.std.specs.Prelude.{◌≡◌, ◌≢◌, ℕ, ℤ, ◌<◌, true, false, length, Result, Ok, Err}
+use Rattle.std.specs.Prelude.{◌≡◌, ◌≢◌, ℕ, ℤ, ◌<◌, ◌≤◌, true, false, length, Result, Ok, Err}
 use Rattle.canvas_doc.specs.declared.edits.Change.{Change}
 use Rattle.canvas_doc.specs.declared.edits.Edit.{Edit}
 use Rattle.canvas_doc.specs.Decision.{decision_of}
 use Rattle.canvas_doc.specs.Effect.{Fits, new_id}
 use Rattle.canvas_doc.specs.Picture.{colour}
-use Rattle.canvas_board.specs.declared.answers.Edited.{Edited}
+use Rattle.canvas_line.specs.declared.fault.Edited.{Edited}
 use Rattle.canvas_board.specs.declared.answers.Picture.{Picture}
 use Rattle.canvas_board.specs.declared.answers.Dot.{Dot}
 use Rattle.canvas_board.specs.declared.answers.Saved.{Saved}
@@ -29,15 +29,23 @@ pub record Accepts (s : Seen) (edit : Edit) (edited : Edited) (t : Seen) : Type 
   pub number : edited.number ≡ length t.front
   pub id : edited.id ≡ new_id change
 
+-- Memory was refused, and nothing else stood against the edit: at a board h that begins with the old front, a change was decided.
+pub record WantsMemory (s : Seen) (edit : Edit) : Type 0 where
+  pub h : Seen
+  pub begins : Grows s h
+  pub room : length h.front < h.limit
+  pub change : Change
+  pub decided : decision_of edit (document_of h) ≡ Ok change
+
 -- what an edit may answer, and what it leaves
 abbrev pub Edits : Seen → Edit → Result Edited BoardFault → Seen → Type 0
 Edits s edit (Ok edited) t = Accepts s edit edited t
 Edits s edit (Err VersionsSpent) t = Grows s t × (length t.front ≡ t.limit)
 Edits s edit (Err (Refused why)) t = Grows s t × (length t.front < t.limit) × (decision_of edit (document_of t) ≡ Err why)
-Edits s edit (Err (Behind desk front)) t = (t ≡ s) × (s.alone ≡ false) × (front ≡ length s.front) × (desk < front)
+Edits s edit (Err (Behind desk front)) t = (t ≡ s) × (s.alone ≡ false) × (length s.front ≤ front) × (desk < front)
 Edits s edit (Err (Strangers own found)) t = (t ≡ s) × (s.alone ≡ false) × (own ≢ found)
 Edits s edit (Err NoView) t = (t ≡ s) × (s.alone ≡ false)
-Edits s edit (Err OutOfMemory) t = t ≡ s
+Edits s edit (Err OutOfMemory) t = (t ≡ s) × WantsMemory s edit
 Edits s edit (Err BadWorkers) t = ⊥
 Edits s edit (Err BadSetting) t = ⊥
 

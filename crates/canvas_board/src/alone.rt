@@ -1,13 +1,14 @@
 ghost use Rattle.std.specs.Prelude.{◌≡◌};
 ghost use Rattle.canvas_board.specs.Alone.{Makes, Opens};
 
-use crate::answers::{Dot, Edited, MOST_BYTES, Picture, Saved};
+use crate::answers::{Dot, MOST_BYTES, Picture, Saved};
 use crate::board::Board;
 use crate::fault::BoardFault;
 use crate::history::History;
 use crate::picture::file_of;
 use bumpalo::Bump;
 use canvas_doc::{Change, Document, Edit, Refusal};
+use canvas_line::Edited;
 use canvas_plane::Window;
 use canvas_store::export;
 use std::alloc::Global;
@@ -34,13 +35,13 @@ pub struct Alone {
 impl Model for Alone {
     ghost use Rattle.std.specs.Prelude.{◌≡◌, ◌≤◌, true, length};
     ghost use Rattle.canvas_board.specs.Seen.{Seen};
-    ghost use Rattle.canvas_doc.specs.History.{replay_of};
+    ghost use Rattle.canvas_doc.specs.History.{AllFit, replay_of};
 
     ghost Value = { Seen };
 
     ghost view = { λ a. record { opening = a.opening.value; limit = a.limit; front = a.history; alone = true } };
 
-    ghost invariant = { λ a. (a.document ≡ replay_of a.opening.value a.history) × (a.number ≡ length a.history) × (a.number ≤ a.limit) × (a.limit ≤ 1000000) };
+    ghost invariant = { λ a. (a.document ≡ replay_of a.opening.value a.history) × (a.number ≡ length a.history) × (a.number ≤ a.limit) × (a.limit ≤ 1000000) × AllFit a.opening.value a.history };
 }
 
 impl Alone {

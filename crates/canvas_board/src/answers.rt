@@ -5,15 +5,6 @@ use canvas_shape::Colour;
 /// The most bytes of an answer, 2^40, so that the bytes of a session can be counted in 64 bits.
 pub const MOST_BYTES: usize = 1 << 40;
 
-/// An edit that was accepted.
-#[derive(Clone, Copy, Debug, PartialEq, Eq)]
-pub struct Edited {
-    /// How many changes are accepted then: the version that the edit made.
-    pub number: u64,
-    /// The id of the shape that the edit made, if it made one.
-    pub id: Option<u32>,
-}
-
 /// A window of the document as an image.
 #[derive(Debug, Drop)]
 pub struct Picture {

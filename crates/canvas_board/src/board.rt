@@ -2,9 +2,10 @@ ghost use denote.Param.Send.{IsSync};
 ghost use Rattle.canvas_board.specs.Seen.{Seen};
 ghost use Rattle.canvas_board.specs.Steps.{Edits, Looks, Paints, Saves};
 
-use crate::answers::{Dot, Edited, Picture, Saved};
+use crate::answers::{Dot, Picture, Saved};
 use crate::fault::BoardFault;
 use canvas_doc::Edit;
+use canvas_line::Edited;
 use canvas_plane::Window;
 use std::sync::Wait;
 use std::thread::Threads;

@@ -3,6 +3,7 @@ ghost use Rattle.canvas_code.specs.Names.{name_of};
 ghost use Rattle.canvas_board.specs.Fault.{board_fault_code};
 
 use canvas_doc::Refusal;
+use canvas_line::LineFault;
 use thiserror::Error;
 
 /// Why a board does not answer. After any of them the document is as it was.
@@ -56,5 +57,25 @@ impl BoardFault {
         ensures { result.now ≡ name_of (board_fault_code self.now) }
     {
         canvas_code::name_of(self.code())
+    }
+}
+
+/// What a board answers where its seat is refused. A line without a free seat is a document that can't be entered.
+impl From<LineFault> for BoardFault {
+    ghost use Rattle.std.specs.Prelude.{◌≡◌};
+    ghost use Rattle.canvas_board.specs.Fault.{board_fault_of};
+
+    ghost from_gives = { λ line board. board ≡ board_fault_of line };
+
+    fn from(fault: LineFault) -> BoardFault {
+        match fault {
+            LineFault::OutOfMemory => BoardFault::OutOfMemory,
+            LineFault::Refused(why) => BoardFault::Refused(why),
+            LineFault::VersionsSpent => BoardFault::VersionsSpent,
+            LineFault::Behind { desk, front } => BoardFault::Behind { desk, front },
+            LineFault::Strangers { own, found } => BoardFault::Strangers { own, found },
+            LineFault::BadSetting => BoardFault::BadSetting,
+            LineFault::NoSeats | LineFault::NoView => BoardFault::NoView,
+        }
     }
 }

@@ -7,10 +7,11 @@ mod board;
 mod fault;
 mod history;
 mod picture;
-#[cfg(test)]
-mod tests;
+mod shared;
 
 pub use alone::Alone;
-pub use answers::{Dot, Edited, Picture, Saved};
+pub use answers::{Dot, Picture, Saved};
 pub use board::Board;
+pub use canvas_line::Edited;
 pub use fault::BoardFault;
+pub use shared::{MOST_KEPT, Shared};

@@ -4,6 +4,10 @@
 ghost use Rattle.std.specs.Prelude.{◌≡◌, ◌≤◌, length};
 ghost use Rattle.canvas_code.specs.Names.{name_of};
 
+mod memory;
+
+pub use memory::OutOfMemory;
+
 /// The name of a refusal's code, as replies give it, or an empty text for a number that is no code.
 #[tactic(auto, unfolding(crate::specs::Names::name_of))]
 pub fn name_of(code: u16) -> &'static str
@@ -58,21 +62,5 @@ pub fn name_of(code: u16) -> &'static str
         73 => "TooManyRequests",
         74 => "CutLine",
         _ => "",
-    }
-}
-
-#[cfg(test)]
-mod tests {
-    use super::*;
-
-    #[test]
-    fn names_of_codes(rt: HostRuntime) {
-        assert!(rt; name_of(1) == "OutOfMemory");
-        assert!(rt; name_of(2) == "NoSuchShape");
-        assert!(rt; name_of(17) == "Behind");
-        assert!(rt; name_of(74) == "CutLine");
-        assert!(rt; name_of(0).is_empty());
-        assert!(rt; name_of(26).is_empty());
-        assert!(rt; name_of(65_535).is_empty());
     }
 }

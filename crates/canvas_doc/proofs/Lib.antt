@@ -33,3 +33,4 @@ pub mod InOrder
 pub mod RestoredWell
 pub mod Saved
 pub mod Searched
+pub mod NeverMemory

@@ -11,8 +11,9 @@ ghost use Rattle.canvas_doc.specs.Decision.{has_shape, has_parent, can_have_chil
 use crate::lookup::{find, position_of};
 use crate::records::{Parent, Record};
 use crate::rows::Records;
+use canvas_code::OutOfMemory;
 use canvas_shape::Kind;
-use std::alloc::{AllocError, Global};
+use std::alloc::Global;
 
 /// How many steps up lead from a parent to the page at most.
 pub(crate) const STEPS: u32 = 31;
@@ -263,17 +264,17 @@ fn height_of(alloc: Global, records: &Records, id: u32) -> u32
     }
 }
 
-pub(crate) fn no_marks(alloc: Global, records: &Records, id: u32) -> Result<Vec<u8>, AllocError>
+pub(crate) fn no_marks(alloc: Global, records: &Records, id: u32) -> Result<Vec<u8>, OutOfMemory>
     ensures { IfOk result (λ marks. AreMarks id records.now marks.items) }
 {
     let marks = zeros(alloc, records.len())?;
     Ok(marks)
 }
 
-fn zeros(alloc: Global, count: usize) -> Result<Vec<u8>, AllocError>
+fn zeros(alloc: Global, count: usize) -> Result<Vec<u8>, OutOfMemory>
     ensures { IfOk result (λ all. all.items ≡ replicate count 0) }
 {
-    vec![in alloc; 0u8; count]
+    Ok(vec![in alloc; 0u8; count]?)
 }
 
 fn walked_height(records: &Records, id: u32) -> u32

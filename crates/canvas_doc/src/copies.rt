@@ -5,11 +5,12 @@ ghost use Rattle.canvas_doc.specs.Contents.{AreRising, IsWellFormed};
 
 use crate::rows::Records;
 use crate::{Document, Record};
-use std::alloc::{AllocError, Global};
+use canvas_code::OutOfMemory;
+use std::alloc::Global;
 
 impl Document {
     /// All records, in rising id.
-    pub fn records_in_order(&self, alloc: Global) -> Result<Vec<&Record>, AllocError>
+    pub fn records_in_order(&self, alloc: Global) -> Result<Vec<&Record>, OutOfMemory>
         ensures records { IfOk result (λ all. map (λ shape. shape.now) all.items ≡ self.now.records) }
         ensures rising { AreRising self.now.records }
         ensures well_formed { IsWellFormed self.now }
@@ -18,7 +19,7 @@ impl Document {
     }
 
     /// An equal document, which shares all records.
-    pub fn try_clone(&self, alloc: Global) -> Result<Document, AllocError>
+    pub fn try_clone(&self, alloc: Global) -> Result<Document, OutOfMemory>
         ensures { IfOk result (λ clone. clone ≡ self.now) }
     {
         Ok(Document {
@@ -29,7 +30,7 @@ impl Document {
     }
 }
 
-fn in_order<'a>(alloc: Global, records: &'a Records) -> Result<Vec<&'a Record>, AllocError>
+fn in_order<'a>(alloc: Global, records: &'a Records) -> Result<Vec<&'a Record>, OutOfMemory>
     ensures { IfOk result (λ all. map (λ shape. shape.now) all.items ≡ records.now) }
 {
     let mut all = Vec::with_capacity(alloc, records.len())?;

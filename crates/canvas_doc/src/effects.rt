@@ -16,9 +16,10 @@ use crate::lookup::position_of;
 use crate::place_order::{children_range, order_after_deletion, put_by_place, take_by_place};
 use crate::records::{Parent, Place, Record};
 use crate::rows::Records;
+use canvas_code::OutOfMemory;
 use canvas_plane::Pose;
 use canvas_shape::Kind;
-use std::alloc::{AllocError, Global};
+use std::alloc::Global;
 use std::ops::Range;
 
 impl Document {
@@ -28,7 +29,7 @@ impl Document {
     ghost use Rattle.canvas_doc.specs.Picture.{colour};
 
     /// The document after a change that fits.
-    pub fn with(&self, alloc: Global, change: &Change) -> Result<Document, AllocError>
+    pub fn with(&self, alloc: Global, change: &Change) -> Result<Document, OutOfMemory>
         requires { Fits change.now self.now }
         ensures effect { IfOk result (λ after. after ≡ effect_of change.now self.now) }
         ensures colours { IfOk result (λ after. SpacesOnly change.now → (x y : ℤ) → colour after.records x y ≡ colour self.now.records x y) }
@@ -69,7 +70,7 @@ impl Document {
     }
 
     // The document with one more record.
-    fn with_record(&self, alloc: Global, shape: Record) -> Result<Document, AllocError>
+    fn with_record(&self, alloc: Global, shape: Record) -> Result<Document, OutOfMemory>
         requires { IsWellFormed (record { records = self.now.records ++ shape ∷ []; next = self.now.next + 1 }) }
         ensures { IfOk result (λ after. after ≡ record { records = self.now.records ++ shape ∷ []; next = self.now.next + 1 }) }
     {
@@ -85,7 +86,7 @@ impl Document {
     }
 
     // The document with new indexes for the children of a parent, which leave the order as it is.
-    fn with_new_indexes(&self, alloc: Global, parent: Parent) -> Result<Document, AllocError>
+    fn with_new_indexes(&self, alloc: Global, parent: Parent) -> Result<Document, OutOfMemory>
         ensures { IfOk result (λ after. after ≡ effect_of (Respace parent) self.now) }
     {
         let records = all_respaced(alloc, &self.records, &self.order, parent)?;
@@ -97,7 +98,7 @@ impl Document {
     }
 
     // The document after a change of one shape's place, pose, kind or mark.
-    fn with_one_changed(&self, alloc: Global, change: &Change) -> Result<Document, AllocError>
+    fn with_one_changed(&self, alloc: Global, change: &Change) -> Result<Document, OutOfMemory>
         requires one { changes_one change.now ≡ true }
         requires fits { Fits change.now self.now }
         ensures { IfOk result (λ after. after ≡ effect_of change.now self.now) }
@@ -112,7 +113,7 @@ impl Document {
     }
 
     // The order after a change of one shape: only a move changes it.
-    fn order_after(&self, records: &Records, change: &Change) -> Result<Vec<u32>, AllocError>
+    fn order_after(&self, records: &Records, change: &Change) -> Result<Vec<u32>, OutOfMemory>
         requires changed { records.now ≡ map (changed_by change.now) self.now.records }
         requires places { HavePlaces records.now }
         ensures { IfOk result (λ order. IsInPlaceOrder order.items records.now) }
@@ -125,11 +126,11 @@ impl Document {
                 return Ok(order);
             }
         }
-        self.order.clone()
+        Ok(self.order.clone()?)
     }
 }
 
-fn changed_by(alloc: Global, shape: &Record, change: &Change) -> Result<Record, AllocError>
+fn changed_by(alloc: Global, shape: &Record, change: &Change) -> Result<Record, OutOfMemory>
     ensures { IfOk result (λ after. after ≡ changed_by change.now shape.now) }
 {
     match change {
@@ -167,7 +168,7 @@ fn changed_by(alloc: Global, shape: &Record, change: &Change) -> Result<Record, 
     }
 }
 
-fn moved(alloc: Global, shape: &Record, place: &Place) -> Result<Record, AllocError>
+fn moved(alloc: Global, shape: &Record, place: &Place) -> Result<Record, OutOfMemory>
     ensures { IfOk result (λ after. after ≡ record shape.now { place = place.now }) }
 {
     Ok(Record {
@@ -179,7 +180,7 @@ fn moved(alloc: Global, shape: &Record, place: &Place) -> Result<Record, AllocEr
     })
 }
 
-fn posed(alloc: Global, shape: &Record, pose: Pose) -> Result<Record, AllocError>
+fn posed(alloc: Global, shape: &Record, pose: Pose) -> Result<Record, OutOfMemory>
     ensures { IfOk result (λ after. after ≡ record shape.now { pose = pose }) }
 {
     Ok(Record {
@@ -191,7 +192,7 @@ fn posed(alloc: Global, shape: &Record, pose: Pose) -> Result<Record, AllocError
     })
 }
 
-fn reshaped(alloc: Global, shape: &Record, kind: &Kind) -> Result<Record, AllocError>
+fn reshaped(alloc: Global, shape: &Record, kind: &Kind) -> Result<Record, OutOfMemory>
     ensures { IfOk result (λ after. after ≡ record shape.now { kind = kind.now }) }
 {
     Ok(Record {
@@ -203,7 +204,7 @@ fn reshaped(alloc: Global, shape: &Record, kind: &Kind) -> Result<Record, AllocE
     })
 }
 
-fn shown(alloc: Global, shape: &Record, hidden: bool) -> Result<Record, AllocError>
+fn shown(alloc: Global, shape: &Record, hidden: bool) -> Result<Record, OutOfMemory>
     ensures { IfOk result (λ after. after ≡ record shape.now { hidden = hidden }) }
 {
     Ok(Record {
@@ -216,7 +217,7 @@ fn shown(alloc: Global, shape: &Record, hidden: bool) -> Result<Record, AllocErr
 }
 
 // The records after a change of one shape's place, pose, kind or mark.
-fn changed(alloc: Global, records: &Records, change: &Change) -> Result<Records, AllocError>
+fn changed(alloc: Global, records: &Records, change: &Change) -> Result<Records, OutOfMemory>
     requires rising { AreRising records.now }
     requires few { length records.now ≤ 4096 }
     ensures { IfOk result (λ all. all ≡ map (changed_by change.now) records.now) }
@@ -257,7 +258,7 @@ fn changed_id(change: &Change) -> Option<u32>
 }
 
 // The records without a shape and all below it.
-fn without(alloc: Global, records: &Records, id: u32) -> Result<Records, AllocError>
+fn without(alloc: Global, records: &Records, id: u32) -> Result<Records, OutOfMemory>
     requires rising { AreRising records.now }
     requires grounded { All (λ r. reaches_page 31 records.now r.place.parent ≡ true) records.now }
     requires few { length records.now ≤ 4096 }
@@ -272,7 +273,7 @@ fn without_marked(
     records: &Records,
     marks: &mut [u8],
     id: u32,
-) -> Result<Records, AllocError>
+) -> Result<Records, OutOfMemory>
     requires rising { AreRising records.now }
     requires grounded { All (λ r. reaches_page 31 records.now r.place.parent ≡ true) records.now }
     requires few { length records.now ≤ 4096 }
@@ -299,7 +300,7 @@ fn all_respaced(
     records: &Records,
     order: &[u32],
     parent: Parent,
-) -> Result<Records, AllocError>
+) -> Result<Records, OutOfMemory>
     requires few { length records.now ≤ 4096 }
     requires places { HavePlaces records.now }
     requires order { IsInPlaceOrder order.now records.now }
@@ -327,7 +328,7 @@ fn child_ranks(
     records: &Records,
     order: &[u32],
     parent: Parent,
-) -> Result<Vec<Option<u32>>, AllocError>
+) -> Result<Vec<Option<u32>>, OutOfMemory>
     requires few { length records.now ≤ 4096 }
     requires places { HavePlaces records.now }
     requires order { IsInPlaceOrder order.now records.now }
@@ -341,8 +342,8 @@ fn child_ranks(
     Ok(ranks)
 }
 
-fn no_ranks(alloc: Global, count: usize) -> Result<Vec<Option<u32>>, AllocError>
+fn no_ranks(alloc: Global, count: usize) -> Result<Vec<Option<u32>>, OutOfMemory>
     ensures { IfOk result (λ all. all.items ≡ replicate count None) }
 {
-    vec![in alloc; None; count]
+    Ok(vec![in alloc; None; count]?)
 }

@@ -6,9 +6,10 @@ ghost use Rattle.canvas_doc.specs.Rows.{ended, shown, Extends, HaveRecords, IsLa
 
 use crate::records::{Place, Record};
 use crate::rows::{Cell, Records, Row};
+use canvas_code::OutOfMemory;
 use canvas_key::first_fresh;
 use canvas_plane::Pose;
-use std::alloc::{AllocError, Global};
+use std::alloc::Global;
 use std::marker::Model;
 
 /// How many new records share a row at most.
@@ -43,7 +44,7 @@ impl Model for Gathering {
 impl Gathering {
     /// No records yet. There is room for `count` of them, and for the first `new` ones that are not
     /// shared.
-    pub(crate) fn new(alloc: Global, count: usize, new: usize) -> Result<Gathering, AllocError>
+    pub(crate) fn new(alloc: Global, count: usize, new: usize) -> Result<Gathering, OutOfMemory>
         ensures { IfOk result (λ none. none ≡ []) }
     {
         Ok(Gathering {
@@ -56,7 +57,7 @@ impl Gathering {
 
     /// Adds a new record.
     #[inline(always)]
-    pub(crate) fn add(self, shape: Record) -> Result<Gathering, AllocError>
+    pub(crate) fn add(self, shape: Record) -> Result<Gathering, OutOfMemory>
         requires { length self < 4096 }
         ensures { IfOk result (λ more. more ≡ self ++ shape ∷ []) }
     {
@@ -78,7 +79,7 @@ impl Gathering {
     /// Adds a record with the index that stands for a rank. The index is written where the record
     /// lies already: a key is too long to be moved for each record.
     #[inline(always)]
-    pub(crate) fn add_respaced(self, shape: &Record, rank: u32) -> Result<Gathering, AllocError>
+    pub(crate) fn add_respaced(self, shape: &Record, rank: u32) -> Result<Gathering, OutOfMemory>
         requires { length self < 4096 }
         ensures { IfOk result (λ more. more ≡ self ++ record shape.now { place = record shape.now.place { index = fresh_key rank } } ∷ []) }
     {
@@ -114,7 +115,7 @@ impl Gathering {
         source: &Records,
         from: usize,
         to: usize,
-    ) -> Result<Gathering, AllocError>
+    ) -> Result<Gathering, OutOfMemory>
         requires from { from ≤ to }
         requires to { to ≤ length source.now }
         requires few { length self + (to - from) ≤ 4096 }
@@ -153,7 +154,7 @@ impl Gathering {
         source: &Records,
         from: usize,
         to: usize,
-    ) -> Result<Gathering, AllocError>
+    ) -> Result<Gathering, OutOfMemory>
         requires from { from ≤ to }
         requires to { to ≤ length source.now }
         requires few { length self + (to - from) ≤ 4096 }
@@ -168,7 +169,7 @@ impl Gathering {
     }
 
     /// All records that were put together.
-    pub(crate) fn finish(self) -> Result<Records, AllocError>
+    pub(crate) fn finish(self) -> Result<Records, OutOfMemory>
         ensures { IfOk result (λ all. all ≡ self) }
     {
         let Gathering {
@@ -187,7 +188,7 @@ fn ended(
     alloc: Global,
     rows: Vec<Row>,
     fresh: Vec<Record>,
-) -> Result<(Vec<Row>, Vec<Record>), AllocError>
+) -> Result<(Vec<Row>, Vec<Record>), OutOfMemory>
     ensures rows { IfOk result (λ all. all.0.items ≡ ended rows.items fresh.items) }
     ensures empty { IfOk result (λ all. all.1.items ≡ []) }
 {
@@ -206,7 +207,7 @@ fn gathered(
     rows: Vec<Row>,
     cells: Vec<Cell>,
     fresh: Vec<Record>,
-) -> Result<Gathering, AllocError>
+) -> Result<Gathering, OutOfMemory>
     requires have { HaveRecords (rows.items ++ fresh.items ∷ []) cells.items }
     requires few { length rows.items + length fresh.items ≤ length cells.items }
     requires short { length fresh.items ≤ 64 }
@@ -244,7 +245,7 @@ fn numbers_of(pose: &Pose) -> Pose
 }
 
 // The rows with one of the source, shared, behind them.
-fn with_last(rows: Vec<Row>, source: &[Row], number: u16) -> Result<Vec<Row>, AllocError>
+fn with_last(rows: Vec<Row>, source: &[Row], number: u16) -> Result<Vec<Row>, OutOfMemory>
     requires { number < length source.now }
     ensures last { IfOk result (λ all. IsLast all.items source.now number) }
     ensures more { IfOk result (λ all. Extends rows.items all.items) }
@@ -262,7 +263,7 @@ impl Records {
         alloc: Global,
         at: usize,
         shape: Record,
-    ) -> Result<Records, AllocError>
+    ) -> Result<Records, OutOfMemory>
         requires at { at < length self.now }
         requires few { length self.now ≤ 4096 }
         ensures { IfOk result (λ all. all ≡ slice_set self.now at shape) }
@@ -279,7 +280,7 @@ impl Records {
     }
 
     /// The records with one more at the end.
-    pub(crate) fn with_one_more(&self, alloc: Global, shape: Record) -> Result<Records, AllocError>
+    pub(crate) fn with_one_more(&self, alloc: Global, shape: Record) -> Result<Records, OutOfMemory>
         requires { length self.now < 4096 }
         ensures { IfOk result (λ all. all ≡ self.now ++ shape ∷ []) }
     {

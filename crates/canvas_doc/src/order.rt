@@ -9,7 +9,8 @@ use crate::Document;
 use crate::place_order::children_range;
 use crate::records::{Parent, Record};
 use crate::rows::Records;
-use std::alloc::{AllocError, Allocator};
+use canvas_code::OutOfMemory;
+use std::alloc::Allocator;
 use std::ops::Range;
 
 impl Document {
@@ -18,7 +19,7 @@ impl Document {
         &self,
         alloc: A,
         parent: Parent,
-    ) -> Result<Vec<&Record, A>, AllocError>
+    ) -> Result<Vec<&Record, A>, OutOfMemory>
         ensures children { IfOk result (λ list. map (λ shape. shape.now) list.items ≡ children parent self.now.records) }
         ensures limits { IfOk result (λ list. All (λ shape. IsInLimits shape.now) list.items) }
     {
@@ -32,7 +33,7 @@ fn children<'a, A: Allocator>(
     records: &'a Records,
     order: &[u32],
     parent: Parent,
-) -> Result<Vec<&'a Record, A>, AllocError>
+) -> Result<Vec<&'a Record, A>, OutOfMemory>
     requires order { IsInPlaceOrder order.now records.now }
     requires places { HavePlaces records.now }
     requires limits { All IsInLimits records.now }

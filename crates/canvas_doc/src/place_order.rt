@@ -11,12 +11,13 @@ ghost use Rattle.canvas_doc.specs.Tree.{HavePlaces};
 
 use crate::records::{Parent, Record};
 use crate::rows::Records;
-use std::alloc::{AllocError, Global};
+use canvas_code::OutOfMemory;
+use std::alloc::Global;
 use std::cmp::Ordering;
 use std::ops::Range;
 
 // The positions of all records, sorted by place.
-pub(crate) fn sorted_positions(alloc: Global, records: &Records) -> Result<Vec<u32>, AllocError>
+pub(crate) fn sorted_positions(alloc: Global, records: &Records) -> Result<Vec<u32>, OutOfMemory>
     requires few { length records.now ≤ 4096 }
     requires places { HavePlaces records.now }
     ensures { IfOk result (λ order. IsInPlaceOrder order.items records.now) }
@@ -27,7 +28,7 @@ pub(crate) fn sorted_positions(alloc: Global, records: &Records) -> Result<Vec<u
 }
 
 // The numbers from 0 up to a count.
-fn positions(alloc: Global, count: usize) -> Result<Vec<u32>, AllocError>
+fn positions(alloc: Global, count: usize) -> Result<Vec<u32>, OutOfMemory>
     requires { count ≤ 4096 }
     ensures { IfOk result (λ all. all.items ≡ range_with_len 0 count) }
 {
@@ -113,7 +114,7 @@ pub(crate) fn put_by_place(
     order: &mut Vec<u32>,
     records: &Records,
     position: usize,
-) -> Result<(), AllocError>
+) -> Result<(), OutOfMemory>
     requires few { length records.now ≤ 4096 }
     requires there { position < length records.now }
     requires places { HavePlaces records.now }
@@ -153,7 +154,7 @@ pub(crate) fn order_after_deletion(
     order: &[u32],
     records: &Records,
     left: &Records,
-) -> Result<Vec<u32>, AllocError>
+) -> Result<Vec<u32>, OutOfMemory>
     requires few { length records.now ≤ 4096 }
     requires few_left { length left.now ≤ 4096 }
     requires rising { AreRising records.now }
@@ -176,7 +177,7 @@ fn positions_kept(
     order: &[u32],
     records: &Records,
     left: &Records,
-) -> Result<Vec<u32>, AllocError>
+) -> Result<Vec<u32>, OutOfMemory>
     requires few { length records.now ≤ 4096 }
     requires rising { AreRising records.now }
     requires order { IsInPlaceOrder order.now records.now }
@@ -198,7 +199,7 @@ fn positions_left(
     alloc: Global,
     records: &Records,
     left: &Records,
-) -> Result<Vec<Option<u32>>, AllocError>
+) -> Result<Vec<Option<u32>>, OutOfMemory>
     requires few { length records.now ≤ 4096 }
     requires rising { AreRising records.now }
     requires part { ArePartOf records.now left.now }

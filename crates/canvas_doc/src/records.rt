@@ -2,10 +2,11 @@
 
 ghost use Rattle.std.specs.Prelude.{◌≡◌, IfOk};
 
+use canvas_code::OutOfMemory;
 use canvas_key::Key;
 use canvas_plane::Pose;
 use canvas_shape::Kind;
-use std::alloc::{AllocError, Global};
+use std::alloc::Global;
 
 /// What a record hangs from: the page, or a group or a frame.
 #[derive(Clone, Copy, Debug, PartialEq, Eq)]
@@ -59,7 +60,7 @@ impl Place {
 impl Record {
     /// An equal record; want of memory is the only refusal.
     #[inline(always)]
-    pub fn try_clone(&self, alloc: Global) -> Result<Record, AllocError>
+    pub fn try_clone(&self, alloc: Global) -> Result<Record, OutOfMemory>
         ensures { IfOk result (λ shape. shape ≡ self.now) }
     {
         Ok(Record {

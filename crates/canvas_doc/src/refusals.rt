@@ -12,7 +12,7 @@ use thiserror::Error;
 /// Where several causes stand, `Document::decide` answers the first in the order `NoSuchShape`,
 /// `NoSuchParent`, `NotAContainer`, `Cycle`, `TooDeep`, `TooMany`, `IdsSpent`, `WrongKind`, `BadSize`,
 /// `BadPose`, `BadPolygon`, `SpotNotSibling`, `IndexTaken`, `NoRoom`, `OutOfMemory`.
-#[derive(Clone, Copy, Debug, PartialEq, Eq, Error)]
+#[derive(Clone, Copy, Debug, PartialEq, Eq, Drop, Error)]
 pub enum Refusal {
     /// 1: a growth was refused.
     #[error("OutOfMemory")]
@@ -99,6 +99,16 @@ impl From<AllocError> for Refusal {
     ghost from_gives = { λ _ refusal. refusal ≡ OutOfMemory };
 
     fn from(_: AllocError) -> Refusal {
+        Refusal::OutOfMemory
+    }
+}
+
+impl From<canvas_code::OutOfMemory> for Refusal {
+    ghost use Rattle.canvas_doc.specs.declared.refusals.Refusal.TheVariants.{OutOfMemory};
+
+    ghost from_gives = { λ _ refusal. refusal ≡ OutOfMemory };
+
+    fn from(_: canvas_code::OutOfMemory) -> Refusal {
         Refusal::OutOfMemory
     }
 }

@@ -1,6 +1,6 @@
 //! Documents from lists of records.
 
-ghost use Rattle.std.specs.Prelude.{◌≡◌, ◌≤◌, ◌⊎◌, ◌&&◌, ◌||◌, ◌==◌, Ok, Err, IfOk, MatchResult, OnOk, All, Some, None, length, take, not};
+ghost use Rattle.std.specs.Prelude.{ℕ, IsErrOf, ◌≡◌, ◌≤◌, ◌⊎◌, ◌&&◌, ◌||◌, ◌==◌, Ok, Err, IfOk, MatchResult, OnOk, All, Some, None, length, take, not};
 ghost use Rattle.std.specs.Option.{option_copied};
 ghost use Rattle.std.specs.List.{list_any, slice_get};
 ghost use Rattle.canvas_doc.specs.declared.records.Record.{Record};
@@ -10,19 +10,19 @@ ghost use Rattle.canvas_doc.specs.Contents.{record_of, IsWellFormed};
 ghost use Rattle.canvas_doc.specs.Decision.{can_have_children};
 ghost use Rattle.canvas_doc.specs.Restored.{is_record, record_fault, leads_to_page, same_place, tree_fault, by_id, restoration_of, tree_fault_code};
 ghost use Rattle.canvas_doc.specs.Listed.{GivesFirsts, holder_of, has_place};
-ghost use Rattle.canvas_doc.specs.declared.restored.TreeFault.TheVariants.{OutOfMemory};
 
 use crate::ancestry::{STEPS, is_container};
 use crate::gathering::{Gathering, ROW};
 use crate::place_order::{holder_of, sorted_positions};
 use crate::rows::Records;
 use crate::{Document, Parent, Record};
+use canvas_code::OutOfMemory;
 use std::alloc::{AllocError, Global};
 use std::collections::{BTreeMap, BTreeSet};
 use thiserror::Error;
 
 /// Why a list of records is no document.
-#[derive(Clone, Copy, Debug, PartialEq, Eq, Error)]
+#[derive(Clone, Copy, Debug, PartialEq, Eq, Drop, Error)]
 pub enum TreeFault {
     /// There was no memory.
     #[error("OutOfMemory")]
@@ -56,9 +56,23 @@ impl TreeFault {
 }
 
 impl From<AllocError> for TreeFault {
+    ghost use Rattle.std.specs.Prelude.{◌≡◌};
+    ghost use Rattle.canvas_doc.specs.declared.restored.TreeFault.TheVariants.{OutOfMemory};
+
     ghost from_gives = { λ _ fault. fault ≡ OutOfMemory };
 
     fn from(_: AllocError) -> TreeFault {
+        TreeFault::OutOfMemory
+    }
+}
+
+impl From<OutOfMemory> for TreeFault {
+    ghost use Rattle.std.specs.Prelude.{◌≡◌};
+    ghost use Rattle.canvas_doc.specs.declared.restored.TreeFault.TheVariants.{OutOfMemory};
+
+    ghost from_gives = { λ _ fault. fault ≡ OutOfMemory };
+
+    fn from(_: OutOfMemory) -> TreeFault {
         TreeFault::OutOfMemory
     }
 }
@@ -75,13 +89,15 @@ impl Record {
 impl Document {
     /// The document of these records, which may stand in any order, with `next` as its next id.
     ///
-    /// `BadRecord` names the least position whose record has an id outside 1 to `next - 1`, or a pose or a kind outside its limits.
+    /// `BadRecord` names the least position whose record has an id outside 1 to `next - 1`, or a pose or a kind outside its limits; it is judged first and takes no memory.
     /// `BadTree`, judged after that, names the least position whose record has the id of an earlier one, a parent that is neither the page nor a group or frame of the list, no path to the page within 32 steps, or the parent and index of an earlier one.
     /// Where an id stands twice, the first record with it counts as the parent.
     pub fn restore(alloc: Global, records: Vec<Record>, next: u32) -> Result<Document, TreeFault>
         requires next { 1 ≤ next }
         requires few { length records.items ≤ 4096 }
-        ensures restoration { MatchResult result (λ document. restoration_of records.items next ≡ Ok document) (λ fault. (fault ≡ OutOfMemory) ⊎ (restoration_of records.items next ≡ Err fault)) }
+        ensures restoration { MatchResult result (λ document. restoration_of records.items next ≡ Ok document) (λ fault. (fault ≡ TreeFault.OutOfMemory) ⊎ (restoration_of records.items next ≡ Err fault)) }
+        // A record's own fault is named also where there is no memory.
+        ensures limits { (position : ℕ) → record_fault next records.items ≡ Some position → IsErrOf result (TreeFault.BadRecord position) }
         ensures again { IsWellFormed (record { records = records.items; next = next }) → restoration_of records.items next ≡ Ok (record { records = records.items; next = next }) }
     {
         if let Some(position) = record_fault(&records, next) {
@@ -96,7 +112,7 @@ impl Document {
     }
 
     // The document of records in rising id.
-    fn of_sorted(alloc: Global, records: Records, next: u32) -> Result<Document, AllocError>
+    fn of_sorted(alloc: Global, records: Records, next: u32) -> Result<Document, OutOfMemory>
         requires { IsWellFormed (record { records = records; next = next }) }
         ensures { IfOk result (λ document. document ≡ record { records = records; next = next }) }
     {
@@ -117,7 +133,7 @@ fn record_fault(records: &[Record], next: u32) -> Option<usize>
 }
 
 // The records in rising id.
-fn by_id(mut records: Vec<Record>) -> Result<Vec<Record>, AllocError>
+fn by_id(mut records: Vec<Record>) -> Result<Vec<Record>, OutOfMemory>
     ensures { IfOk result (λ sorted. sorted.items ≡ by_id records.items) }
 {
     records.sort_by_key(|shape| shape.id)?;
@@ -125,7 +141,7 @@ fn by_id(mut records: Vec<Record>) -> Result<Vec<Record>, AllocError>
 }
 
 // The records, in rows that can be shared.
-fn in_rows(alloc: Global, records: Vec<Record>) -> Result<Records, AllocError>
+fn in_rows(alloc: Global, records: Vec<Record>) -> Result<Records, OutOfMemory>
     requires { length records.items ≤ 4096 }
     ensures { IfOk result (λ all. all ≡ records.items) }
 {
@@ -137,7 +153,7 @@ fn in_rows(alloc: Global, records: Vec<Record>) -> Result<Records, AllocError>
 }
 
 // The least position of a record that does not belong to a page tree.
-fn tree_fault(alloc: Global, records: &[Record]) -> Result<Option<usize>, AllocError>
+fn tree_fault(alloc: Global, records: &[Record]) -> Result<Option<usize>, OutOfMemory>
     ensures value { IfOk result (λ fault. fault ≡ tree_fault records.now) }
     ensures keys { IfOk result (λ fault. fault ≡ None → All (λ shape. IsKey shape.place.index) records.now) }
 {
@@ -155,7 +171,7 @@ fn tree_fault(alloc: Global, records: &[Record]) -> Result<Option<usize>, AllocE
 }
 
 // The first position of each id.
-fn first_positions(alloc: Global, records: &[Record]) -> Result<BTreeMap<u32, usize>, AllocError>
+fn first_positions(alloc: Global, records: &[Record]) -> Result<BTreeMap<u32, usize>, OutOfMemory>
     ensures { IfOk result (λ firsts. GivesFirsts firsts records.now) }
 {
     let mut firsts = BTreeMap::new(alloc);
@@ -183,7 +199,7 @@ fn repeats_id(
 fn takes_place<'a>(
     places: &mut BTreeSet<(Option<u32>, &'a [u8])>,
     shape: &'a Record,
-) -> Result<bool, AllocError>
+) -> Result<bool, OutOfMemory>
     ensures key { IsKey shape.now.place.index }
     ensures free { IfOk result (λ free. free ≡ not (has_place places.old shape.now)) }
     ensures after { OnOk result ((r : Record) → has_place places.new r ≡ (same_place r shape.now || has_place places.old r)) }
@@ -262,6 +278,3 @@ fn leads_to_page(
         }
     }
 }
-
-#[cfg(test)]
-mod tests;

@@ -6,7 +6,8 @@ ghost use Rattle.std.specs.List.{slice_get};
 ghost use Rattle.std.specs.Option.{option_copied};
 
 use crate::records::Record;
-use std::alloc::{AllocError, Global};
+use canvas_code::OutOfMemory;
+use std::alloc::Global;
 use std::marker::Model;
 use std::sync::Arc;
 
@@ -35,7 +36,7 @@ impl Model for Row {
 }
 
 impl Row {
-    pub(crate) fn new(alloc: Global, shapes: Vec<Record>) -> Result<Row, AllocError>
+    pub(crate) fn new(alloc: Global, shapes: Vec<Record>) -> Result<Row, OutOfMemory>
         ensures { IfOk result (λ row. row ≡ shapes.items) }
     {
         Ok(Row {
@@ -45,7 +46,7 @@ impl Row {
 
     /// The same row for another document: it takes no memory of its own.
     #[inline(always)]
-    pub(crate) fn share(&self) -> Result<Row, AllocError>
+    pub(crate) fn share(&self) -> Result<Row, OutOfMemory>
         ensures { IfOk result (λ row. row ≡ self.now) }
     {
         Ok(Row {
@@ -127,7 +128,7 @@ impl Records {
     }
 
     /// Equal records, which share all rows.
-    pub(crate) fn try_clone(&self, alloc: Global) -> Result<Records, AllocError>
+    pub(crate) fn try_clone(&self, alloc: Global) -> Result<Records, OutOfMemory>
         ensures { IfOk result (λ records. records ≡ self.now) }
     {
         Ok(Records {
@@ -137,7 +138,7 @@ impl Records {
     }
 }
 
-fn shared_rows(alloc: Global, rows: &[Row]) -> Result<Vec<Row>, AllocError>
+fn shared_rows(alloc: Global, rows: &[Row]) -> Result<Vec<Row>, OutOfMemory>
     ensures { IfOk result (λ all. all.items ≡ rows.now) }
 {
     let mut all = Vec::with_capacity(alloc, rows.len())?;

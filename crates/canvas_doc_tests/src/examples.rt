@@ -8,7 +8,7 @@ use canvas_doc::{Document, Edit, Parent, Refusal, Spot};
 use canvas_key::{Key, fresh};
 use canvas_plane::Pose;
 use canvas_shape::{Colour, Kind};
-use std::alloc::{AllocError, Global};
+use std::alloc::Global;
 use std::process::Abort;
 use std::test::Fail;
 
@@ -260,5 +260,20 @@ fn an_index_over_a_sibling(rt: HostRuntime) -> Result<(), Fail> {
         document = edited(alloc, &document, &edit)?;
         assert!(rt; index_of(&document, id) == index, "shape {id}");
     }
+    Ok(())
+}
+
+// In one row 9 + 9 > 16 keeps the corner out, in the next 1 + 9 <= 16 takes the side in.
+#[test]
+fn ellipse_lacks_its_corners_alone(rt: HostRuntime) -> Result<(), Fail> {
+    let alloc = rt.alloc();
+    let ellipse = Kind::Ellipse {
+        w: 4,
+        h: 4,
+        fill: RED,
+    };
+    let edit = create(ellipse, Parent::Page, Spot::Front);
+    let document = edited(alloc, &Document::empty(alloc), &edit)?;
+    assert!(rt; looks_like(&document, 0, 0, &["wrrw", "rrrr", "rrrr", "wrrw"]));
     Ok(())
 }

@@ -15,6 +15,8 @@ mod random;
 #[cfg(test)]
 mod refused;
 #[cfg(test)]
+mod restored;
+#[cfg(test)]
 mod shapes;
 #[cfg(test)]
 mod shared_rows;

@@ -1,5 +1,6 @@
 //! A slow, plain model of documents: each question is answered by looking at every record.
 
+use canvas_code::OutOfMemory;
 use canvas_doc::{Change, Edit, Parent, Place, Record, Refusal, Spot};
 use canvas_key::{Key, between, fresh};
 use canvas_plane::Pose;
@@ -246,7 +247,7 @@ impl Plain {
     }
 
     /// Makes a change.
-    pub(crate) fn make(&mut self, alloc: Global, change: &Change) -> Result<(), AllocError> {
+    pub(crate) fn make(&mut self, alloc: Global, change: &Change) -> Result<(), OutOfMemory> {
         match change {
             Change::Create {
                 id,
@@ -281,7 +282,7 @@ impl Plain {
     }
 
     // Takes out a shape and all that has it on the path to the page.
-    fn delete(&mut self, alloc: Global, id: u32) -> Result<(), AllocError> {
+    fn delete(&mut self, alloc: Global, id: u32) -> Result<(), OutOfMemory> {
         let mut kept = Vec::new(alloc);
         for shape in &self.records {
             let path = self.path(alloc, Parent::Shape(shape.id))?;
@@ -294,7 +295,7 @@ impl Plain {
     }
 
     // Gives the children of a parent the first fresh indexes, from back to front.
-    fn respace(&mut self, alloc: Global, parent: Parent) -> Result<(), AllocError> {
+    fn respace(&mut self, alloc: Global, parent: Parent) -> Result<(), OutOfMemory> {
         let mut old = Vec::new(alloc);
         for key in self.indexes(alloc, 0, parent)? {
             old.push(key.copy())?;
@@ -308,7 +309,7 @@ impl Plain {
     }
 }
 
-fn change_shape(alloc: Global, shape: &mut Record, change: &Change) -> Result<(), AllocError> {
+fn change_shape(alloc: Global, shape: &mut Record, change: &Change) -> Result<(), OutOfMemory> {
     match change {
         Change::Move { place, .. } => shape.place = place.copy(),
         Change::Pose { pose, .. } => shape.pose = *pose,

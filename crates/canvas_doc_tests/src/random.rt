@@ -6,11 +6,12 @@ use crate::dice::Dice;
 use crate::plain::Plain;
 use crate::shapes::{record, restored};
 use crate::viewed::{Pixel, colour_at};
+use canvas_code::OutOfMemory;
 use canvas_doc::{Change, Document, Edit, Parent, Record, Refusal, Spot};
 use canvas_key::fresh;
 use canvas_plane::{Point, Pose};
 use canvas_shape::{Colour, Kind, Points};
-use std::alloc::{AllocError, Global};
+use std::alloc::Global;
 use std::process::Abort;
 use std::test::Fail;
 
@@ -84,7 +85,7 @@ fn colour(dice: &mut Dice) -> Colour {
     Colour([red, green, 7])
 }
 
-fn points(alloc: Global, dice: &mut Dice) -> Result<Points, AllocError> {
+fn points(alloc: Global, dice: &mut Dice) -> Result<Points, OutOfMemory> {
     let mut points = Points::new(alloc);
     for _ in 0..dice.below(6) + 2 {
         points.push(Point {
@@ -95,7 +96,7 @@ fn points(alloc: Global, dice: &mut Dice) -> Result<Points, AllocError> {
     Ok(points)
 }
 
-fn kind(alloc: Global, dice: &mut Dice) -> Result<Kind, AllocError> {
+fn kind(alloc: Global, dice: &mut Dice) -> Result<Kind, OutOfMemory> {
     Ok(match dice.below(8) {
         0 | 1 | 2 => Kind::Group,
         3 | 4 => Kind::Frame {
@@ -124,7 +125,7 @@ fn kind(alloc: Global, dice: &mut Dice) -> Result<Kind, AllocError> {
     })
 }
 
-fn create(alloc: Global, dice: &mut Dice, plain: &Plain) -> Result<Edit, AllocError> {
+fn create(alloc: Global, dice: &mut Dice, plain: &Plain) -> Result<Edit, OutOfMemory> {
     let parent = parent(dice, plain);
     Ok(Edit::Create {
         kind: kind(alloc, dice)?,
@@ -144,7 +145,7 @@ fn displace(dice: &mut Dice, plain: &Plain) -> Edit {
     }
 }
 
-fn edit(alloc: Global, dice: &mut Dice, plain: &Plain) -> Result<Edit, AllocError> {
+fn edit(alloc: Global, dice: &mut Dice, plain: &Plain) -> Result<Edit, OutOfMemory> {
     Ok(match dice.below(20) {
         0 | 1 | 2 | 3 | 4 | 5 | 6 => create(alloc, dice, plain)?,
         7 | 8 | 9 | 10 | 11 | 12 => displace(dice, plain),
@@ -178,7 +179,7 @@ fn are_same(own: &Result<Change, Refusal>, plain: &Result<Change, Refusal>) -> b
 }
 
 // Whether a document has the records and the next id of the plain one.
-fn agree(alloc: Global, document: &Document, plain: &Plain) -> Result<bool, AllocError> {
+fn agree(alloc: Global, document: &Document, plain: &Plain) -> Result<bool, OutOfMemory> {
     let records = document.records_in_order(alloc)?;
     let mut same = document.next_id() == plain.next
         && document.count() == plain.records.len()
@@ -195,7 +196,7 @@ fn look_alike(
     dice: &mut Dice,
     document: &Document,
     plain: &Plain,
-) -> Result<bool, AllocError> {
+) -> Result<bool, OutOfMemory> {
     let mut same = true;
     for _ in 0..6u32 {
         let x = dice.below(50) as i32 - 25;
@@ -210,7 +211,7 @@ fn look_alike(
 }
 
 // Groups and a few frames, each of which holds the next.
-fn nested(alloc: Global, levels: u32) -> Result<Vec<Record>, AllocError> {
+fn nested(alloc: Global, levels: u32) -> Result<Vec<Record>, OutOfMemory> {
     let mut records = Vec::new(alloc);
     for above in 0..levels {
         let parent = if above == 0 {

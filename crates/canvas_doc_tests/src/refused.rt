@@ -3,11 +3,12 @@
 use crate::shapes::{
     RED, create, frame, last_index_below_a1, moved, polygon, record, rectangle, restored,
 };
+use canvas_code::OutOfMemory;
 use canvas_doc::{Document, Edit, Parent, Record, Refusal, Spot};
 use canvas_key::{Key, fresh};
 use canvas_plane::Pose;
 use canvas_shape::Kind;
-use std::alloc::{AllocError, Global};
+use std::alloc::Global;
 use std::process::Abort;
 use std::test::Fail;
 
@@ -79,7 +80,7 @@ fn records(alloc: Global) -> Result<Vec<Record>, Fail> {
 }
 
 // As many groups more as there may be records.
-fn fill_up(records: &mut Vec<Record>) -> Result<(), AllocError> {
+fn fill_up(records: &mut Vec<Record>) -> Result<(), OutOfMemory> {
     for id in NEXT..4097 {
         records.push(record(id, Parent::Page, fresh(id), Kind::Group))?;
     }
@@ -102,7 +103,7 @@ enum Flaw {
     Vertices,
 }
 
-fn kind_with(alloc: Global, flaw: Flaw) -> Result<Kind, AllocError> {
+fn kind_with(alloc: Global, flaw: Flaw) -> Result<Kind, OutOfMemory> {
     match flaw {
         Flaw::None => Ok(Kind::Group),
         Flaw::Side => Ok(rectangle(1, 0, RED)),

@@ -1,10 +1,11 @@
 //! Kinds, records, edits and documents for tests.
 
+use canvas_code::OutOfMemory;
 use canvas_doc::{Document, Edit, Parent, Place, Record, Refusal, Spot, TreeFault};
 use canvas_key::{Key, KeyFault};
 use canvas_plane::{Point, Pose};
 use canvas_shape::{Colour, Kind, Points};
-use std::alloc::{AllocError, Global};
+use std::alloc::Global;
 
 pub(crate) const WHITE: Colour = Colour([255, 255, 255]);
 
@@ -25,7 +26,7 @@ pub(crate) fn frame(w: u32, h: u32) -> Kind {
 }
 
 /// A red polygon.
-pub(crate) fn polygon(alloc: Global, vertices: &[(i64, i64)]) -> Result<Kind, AllocError> {
+pub(crate) fn polygon(alloc: Global, vertices: &[(i64, i64)]) -> Result<Kind, OutOfMemory> {
     let mut points = Points::new(alloc);
     for (x, y) in vertices {
         points.push(Point { x: *x, y: *y })?;

@@ -1,10 +1,11 @@
 //! A long history: documents that share rows of records stay apart.
 
 use crate::shapes::{BLUE, RED, create, edited, moved, record, rectangle, restored};
+use canvas_code::OutOfMemory;
 use canvas_doc::{Document, Edit, Parent, Record, Spot};
 use canvas_key::{Key, fresh};
 use canvas_shape::Kind;
-use std::alloc::{AllocError, Global};
+use std::alloc::Global;
 use std::process::Abort;
 use std::test::Fail;
 
@@ -18,7 +19,7 @@ fn creation(id: u32) -> Edit {
 }
 
 // The edits of the history. The first 13 fill the third row and go past its end.
-fn edits(alloc: Global) -> Result<Vec<Edit>, AllocError> {
+fn edits(alloc: Global) -> Result<Vec<Edit>, OutOfMemory> {
     let mut edits = Vec::new(alloc);
     for id in 190..203u32 {
         edits.push(creation(id))?;
@@ -76,7 +77,7 @@ fn record_after(made: u32, id: u32) -> Record {
     shape
 }
 
-fn records_after(alloc: Global, made: u32) -> Result<Vec<Record>, AllocError> {
+fn records_after(alloc: Global, made: u32) -> Result<Vec<Record>, OutOfMemory> {
     let mut records = Vec::new(alloc);
     for id in 1..204u32 {
         if is_there(made, id) {
@@ -86,7 +87,7 @@ fn records_after(alloc: Global, made: u32) -> Result<Vec<Record>, AllocError> {
     Ok(records)
 }
 
-fn has_records(alloc: Global, document: &Document, made: u32) -> Result<bool, AllocError> {
+fn has_records(alloc: Global, document: &Document, made: u32) -> Result<bool, OutOfMemory> {
     let wanted = records_after(alloc, made)?;
     let mut same = document.count() == wanted.len();
     for (own, other) in document.records_in_order(alloc)?.iter().zip(&wanted) {

@@ -2,11 +2,12 @@
 
 use crate::plain::Plain;
 use crate::shapes::WHITE;
+use canvas_code::OutOfMemory;
 use canvas_doc::{Parent, Record};
 use canvas_key::Key;
 use canvas_plane::{Point, Pose};
 use canvas_shape::{Colour, Kind};
-use std::alloc::{AllocError, Global};
+use std::alloc::Global;
 
 /// A pixel of the page.
 #[derive(Clone, Copy)]
@@ -16,7 +17,7 @@ pub(crate) struct Pixel {
 }
 
 /// The colour of a pixel.
-pub(crate) fn colour_at(alloc: Global, plain: &Plain, at: Pixel) -> Result<Colour, AllocError> {
+pub(crate) fn colour_at(alloc: Global, plain: &Plain, at: Pixel) -> Result<Colour, OutOfMemory> {
     let mut best: Option<(Vec<&Key>, Colour)> = None;
     for shape in &plain.records {
         if let Some(fill) = fill_of(&shape.kind) {
@@ -51,7 +52,11 @@ fn fill_of(kind: &Kind) -> Option<Colour> {
 
 // The indexes from the page down to a shape. A shape lies behind its children, and what has the lesser
 // index first lies behind.
-fn place_of<'a>(alloc: Global, plain: &'a Plain, path: &[u32]) -> Result<Vec<&'a Key>, AllocError> {
+fn place_of<'a>(
+    alloc: Global,
+    plain: &'a Plain,
+    path: &[u32],
+) -> Result<Vec<&'a Key>, OutOfMemory> {
     let mut place = Vec::new(alloc);
     for id in path {
         if let Some(shape) = plain.find(*id) {

@@ -126,6 +126,3 @@ impl Key {
         }
     }
 }
-
-#[cfg(test)]
-mod tests;

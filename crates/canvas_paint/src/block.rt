@@ -11,10 +11,10 @@ ghost use Rattle.canvas_paint.specs.Words.{is_within};
 use crate::leaf::{RowWords, ellipse_rows, polygon_rows};
 use crate::word::{PIXELS, both};
 use bumpalo::Bump;
+use canvas_code::OutOfMemory;
 use canvas_plane::{PageBox, Window};
 use canvas_scene::Item;
 use canvas_shape::{Carried, Colour};
-use std::alloc::AllocError;
 
 /// What of a block's columns and rows is held.
 #[derive(Clone, Copy)]
@@ -66,7 +66,7 @@ fn form_of<'a>(
     window: &Window,
     top: usize,
     bottom: usize,
-) -> Result<Form<'a>, AllocError>
+) -> Result<Form<'a>, OutOfMemory>
     requires rows { top < bottom }
     requires bottom { bottom ≤ window.now.h }
     ensures { IfOk result (λ form. (k j : ℕ) → k < window.now.w → top ≤ j → j < bottom → is_in (page_box_of leaf.now) (column_at window.now k) (row_at window.now j) ≡ true → form_holds form k j ≡ carried_holds leaf.now (column_at window.now k) (row_at window.now j)) }
@@ -120,7 +120,7 @@ impl<'a> Block<'a> {
         window: &Window,
         first: usize,
         end: usize,
-    ) -> Result<Option<Block<'a>>, AllocError>
+    ) -> Result<Option<Block<'a>>, OutOfMemory>
         requires { end ≤ window.now.h }
         ensures { IfOk result (λ block. (k j : ℕ) → k < window.now.w → first ≤ j → j < end → cut_fill block k j ≡ fill_at item.now (column_at window.now k) (row_at window.now j)) }
     {

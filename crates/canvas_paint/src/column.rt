@@ -12,7 +12,8 @@ use crate::active::Active;
 use crate::block::Block;
 use crate::row::{Pixel, WHITE, fill_word};
 use crate::word::{both, differing, either, part, without};
-use std::alloc::{AllocError, Global};
+use canvas_code::OutOfMemory;
+use std::alloc::Global;
 
 /// A word of each row of a strip.
 #[derive(Drop)]
@@ -31,7 +32,7 @@ pub(crate) struct Column<'a> {
 
 impl<'a> Column<'a> {
     /// A column of no block, with room for so many, of which no row was painted.
-    pub(crate) fn new(alloc: Global, room: usize) -> Result<Column<'a>, AllocError>
+    pub(crate) fn new(alloc: Global, room: usize) -> Result<Column<'a>, OutOfMemory>
         ensures new { IfOk result IsNew }
         ensures empty { IfOk result (λ column. vec_len column.blocks ≡ 0) }
     {
@@ -45,7 +46,7 @@ impl<'a> Column<'a> {
     }
 
     /// Puts a block in front of the others, if it meets the word at a column.
-    pub(crate) fn add(&mut self, block: &Block<'a>, base: usize) -> Result<(), AllocError>
+    pub(crate) fn add(&mut self, block: &Block<'a>, base: usize) -> Result<(), OutOfMemory>
         requires base { base < 256 }
         ensures new { OnOk result (IsNew self.old → IsNew self.new) }
         ensures front { OnOk result ((k j : ℕ) → base ≤ k → k < base + 64 → last_block_fill self.new.blocks.items k j ≡ or_else (block_fill block.now k j) (last_block_fill self.old.blocks.items k j)) }
@@ -62,7 +63,7 @@ impl<'a> Column<'a> {
         base: usize,
         y: usize,
         row: &mut [Pixel],
-    ) -> Result<(), AllocError>
+    ) -> Result<(), OutOfMemory>
         requires y { y < usize.MAX }
         requires base { base < 256 }
         requires whole { base % 64 ≡ 0 }
@@ -80,7 +81,7 @@ impl<'a> Column<'a> {
 
     // The same where the word changes, apart from the loop over rows in which it does not.
     #[inline(never)]
-    fn repaint(&mut self, base: usize, y: usize, row: &mut [Pixel]) -> Result<(), AllocError>
+    fn repaint(&mut self, base: usize, y: usize, row: &mut [Pixel]) -> Result<(), OutOfMemory>
         requires y { y < usize.MAX }
         requires base { base < 256 }
         requires whole { base % 64 ≡ 0 }
@@ -116,7 +117,7 @@ fn choose<'a>(
     base: usize,
     y: usize,
     active: &mut Vec<Active<'a>>,
-) -> Result<usize, AllocError>
+) -> Result<usize, OutOfMemory>
     requires y { y < usize.MAX }
     ensures live { IfOk result (λ end. y < end) }
     ensures chosen { IfOk result (λ end. IsChosen width blocks.now active.new.items base y end) }

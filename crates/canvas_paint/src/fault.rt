@@ -38,6 +38,14 @@ impl PaintFault {
     }
 }
 
+impl From<canvas_code::OutOfMemory> for PaintFault {
+    ghost from_gives = { λ _ fault. fault ≡ OutOfMemory };
+
+    fn from(_error: canvas_code::OutOfMemory) -> PaintFault {
+        PaintFault::OutOfMemory
+    }
+}
+
 impl From<AllocError> for PaintFault {
     ghost from_gives = { λ _ fault. fault ≡ OutOfMemory };
 

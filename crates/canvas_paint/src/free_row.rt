@@ -4,8 +4,9 @@ ghost use Rattle.std.specs.Prelude.{◌≡◌, ◌≤ℤ◌, ◌&&◌, ℤ, not,
 ghost use Rattle.canvas_shape.specs.Spans.{AppendsSpans, covers, is_from_to};
 ghost use Rattle.canvas_paint.specs.FreeRows.{after_of, before_of, common_of, piece_of, rest_of, taken_of};
 
+use canvas_code::OutOfMemory;
 use canvas_shape::Span;
-use std::alloc::{AllocError, Global};
+use std::alloc::Global;
 use std::marker::Model;
 use std::mem;
 
@@ -32,7 +33,7 @@ impl Model for FreeRow {
 
 impl FreeRow {
     /// A row in which all from `left` up to `right` is free.
-    pub fn new(alloc: Global, left: i32, right: i32) -> Result<FreeRow, AllocError>
+    pub fn new(alloc: Global, left: i32, right: i32) -> Result<FreeRow, OutOfMemory>
         requires { left ≤ℤ right }
         ensures { IfOk result (λ row. (x : ℤ) → covers row x ≡ is_from_to left x right) }
     {
@@ -52,7 +53,7 @@ impl FreeRow {
 
     /// Appends the free parts of a span, rising, apart and not empty; they are free no more.
     /// Without memory both are as they were.
-    pub fn take(&mut self, span: Span, out: &mut Vec<Span>) -> Result<(), AllocError>
+    pub fn take(&mut self, span: Span, out: &mut Vec<Span>) -> Result<(), OutOfMemory>
         requires { span.from ≤ℤ span.to }
         ensures taken { OnOk result (AppendsSpans out.old.items out.new.items (λ x. is_from_to span.from x span.to && covers self.old x)) }
         ensures rest { OnOk result ((x : ℤ) → covers self.new x ≡ (covers self.old x && not (is_from_to span.from x span.to))) }
@@ -86,7 +87,7 @@ fn split(
     span: Span,
     rest: &mut Vec<Span>,
     out: &mut Vec<Span>,
-) -> Result<(), AllocError>
+) -> Result<(), OutOfMemory>
     ensures rest { OnOk result (rest.new.items ≡ rest_of span free.now) }
     ensures taken { OnOk result (out.new.items ≡ out.old.items ++ taken_of span free.now) }
     ensures kept { take (length out.old.items) out.new.items ≡ out.old.items }
@@ -131,7 +132,7 @@ fn part_after(part: Span, span: Span) -> Span
 }
 
 // Appends a span, if it has a pixel.
-fn push_piece(spans: &mut Vec<Span>, piece: Span) -> Result<(), AllocError>
+fn push_piece(spans: &mut Vec<Span>, piece: Span) -> Result<(), OutOfMemory>
     ensures ok { OnOk result (spans.new.items ≡ spans.old.items ++ piece_of piece) }
     ensures err { OnErr result (spans.new.items ≡ spans.old.items) }
 {

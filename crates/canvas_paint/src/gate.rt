@@ -3,8 +3,14 @@
 /// A place that each worker of a picture passes before it paints its strip. A picture is the same
 /// whatever its gate does, as long as each worker comes through.
 pub trait Gate {
+    ghost use Rattle.std.specs.Prelude.{ℕ};
+
+    // The strips that may come to the gate.
+    ghost admits: { Self → ℕ → Type 0 };
+
     /// Returns when the strip of this number, counted from 0, may be painted.
-    fn pass(&self, strip: u32);
+    fn pass(&self, strip: u32)
+        requires { admits self.now strip };
 }
 
 /// Lets each worker pass at once.
@@ -12,5 +18,7 @@ pub trait Gate {
 pub struct FreeGate;
 
 impl Gate for FreeGate {
+    ghost admits = { λ _ _. Unit {0} };
+
     fn pass(&self, _strip: u32) {}
 }

@@ -13,9 +13,9 @@ use crate::block::place;
 use crate::word::{PIXELS, row_between};
 use bumpalo::Bump;
 use bumpalo::collections::into_bump_slice;
+use canvas_code::OutOfMemory;
 use canvas_plane::Window;
 use canvas_shape::{EdgeFlags, LeafBox, Vertices};
-use std::alloc::AllocError;
 
 /// The pixels of rows that follow one another, from the row `first` of a window on: four words a
 /// row.
@@ -96,7 +96,7 @@ pub(crate) fn ellipse_rows<'a>(
     window: &Window,
     top: usize,
     bottom: usize,
-) -> Result<RowWords<'a>, AllocError>
+) -> Result<RowWords<'a>, OutOfMemory>
     requires rows { top < bottom }
     requires bottom { bottom ≤ window.now.h }
     ensures { IfOk result (λ rows. (k j : ℕ) → k < window.now.w → top ≤ j → j < bottom → row_has (slice_index_or rows.words.now (j - rows.first) []) k ≡ is_in_ellipse (sides_of sides.now) (column_at window.now k) (row_at window.now j)) }
@@ -115,7 +115,7 @@ pub(crate) fn polygon_rows<'a>(
     window: &Window,
     top: usize,
     bottom: usize,
-) -> Result<RowWords<'a>, AllocError>
+) -> Result<RowWords<'a>, OutOfMemory>
     requires rows { top < bottom }
     requires bottom { bottom ≤ window.now.h }
     ensures { IfOk result (λ rows. (k j : ℕ) → k < window.now.w → top ≤ j → j < bottom → row_has (slice_index_or rows.words.now (j - rows.first) []) k ≡ is_in_polygon vertices.now.points.now (column_at window.now k) (row_at window.now j)) }
@@ -129,7 +129,7 @@ pub(crate) fn polygon_rows<'a>(
 }
 
 // The held pixels of rows of edge flags.
-fn held_rows<'a>(bump: &'a Bump, rows: &[EdgeFlags]) -> Result<&'a [[u64; 4]], AllocError>
+fn held_rows<'a>(bump: &'a Bump, rows: &[EdgeFlags]) -> Result<&'a [[u64; 4]], OutOfMemory>
     ensures { IfOk result (λ words. (j k : ℕ) (d : RowFlags) → j < length rows.now → k < 256 → row_has (slice_index_or words.now j []) k ≡ is_held (slice_index_or rows.now j d).words k) }
 {
     let mut words = Vec::with_capacity(bump, rows.len())?;

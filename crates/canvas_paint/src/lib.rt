@@ -13,6 +13,7 @@ mod row;
 mod strip;
 mod word;
 mod workers;
+mod worth;
 
 pub use fault::PaintFault;
 pub use free_row::FreeRow;
@@ -20,6 +21,3 @@ pub use gate::{FreeGate, Gate};
 pub use picture::append_picture;
 pub use strip::{append_strip, paint_strip, strip_rows};
 pub use workers::paint;
-
-#[cfg(test)]
-mod tests;

@@ -7,15 +7,17 @@ ghost use Rattle.canvas_paint.specs.Workers.{are_workers};
 
 use crate::gate::FreeGate;
 use crate::workers::append_painted;
+use crate::worth::strips_worth;
 use bumpalo::Bump;
+use canvas_code::OutOfMemory;
 use canvas_doc::Document;
 use canvas_plane::Window;
 use canvas_scene::Scene;
-use std::alloc::{AllocError, Global};
+use std::alloc::Global;
 use std::thread::Threads;
 
 /// Appends the picture of a document in a window: row by row, for each pixel red, green and blue
-/// of the colour that the document has there, painted by 1 to 16 workers. The arena holds the
+/// of the colour that the document has there, painted by as many of 1 to 16 workers as pay. The arena holds the
 /// scene until its next reset. Without memory `out` is as it was.
 pub fn append_picture<R: Threads + Sync>(
     rt: &R,
@@ -25,19 +27,13 @@ pub fn append_picture<R: Threads + Sync>(
     window: &Window,
     workers: u32,
     out: &mut Vec<u8>,
-) -> Result<(), AllocError>
+) -> Result<(), OutOfMemory>
     requires { are_workers workers ≡ true }
     ensures ok { OnOk result (out.new.items ≡ out.old.items ++ picture_of (colour document.now.records) window.now) }
     ensures err { OnErr result (out.new.items ≡ out.old.items) }
 {
     let scene = Scene::build(bump, document, window)?;
-    append_painted(
-        rt,
-        alloc,
-        scene.display_list(),
-        window,
-        workers,
-        &FreeGate,
-        out,
-    )
+    let items = scene.display_list();
+    let strips = strips_worth(items, window, workers);
+    append_painted(rt, alloc, items, window, strips, &FreeGate, out)
 }

@@ -13,15 +13,16 @@ use crate::column::Column;
 use crate::row::{Pixel, WHITE};
 use crate::word::PIXELS;
 use bumpalo::Bump;
+use canvas_code::OutOfMemory;
 use canvas_plane::Window;
 use canvas_scene::Item;
-use std::alloc::{AllocError, Global};
+use std::alloc::Global;
 
 /// How many words a row has.
 const WORDS: usize = 4;
 
 // Four columns of no block, each with room for so many, of which no row was painted.
-fn new_columns<'a>(alloc: Global, room: usize) -> Result<Vec<Column<'a>>, AllocError>
+fn new_columns<'a>(alloc: Global, room: usize) -> Result<Vec<Column<'a>>, OutOfMemory>
     ensures count { IfOk result (λ columns. vec_len columns ≡ 4) }
     ensures new { IfOk result (λ columns. All IsNew columns.items) }
     ensures empty { IfOk result (λ columns. (k j : ℕ) → fill_in (blocks_in columns.items) k j ≡ None) }
@@ -34,7 +35,7 @@ fn new_columns<'a>(alloc: Global, room: usize) -> Result<Vec<Column<'a>>, AllocE
 }
 
 // Puts a block in front of the others in each column that it meets.
-fn add<'a>(block: &Block<'a>, columns: &mut [Column<'a>]) -> Result<(), AllocError>
+fn add<'a>(block: &Block<'a>, columns: &mut [Column<'a>]) -> Result<(), OutOfMemory>
     requires count { length columns.old ≡ 4 }
     requires new { All IsNew columns.old }
     ensures new { OnOk result (All IsNew columns.new) }
@@ -54,7 +55,7 @@ fn columns_of<'a>(
     window: &Window,
     first: usize,
     end: usize,
-) -> Result<Vec<Column<'a>>, AllocError>
+) -> Result<Vec<Column<'a>>, OutOfMemory>
     requires { end ≤ window.now.h }
     ensures count { IfOk result (λ columns. vec_len columns ≡ 4) }
     ensures new { IfOk result (λ columns. All IsNew columns.items) }
@@ -71,7 +72,7 @@ fn columns_of<'a>(
 }
 
 // Paints anew the words of a row that have changed at the row `y`.
-fn refresh(y: usize, row: &mut [Pixel], columns: &mut [Column<'_>]) -> Result<(), AllocError>
+fn refresh(y: usize, row: &mut [Pixel], columns: &mut [Column<'_>]) -> Result<(), OutOfMemory>
     requires y { y < usize.MAX }
     requires width { length row.old ≤ 256 }
     requires count { length columns.old ≡ 4 }
@@ -93,7 +94,7 @@ fn append_rows(
     end: usize,
     row: &mut [Pixel],
     out: &mut Vec<u8>,
-) -> Result<(), AllocError>
+) -> Result<(), OutOfMemory>
     requires rows { first ≤ end }
     requires width { length row.old ≤ 256 }
     requires count { length columns.old ≡ 4 }
@@ -117,7 +118,7 @@ pub fn append_strip(
     first: u32,
     end: u32,
     out: &mut Vec<u8>,
-) -> Result<(), AllocError>
+) -> Result<(), OutOfMemory>
     requires { (first ≤ end) × (end ≤ window.now.h) }
     ensures ok { OnOk result (out.new.items ≡ out.old.items ++ rows_of (last_colour items.now) window.now first end) }
     ensures err { OnErr result (out.new.items ≡ out.old.items) }
@@ -146,7 +147,7 @@ pub fn paint_strip(
     window: &Window,
     first: u32,
     end: u32,
-) -> Result<Vec<u8>, AllocError>
+) -> Result<Vec<u8>, OutOfMemory>
     requires { (first ≤ end) × (end ≤ window.now.h) }
     ensures { IfOk result (λ bytes. bytes.items ≡ rows_of (last_colour items.now) window.now first end) }
 {

@@ -1,18 +1,19 @@
 //! Pictures painted by several workers, a strip each.
 
-ghost use Rattle.std.specs.Prelude.{◌≡◌, ◌<◌, ◌++◌, Err, IfErr, IfOk, MatchBool, OnErr, OnOk, length, take, true, vec_len};
+ghost use Rattle.std.specs.Prelude.{◌≡◌, ◌<◌, ◌++◌, ℕ, Err, IfErr, IfOk, MatchBool, OnErr, OnOk, length, take, true, vec_len};
 ghost use Rattle.canvas_scene.specs.Items.{last_colour};
 ghost use Rattle.canvas_scene.specs.Pictures.{rows_of};
 ghost use Rattle.canvas_paint.specs.Strips.{AreStrips, IsStrip};
 ghost use Rattle.canvas_paint.specs.Workers.{are_workers};
-ghost use Rattle.canvas_paint.specs.declared.fault.PaintFault.TheVariants.{BadWorkers, OutOfMemory};
+ghost use Rattle.canvas_paint.specs.declared.fault.PaintFault.TheVariants.{BadWorkers};
 
 use crate::fault::PaintFault;
 use crate::gate::Gate;
 use crate::strip::{append_strip, paint_strip, strip_rows};
+use canvas_code::OutOfMemory;
 use canvas_plane::Window;
 use canvas_scene::Item;
-use std::alloc::{AllocError, Global};
+use std::alloc::Global;
 use std::thread;
 use std::thread::Threads;
 
@@ -24,8 +25,9 @@ fn gated_strip<G: Gate>(
     k: u32,
     n: u32,
     gate: &G,
-) -> Result<Vec<u8>, AllocError>
-    requires { k < n }
+) -> Result<Vec<u8>, OutOfMemory>
+    requires strip { k < n }
+    requires admitted { G.admits gate.now k }
     ensures { IfOk result (λ bytes. IsStrip items.now window.now k n bytes.items) }
 {
     gate.pass(k);
@@ -41,16 +43,18 @@ fn painted_strips<R: Threads + Sync, G: Gate + Sync>(
     window: &Window,
     n: u32,
     gate: &G,
-) -> Result<Vec<Result<Vec<u8>, AllocError>>, AllocError>
+) -> Result<Vec<Result<Vec<u8>, OutOfMemory>>, OutOfMemory>
+    requires { (k : ℕ) → k < n → G.admits gate.now k }
     ensures len { IfOk result (λ strips. vec_len strips ≡ n) }
     ensures each { IfOk result (λ strips. AreStrips items.now window.now n strips.items) }
 {
-    thread::map_indices(
+    let strips = thread::map_indices(
         rt,
         alloc,
         n as usize,
         &|k| { gated_strip(alloc, items, window, k as u32, n, gate) },
-    )
+    )?;
+    Ok(strips)
 }
 
 // Appends the n strips of a picture in order, once all of them are painted.
@@ -62,8 +66,9 @@ fn append_strips<R: Threads + Sync, G: Gate + Sync>(
     n: u32,
     gate: &G,
     out: &mut Vec<u8>,
-) -> Result<(), AllocError>
-    requires { 0 < n }
+) -> Result<(), OutOfMemory>
+    requires some { 0 < n }
+    requires admitted { (k : ℕ) → k < n → G.admits gate.now k }
     ensures ok { OnOk result (out.new.items ≡ out.old.items ++ rows_of (last_colour items.now) window.now 0 window.now.h) }
     ensures kept { take (length out.old.items) out.new.items ≡ out.old.items }
 {
@@ -71,7 +76,7 @@ fn append_strips<R: Threads + Sync, G: Gate + Sync>(
     for strip in &strips {
         match strip {
             Ok(bytes) => out.extend_from_slice(bytes.as_slice())?,
-            Err(_) => return Err(AllocError),
+            Err(_) => return Err(OutOfMemory),
         }
     }
     Ok(())
@@ -87,20 +92,20 @@ pub(crate) fn append_painted<R: Threads + Sync, G: Gate + Sync>(
     workers: u32,
     gate: &G,
     out: &mut Vec<u8>,
-) -> Result<(), AllocError>
-    requires { are_workers workers ≡ true }
+) -> Result<(), OutOfMemory>
+    requires workers { are_workers workers ≡ true }
+    requires admitted { (k : ℕ) → k < workers → G.admits gate.now k }
     ensures ok { OnOk result (out.new.items ≡ out.old.items ++ rows_of (last_colour items.now) window.now 0 window.now.h) }
     ensures err { OnErr result (out.new.items ≡ out.old.items) }
 {
     let (width, rows) = (window.w(), window.h());
-    let strips = workers.min(rows);
-    if strips == 1 {
+    if workers == 1 {
         gate.pass(0);
         return append_strip(alloc, items, window, 0, rows, out);
     }
     out.reserve(3 * width as usize * rows as usize)?;
     let before = out.len();
-    match append_strips(rt, alloc, items, window, strips, gate, out) {
+    match append_strips(rt, alloc, items, window, workers, gate, out) {
         Ok(()) => Ok(()),
         Err(fault) => {
             out.truncate(before);
@@ -112,9 +117,9 @@ pub(crate) fn append_painted<R: Threads + Sync, G: Gate + Sync>(
 /// The picture of items in a window: row by row, for each pixel red, green and blue of the last
 /// item that holds it, or of white. It is painted by 1 to 16 workers, else it is `BadWorkers`.
 ///
-/// Each worker paints a strip of whole rows after it has passed the gate with the strip's number,
-/// so no more of them work than the window has rows. With one strip no thread is started. All have
-/// ended when this returns.
+/// A picture has one strip for each worker, with the rows of `strip_rows`, which may be none. Each
+/// passes the gate with its number, which is below the number of workers, and is then painted: the
+/// last by the caller, the others each by a thread of their own. All have ended when this returns.
 pub fn paint<R: Threads + Sync, G: Gate + Sync>(
     rt: &R,
     alloc: Global,
@@ -123,8 +128,9 @@ pub fn paint<R: Threads + Sync, G: Gate + Sync>(
     workers: u32,
     gate: &G,
 ) -> Result<Vec<u8>, PaintFault>
+    requires { (k : ℕ) → k < workers → G.admits gate.now k }
     ensures raster { IfOk result (λ raster. raster.items ≡ rows_of (last_colour items.now) window.now 0 window.now.h) }
-    ensures refused { MatchBool (are_workers workers) (IfErr result (λ fault. fault ≡ OutOfMemory)) (result ≡ Err BadWorkers) }
+    ensures refused { MatchBool (are_workers workers) (IfErr result (λ fault. fault ≡ PaintFault.OutOfMemory)) (result ≡ Err BadWorkers) }
 {
     if workers < 1 || 16 < workers {
         return Err(PaintFault::BadWorkers);

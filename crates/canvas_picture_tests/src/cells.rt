@@ -2,12 +2,13 @@
 
 use crate::random::{Dice, after, agrees, random_polygon};
 use bumpalo::Bump;
+use canvas_code::OutOfMemory;
 use canvas_doc::{Document, Edit, Parent, Spot};
 use canvas_paint::paint_strip;
 use canvas_plane::{Pose, Window};
 use canvas_scene::Scene;
 use canvas_shape::{Colour, Kind};
-use std::alloc::{AllocError, Global};
+use std::alloc::Global;
 use std::process::Abort;
 use std::test::Fail;
 
@@ -44,7 +45,7 @@ fn tiled(
     y: i64,
     w: u32,
     h: u32,
-) -> Result<Document, AllocError> {
+) -> Result<Document, OutOfMemory> {
     let wide = w.saturating_sub(128);
     let high = h.saturating_sub(128);
     let right = x.saturating_add(128);
@@ -68,7 +69,7 @@ fn tiled(
 }
 
 // From the back a frame, a rectangle, an ellipse and a polygon, all of which show something.
-fn behind(alloc: Global) -> Result<Document, AllocError> {
+fn behind(alloc: Global) -> Result<Document, OutOfMemory> {
     let mut dice = Dice(5);
     let frame = Kind::Frame {
         w: 300,
@@ -88,7 +89,7 @@ fn behind(alloc: Global) -> Result<Document, AllocError> {
 }
 
 // How many items a window has.
-fn count(alloc: Global, document: &Document, window: &Window) -> Result<usize, AllocError> {
+fn count(alloc: Global, document: &Document, window: &Window) -> Result<usize, OutOfMemory> {
     let bump = Bump::new(alloc);
     let scene = Scene::build(&bump, document, window)?;
     Ok(scene.display_list().len())
@@ -135,7 +136,7 @@ fn a_polygon_behind_a_part_of_the_tiles_alone_makes_an_item(rt: HostRuntime) -> 
 }
 
 // A document of shapes that lie over one another, most of them rectangles.
-fn random_document(alloc: Global, dice: &mut Dice) -> Result<Document, AllocError> {
+fn random_document(alloc: Global, dice: &mut Dice) -> Result<Document, OutOfMemory> {
     let mut document = Document::empty(alloc);
     for _ in 0..24u32 {
         let w = dice.below(140).saturating_add(1);
@@ -155,7 +156,7 @@ fn random_document(alloc: Global, dice: &mut Dice) -> Result<Document, AllocErro
 }
 
 // Compares random documents with their pictures in a window.
-fn compare(rt: &impl Abort, alloc: Global, seed: u64, window: &Window) -> Result<(), AllocError> {
+fn compare(rt: &impl Abort, alloc: Global, seed: u64, window: &Window) -> Result<(), OutOfMemory> {
     let mut dice = Dice(seed);
     for _ in 0..3u32 {
         let document = random_document(alloc, &mut dice)?;

@@ -1,12 +1,13 @@
 //! Pictures of random deep documents, compared with the walk pixel by pixel.
 
 use bumpalo::Bump;
+use canvas_code::OutOfMemory;
 use canvas_doc::{Document, Edit, Parent, Spot};
 use canvas_paint::paint_strip;
 use canvas_plane::{Point, Pose, Window};
 use canvas_scene::Scene;
 use canvas_shape::{Colour, Kind, Points};
-use std::alloc::{AllocError, Global};
+use std::alloc::Global;
 use std::process::Abort;
 use std::test::Fail;
 
@@ -34,7 +35,7 @@ pub(crate) fn random_polygon(
     alloc: Global,
     dice: &mut Dice,
     fill: Colour,
-) -> Result<Kind, AllocError> {
+) -> Result<Kind, OutOfMemory> {
     let mut points = Points::new(alloc);
     for _ in 0..dice.below(9).saturating_add(3) {
         let x = dice.within(-12, 40);
@@ -45,7 +46,7 @@ pub(crate) fn random_polygon(
 }
 
 // Every second shape may have others below it, so that trees grow deep.
-fn random_kind(alloc: Global, dice: &mut Dice) -> Result<Kind, AllocError> {
+fn random_kind(alloc: Global, dice: &mut Dice) -> Result<Kind, OutOfMemory> {
     let w = dice.below(60).saturating_add(1);
     let h = dice.below(40).saturating_add(1);
     let fill = Colour([dice.below(8).min(7) as u8, 90, 7]);
@@ -64,7 +65,7 @@ fn random_kind(alloc: Global, dice: &mut Dice) -> Result<Kind, AllocError> {
 }
 
 // A shape below the one that was made last, or below any.
-fn random_edit(alloc: Global, dice: &mut Dice, last: u32) -> Result<Edit, AllocError> {
+fn random_edit(alloc: Global, dice: &mut Dice, last: u32) -> Result<Edit, OutOfMemory> {
     let id = if dice.below(3) == 0 {
         dice.below(last).max(2)
     } else {
@@ -93,9 +94,9 @@ pub(crate) fn after(
     alloc: Global,
     document: Document,
     edit: &Edit,
-) -> Result<Document, AllocError> {
+) -> Result<Document, OutOfMemory> {
     match document.decide(alloc, edit) {
-        Ok(change) => document.with(alloc, &change),
+        Ok(change) => Ok(document.with(alloc, &change)?),
         Err(_) => Ok(document),
     }
 }
@@ -116,7 +117,7 @@ fn group(dx: i64, dy: i64, parent: Parent) -> Edit {
 }
 
 // A random document below two groups that lie `far` from the origin, one in the other.
-fn random_document(alloc: Global, dice: &mut Dice, far: i64) -> Result<Document, AllocError> {
+fn random_document(alloc: Global, dice: &mut Dice, far: i64) -> Result<Document, OutOfMemory> {
     let away = 0 - far.min(1_048_576).max(-1_048_576);
     let document = Document::empty(alloc);
     let document = after(alloc, document, &group(far, away, Parent::Page))?;
@@ -182,7 +183,7 @@ fn compared(
     far: i64,
     x: i32,
     y: i32,
-) -> Result<u32, AllocError> {
+) -> Result<u32, OutOfMemory> {
     let mut dice = Dice(seed);
     let mut count = 0u32;
     for _ in 0..120u32 {

@@ -2,12 +2,13 @@
 //! has no more than one cell here.
 
 use bumpalo::Bump;
+use canvas_code::OutOfMemory;
 use canvas_doc::{Document, Edit, Parent, Spot};
 use canvas_paint::paint_strip;
 use canvas_plane::{PageBox, Pose, Window};
 use canvas_scene::{Node, Scene};
 use canvas_shape::{Colour, Kind};
-use std::alloc::{AllocError, Global};
+use std::alloc::Global;
 use std::test::Fail;
 
 const RED: Colour = Colour([255, 0, 0]);
@@ -31,7 +32,7 @@ fn after(
     kind: Kind,
     dx: i64,
     parent: Parent,
-) -> Result<Document, AllocError> {
+) -> Result<Document, OutOfMemory> {
     let edit = Edit::Create {
         kind,
         pose: Pose {
@@ -45,7 +46,7 @@ fn after(
         spot: Spot::Front,
     };
     match document.decide(alloc, &edit) {
-        Ok(change) => document.with(alloc, &change),
+        Ok(change) => Ok(document.with(alloc, &change)?),
         Err(_) => Ok(document),
     }
 }

@@ -41,6 +41,3 @@ pub struct PageBox {
     pub right: i64,
     pub bottom: i64,
 }
-
-#[cfg(test)]
-mod tests;

@@ -6,7 +6,7 @@ use std::alloc::AllocError;
 use thiserror::Error;
 
 /// Why bytes were not read as an image.
-#[derive(Clone, Copy, Debug, PartialEq, Eq, Error)]
+#[derive(Clone, Copy, Debug, PartialEq, Eq, Drop, Error)]
 pub enum PpmFault {
     /// They do not begin with `P6`.
     #[error("NotP6")]
@@ -35,6 +35,16 @@ impl From<AllocError> for PpmFault {
     ghost from_gives = { λ _ fault. fault ≡ OutOfMemory };
 
     fn from(_error: AllocError) -> PpmFault {
+        PpmFault::OutOfMemory
+    }
+}
+
+impl From<canvas_code::OutOfMemory> for PpmFault {
+    ghost use Rattle.canvas_ppm.specs.declared.fault.PpmFault.TheVariants.{OutOfMemory};
+
+    ghost from_gives = { λ _ fault. fault ≡ OutOfMemory };
+
+    fn from(_error: canvas_code::OutOfMemory) -> PpmFault {
         PpmFault::OutOfMemory
     }
 }

@@ -8,6 +8,3 @@ mod writer;
 pub use fault::PpmFault;
 pub use reader::{Image, images_are_p6_files, read};
 pub use writer::{Header, header, start, write};
-
-#[cfg(test)]
-mod tests;

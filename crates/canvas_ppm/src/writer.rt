@@ -3,8 +3,9 @@ ghost use Rattle.canvas_ppm.specs.P6.{IsSide, IsRaster, header_of, p6_of};
 ghost use Rattle.canvas_ppm.specs.Image.{image_of};
 
 use arrayvec::ArrayString;
+use canvas_code::OutOfMemory;
 use itoa::Buffer;
-use std::alloc::{AllocError, Global};
+use std::alloc::Global;
 
 /// The text before the raster: at most 19 bytes, held without an allocation.
 pub type Header = ArrayString<19>;
@@ -40,7 +41,7 @@ fn push_side(header: &mut Header, side: u32)
 
 /// The header of a picture, with room for all of its raster: what is appended up to `3 * w * h` bytes
 /// allocates no more.
-pub fn start(alloc: Global, w: u32, h: u32) -> Result<Vec<u8>, AllocError>
+pub fn start(alloc: Global, w: u32, h: u32) -> Result<Vec<u8>, OutOfMemory>
     requires width { IsSide w }
     requires height { IsSide h }
     ensures bytes { IfOk result (λ file. file.items ≡ header_of w h) }
@@ -56,7 +57,7 @@ pub fn start(alloc: Global, w: u32, h: u32) -> Result<Vec<u8>, AllocError>
 /// The P6 file of a picture of `w` by `h` pixels: `raster` holds its rows from top to bottom, pixels from left to
 /// right, each as red, green and blue, a byte per sample (Netpbm's ppm manual). One allocation, of the file's size.
 #[tactic(auto, using(crate::proofs::Files::read_back))]
-pub fn write(alloc: Global, w: u32, h: u32, raster: &[u8]) -> Result<Vec<u8>, AllocError>
+pub fn write(alloc: Global, w: u32, h: u32, raster: &[u8]) -> Result<Vec<u8>, OutOfMemory>
     requires width { IsSide w }
     requires height { IsSide h }
     requires raster { IsRaster w h raster.now }

@@ -4,6 +4,7 @@ pub mod Children
 pub mod Clipping
 pub mod Covering
 pub mod Marking
+pub mod Ordered
 pub mod Raster
 pub mod Seen
 pub mod Sides

@@ -5,3 +5,4 @@ pub mod Items
 pub mod Pictures
 pub mod Nodes
 pub mod Scenes
+pub mod Trees

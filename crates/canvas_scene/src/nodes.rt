@@ -1,13 +1,15 @@
 //! The tree of a scene.
 
-ghost use Rattle.std.specs.Prelude.{◌≡◌, ◌++◌, [], ◌∷◌, ℤ, OnOk, map, reverse, Some};
+ghost use Rattle.std.specs.Prelude.{◌≡◌, ◌++◌, [], ◌∷◌, ℤ, List, OnOk, map, reverse, Some};
+ghost use Rattle.canvas_doc.specs.declared.records.Record.{Record};
 ghost use Rattle.canvas_scene.specs.Clips.{at_pixel, branch_at, leaf_at};
 ghost use Rattle.canvas_scene.specs.Nodes.{items_of, items_along, back_item};
+ghost use Rattle.canvas_scene.specs.Trees.{is_branch_of, is_leaf_of, is_node_of};
 
 use crate::Item;
 use bumpalo::Bump;
+use canvas_code::OutOfMemory;
 use canvas_plane::PageBox;
-use std::alloc::AllocError;
 
 /// A part of the tree of a scene, plain data in the arena.
 #[derive(Clone, Copy)]
@@ -29,6 +31,7 @@ pub enum Node<'a> {
 pub(crate) fn leaf<'a>(item: Item<'a>) -> Node<'a>
     ensures items { items_of result ≡ item.entry ∷ [] }
     ensures pixels { (x y : ℤ) → at_pixel x y result ≡ leaf_at x y item.entry }
+    ensures tree { (rs : List Record) → is_node_of rs result ≡ is_leaf_of item.entry.clip }
 {
     Node::Leaf(item)
 }
@@ -41,6 +44,7 @@ pub(crate) fn branch<'a>(
 ) -> Node<'a>
     ensures items { items_of result ≡ back_item back.entry ++ items_along children.now }
     ensures pixels { (x y : ℤ) → at_pixel x y result ≡ branch_at x y clip back.entry (map (at_pixel x y) children.now) }
+    ensures tree { (rs : List Record) → is_node_of rs result ≡ is_branch_of rs clip back.entry (map (is_node_of rs) children.now) }
 {
     Node::Branch {
         clip,
@@ -53,7 +57,7 @@ pub(crate) fn branch<'a>(
 pub(crate) fn keep<'a>(
     nodes: &mut Vec<Node<'a>, &'a Bump>,
     node: Node<'a>,
-) -> Result<(), AllocError>
+) -> Result<(), OutOfMemory>
     ensures items { OnOk result (items_along (reverse nodes.new.items) ≡ items_of node.entry ++ items_along (reverse nodes.old.items)) }
     ensures nodes { OnOk result (nodes.new.items ≡ nodes.old.items ++ node.entry ∷ []) }
 {

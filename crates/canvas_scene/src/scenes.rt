@@ -4,18 +4,20 @@ ghost use Rattle.std.specs.Prelude.{◌≡◌, ◌≤◌, ◌<◌, ℕ, ℤ, All
 ghost use Rattle.canvas_plane.specs.Page.{is_in};
 ghost use Rattle.canvas_plane.specs.Window.{box_of_window};
 ghost use Rattle.canvas_doc.specs.Picture.{colour};
+ghost use Rattle.canvas_doc.specs.declared.records.Parent.TheVariants.{Page};
 ghost use Rattle.canvas_scene.specs.Clips.{IsClipped};
 ghost use Rattle.canvas_scene.specs.Items.{last_colour};
 ghost use Rattle.canvas_scene.specs.Nodes.{items_along};
 ghost use Rattle.canvas_scene.specs.Scenes.{display_list_of, root_of};
+ghost use Rattle.canvas_scene.specs.Trees.{AreNodesOf};
 
 use crate::shown::Shown;
 use crate::walk::nodes_of_page;
 use crate::{Item, Node};
 use bumpalo::Bump;
+use canvas_code::OutOfMemory;
 use canvas_doc::Document;
 use canvas_plane::Window;
-use std::alloc::AllocError;
 
 /// What a document shows in a window: a tree in the caller's arena, and the items of its leaves
 /// as one list. Nothing of it outlives the arena's next reset.
@@ -35,9 +37,10 @@ impl<'a> Scene<'a> {
         bump: &'a Bump,
         document: &Document,
         window: &Window,
-    ) -> Result<Scene<'a>, AllocError>
+    ) -> Result<Scene<'a>, OutOfMemory>
         ensures colours { IfOk result (λ scene. (x y : ℤ) → is_in (box_of_window window.now) x y ≡ true → last_colour (display_list_of scene) x y ≡ colour document.now.records x y) }
         ensures clips { IfOk result (λ scene. All (IsClipped (box_of_window window.now)) (root_of scene)) }
+        ensures tree { IfOk result (λ scene. AreNodesOf document.now.records Page (λ q. q) (box_of_window window.now) (root_of scene)) }
         ensures order { IfOk result (λ scene. display_list_of scene ≡ items_along (root_of scene)) }
     {
         let mut shown = Shown::new(bump, window)?;

@@ -12,9 +12,9 @@ use crate::Item;
 use crate::cells::Cells;
 use bumpalo::Bump;
 use bumpalo::collections::into_bump_slice;
+use canvas_code::OutOfMemory;
 use canvas_plane::{PageBox, Window};
 use canvas_shape::{Carried, Colour};
-use std::alloc::AllocError;
 use std::marker::Model;
 
 /// How many items and rectangles have room before memory grows: those of most windows.
@@ -40,7 +40,7 @@ impl<'a> Model for Shown<'a> {
 
 impl<'a> Shown<'a> {
     /// Nothing yet of a window.
-    pub(crate) fn new(bump: &'a Bump, window: &Window) -> Result<Shown<'a>, AllocError>
+    pub(crate) fn new(bump: &'a Bump, window: &Window) -> Result<Shown<'a>, OutOfMemory>
         ensures { IfOk result (λ shown. shown ≡ []) }
     {
         Ok(Shown {
@@ -96,7 +96,7 @@ impl<'a> Shown<'a> {
         leaf: Carried<'a>,
         clip: &PageBox,
         fill: Colour,
-    ) -> Result<Item<'a>, AllocError>
+    ) -> Result<Item<'a>, OutOfMemory>
         ensures fills { IfOk result (λ item. (x y : ℤ) → first_fill self.new x y ≡ or_else (first_fill self.old x y) (seen (is_in clip.now x y) (seen (carried_holds leaf.entry x y) (Some fill)))) }
         ensures items { IfOk result (λ item. self.new ≡ self.old ++ item ∷ []) }
         ensures clip { IfOk result (λ item. item.clip ≡ clip.now) }

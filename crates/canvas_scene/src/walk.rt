@@ -8,10 +8,12 @@ ghost use Rattle.canvas_shape.specs.Inside.{AreVertices, IsSound, holds_of};
 ghost use Rattle.canvas_shape.specs.declared.Colour.{Colour};
 ghost use Rattle.canvas_shape.specs.Leaves.{carried_holds};
 ghost use Rattle.canvas_doc.specs.Picture.{answer_among, colour, or_else, or_white, shape_answer};
-ghost use Rattle.canvas_doc.specs.declared.records.Parent.TheVariants.{Shape};
+ghost use Rattle.canvas_doc.specs.declared.records.Parent.TheVariants.{Page, Shape};
+ghost use Rattle.canvas_doc.specs.declared.records.Record.{Record};
 ghost use Rattle.canvas_scene.specs.Clips.{IsClipped};
 ghost use Rattle.canvas_scene.specs.Covers.{first_fill};
 ghost use Rattle.canvas_scene.specs.Nodes.{AreShown, back_item, items_along, seen, shown_of};
+ghost use Rattle.canvas_scene.specs.Trees.{AreNodesOf, IsOneMore, is_leaf_of, is_node_of};
 ghost use Rattle.canvas_scene.specs.declared.item.Item.{Item};
 
 use crate::bounds::part_of;
@@ -20,10 +22,10 @@ use crate::shown::Shown;
 use crate::{Item, Node};
 use bumpalo::Bump;
 use bumpalo::collections::into_bump_slice;
+use canvas_code::OutOfMemory;
 use canvas_doc::{Document, Parent, Record};
 use canvas_plane::{PageBox, Point, Pose};
 use canvas_shape::{Carried, Colour, Kind};
-use std::alloc::AllocError;
 
 /// How deep a record may lie: a child of the page has depth 1.
 const DEPTH: u32 = 32;
@@ -35,11 +37,12 @@ pub(crate) fn nodes_of_page<'a>(
     document: &Document,
     clip: &PageBox,
     shown: &mut Shown<'a>,
-) -> Result<&'a [Node<'a>], AllocError>
+) -> Result<&'a [Node<'a>], OutOfMemory>
     requires { shown.old ≡ [] }
     ensures colours { IfOk result (λ nodes. (x y : ℤ) → is_in clip.now x y ≡ true → or_white (first_fill shown.new x y) ≡ colour document.now.records x y) }
     ensures items { IfOk result (λ nodes. shown.new ≡ reverse (items_along nodes.now)) }
     ensures clips { IfOk result (λ nodes. All (IsClipped clip.now) nodes.now) }
+    ensures tree { IfOk result (λ nodes. AreNodesOf document.now.records Page (λ q. q) clip.now nodes.now) }
 {
     let nodes = nodes_among(
         bump,
@@ -63,12 +66,13 @@ fn nodes_among<'a>(
     out: &Pose,
     clip: &PageBox,
     shown: &mut Shown<'a>,
-) -> Result<&'a [Node<'a>], AllocError>
+) -> Result<&'a [Node<'a>], OutOfMemory>
     requires quarter { out.now.quarter ≤ 3 }
     requires reach { reach_of out.now + levels * 2 ^ 20 ≤ 2 ^ 26 }
     ensures fills { IfOk result (λ nodes. (x y : ℤ) → first_fill shown.new x y ≡ or_else (first_fill shown.old x y) (seen (is_in clip.now x y) (answer_among levels document.now.records parent (carry out.now) x y))) }
     ensures items { IfOk result (λ nodes. shown.new ≡ shown.old ++ reverse (items_along nodes.now)) }
     ensures clips { IfOk result (λ nodes. All (IsClipped clip.now) nodes.now) }
+    ensures tree { IfOk result (λ nodes. AreNodesOf document.now.records parent (carry out.now) clip.now nodes.now) }
 {
     let mut nodes = Vec::new(bump);
     if levels == 0 {
@@ -114,13 +118,14 @@ fn add_node<'a>(
     clip: &PageBox,
     shown: &mut Shown<'a>,
     nodes: &mut Vec<Node<'a>, &'a Bump>,
-) -> Result<(), AllocError>
+) -> Result<(), OutOfMemory>
     requires kind { IsSound shape.now.kind }
     requires quarter { page.now.quarter ≤ 3 }
     requires reach { reach_of page.now + levels * 2 ^ 20 ≤ 2 ^ 26 }
     ensures fills { OnOk result ((x y : ℤ) → first_fill shown.new x y ≡ or_else (first_fill shown.old x y) (seen (is_in clip.now x y) (shown_of shape.now.kind page.now (answer_among levels document.now.records (Shape shape.now.id) (carry page.now) x y) x y))) }
     ensures items { OnOk result ((start : List Item) → AreShown start shown.old nodes.old.items → AreShown start shown.new nodes.new.items) }
     ensures clips { OnOk result (All (IsClipped clip.now) nodes.old.items → All (IsClipped clip.now) nodes.new.items) }
+    ensures tree { OnOk result (IsOneMore (λ node. is_node_of document.now.records node shape.now (carry page.now) clip.now ≡ true) nodes.old.items nodes.new.items) }
 {
     let bump: &'a Bump = *nodes.allocator();
     let inside = Parent::Shape(shape.id);
@@ -157,7 +162,7 @@ fn back_of<'a>(
     clip: &PageBox,
     fill: Option<Colour>,
     shown: &mut Shown<'a>,
-) -> Result<Option<Item<'a>>, AllocError>
+) -> Result<Option<Item<'a>>, OutOfMemory>
     ensures fills { IfOk result (λ back. (x y : ℤ) → first_fill shown.new x y ≡ or_else (first_fill shown.old x y) (seen (is_in clip.now x y) (seen (carried_holds leaf.entry x y) fill))) }
     ensures items { IfOk result (λ back. shown.new ≡ shown.old ++ back_item back) }
     ensures clip { IfOk result (λ back. IfSome back (λ i. i.clip ≡ clip.now)) }
@@ -179,10 +184,11 @@ fn add_leaf<'a>(
     fill: Colour,
     shown: &mut Shown<'a>,
     nodes: &mut Vec<Node<'a>, &'a Bump>,
-) -> Result<(), AllocError>
+) -> Result<(), OutOfMemory>
     ensures fills { OnOk result ((x y : ℤ) → first_fill shown.new x y ≡ or_else (first_fill shown.old x y) (seen (is_in clip.now x y) (seen (carried_holds shape.entry x y) (Some fill)))) }
     ensures items { OnOk result ((start : List Item) → AreShown start shown.old nodes.old.items → AreShown start shown.new nodes.new.items) }
     ensures clips { OnOk result (All (IsClipped clip.now) nodes.old.items → All (IsClipped clip.now) nodes.new.items) }
+    ensures tree { OnOk result (IsOneMore (λ node. (rs : List Record) → is_node_of rs node ≡ is_leaf_of clip.now) nodes.old.items nodes.new.items) }
 {
     let item = shown.add(shape, clip, fill)?;
     keep(nodes, leaf(item))?;
@@ -190,7 +196,7 @@ fn add_leaf<'a>(
 }
 
 // Vertices as a pose carries them to the page, in the arena.
-fn carried<'a>(bump: &'a Bump, page: &Pose, points: &[Point]) -> Result<&'a [Point], AllocError>
+fn carried<'a>(bump: &'a Bump, page: &Pose, points: &[Point]) -> Result<&'a [Point], OutOfMemory>
     requires vertices { AreVertices points.now }
     requires quarter { page.now.quarter ≤ 3 }
     requires reach { reach_of page.now ≤ 2 ^ 26 }

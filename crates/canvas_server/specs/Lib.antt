@@ -1,2 +1,4 @@
+pub mod Faults
+pub mod Settings
 pub mod Statuses
 pub mod Words

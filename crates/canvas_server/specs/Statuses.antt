@@ -25,6 +25,11 @@ abbrev pub status_of : Option ℕ → ℕ
 status_of None = 4
 status_of (Some code) = status_of_code code
 
+-- the fault of the program with this code, or with none
+abbrev pub fault_of_code : Option ℕ → Fault
+fault_of_code None = Io
+fault_of_code (Some code) = Refused code
+
 -- the status at a fault of the program: 2 where the words are no command
 abbrev pub status_at : Fault → ℕ
 status_at Usage = 2

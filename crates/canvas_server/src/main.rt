@@ -1,24 +1,41 @@
 //! The program `canvas`: one design document, edited and looked at by lines of JSON.
 //!
 //! `canvas script [workers]` serves standard input to standard output, beginning with an empty document.
+//! `canvas serve <address> <file> [workers]` serves a saved document to the connections that come to an address.
 #![tactic(auto)]
 
 ghost use Rattle.std.specs.Prelude.{◌≡◌};
 ghost use Rattle.canvas_board.specs.Fault.{board_fault_code};
 ghost use Rattle.canvas_session.specs.Cause.{cause_code};
+ghost use Rattle.canvas_store.specs.Faults.{fault_code as store_fault_code};
 ghost use Rattle.canvas_server.specs.declared.Fault.TheVariants.{Refused};
-ghost use Rattle.canvas_server.specs.Statuses.{status_at};
+ghost use Rattle.canvas_server.specs.Faults.{server_fault_code};
+ghost use Rattle.canvas_server.specs.Statuses.{fault_of_code, status_at};
 
+mod connection;
+mod house;
+mod opening;
+mod outlet;
+mod seats;
+mod server_fault;
+mod serving;
 mod words;
 
 use canvas_board::{Alone, BoardFault};
 use canvas_doc::Document;
 use canvas_session::{SessionFault, serve};
+use canvas_store::StoreFault;
+use opening::read_document;
+use server_fault::ServerFault;
+use serving::{Settings, serve_connections};
 use std::alloc::{AllocError, AllocFailed, Global};
+use std::fs::{File, Files};
 use std::io::{BufWriter, Read, Write};
+use std::net::{Net, TcpListener, TcpStream};
 use std::process::ExitCode;
 use std::sync::Wait;
 use std::thread::Threads;
+use std::time::Clock;
 use std::{env, io};
 use words::{Command, exit_status};
 
@@ -26,6 +43,12 @@ const USAGE: &str = "usage: canvas script [workers] | canvas serve <address> <fi
 
 /// How many changes the document takes.
 const LIMIT: u64 = 1_000_000;
+
+/// How many sessions a server has at once.
+const SEATS: u32 = 63;
+
+/// How many pictures each seat keeps.
+const KEEP: u32 = 8;
 
 /// Why the program ends other than by the end of its input.
 #[derive(Clone, Copy, Debug)]
@@ -50,6 +73,25 @@ impl From<SessionFault> for Fault {
 
     fn from(fault: SessionFault) -> Fault {
         Fault::Refused(fault.code())
+    }
+}
+
+impl From<StoreFault> for Fault {
+    ghost from_gives = { λ error fault. fault ≡ Refused (store_fault_code error) };
+
+    fn from(why: StoreFault) -> Fault {
+        Fault::Refused(why.code())
+    }
+}
+
+impl From<ServerFault> for Fault {
+    ghost from_gives = { λ error fault. fault ≡ fault_of_code (server_fault_code error) };
+
+    fn from(fault: ServerFault) -> Fault {
+        match fault.code() {
+            Some(code) => Fault::Refused(code),
+            None => Fault::Io,
+        }
     }
 }
 
@@ -79,12 +121,24 @@ impl From<io::Error> for Fault {
 }
 
 fn main(rt: HostRuntime) -> ExitCode {
-    let end = match command(&rt) {
-        Ok(Some(Command::Script { workers })) => {
-            script(&rt, rt.alloc(), workers, &mut rt.stdin(), rt.stdout())
-        }
-        Ok(None) => Err(Fault::Usage),
+    let end = match given_words(&rt) {
         Err(fault) => Err(fault),
+        Ok(words) => match command_of(rt.alloc(), &words) {
+            Err(fault) => Err(fault),
+            Ok(None) => Err(Fault::Usage),
+            Ok(Some(Command::Script { workers })) => {
+                script(&rt, rt.alloc(), workers, &mut rt.stdin(), rt.stdout())
+            }
+            Ok(
+                Some(
+                    Command::Serve {
+                        address,
+                        file,
+                        workers,
+                    },
+                ),
+            ) => serve_file(&rt, rt.alloc(), address, file, workers),
+        },
     };
     match end {
         Ok(()) => ExitCode::SUCCESS,
@@ -96,11 +150,9 @@ fn main(rt: HostRuntime) -> ExitCode {
     }
 }
 
-/// The command that the program's words name.
-fn command(rt: &HostRuntime) -> Result<Option<Command>, Fault> {
-    let alloc = rt.alloc();
-    let mut words: Vec<String> = Vec::new(alloc);
-    // A word that is not UTF-8 is no command.
+/// The words behind the program's name. A word that is not UTF-8 is no command.
+fn given_words(rt: &HostRuntime) -> Result<Vec<String>, Fault> {
+    let mut words = Vec::new(rt.alloc());
     let given = match env::args(rt) {
         Ok(given) => given,
         Err(error) if error.kind() == io::ErrorKind::InvalidData => return Err(Fault::Usage),
@@ -109,8 +161,13 @@ fn command(rt: &HostRuntime) -> Result<Option<Command>, Fault> {
     for word in given.skip(1) {
         words.push(word)?;
     }
-    let words: Vec<&str> = words.iter().map(|word| word.as_str()).collect(alloc)?;
-    Ok(Command::read(&words))
+    Ok(words)
+}
+
+/// The command that the words name.
+fn command_of(alloc: Global, words: &[String]) -> Result<Option<Command<'_>>, Fault> {
+    let texts: Vec<&str> = words.iter().map(|word| word.as_str()).collect(alloc)?;
+    Ok(Command::read(&texts))
 }
 
 /// Serves a reader to a writer over a document of its own, which begins empty.
@@ -124,6 +181,30 @@ fn script<H: Threads + Wait + Sync, R: Read, W: Write + Drop>(
     let mut board = Alone::new(alloc, Document::empty(alloc), LIMIT)?;
     let mut writer = BufWriter::new(alloc, output)?;
     serve(rt, alloc, &mut board, workers, reader, &mut writer)?;
+    Ok(())
+}
+
+/// Serves the document of a file at an address, without end.
+fn serve_file<
+    H: Files
+        + Print
+        + Threads
+        + Wait
+        + Clock
+        + Sync
+        + Net<Listener = TcpListener, Stream = TcpStream>,
+>(rt: &H, alloc: Global, address: &str, file: &str, workers: u32) -> Result<(), Fault> {
+    let document = read_document(alloc, File::open(rt, file)?)?;
+    let listener = TcpListener::bind(rt, address)?;
+    println!(rt; "listening")?;
+    let settings = Settings {
+        seats: SEATS,
+        limit: LIMIT,
+        keep: KEEP,
+        workers,
+        connections: 0,
+    };
+    serve_connections(rt, alloc, &listener, document, &settings)?;
     Ok(())
 }
 

@@ -1,43 +1,70 @@
 //! The words of the command line, and the statuses with which the program ends.
 
-ghost use Rattle.std.specs.Prelude.{◌≡◌, map};
+ghost use Rattle.std.specs.Prelude.{◌≡◌};
 ghost use Rattle.canvas_server.specs.Statuses.{status_of};
-ghost use Rattle.canvas_server.specs.Words.{command_named, script_named, workers_named};
+ghost use Rattle.canvas_server.specs.Words.{command_named, script_named, serve_named, workers_asked, workers_named};
 
 /// What the program is asked for.
 #[derive(Clone, Copy, Debug, PartialEq, Eq)]
-pub enum Command {
+pub enum Command<'a> {
     /// Serves standard input to standard output, with so many workers for a picture.
-    Script { workers: u32 },
+    Script {
+        workers: u32,
+    },
+    /// Serves a saved document to the connections that come to an address, with so many workers for a picture.
+    Serve {
+        address: &'a str,
+        file: &'a str,
+        workers: u32,
+    },
 }
 
 /// The workers where the words name none.
 const DEFAULT_WORKERS: u32 = 2;
 
-impl Command {
+impl<'a> Command<'a> {
     /// Reads the words behind the program's name. `None` is a fault of usage.
-    pub fn read(words: &[&str]) -> Option<Command>
-        ensures { result ≡ command_named (map (λ word. word.now) words.now) }
+    pub fn read(words: &[&'a str]) -> Option<Command<'a>>
+        ensures { result ≡ command_named words.now }
     {
         let (verb, rest) = words.split_first()?;
         match *verb {
             "script" => script_of(rest),
+            "serve" => serve_of(rest),
             _ => None,
         }
     }
 }
 
 // A run over standard input, of the words behind its verb.
-fn script_of(words: &[&str]) -> Option<Command>
-    ensures { result ≡ script_named (map (λ word. word.now) words.now) }
+fn script_of<'a>(words: &[&'a str]) -> Option<Command<'a>>
+    ensures { result ≡ script_named words.now }
+{
+    let workers = workers_asked(words)?;
+    Some(Command::Script { workers })
+}
+
+// A server, of the words behind its verb.
+fn serve_of<'a>(words: &[&'a str]) -> Option<Command<'a>>
+    ensures { result ≡ serve_named words.now }
 {
     match words {
-        [] => Some(Command::Script {
-            workers: DEFAULT_WORKERS,
+        [address, file, rest @ ..] => Some(Command::Serve {
+            address,
+            file,
+            workers: workers_asked(rest)?,
         }),
-        [number] => Some(Command::Script {
-            workers: workers_of(number)?,
-        }),
+        _ => None,
+    }
+}
+
+// The workers that no word or one word asks for.
+fn workers_asked(words: &[&str]) -> Option<u32>
+    ensures { result ≡ workers_asked words.now }
+{
+    match words {
+        [] => Some(DEFAULT_WORKERS),
+        [number] => workers_of(number),
         _ => None,
     }
 }
@@ -95,7 +122,7 @@ mod tests {
         }
         for words in [
             ["script", "2", "3"],
-            ["serve", "a", "b"],
+            ["Serve", "a", "b"],
             ["Script", "", ""],
         ] {
             assert!(rt; Command::read(&words).is_none());

@@ -2,7 +2,7 @@
 use Rattle.std.specs.Prelude.{ℕ, List, [], ◌++◌, length, Option, Some, None, Result, Ok, Err}
 use Rattle.std.specs.List.{flat_map}
 use Rattle.canvas_wire.specs.Replies.{Said, created, edited, body, point, refused, behind, line_of}
-use Rattle.canvas_board.specs.declared.answers.Edited.{Edited}
+use Rattle.canvas_line.specs.declared.fault.Edited.{Edited}
 use Rattle.canvas_board.specs.declared.answers.Picture.{Picture}
 use Rattle.canvas_board.specs.declared.answers.Dot.{Dot}
 use Rattle.canvas_board.specs.declared.answers.Saved.{Saved}

@@ -8,7 +8,7 @@ use Rattle.canvas_wire.specs.declared.request.Request.TheVariants.{Edit, Tile, P
 use Rattle.canvas_wire.specs.declared.fault.WireFault.{WireFault}
 use Rattle.canvas_wire.specs.Faults.{fault_code}
 use Rattle.canvas_wire.specs.Replies.{refused}
-use Rattle.canvas_board.specs.declared.answers.Edited.{Edited}
+use Rattle.canvas_line.specs.declared.fault.Edited.{Edited}
 use Rattle.canvas_board.specs.declared.answers.Picture.{Picture}
 use Rattle.canvas_board.specs.declared.answers.Dot.{Dot}
 use Rattle.canvas_board.specs.declared.answers.Saved.{Saved}

@@ -8,12 +8,8 @@ mod next;
 mod output;
 mod pending;
 mod respond;
-#[cfg(test)]
-mod rows;
 mod served;
 mod session;
-#[cfg(test)]
-mod tests;
 
 pub use answer::Answer;
 pub use fault::{Cause, SessionFault};

@@ -21,6 +21,13 @@ cut-some from to left right s h f t lt = record {
   exact = λ x. or_false (is_from_to s.from x s.to) ∙ ap (λ z. is_from_to z x s.to) f ∙ ap (λ z. is_from_to (held left from right) x z) t ∙ held-test left right from to x h;
 }
 
+-- a range that holds something is not empty
+range-filled : (from to left right : ℤ) → left ≤ℤ right → held left from right <ℤ held left to right → left <ℤ right
+range-filled from to left right h lt = grind (arith, ints)
+
+pub some-range : (from to left right a b : ℤ) → left ≤ℤ right → a ≡ held left from right → b ≡ held left to right → a <ℤ b → left <ℤ right
+some-range from to left right a b h f t lt = range-filled from to left right h (subst (λ z. z <ℤ held left to right) f (subst (λ z. a <ℤ z) t lt))
+
 empty-range : (from to x : ℤ) → to ≤ℤ from → false ≡ is_from_to from x to
 empty-range from to x h = grind (arith, ints)
 

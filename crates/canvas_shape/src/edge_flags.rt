@@ -11,7 +11,7 @@ use crate::Span;
 use crate::flag_words::{carried, flipped, is_first, lowest, odd_from};
 use crate::parts::Row;
 use crate::polygon::push_piece;
-use std::alloc::AllocError;
+use canvas_code::OutOfMemory;
 
 /// The edge flags of a row of up to 256 columns, as plain data: bit i % 64 of word i / 64 says that the row goes from held
 /// to not held, or back, behind column i. So a column is held where an odd number of flags stand at it or right of it, two
@@ -61,7 +61,12 @@ impl EdgeFlags {
 
     /// Appends the held columns before `width`, of which the first is the pixel `left`, as spans that rise, lie apart and are
     /// not empty. Without memory `out` stays as it was. The width is at most 256, and the columns end at 2,147,483,647 at most.
-    pub fn append_spans(&self, left: i32, width: u32, out: &mut Vec<Span>) -> Result<(), AllocError>
+    pub fn append_spans(
+        &self,
+        left: i32,
+        width: u32,
+        out: &mut Vec<Span>,
+    ) -> Result<(), OutOfMemory>
         requires wide { width ≤ 256 }
         requires range { (left +ℤ pos width) ≤ℤ pos 2147483647 }
         ensures ok { OnOk result (AppendsSpans out.old.items out.new.items (held_from left width self.now.words)) }
@@ -104,7 +109,7 @@ fn push_spans(
     row: Row,
     width: u32,
     out: &mut Vec<Span>,
-) -> Result<(), AllocError>
+) -> Result<(), OutOfMemory>
     requires wide { row.right ≡ row.left +ℤ pos width }
     ensures ok { OnOk result (out.new.items ≡ out.old.items ++ spans_of row.left (is_held flags.now.words 0) 0 (cuts_behind width (flag flags.now.words) 0 256)) }
     ensures kept { take (length out.old.items) out.new.items ≡ out.old.items }
@@ -127,7 +132,7 @@ fn push_word(
     width: u32,
     reached: Reached,
     out: &mut Vec<Span>,
-) -> Result<Reached, AllocError>
+) -> Result<Reached, OutOfMemory>
     requires small { base ≤ 192 }
     requires wide { row.right ≡ row.left +ℤ pos width }
     requires start { reached.place ≤ width }

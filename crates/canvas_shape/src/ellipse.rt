@@ -1,13 +1,13 @@
 //! Ellipses on whole pixels.
 
-ghost use Rattle.std.specs.Prelude.{◌≡◌, ◌≤◌, ◌<◌, ◌^◌, ◌*◌, ◌+◌, ◌-◌, ◌/◌, ◌%◌, ◌↔◌, ℕ, ℤ, unsigned_abs, ◌-ℤ◌, ◌*ℤ◌, ◌+ℤ◌, ◌≤ℤ◌, pos, nat_le, OnOk, OnErr, IsTrue};
+ghost use Rattle.std.specs.Prelude.{◌≡◌, ◌≤◌, ◌<◌, ◌^◌, ◌*◌, ◌+◌, ◌-◌, ◌/◌, ◌%◌, ◌↔◌, ℕ, ℤ, unsigned_abs, ◌-ℤ◌, ◌*ℤ◌, ◌+ℤ◌, ◌≤ℤ◌, ◌<ℤ◌, pos, nat_le, OnOk, OnErr, IsTrue};
 ghost use Rattle.canvas_shape.specs.Ellipse.{is_in_ellipse, offset, IsSide, is_near_middle};
 ghost use Rattle.canvas_shape.specs.Spans.{AppendsSpans, is_from_to, within};
 
 use crate::Span;
 use crate::spans::append_cut;
+use canvas_code::OutOfMemory;
 use canvas_plane::PageBox;
-use std::alloc::AllocError;
 use std::num::f64_to_bits_with_nan;
 
 /// Appends the pixels of an ellipse in the row `y`, from `left` up to `right`.
@@ -17,12 +17,13 @@ pub(crate) fn ellipse_spans(
     left: i32,
     right: i32,
     out: &mut Vec<Span>,
-) -> Result<(), AllocError>
+) -> Result<(), OutOfMemory>
     requires across { IsSide shape.now.left shape.now.right }
     requires down { IsSide shape.now.top shape.now.bottom }
     requires range { left ≤ℤ right }
     ensures ok { OnOk result (AppendsSpans out.old.items out.new.items (within left right (λ x. is_in_ellipse shape.now x y))) }
     ensures err { OnErr result (out.new.items ≡ out.old.items) }
+    ensures want { OnErr result (left <ℤ right) }
 {
     let ends = row_ends(shape, y);
     append_cut(ends.from, ends.to, left, right, out)

@@ -14,8 +14,9 @@ use crate::ellipse::ellipse_holds;
 use crate::leaves::carried_box;
 use crate::polygon::edge_counts;
 use crate::{Kind, KindFault};
+use canvas_code::OutOfMemory;
 use canvas_plane::{Point, Pose};
-use std::alloc::{AllocError, Global};
+use std::alloc::Global;
 
 impl KindFault {
     /// The number of the refusal.
@@ -77,7 +78,7 @@ impl Kind {
     }
 
     /// An equal kind. Only the vertices of a polygon take memory.
-    pub fn try_clone(&self, alloc: Global) -> Result<Kind, AllocError>
+    pub fn try_clone(&self, alloc: Global) -> Result<Kind, OutOfMemory>
         ensures value { IfOk result (λ kind. kind ≡ self.now) }
         ensures memory { takes_memory self.now ≡ false → IsOk result }
     {

@@ -1,6 +1,6 @@
 //! Leaves carried to the page, and the pixels that they hold.
 
-ghost use Rattle.std.specs.Prelude.{◌≡◌, ◌≤◌, ◌<◌, ◌^◌, ℤ, pos, All, length, OnOk, OnErr, ◌≤ℤ◌, true, unsigned_abs};
+ghost use Rattle.std.specs.Prelude.{◌≡◌, ◌≤◌, ◌<◌, ◌^◌, ℤ, pos, All, length, OnOk, OnErr, ◌≤ℤ◌, ◌<ℤ◌, true, unsigned_abs};
 ghost use Rattle.canvas_plane.specs.Motion.{carry, reach_of, size_of};
 ghost use Rattle.std.specs.Int.{int_min, int_max};
 ghost use Rattle.canvas_plane.specs.Page.{is_in};
@@ -16,8 +16,9 @@ use crate::parts::{LeafBox, Row, Vertices};
 use crate::polygon::{Cuts, bounds, polygon_holds, polygon_spans};
 use crate::spans::append_cut;
 use crate::{Carried, Span};
+use canvas_code::OutOfMemory;
 use canvas_plane::{PageBox, Point, Pose};
-use std::alloc::{AllocError, Global};
+use std::alloc::Global;
 
 impl<'a> Carried<'a> {
     /// The rectangle of `w` by `h` as the pose carries it.
@@ -79,7 +80,7 @@ impl<'a> Carried<'a> {
     }
 
     /// Appends the pixels of the leaf in the row `y`, from `left` up to `right`, as spans that rise, lie apart and are not empty.
-    /// Without memory `out` stays as it was.
+    /// Without memory `out` stays as it was; a range without a pixel needs none.
     pub fn row_spans(
         &self,
         alloc: Global,
@@ -87,10 +88,11 @@ impl<'a> Carried<'a> {
         left: i32,
         right: i32,
         out: &mut Vec<Span>,
-    ) -> Result<(), AllocError>
+    ) -> Result<(), OutOfMemory>
         requires { left ≤ℤ right }
         ensures ok { OnOk result (AppendsSpans out.old.items out.new.items (within left right (λ x. carried_holds self.now x y))) }
         ensures err { OnErr result (out.new.items ≡ out.old.items) }
+        ensures want { OnErr result (left <ℤ right) }
     {
         let mut cuts = Cuts::new(alloc);
         self.row_spans_with(&mut cuts, y, left, right, out)
@@ -104,10 +106,11 @@ impl<'a> Carried<'a> {
         left: i32,
         right: i32,
         out: &mut Vec<Span>,
-    ) -> Result<(), AllocError>
+    ) -> Result<(), OutOfMemory>
         requires { left ≤ℤ right }
         ensures ok { OnOk result (AppendsSpans out.old.items out.new.items (within left right (λ x. carried_holds self.now x y))) }
         ensures err { OnErr result (out.new.items ≡ out.old.items) }
+        ensures want { OnErr result (left <ℤ right) }
     {
         match self {
             Carried::Rect(shape) => box_spans(shape, y, left, right, out),
@@ -125,10 +128,14 @@ fn vertices_spans(
     vertices: &Vertices<'_>,
     row: Row,
     out: &mut Vec<Span>,
-) -> Result<(), AllocError>
+) -> Result<(), OutOfMemory>
     ensures ok { OnOk result (AppendsSpans out.old.items out.new.items (within row.left row.right (λ x. is_in_polygon vertices.now.points.now x row.y))) }
     ensures err { OnErr result (out.new.items ≡ out.old.items) }
+    ensures want { OnErr result (row.left <ℤ row.right) }
 {
+    if row.left >= row.right {
+        return Ok(());
+    }
     if is_in_rows(vertices.bounds.top, row.y, vertices.bounds.bottom) {
         polygon_spans(cuts, vertices.points, row, out)
     } else {
@@ -173,10 +180,11 @@ fn box_spans(
     left: i32,
     right: i32,
     out: &mut Vec<Span>,
-) -> Result<(), AllocError>
+) -> Result<(), OutOfMemory>
     requires { left ≤ℤ right }
     ensures ok { OnOk result (AppendsSpans out.old.items out.new.items (within left right (λ x. is_in (sides_of shape.now) x y))) }
     ensures err { OnErr result (out.new.items ≡ out.old.items) }
+    ensures want { OnErr result (left <ℤ right) }
 {
     if is_in_rows(shape.top, y, shape.bottom) {
         append_cut(shape.left, shape.right, left, right, out)

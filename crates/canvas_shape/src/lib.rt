@@ -97,6 +97,3 @@ pub enum Carried<'a> {
     Ellipse(LeafBox),
     Polygon(Vertices<'a>),
 }
-
-#[cfg(test)]
-mod tests;

@@ -13,8 +13,9 @@ ghost use lib.IntN.{neg_ℤ};
 use crate::Span;
 use crate::parts::Row;
 use crate::spans::clamped;
+use canvas_code::OutOfMemory;
 use canvas_plane::{PageBox, Point};
-use std::alloc::{AllocError, Global};
+use std::alloc::Global;
 use std::marker::Model;
 
 /// Memory for the cuts of a row, to be kept from row to row: only a row with more cuts than any before makes it grow.
@@ -49,7 +50,7 @@ pub(crate) fn polygon_spans(
     points: &[Point],
     row: Row,
     out: &mut Vec<Span>,
-) -> Result<(), AllocError>
+) -> Result<(), OutOfMemory>
     requires some { 0 < length points.now }
     requires near { All (λ p. size_of p ≤ 2 ^ 27) points.now }
     ensures ok { OnOk result (AppendsSpans out.old.items out.new.items (within row.left row.right (λ x. is_in_polygon points.now x row.y))) }
@@ -144,7 +145,7 @@ fn greater(a: i64, b: i64) -> i64
 }
 
 // The places of a row at which the edges stop to count.
-fn collect(points: &[Point], row: Row, cuts: &mut Vec<u32>) -> Result<(), AllocError>
+fn collect(points: &[Point], row: Row, cuts: &mut Vec<u32>) -> Result<(), OutOfMemory>
     requires some { 0 < length points.now }
     requires near { All (λ p. size_of p ≤ 2 ^ 27) points.now }
     requires empty { cuts.old.items ≡ [] }
@@ -168,7 +169,7 @@ pub(crate) fn last(points: &[Point]) -> Point
 }
 
 // Notes where an edge stops to count, if it counts in this row.
-fn add_cut(from: Point, to: Point, row: Row, cuts: &mut Vec<u32>) -> Result<(), AllocError>
+fn add_cut(from: Point, to: Point, row: Row, cuts: &mut Vec<u32>) -> Result<(), OutOfMemory>
     requires near { (size_of from ≤ 2 ^ 27) × (size_of to ≤ 2 ^ 27) }
     ensures { OnOk result (AddsCut row.left row.right cuts.old.items cuts.new.items (λ x. counts from to x row.y)) }
 {
@@ -203,7 +204,7 @@ fn distance(from: i32, to: i32) -> u32
 }
 
 // Appends the spans between cuts, or leaves all as it was.
-fn append_spans(cuts: &[u32], row: Row, out: &mut Vec<Span>) -> Result<(), AllocError>
+fn append_spans(cuts: &[u32], row: Row, out: &mut Vec<Span>) -> Result<(), OutOfMemory>
     requires { AreWithin row.left row.right cuts.now }
     ensures ok { OnOk result (out.new.items ≡ out.old.items ++ spans_of row.left (is_odd (length cuts.now)) 0 cuts.now) }
     ensures err { OnErr result (out.new.items ≡ out.old.items) }
@@ -218,7 +219,7 @@ fn append_spans(cuts: &[u32], row: Row, out: &mut Vec<Span>) -> Result<(), Alloc
     }
 }
 
-fn push_spans(cuts: &[u32], row: Row, out: &mut Vec<Span>) -> Result<(), AllocError>
+fn push_spans(cuts: &[u32], row: Row, out: &mut Vec<Span>) -> Result<(), OutOfMemory>
     requires { AreWithin row.left row.right cuts.now }
     ensures ok { OnOk result (out.new.items ≡ out.old.items ++ spans_of row.left (is_odd (length cuts.now)) 0 cuts.now) }
     ensures kept { take (length out.old.items) out.new.items ≡ out.old.items }
@@ -245,7 +246,7 @@ pub(crate) fn push_piece(
     start: u32,
     cut: u32,
     out: &mut Vec<Span>,
-) -> Result<(), AllocError>
+) -> Result<(), OutOfMemory>
     requires first { (row.left +ℤ pos start) ≤ℤ row.right }
     requires second { (row.left +ℤ pos cut) ≤ℤ row.right }
     ensures ok { OnOk result (out.new.items ≡ out.old.items ++ piece row.left inside start cut) }

@@ -1,10 +1,10 @@
 //! Spans of a row of pixels.
 
-ghost use Rattle.std.specs.Prelude.{◌≡◌, ◌≤ℤ◌, OnOk, OnErr, ◌∷◌, [], int_lt, MatchOption};
+ghost use Rattle.std.specs.Prelude.{◌≡◌, ◌≤ℤ◌, ◌<ℤ◌, OnOk, OnErr, ◌∷◌, [], int_lt, MatchOption};
 ghost use Rattle.canvas_shape.specs.Spans.{AppendsSpans, is_from_to, IsSpans, held, within};
 
 use crate::Span;
-use std::alloc::AllocError;
+use canvas_code::OutOfMemory;
 
 /// Appends what lies from `from` up to `to` of the pixels from `left` up to `right`.
 pub(crate) fn append_cut(
@@ -13,10 +13,11 @@ pub(crate) fn append_cut(
     left: i32,
     right: i32,
     out: &mut Vec<Span>,
-) -> Result<(), AllocError>
+) -> Result<(), OutOfMemory>
     requires { left ≤ℤ right }
     ensures ok { OnOk result (AppendsSpans out.old.items out.new.items (within left right (λ x. is_from_to from x to))) }
     ensures err { OnErr result (out.new.items ≡ out.old.items) }
+    ensures want { OnErr result (left <ℤ right) }
 {
     if let Some(span) = cut_span(from, to, left, right) {
         out.push(span)?;
@@ -27,7 +28,7 @@ pub(crate) fn append_cut(
 // What lies from `from` up to `to`, if anything does.
 fn cut_span(from: i64, to: i64, left: i32, right: i32) -> Option<Span>
     requires { left ≤ℤ right }
-    ensures { MatchOption result (IsSpans [] (within left right (λ x. is_from_to from x to))) (λ span. IsSpans (span ∷ []) (within left right (λ x. is_from_to from x to))) }
+    ensures { MatchOption result (IsSpans [] (within left right (λ x. is_from_to from x to))) (λ span. IsSpans (span ∷ []) (within left right (λ x. is_from_to from x to)) × (left <ℤ right)) }
 {
     let span = cut(from, to, left, right);
     if is_filled(&span) { Some(span) } else { None }

@@ -3,8 +3,9 @@
 ghost use Rattle.std.specs.Prelude.{◌≡◌, ◌++◌, ◌∷◌, [], IfOk, OnOk, OnErr};
 
 use crate::Points;
+use canvas_code::OutOfMemory;
 use canvas_plane::Point;
-use std::alloc::{AllocError, Global};
+use std::alloc::Global;
 
 impl Points {
     /// No vertex yet.
@@ -17,7 +18,7 @@ impl Points {
     }
 
     /// Puts a vertex behind the last. Without memory the vertices stay as they were.
-    pub fn push(&mut self, point: Point) -> Result<(), AllocError>
+    pub fn push(&mut self, point: Point) -> Result<(), OutOfMemory>
         ensures ok { OnOk result (self.new ≡ self.old ++ point ∷ []) }
         ensures err { OnErr result (self.new ≡ self.old) }
     {
@@ -40,7 +41,7 @@ impl Points {
     }
 
     /// The same vertices.
-    pub fn try_clone(&self, alloc: Global) -> Result<Points, AllocError>
+    pub fn try_clone(&self, alloc: Global) -> Result<Points, OutOfMemory>
         ensures { IfOk result (λ points. points ≡ self.now) }
     {
         Ok(Points {

@@ -93,11 +93,6 @@ limits-held d rs e well = All-under IsInLimits (λ r. r.now) rs (All-same IsInLi
 pub opens-held : (d : Contents) (rs : List (Bor Record)) → map (λ r. r.now) rs ≡ d.records → IsWellFormed d → All (λ r. IsKept r.now) rs → opened_data (data_of d) ≡ Ok d
 opens-held d rs e well kept = opens-back d well (All-same IsKept d.records (map (λ r. r.now) rs) (sym e) (All-map IsKept (λ r. r.now) rs kept))
 
--- two facts of one value
-pub IfOk-both : {X Y : Type 0} (r : Result X Y) (P Q R : X → Type 0) → ((x : X) → P x → Q x → R x) → IfOk r P → IfOk r Q → IfOk r R
-IfOk-both (Ok x) P Q R f p q = f x p q
-IfOk-both (Err y) P Q R f p q = tt
-
 -- one more record that is kept
 pub kept-more : (rs : List (Bor Record)) (i : ℕ) (x : Bor Record) → i < length rs → x ≡ get_or rs i x → All (λ r. IsKept r.now) (take i rs) → IsKept x.now
     → All (λ r. IsKept r.now) (take (i + 1) rs)

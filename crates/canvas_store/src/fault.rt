@@ -10,7 +10,7 @@ use std::alloc::AllocError;
 use thiserror::Error;
 
 /// Why a text is no saved document.
-#[derive(Clone, Copy, Debug, PartialEq, Eq, Error)]
+#[derive(Clone, Copy, Debug, PartialEq, Eq, Drop, Error)]
 pub enum StoreFault {
     /// The text is not JSON.
     #[error("BadJson")]
@@ -55,6 +55,14 @@ impl From<AllocError> for StoreFault {
     ghost from_gives = { λ _ fault. fault ≡ OutOfMemory };
 
     fn from(_error: AllocError) -> StoreFault {
+        StoreFault::OutOfMemory
+    }
+}
+
+impl From<canvas_code::OutOfMemory> for StoreFault {
+    ghost from_gives = { λ _ fault. fault ≡ OutOfMemory };
+
+    fn from(_error: canvas_code::OutOfMemory) -> StoreFault {
         StoreFault::OutOfMemory
     }
 }

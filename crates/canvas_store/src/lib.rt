@@ -13,6 +13,3 @@ mod value;
 pub use fault::StoreFault;
 pub use opening::import;
 pub use saving::export;
-
-#[cfg(test)]
-mod tests;

@@ -11,9 +11,10 @@ use crate::extra::has_others;
 use crate::fault::StoreFault;
 use crate::field::u32_at;
 use crate::record::element_of;
+use canvas_code::OutOfMemory;
 use canvas_doc::{Document, Record};
 use serde_json::Value;
-use std::alloc::{AllocError, Global};
+use std::alloc::Global;
 
 /// The most elements that a saved document of format 1 has.
 const MOST_SHAPES: usize = 4096;
@@ -77,7 +78,7 @@ fn shapes_of(saved: &Value) -> Option<&[Value]>
     shapes_in(saved).and_then(few_of)
 }
 
-fn push(records: &mut Vec<Record>, shape: Record) -> Result<(), AllocError>
+fn push(records: &mut Vec<Record>, shape: Record) -> Result<(), OutOfMemory>
     ensures { OnOk result (records.new.items ≡ records.old.items ++ shape ∷ []) }
 {
     Ok(records.push(shape)?)

@@ -8,12 +8,13 @@ ghost use Rattle.canvas_store.specs.Shapes.{shape_of};
 use crate::extra::has_others;
 use crate::field::{bool_at, i32_at, u8_at, u32_at, u32_of};
 use crate::shape::shape_at;
+use canvas_code::OutOfMemory;
 use canvas_doc::{Parent, Place, Record};
 use canvas_key::Key;
 use canvas_plane::Pose;
 use canvas_shape::Kind;
 use serde_json::Value;
-use std::alloc::{AllocError, Global};
+use std::alloc::Global;
 
 #[tactic(auto, unfolding(crate::specs::Records::parent_of))]
 fn parent_of(value: &Value) -> Option<Parent>
@@ -110,7 +111,7 @@ fn record_with(kind: Kind, object: &Value) -> Option<Record>
 
 // The shape is read first: its points alone want memory.
 #[tactic(auto, unfolding(crate::specs::Records::record_of))]
-fn record_of(alloc: Global, object: &Value) -> Result<Option<Record>, AllocError>
+fn record_of(alloc: Global, object: &Value) -> Result<Option<Record>, OutOfMemory>
     ensures { IfOk result (λ shape. shape ≡ record_of (view object.now)) }
 {
     match shape_at(alloc, object)? {
@@ -136,7 +137,7 @@ pub(crate) fn element_of(
     alloc: Global,
     next: u32,
     element: &Value,
-) -> Result<Option<Record>, AllocError>
+) -> Result<Option<Record>, OutOfMemory>
     ensures { IfOk result (λ shape. shape ≡ element_of next (view element.now)) }
 {
     match record_of(alloc, element)? {

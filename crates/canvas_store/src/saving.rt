@@ -10,6 +10,7 @@ ghost use Rattle.canvas_store.specs.Saved.{point_data, sided_data, polygon_data,
 ghost use Rattle.canvas_store.specs.Shapes.{shape_of};
 
 use crate::value::{colour_value, fill_value, index_value, parent_value, point_value, pose_value};
+use canvas_code::OutOfMemory;
 use canvas_doc::{Document, Record};
 use canvas_plane::Point;
 use canvas_shape::Kind;
@@ -103,13 +104,13 @@ fn record_values(alloc: Global, records: &[&Record]) -> Result<Vec<Value>, Alloc
     Ok(values)
 }
 
-fn document_value(alloc: Global, document: &Document) -> Result<Value, AllocError>
+fn document_value(alloc: Global, document: &Document) -> Result<Value, OutOfMemory>
     ensures value { IfOk result (λ value. view value ≡ data_of document.now) }
     ensures opens { IfOk result (λ _. opened_data (data_of document.now) ≡ Ok document.now) }
 {
     let records = document.records_in_order(alloc)?;
     let shapes = record_values(alloc, &records)?;
-    value_with(alloc, document.next_id(), shapes)
+    Ok(value_with(alloc, document.next_id(), shapes)?)
 }
 
 // A saved document with these records.
@@ -121,10 +122,10 @@ fn value_with(alloc: Global, next: u32, shapes: Vec<Value>) -> Result<Value, All
 
 /// The text of a saved document of format 1: compact JSON, members in the order of their names,
 /// records by rising id, colours in lower case, and no line feed at the end.
-pub fn export(alloc: Global, document: &Document) -> Result<Vec<u8>, AllocError>
+pub fn export(alloc: Global, document: &Document) -> Result<Vec<u8>, OutOfMemory>
     ensures saved { IfOk result (λ text. text.items ≡ saved_text_of document.now) }
     ensures opens { IfOk result (λ text. opened text.items ≡ Ok document.now) }
 {
     let saved = document_value(alloc, document)?;
-    saved.to_vec(alloc)
+    Ok(saved.to_vec(alloc)?)
 }

@@ -11,10 +11,11 @@ use crate::place::{parent_at, parent_or_page, pose_at, pose_or_still, spot_at, s
 use crate::request::Request;
 use crate::shape::shape_at;
 use crate::verb::Verb;
+use canvas_code::OutOfMemory;
 use canvas_doc::Edit;
 use canvas_shape::Kind;
 use serde_json::Value;
-use std::alloc::{AllocError, Global};
+use std::alloc::Global;
 
 // What a request asks for, or none where a member is missing or can't be read.
 #[tactic(auto, unfolding(crate::specs::Asked::asked))]
@@ -22,7 +23,7 @@ pub(crate) fn asked(
     alloc: Global,
     verb: Verb,
     object: &Value,
-) -> Result<Option<Request>, AllocError>
+) -> Result<Option<Request>, OutOfMemory>
     ensures { IfOk result (λ request. request ≡ asked verb (view object.now)) }
 {
     match verb {
@@ -42,7 +43,7 @@ pub(crate) fn asked(
 
 // The shape is read first: its points alone want memory.
 #[tactic(auto, unfolding(crate::specs::Asked::asked))]
-fn create_of(alloc: Global, object: &Value) -> Result<Option<Request>, AllocError>
+fn create_of(alloc: Global, object: &Value) -> Result<Option<Request>, OutOfMemory>
     ensures { IfOk result (λ request. request ≡ asked verb.Create (view object.now)) }
 {
     match shape_at(alloc, object)? {
@@ -88,7 +89,7 @@ fn pose_edit_of(object: &Value) -> Option<Request>
 }
 
 #[tactic(auto, unfolding(crate::specs::Asked::asked))]
-fn reshape_of(alloc: Global, object: &Value) -> Result<Option<Request>, AllocError>
+fn reshape_of(alloc: Global, object: &Value) -> Result<Option<Request>, OutOfMemory>
     ensures { IfOk result (λ request. request ≡ asked verb.Reshape (view object.now)) }
 {
     let Some(id) = u32_at(object, "id") else {

@@ -60,3 +60,11 @@ impl From<AllocError> for WireFault {
         WireFault::OutOfMemory
     }
 }
+
+impl From<canvas_code::OutOfMemory> for WireFault {
+    ghost from_gives = { λ _ fault. fault ≡ OutOfMemory };
+
+    fn from(_error: canvas_code::OutOfMemory) -> WireFault {
+        WireFault::OutOfMemory
+    }
+}

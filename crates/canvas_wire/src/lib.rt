@@ -18,6 +18,3 @@ pub use law::replies_are_json;
 pub use reading::read_request;
 pub use reply::{Reply, ReplyLine, write_reply};
 pub use request::Request;
-
-#[cfg(test)]
-mod tests;

@@ -5,10 +5,11 @@ ghost use Rattle.canvas_wire.specs.Json.{required, optional};
 ghost use Rattle.canvas_wire.specs.Shapes.{colour_of, fill_of, point_in, point_of, points_in, points_of, frame_of, rect_of, ellipse_of, polygon_of, shape_named, shape_of, shape_members};
 
 use crate::field::{i32_of, u32_at};
+use canvas_code::OutOfMemory;
 use canvas_plane::Point;
 use canvas_shape::{Colour, Kind, Points};
 use serde_json::Value;
-use std::alloc::{AllocError, Global};
+use std::alloc::Global;
 
 #[tactic(auto, unfolding(crate::specs::Shapes::colour_of))]
 fn colour_of(value: &Value) -> Option<Colour>
@@ -63,7 +64,7 @@ fn point_of(value: &Value) -> Option<Point>
 }
 
 // The points of a list.
-fn points_in(alloc: Global, list: &[Value]) -> Result<Option<Points>, AllocError>
+fn points_in(alloc: Global, list: &[Value]) -> Result<Option<Points>, OutOfMemory>
     ensures { IfOk result (λ points. points ≡ points_in (items_view list.now)) }
 {
     let mut points = Points::new(alloc);
@@ -77,7 +78,7 @@ fn points_in(alloc: Global, list: &[Value]) -> Result<Option<Points>, AllocError
 }
 
 #[tactic(auto, unfolding(crate::specs::Shapes::points_of))]
-fn points_of(alloc: Global, value: &Value) -> Result<Option<Points>, AllocError>
+fn points_of(alloc: Global, value: &Value) -> Result<Option<Points>, OutOfMemory>
     ensures { IfOk result (λ points. points ≡ points_of (view value.now)) }
 {
     match value.as_array() {
@@ -117,7 +118,7 @@ fn ellipse_of(shape: &Value) -> Option<Kind>
 }
 
 #[tactic(auto, unfolding(crate::specs::Shapes::polygon_of))]
-fn polygon_of(alloc: Global, shape: &Value) -> Result<Option<Kind>, AllocError>
+fn polygon_of(alloc: Global, shape: &Value) -> Result<Option<Kind>, OutOfMemory>
     ensures { IfOk result (λ kind. kind ≡ polygon_of (view shape.now)) }
 {
     let Some(fill) = colour_at(shape) else {
@@ -133,7 +134,7 @@ fn polygon_of(alloc: Global, shape: &Value) -> Result<Option<Kind>, AllocError>
 }
 
 #[tactic(auto, unfolding(crate::specs::Shapes::shape_named))]
-fn shape_named(alloc: Global, kind: &str, shape: &Value) -> Result<Option<Kind>, AllocError>
+fn shape_named(alloc: Global, kind: &str, shape: &Value) -> Result<Option<Kind>, OutOfMemory>
     ensures { IfOk result (λ read. read ≡ shape_named kind.now (view shape.now)) }
 {
     match kind {
@@ -147,7 +148,7 @@ fn shape_named(alloc: Global, kind: &str, shape: &Value) -> Result<Option<Kind>,
 }
 
 #[tactic(auto, unfolding(crate::specs::Shapes::shape_of))]
-fn shape_of(alloc: Global, shape: &Value) -> Result<Option<Kind>, AllocError>
+fn shape_of(alloc: Global, shape: &Value) -> Result<Option<Kind>, OutOfMemory>
     ensures { IfOk result (λ kind. kind ≡ shape_of (view shape.now)) }
 {
     match shape.get("kind").and_then(Value::as_str) {
@@ -157,7 +158,7 @@ fn shape_of(alloc: Global, shape: &Value) -> Result<Option<Kind>, AllocError>
 }
 
 // The shape, which has to be there.
-pub(crate) fn shape_at(alloc: Global, object: &Value) -> Result<Option<Kind>, AllocError>
+pub(crate) fn shape_at(alloc: Global, object: &Value) -> Result<Option<Kind>, OutOfMemory>
     ensures { IfOk result (λ kind. kind ≡ required shape_of (codes "shape") (view object.now)) }
 {
     match object.get("shape") {

@@ -1,7 +1,7 @@
 -- Each kind of event takes the world to the one after it.
 use Rattle.std.proofs.Common.{◌≡◌, ℕ, ◌+◌, ◌≤◌, ◌==◌, List, [], ◌∷◌, ◌++◌, Bool, true, false, cond, Option, Some, None, Result, Ok, Err, refl, sym, ap, ◌∙◌, arith, subst, length, take, length-append}
 use Rattle.std.specs.Prelude.{if◌then◌else◌, nat_lt, IfOk}
-use Rattle.std.specs.declared.alloc.AllocError.{AllocError}
+use Rattle.canvas_code.specs.declared.memory.OutOfMemory.{OutOfMemory as NoMemory}
 use Rattle.std.specs.Ordering.{nat_cmp}
 use Rattle.std.specs.BTreeMap.{BTreeMap, get, is_at, Updates}
 use Rattle.std.proofs.lemmas.Bool.Decides.{nat_tests}
@@ -172,7 +172,7 @@ refusal-decided why (Ok change) ne h = absurd (ne h)
 refusal-decided why (Err first) ne h = ap Err (sym h)
 
 -- an edit of a seat that is there
-pub edit-seated : (seats : ℕ) (old new : World) (e : Event) (seat : ℕ) (edit : Edit) (result : Result Entry AllocError) → e ≡ event.Edit seat edit → nat_lt (seat_of e) seats ≡ true
+pub edit-seated : (seats : ℕ) (old new : World) (e : Event) (seat : ℕ) (edit : Edit) (result : Result Entry NoMemory) → e ≡ event.Edit seat edit → nat_lt (seat_of e) seats ≡ true
     → IfOk result (λ came. EntersEdit edit old came new) → IfOk result (λ came. EntersAny seats e old came new)
 edit-seated seats old new e seat edit (Ok came) is there h = seated seats old new e came there (subst (λ (e : Event). Enters e old came new) (sym is) (h seat))
 edit-seated seats old new e seat edit (Err fault) is there h = h

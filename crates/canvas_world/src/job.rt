@@ -9,9 +9,10 @@ use crate::cut::Cut;
 use crate::entry::Raster;
 use crate::piece::{Piece, are_beside, joined, painted};
 use bumpalo::Bump;
+use canvas_code::OutOfMemory;
 use canvas_doc::Document;
 use canvas_plane::Window;
-use std::alloc::{AllocError, Global};
+use std::alloc::Global;
 use std::marker::Model;
 use std::rc::Rc;
 
@@ -81,7 +82,7 @@ impl Job {
         alloc: Global,
         arena: &mut Bump,
         cut: Cut,
-    ) -> Result<(), AllocError>
+    ) -> Result<(), OutOfMemory>
         requires { cut.k < cut.n }
         ensures { OnOk result (self.new ≡ record self.old { cuts = self.old.cuts ++ cut ∷ [] }) }
     {
@@ -94,7 +95,7 @@ impl Job {
     }
 
     /// The picture, where all its strips are there.
-    pub(crate) fn picture(&self, alloc: Global) -> Result<Option<Raster>, AllocError>
+    pub(crate) fn picture(&self, alloc: Global) -> Result<Option<Raster>, OutOfMemory>
         ensures { IfOk result (λ raster. raster ≡ (if is_whole self.now.cuts then Some (picture_of (colour self.now.document.records) self.now.window) else None)) }
     {
         match self.pieces.first() {

@@ -6,11 +6,7 @@ mod entry;
 mod event;
 mod job;
 mod piece;
-#[cfg(test)]
-mod replays;
 mod running;
-#[cfg(test)]
-mod tests;
 mod world;
 
 pub use entry::{Entry, Raster, Transcript};

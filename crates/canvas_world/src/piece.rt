@@ -12,11 +12,12 @@ ghost use Rattle.canvas_world.specs.Transcript.{has_below, is_beside, is_cut};
 use crate::cut::Cut;
 use crate::entry::Raster;
 use bumpalo::Bump;
+use canvas_code::OutOfMemory;
 use canvas_doc::Document;
 use canvas_paint::{paint_strip, strip_rows};
 use canvas_plane::Window;
 use canvas_scene::Scene;
-use std::alloc::{AllocError, Global};
+use std::alloc::Global;
 
 /// A strip of a picture, painted.
 #[derive(Drop)]
@@ -33,7 +34,7 @@ pub(crate) fn painted(
     document: &Document,
     window: &Window,
     cut: Cut,
-) -> Result<Raster, AllocError>
+) -> Result<Raster, OutOfMemory>
     requires { cut.k < cut.n }
     ensures { IfOk result (λ rows. rows ≡ strip_of document.now window.now cut) }
 {
@@ -71,7 +72,7 @@ pub(crate) fn rows_of(pieces: &[Piece], cut: Cut) -> Option<&Raster>
 }
 
 /// The picture of which the pieces are strips, where each of `n` is there.
-pub(crate) fn joined(alloc: Global, pieces: &[Piece], n: u32) -> Result<Option<Raster>, AllocError>
+pub(crate) fn joined(alloc: Global, pieces: &[Piece], n: u32) -> Result<Option<Raster>, OutOfMemory>
     requires { 0 < n }
     ensures { IfOk result (λ raster. (document : Contents) (window : Window) → ArePainted document window pieces.now → raster ≡ (if has_below n n (cuts_of pieces.now) then Some (picture_of (colour document.records) window) else None)) }
 {

@@ -7,8 +7,9 @@ ghost use Rattle.canvas_world.specs.Transcript.{transcript_of};
 use crate::entry::Transcript;
 use crate::event::Event;
 use crate::world::World;
+use canvas_code::OutOfMemory;
 use canvas_doc::Document;
-use std::alloc::{AllocError, Global};
+use std::alloc::Global;
 
 /// What the events of seats below `seats` come to, one after another, beginning with a document.
 /// Want of memory is the only refusal, and leaves no transcript.
@@ -17,7 +18,7 @@ pub fn run(
     start: &Document,
     seats: u32,
     events: &[Event],
-) -> Result<Transcript, AllocError>
+) -> Result<Transcript, OutOfMemory>
     // The entry of each event looks back over all events before it and their entries.
     ensures exact { IfOk result (λ transcript. transcript ≡ transcript_of start.now seats events.now) }
     // The accepted edits come to one history, numbered in turn. Each tile is the picture of the

@@ -9,9 +9,10 @@ use crate::entry::Entry;
 use crate::event::Event;
 use crate::job::Job;
 use bumpalo::Bump;
+use canvas_code::OutOfMemory;
 use canvas_doc::{Change, Document, Edit, Refusal};
 use canvas_plane::Window;
-use std::alloc::{AllocError, Global};
+use std::alloc::Global;
 use std::collections::BTreeMap;
 use std::rc::Rc;
 
@@ -29,7 +30,7 @@ pub(crate) struct World {
 
 impl World {
     /// A world before its first event.
-    pub(crate) fn new(alloc: Global, start: &Document) -> Result<World, AllocError>
+    pub(crate) fn new(alloc: Global, start: &Document) -> Result<World, OutOfMemory>
         ensures world { IfOk result (λ world. IsWorld start.now [] world) }
         ensures version { IfOk result (λ world. world.version ≡ 0) }
     {
@@ -44,7 +45,7 @@ impl World {
     }
 
     /// Takes one step. A seat that is not below `seats` does nothing.
-    pub(crate) fn step(&mut self, seats: u32, event: &Event) -> Result<Entry, AllocError>
+    pub(crate) fn step(&mut self, seats: u32, event: &Event) -> Result<Entry, OutOfMemory>
         requires { self.old.version + 1 < 2 ^ 64 }
         ensures entry { IfOk result (λ entry. EntersAny seats event.now self.old entry self.new) }
         ensures version { OnOk result (self.new.version ≤ self.old.version + 1) }
@@ -61,7 +62,7 @@ impl World {
     }
 
     // The document is edited. A refused edit leaves it.
-    fn edit(&mut self, edit: &Edit) -> Result<Entry, AllocError>
+    fn edit(&mut self, edit: &Edit) -> Result<Entry, OutOfMemory>
         requires { self.old.version + 1 < 2 ^ 64 }
         ensures entry { IfOk result (λ entry. EntersEdit edit.now self.old entry self.new) }
         ensures version { OnOk result (self.new.version ≤ self.old.version + 1) }
@@ -69,7 +70,7 @@ impl World {
         match self.document.decide(self.alloc, edit) {
             Err(why) => {
                 if why == Refusal::OutOfMemory {
-                    return Err(AllocError);
+                    return Err(OutOfMemory);
                 }
                 Ok(Entry::Refused { code: why.code() })
             }
@@ -86,7 +87,7 @@ impl World {
     }
 
     // The seat's next picture will show a window of the document as it is.
-    fn look(&mut self, seat: u32, window: &Window) -> Result<Entry, AllocError>
+    fn look(&mut self, seat: u32, window: &Window) -> Result<Entry, OutOfMemory>
         ensures entry { IfOk result (λ entry. Enters (Look seat window.now) self.old entry self.new) }
         ensures version { self.new.version ≡ self.old.version }
     {
@@ -99,7 +100,7 @@ impl World {
     }
 
     // A strip of the seat's picture is painted, from the document that its look fixed.
-    fn strip(&mut self, seat: u32, cut: Cut) -> Result<Entry, AllocError>
+    fn strip(&mut self, seat: u32, cut: Cut) -> Result<Entry, OutOfMemory>
         ensures entry { IfOk result (λ entry. Enters (Strip seat cut.k cut.n) self.old entry self.new) }
         ensures version { self.new.version ≡ self.old.version }
     {
@@ -113,7 +114,7 @@ impl World {
     }
 
     // The seat's picture is handed out, once all its strips are there.
-    fn answer(&mut self, seat: u32) -> Result<Entry, AllocError>
+    fn answer(&mut self, seat: u32) -> Result<Entry, OutOfMemory>
         ensures entry { IfOk result (λ entry. Enters (Answer seat) self.old entry self.new) }
         ensures version { self.new.version ≡ self.old.version }
     {

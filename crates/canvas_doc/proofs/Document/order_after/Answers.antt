@@ -1,6 +1,5 @@
 use Rattle.std.proofs.Common.{◌≡◌, ◌∙◌, List, ℕ, ap, map, subst, sym}
 use Rattle.std.specs.List.{each_same}
-use Rattle.std.proofs.lemmas.Result.{MatchResult-weaker}
 use Rattle.canvas_doc.specs.declared.edits.Change.TheVariants.{Move}
 use Rattle.canvas_doc.specs.declared.records.Place.{Place}
 use Rattle.canvas_doc.specs.declared.records.Record.{Record}
@@ -37,5 +36,4 @@ returns c =
           (absent-order w.in-Move.id w.in-Move.place order before w.in_default-position_of.ensures c.self.invariant.in_order)
       | in_default w ↦ unmoved-order c.args.change.now order before w.in_default.not-Move c.self.invariant.in_order
     ] in
-    MatchResult-weaker c.clone-2.result c.clone-2.ensures.cases
-    (λ copy same. subst (λ (l : List ℕ). IsInPlaceOrder l after) (sym (each_same order copy.items same.0)) (subst (IsInPlaceOrder order) changed kept)) (λ _ _. tt)
+    subst (λ (l : List ℕ). IsInPlaceOrder l after) (sym (each_same order c.in_ok-clone.field-0.items c.in_ok-clone.ensures.cases.0)) (subst (IsInPlaceOrder order) changed kept)

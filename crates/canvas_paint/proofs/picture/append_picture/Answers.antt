@@ -9,6 +9,6 @@ use Rattle.canvas_paint.proofs.picture.append_picture.Goals as goal
 pub returns-clause-ok : goal.returns-clause-ok
 returns-clause-ok g c = ok-then c.append_painted.result _ _
     (λ e. e ∙ ap (λ l. c.args.out.now.items ++ l)
-    (ap (λ l. rows_of (last_colour l) c.args.window.now 0 c.args.window.now.h) c.display_list.ensures
+    (ap (λ l. rows_of (last_colour l) c.args.window.now 0 c.args.window.now.h) c.display_list-items.ensures
     ∙ joined-picture (last_colour (display_list_of c.in_ok-scene.scene)) (colour c.args.document.now.records) c.args.window.now c.in_ok-scene.ensures.colours))
     c.append_painted.ensures.ok

@@ -28,7 +28,7 @@ loop-strip-preserved g c =
 
 pub returns-clause-ok : goal.returns-clause-ok
 returns-clause-ok g c =
-    strips-whole c.args.items.now c.args.window.now c.loop-strip.strip-index c.args.n c.args.out.now.items c.loop-strip.out.items c.requires
+    strips-whole c.args.items.now c.args.window.now c.loop-strip.strip-index c.args.n c.args.out.now.items c.loop-strip.out.items c.requires.some
     (omega (arith, c.deref-strip-items.ensures.len, c.in_ok-strips.ensures.len)) c.loop-strip.invariant
 
 pub returns-clause-kept : goal.returns-clause-kept

@@ -1,16 +1,20 @@
 use Rattle.std.proofs.Common.{◌∙◌, refl, sym, ap, arith, cond, rules, ◌+◌, ◌-◌, reverse, None, All, List, subst}
 use Rattle.canvas_plane.specs.Motion.{carry}
-use Rattle.canvas_plane.specs.Page.{is_in}
+use Rattle.canvas_plane.specs.Page.{is_in, meet_of}
 use Rattle.canvas_doc.specs.declared.records.Parent.TheVariants.{Shape}
+use Rattle.canvas_doc.specs.Children.{children}
+use Rattle.canvas_doc.specs.Contents.{is_container}
 use Rattle.canvas_doc.specs.Picture.{answer_among, answer_of, first_answer, or_else}
 use Rattle.canvas_doc.proofs.Walk.{answer-children, answer-none}
 use Rattle.canvas_scene.specs.declared.nodes.Node.{Node}
 use Rattle.canvas_scene.specs.Clips.{IsClipped}
 use Rattle.canvas_scene.specs.Covers.{first_fill}
 use Rattle.canvas_scene.specs.Nodes.{items_along, seen, shown_of}
+use Rattle.canvas_scene.specs.Trees.{AreNodesOf, clip_of, is_back_of}
 use Rattle.canvas_scene.proofs.Children.{child-answered, child-unseen, left-more, left-none, left_from}
 use Rattle.canvas_scene.proofs.Clipping.{all-more, all-reversed, branch-clipped, meet-within}
 use Rattle.canvas_scene.proofs.Covering.{added-child, added-frame, hidden-box}
+use Rattle.canvas_scene.proofs.Ordered.{frame-back, is-branch, leaf-added, nodes-none, so-far-all, so-far-left_out, so-far-more, so-far-none}
 use Rattle.canvas_scene.proofs.Seen.{list-none, or_else-none, seen-none}
 use Rattle.canvas_scene.proofs.walk.+walk.Goals.{nodes_among-then-loop-child-test+else-is_out_of_sight+in_ok-add_node+then-hides_by_last, nodes_among-else-loop-child-test}
 use Rattle.canvas_scene.proofs.walk.+walk.Goals as goal
@@ -26,6 +30,7 @@ nodes_among-loop-child-init t c = record {
   left = λ x y. ap (λ o. or_else (first_fill c.args.shown.now x y) (seen (is_in c.args.clip.now x y) o)) (sym (answer-children c.args.levels c.args.document.now.records c.args.parent (carry c.args.out.now) x y (omega arith) ∙ ap (first_answer (answer_of (c.args.levels - 1) c.args.document.now.records (carry c.args.out.now) x y)) (sym (ap (left_from 0) c.deref-child-items.ensures.value ∙ c.in_ok-children.ensures.children))));
   list = list-none c.args.shown.now (items_along (reverse c.new-nodes.result.items)) (ap (λ l. items_along (reverse l)) c.new-nodes.ensures.items);
   clips = search rules;
+  tree = so-far-none c.args.document.now.records (carry c.args.out.now) c.args.clip.now (children c.args.parent c.args.document.now.records) _ _ c.new-nodes.ensures.items (ap (left_from 0) c.deref-child-items.ensures.value ∙ c.in_ok-children.ensures.children);
 }
 
 pub nodes_among-loop-child-preserved-then-is_out_of_sight : goal.nodes_among-loop-child-preserved-then-is_out_of_sight
@@ -39,6 +44,8 @@ nodes_among-loop-child-preserved-then-is_out_of_sight t c = record {
       (left-more c.deref-child-items.result.now c.loop-child.child-index c.child-item.result c.loop-child-test.true c.child-item.is) (c.loop-child.invariant.left x y);
   list = c.loop-child.invariant.list;
   clips = c.loop-child.invariant.clips;
+  tree = so-far-left_out c.args.document.now.records (carry c.args.out.now) c.args.clip.now (children c.args.parent c.args.document.now.records) _ _ c.child-item.result.now c.loop-child.nodes.items
+      (left-more c.deref-child-items.result.now c.loop-child.child-index c.child-item.result c.loop-child-test.true c.child-item.is) c.loop-child.invariant.tree;
 }
 
 pub nodes_among-loop-child-preserved : goal.nodes_among-loop-child-preserved
@@ -48,6 +55,8 @@ nodes_among-loop-child-preserved t c = record {
       (left-more c.deref-child-items.result.now c.loop-child.child-index c.child-item.result c.loop-child-test.true c.child-item.is) (c.loop-child.invariant.left x y);
   list = c.in_ok-add_node.ensures.items c.args.shown.now c.loop-child.invariant.list;
   clips = c.in_ok-add_node.ensures.clips c.loop-child.invariant.clips;
+  tree = so-far-more c.args.document.now.records (carry c.args.out.now) c.args.clip.now (children c.args.parent c.args.document.now.records) _ _ c.child-item.result.now c.then-page.result c.loop-child.nodes.items c.add_node.new.nodes.items c.then-page.ensures.carries (c.is_out_of_sight.ensures.shown c.if-is_out_of_sight.false)
+      (left-more c.deref-child-items.result.now c.loop-child.child-index c.child-item.result c.loop-child-test.true c.child-item.is) c.in_ok-add_node.ensures.tree c.loop-child.invariant.tree;
 }
 
 pub nodes_among-returns-clause-fills : goal.nodes_among-returns-clause-fills
@@ -74,6 +83,62 @@ nodes_among-returns-clause-clips t c =
       | nodes_among-then-loop-child-test+else-is_out_of_sight+in_ok-add_node+then-hides_by_last w ↦ rw w.nodes-is (w.in_ok-add_node.ensures.clips c.loop-child.invariant.clips)
     ] in
     subst P (sym (c.into_bump_slice-2.ensures ∙ c.reverse.ensures.items)) (all-reversed (IsClipped c.args.clip.now) c.loop-child-test.nodes.items kept)
+
+pub nodes_among-returns-clause-tree : goal.nodes_among-returns-clause-tree
+nodes_among-returns-clause-tree t c =
+    let rs = c.args.document.now.records in
+    let out = carry c.args.out.now in
+    let items = c.deref-child-items.result.now in
+    let P : List Node → Type 0 = λ l. AreNodesOf rs c.args.parent out c.args.clip.now l in
+    let whole : AreNodesOf rs c.args.parent out c.args.clip.now (reverse c.loop-child-test.nodes.items) = elim c.loop-child-test.branch [
+      | nodes_among-else-loop-child-test w ↦ rw w.nodes-is (so-far-all rs c.args.parent out c.args.clip.now _ c.loop-child.nodes.items _ refl c.loop-child.invariant.tree)
+      | nodes_among-then-loop-child-test+else-is_out_of_sight+in_ok-add_node+then-hides_by_last w ↦ rw w.nodes-is (so-far-all rs c.args.parent out c.args.clip.now _ w.add_node.new.nodes.items _ refl
+          (so-far-more rs out c.args.clip.now (children c.args.parent rs) _ _ w.child-item.result.now w.then-page.result c.loop-child.nodes.items w.add_node.new.nodes.items w.then-page.ensures.carries (w.is_out_of_sight.ensures.shown w.if-is_out_of_sight.false)
+          (left-more items c.loop-child.child-index w.child-item.result w.loop-child-test.true w.child-item.is) w.in_ok-add_node.ensures.tree c.loop-child.invariant.tree))
+    ] in
+    subst P (sym (c.into_bump_slice-2.ensures ∙ c.reverse.ensures.items)) whole
+
+pub nodes_among-returns-then-levels-eq0-clause-tree : goal.nodes_among-returns-then-levels-eq0-clause-tree
+nodes_among-returns-then-levels-eq0-clause-tree t c =
+    nodes-none c.args.document.now.records c.args.parent (carry c.args.out.now) c.args.clip.now _ (c.into_bump_slice.ensures ∙ c.new-nodes.ensures.items)
+
+pub add_node-returns-in_ok-keep-in-Group-clause-tree : goal.add_node-returns-in_ok-keep-in-Group-clause-tree
+add_node-returns-in_ok-keep-in-Group-clause-tree t c =
+    let page = carry c.args.page.now in
+    let outer = c.args.clip.now in
+    record {
+      node = c.branch-clip.result;
+      is = c.in_ok-keep-in-Group.ensures.nodes;
+      has = is-branch c.args.document.now.records c.args.shape.now page outer outer None c.in_ok-children-in-Group.children.now c.branch-clip.result (c.branch-clip.ensures.tree c.args.document.now.records)
+          (ap is_container c.in-Group.is) (sym (ap (λ k. clip_of k page outer) c.in-Group.is)) refl c.in_ok-children-in-Group.ensures.tree;
+    }
+
+pub add_node-returns-in_ok-keep-in-Frame-clause-tree : goal.add_node-returns-in_ok-keep-in-Frame-clause-tree
+add_node-returns-in_ok-keep-in-Frame-clause-tree t c =
+    let page = carry c.args.page.now in
+    let outer = c.args.clip.now in
+    let box = c.page_box.ensures.value ∙ c.rect-leaf.ensures.sides in
+    record {
+      node = c.branch-inner.result;
+      is = c.in_ok-keep-in-Frame.ensures.nodes;
+      has = is-branch c.args.document.now.records c.args.shape.now page outer c.meet-inner.result c.in_ok-back-in-Frame.back c.in_ok-children-in-Frame.children.now c.branch-inner.result (c.branch-inner.ensures.tree c.args.document.now.records)
+          (ap is_container c.in-Frame.is)
+          (c.meet-inner.ensures.value ∙ ap (meet_of outer) box ∙ sym (ap (λ k. clip_of k page outer) c.in-Frame.is))
+          (ap (λ k. is_back_of c.in_ok-back-in-Frame.back k outer) c.in-Frame.is ∙ frame-back c.in_ok-back-in-Frame.back _ _ c.in-Frame.fill outer c.in_ok-back-in-Frame.ensures.clip)
+          c.in_ok-children-in-Frame.ensures.tree;
+    }
+
+pub add_node-returns-in-Rect-clause-tree : goal.add_node-returns-in-Rect-clause-tree
+add_node-returns-in-Rect-clause-tree t c =
+    leaf-added c.add_leaf.result c.args.document.now.records c.args.shape.now (carry c.args.page.now) c.args.clip.now _ _ (ap is_container c.in-Rect.is) c.add_leaf.ensures.tree
+
+pub add_node-returns-in-Ellipse-clause-tree : goal.add_node-returns-in-Ellipse-clause-tree
+add_node-returns-in-Ellipse-clause-tree t c =
+    leaf-added c.add_leaf-in-Ellipse.result c.args.document.now.records c.args.shape.now (carry c.args.page.now) c.args.clip.now _ _ (ap is_container c.in-Ellipse.is) c.add_leaf-in-Ellipse.ensures.tree
+
+pub add_node-returns-in_ok-vertices-in-Polygon-clause-tree : goal.add_node-returns-in_ok-vertices-in-Polygon-clause-tree
+add_node-returns-in_ok-vertices-in-Polygon-clause-tree t c =
+    leaf-added c.add_leaf-in-Polygon.result c.args.document.now.records c.args.shape.now (carry c.args.page.now) c.args.clip.now _ _ (ap is_container c.in-Polygon.is) c.add_leaf-in-Polygon.ensures.tree
 
 pub add_node-returns-in_ok-keep-in-Group-clause-clips : goal.add_node-returns-in_ok-keep-in-Group-clause-clips
 add_node-returns-in_ok-keep-in-Group-clause-clips t c = λ h.

@@ -1,4 +1,4 @@
-use Rattle.std.proofs.Common.{◌≡◌, ◌∙◌, ap, true, false, Option, Bool, pos}
+use Rattle.std.proofs.Common.{◌≡◌, ◌∙◌, ap, subst, true, false, Option, Bool, pos}
 use mathlib.Core.Path.{fun_ext}
 use lib.IntN.{+ℤ_idr}
 use Rattle.canvas_plane.specs.Motion.{carry}
@@ -10,6 +10,7 @@ use Rattle.canvas_doc.specs.declared.records.Parent.TheVariants.{Page}
 use Rattle.canvas_doc.specs.Picture.{answer_among, or_else, or_white}
 use Rattle.canvas_scene.specs.Covers.{first_fill}
 use Rattle.canvas_scene.specs.Nodes.{seen}
+use Rattle.canvas_scene.specs.Trees.{AreNodesOf}
 use Rattle.canvas_scene.proofs.walk.nodes_of_page.Goals as goal
 
 abbrev still : Pose
@@ -27,3 +28,8 @@ returns-clause-colours c = λ x y h.
     ∙ ap (λ l. or_else (first_fill l x y) (seen (is_in c.args.clip.now x y) (answer_among 32 c.args.document.now.records Page (carry still) x y))) c.requires
     ∙ seen-in (is_in c.args.clip.now x y) _ (answer_among 32 c.args.document.now.records Page (λ q. q) x y) h
     (ap (λ f. answer_among 32 c.args.document.now.records Page f x y) (fun_ext carry-still)))
+
+pub returns-clause-tree : goal.returns-clause-tree
+returns-clause-tree c =
+    let P : (Point → Point) → Type 0 = λ f. AreNodesOf c.args.document.now.records Page f c.args.clip.now c.in_ok-nodes.nodes.now in
+    subst P (fun_ext carry-still) c.in_ok-nodes.ensures.tree

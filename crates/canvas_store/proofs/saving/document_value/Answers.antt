@@ -1,4 +1,4 @@
-use Rattle.canvas_store.proofs.Opens.{IfOk-any, ids-held, limits-held, opens-held}
+use Rattle.canvas_store.proofs.Opens.{ids-held, limits-held, opens-held}
 use Rattle.canvas_store.proofs.saving.document_value.Goals as goal
 
 pub record_values-requires-clause-ids : goal.record_values-requires-clause-ids
@@ -11,4 +11,4 @@ record_values-requires-clause-limits c =
 
 pub returns-clause-opens : goal.returns-clause-opens
 returns-clause-opens c =
-    IfOk-any _ _ (opens-held c.args.document.now c.deref.result.now (rw c.deref.ensures.value c.in_ok-records.ensures.records) c.in_ok-records.ensures.well_formed c.in_ok-shapes.ensures.kept)
+    opens-held c.args.document.now c.deref.result.now (rw c.deref.ensures.value c.in_ok-records.ensures.records) c.in_ok-records.ensures.well_formed c.in_ok-shapes.ensures.kept

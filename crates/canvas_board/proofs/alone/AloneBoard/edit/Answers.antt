@@ -1,8 +1,9 @@
 use Rattle.std.proofs.Common.{◌≡◌, ◌+◌, List, [], ◌∷◌, ◌++◌, length, subst, arith, Err, ap, ◌∙◌, length-append}
 use Rattle.canvas_doc.specs.declared.edits.Change.{Change}
+use Rattle.canvas_board.specs.Alone.{alone_board}
 use Rattle.canvas_board.specs.Seen.{Seen}
 use Rattle.canvas_board.specs.Steps.{Accepts, Edits}
-use Rattle.canvas_board.proofs.Boards.{accepts-alone, alone_board, current-more, refused-alone}
+use Rattle.canvas_board.proofs.Boards.{accepts-alone, all_fit-more, current-more, refused-alone}
 use Rattle.canvas_board.proofs.alone.AloneBoard.edit.Goals as goal
 
 pub invariant_of-self : goal.invariant_of-self
@@ -13,13 +14,14 @@ invariant_of-self g c =
       omega (arith, c.self.invariant.1, ap length grown, length-append i.history (c.in-Ok.change ∷ [])),
       omega (arith, c.if-self.false),
       c.self.invariant.3,
+      all_fit-more i.opening.value i.history c.with.result i.document c.in-Ok.change c.self.invariant.0 c.self.invariant.4 c.in-Ok.ensures.2 grown,
     )
 
 pub returns-in-Err : goal.returns-in-Err
 returns-in-Err g c =
     let i = c.self.inside in
     subst (λ (s : Seen). Edits s c.args.edit.now (Err c.in-Err.fault) s) c.self.view_is (
-    refused-alone i.opening.value i.limit i.history i.document c.args.edit.now c.in-Err.fault c.self.invariant.0 (omega (arith, c.self.invariant.1, c.if-self.false)) c.in-Err.ensures
+    refused-alone i.opening.value i.limit i.history i.document c.args.edit.now c.in-Err.fault c.self.invariant.0 c.self.invariant.4 (omega (arith, c.self.invariant.1, c.if-self.false)) c.in-Err.ensures
     )
 
 pub returns-in-Ok : goal.returns-in-Ok
@@ -28,6 +30,6 @@ returns-in-Ok g c =
     let grown : c.with.result ≡ i.history ++ c.in-Ok.change ∷ [] = c.with.ensures ∙ ap (λ (l : List Change). l ++ c.in-Ok.change ∷ []) c.replace-history.ensures.value in
     subst (λ (s : Seen). Accepts s c.args.edit.now (record { number = i.number + 1; id = c.new_id-id.result }) (alone_board i.opening.value i.limit c.with.result)) c.self.view_is (
     accepts-alone i.opening.value i.limit i.history c.with.result i.document c.args.edit.now c.in-Ok.change (record { number = i.number + 1; id = c.new_id-id.result })
-    c.self.invariant.0 (omega (arith, c.self.invariant.1, c.if-self.false)) c.in-Ok.ensures.0 c.in-Ok.ensures.2 grown
+    c.self.invariant.0 c.self.invariant.4 (omega (arith, c.self.invariant.1, c.if-self.false)) c.in-Ok.ensures.0 c.in-Ok.ensures.2 grown
     (omega (arith, c.self.invariant.1, ap length grown, length-append i.history (c.in-Ok.change ∷ []))) c.new_id-id.ensures
     )

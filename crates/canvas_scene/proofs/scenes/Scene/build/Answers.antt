@@ -1,9 +1,11 @@
 use Rattle.std.proofs.Common.{◌∙◌, All, ap, subst}
 use Rattle.canvas_plane.specs.declared.PageBox.{PageBox}
 use Rattle.canvas_plane.specs.Page.{is_in}
+use Rattle.canvas_doc.specs.declared.records.Parent.TheVariants.{Page}
 use Rattle.canvas_doc.specs.Picture.{or_white}
 use Rattle.canvas_scene.specs.Clips.{IsClipped}
 use Rattle.canvas_scene.specs.Items.{last_colour}
+use Rattle.canvas_scene.specs.Trees.{AreNodesOf}
 use Rattle.canvas_scene.proofs.Covering.{last-is-first}
 use Rattle.canvas_scene.proofs.scenes.Scene.build.Goals as goal
 
@@ -16,3 +18,8 @@ pub returns-clause-clips : goal.returns-clause-clips
 returns-clause-clips c =
     let P : PageBox → Type 0 = λ b. All (IsClipped b) c.in_ok-root.root.now in
     subst P c.page_box.ensures c.in_ok-root.ensures.clips
+
+pub returns-clause-tree : goal.returns-clause-tree
+returns-clause-tree c =
+    let P : PageBox → Type 0 = λ b. AreNodesOf c.args.document.now.records Page (λ q. q) b c.in_ok-root.root.now in
+    subst P c.page_box.ensures c.in_ok-root.ensures.tree

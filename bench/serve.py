@@ -1,0 +1,87 @@
+#!/usr/bin/env python3
+"""Requests a second and waiting times of the built program as a server, beside a server that answers fixed bytes.
+
+usage: bench/serve.py [seconds of each run, 3 where it is left out]
+
+Clients in C (bench/serve_client.c) each send a request when they have the last reply: points, small edits (poses) and tiles over a
+hundred records, by 1, 8 and 60 clients. The echo server in the same run has a thread for each connection and answers as many bytes;
+it is the limit of the loopback. Then 60 viewers ask for 20 tiles a second each, and last the memory of the program is printed.
+"""
+
+import re
+import subprocess
+import sys
+import tempfile
+import time
+from pathlib import Path
+
+from requests import TOP, hundred
+
+sys.path.insert(0, str(TOP / "tools"))
+from canvas_client import PROGRAM  # noqa: E402
+from check_server import free_port  # noqa: E402
+from plain_model import Model  # noqa: E402
+
+WORKERS = "1"
+BODIES = {"points": 0, "edits": 0, "tiles": 196_623}
+
+
+def started(words):
+    """A server, when it listens."""
+    server = subprocess.Popen(words, stdout=subprocess.PIPE)
+    if server.stdout.readline() != b"listening\n":
+        sys.exit(f"{words} does not listen")
+    return server
+
+
+def asked(client, port, what, clients, seconds, pace=()):
+    words = [client, "ask", str(port), what, str(clients), str(seconds), *map(str, pace)]
+    return [float(word) for word in subprocess.run(words, stdout=subprocess.PIPE, check=True).stdout.split()]
+
+
+def memory_of(server):
+    text = Path(f"/proc/{server.pid}/status").read_text()
+    return int(re.search(r"VmRSS:\s+(\d+)", text).group(1))
+
+
+def document():
+    """The saved text of a hundred records."""
+    model = Model()
+    for request in hundred():
+        model.edit(request)
+    return model.saved()
+
+
+def measure(client, server, port, seconds):
+    for what, body in BODIES.items():
+        echo_port = free_port()
+        echo = started([client, "echo", str(echo_port), str(body)])
+        for clients in (1, 8, 60):
+            rate, half, most = asked(client, port, what, clients, seconds)
+            fixed, fixed_half, fixed_most = asked(client, echo_port, what, clients, seconds)
+            print(f"{what}, {clients} clients: {rate:,.0f} requests/s, p50 {half:.0f}, p99 {most:.0f} microseconds; "
+                  f"fixed bytes {fixed:,.0f} requests/s, {fixed_half:.0f}, {fixed_most:.0f}; share {rate / fixed:.2f}; "
+                  f"memory {memory_of(server)} KiB", flush=True)
+        echo.kill()
+        echo.wait()
+    rate, half, most = asked(client, port, "tiles", 60, max(seconds, 5), [20])
+    print(f"60 viewers with 20 tiles a second each: {rate:,.0f} tiles/s, p50 {half:.0f}, p99 {most:.0f} microseconds")
+
+
+def main():
+    seconds = float(sys.argv[1]) if len(sys.argv) > 1 else 3
+    subprocess.run([str(PROGRAM), "script"], stdin=subprocess.DEVNULL, check=True)
+    with tempfile.TemporaryDirectory() as folder:
+        client, file, port = f"{folder}/serve_client", Path(folder) / "document.json", free_port()
+        subprocess.run(["cc", "-O2", "-pthread", "-o", client, str(TOP / "bench" / "serve_client.c")], check=True)
+        file.write_bytes(document())
+        server = started([str(PROGRAM), "serve", f"127.0.0.1:{port}", str(file), WORKERS])
+        try:
+            measure(client, server, port, seconds)
+        finally:
+            server.kill()
+            server.wait()
+
+
+if __name__ == "__main__":
+    main()

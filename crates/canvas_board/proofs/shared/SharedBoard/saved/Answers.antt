@@ -1,0 +1,22 @@
+use Rattle.std.proofs.Common.{◌≡◌, ap, ◌∙◌, subst}
+use Rattle.std.specs.Arc.{arc_value}
+use Rattle.canvas_doc.specs.Contents.{Contents}
+use Rattle.canvas_store.specs.Saved.{saved_text_of}
+use Rattle.canvas_line.specs.declared.version.Version.{Version}
+use Rattle.canvas_line.specs.Seats.{Looks}
+use Rattle.canvas_board.specs.Seen.{Seen, Grows, document_of}
+use Rattle.canvas_board.specs.Shared.{board_at}
+use Rattle.canvas_board.proofs.Seats.{looks-grow, looks-document, looks-number}
+use Rattle.canvas_board.proofs.shared.SharedBoard.saved.Goals as goal
+
+pub returns-in-Ok-export : goal.returns-in-Ok-export
+returns-in-Ok-export g c =
+    let i = c.self.inside in
+    let seat = c.look.new.self in
+    let version = arc_value c.in-Ok.version in
+    let n = c.deref-in-Ok-export.result.now.number in
+    let looks : Looks i.seat seat version = c.in-Ok.ensures in
+    let told : n ≡ version.number = ap (λ (v : Version). v.number) c.deref-in-Ok-export.ensures in
+    let shown : c.deref.result.now.document ≡ document_of (board_at seat n) = ap (λ (v : Version). v.document) c.deref.ensures ∙ looks-document i.seat seat n version looks told in
+    let grows : Grows c.args.self.now (board_at seat n) = subst (λ (s : Seen). Grows s (board_at seat n)) c.self.view_is (looks-grow i.seat seat i.known n version looks told) in
+    (grows, looks-number i.seat seat n version looks told, subst (λ (d : Contents). c.in-Ok-export.text.items ≡ saved_text_of d) shown c.in-Ok-export.ensures.saved)

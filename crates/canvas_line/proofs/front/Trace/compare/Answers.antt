@@ -1,0 +1,12 @@
+use Rattle.std.proofs.Common.{◌≤◌, ap, subst, arith, length, List}
+use mathlib.Core.List.{IsPrefix}
+use Rattle.canvas_doc.specs.declared.edits.Change.{Change}
+use Rattle.canvas_line.proofs.Prefixes.{prefix_shorter}
+use Rattle.canvas_line.proofs.front.Trace.compare.Goals as goal
+
+pub returns : goal.returns
+returns c =
+    let both = c.learn.new.self.log in
+    let this : IsPrefix c.self.inside.seen.log both = subst (λ (l : List Change). IsPrefix l both) (ap (λ s. s.log) c.again-both.ensures) c.learn.ensures.2 in
+    let less : length c.self.inside.seen.log ≤ length c.other.inside.seen.log = omega (arith, ap (λ t. length t.changes) c.self.view_is, ap (λ t. length t.changes) c.other.view_is, c.requires.length) in
+    rw (← c.self.view_is, ← c.other.view_is) (prefix_shorter c.self.inside.seen.log c.other.inside.seen.log both this c.learn.ensures.3 less)

@@ -1,0 +1,7 @@
+pub mod Trails
+pub mod Books
+pub mod Standing
+pub mod Lines
+pub mod Rule
+pub mod Seats
+pub mod Fault

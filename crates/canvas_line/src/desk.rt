@@ -1,0 +1,155 @@
+//! What lies under the lock: the writer, and the head of the history.
+ghost use Rattle.std.specs.Prelude.{◌≡◌, ◌≤◌, length, IfOk, IfSome, MatchBool, MatchResult};
+ghost use Rattle.canvas_doc.specs.History.{AllFit};
+ghost use Rattle.canvas_line.specs.Lines.{Accepts, Rightly, Next, with_history, line_of, sight_of};
+ghost use Rattle.canvas_line.specs.Rule.{Knows};
+ghost use Rattle.left_right.specs.Sides.{view as seat_view};
+
+use crate::fault::{Edited, LineFault};
+use crate::front::{Head, Lines, Trace};
+use crate::next::next_published;
+use crate::perch::Perch;
+use crate::published::Published;
+use crate::rule::Note;
+use crate::writer::{LineWriter, publish};
+use canvas_doc::Edit;
+use core::mem::replace_with;
+use std::alloc::Global;
+use std::marker::{Model, PhantomData};
+use std::mem::ManuallyDrop;
+use std::sync::Wait;
+
+/// The value of the lock. Contracts see it as the line's name, opening document, limit and history.
+#[derive(Drop)]
+pub struct Desk<B: Lines> {
+    writer: ManuallyDrop<LineWriter>,
+    head: Head,
+    name: u64,
+    alloc: Global,
+    of: PhantomData<B>,
+}
+
+impl<B: Lines> Model for Desk<B> {
+    ghost use Rattle.std.specs.Prelude.{◌≡◌, ◌≤◌};
+    ghost use Rattle.std.specs.Mem.{manually_drop_value};
+    ghost use Rattle.left_right.specs.Sides.{view as seat_view};
+    ghost use Rattle.canvas_line.specs.Rule.{Knows};
+    ghost use Rattle.canvas_line.specs.Lines.{Line, line_of};
+
+    ghost Value = { Line };
+
+    ghost view = { λ d. line_of d.name (B.line d.name) (manually_drop_value d.writer).desk.shown.value.changes };
+
+    ghost invariant = { λ d. Knows (seat_view (manually_drop_value d.writer).desk.place) (B.line d.name) × ((manually_drop_value d.writer).desk.shown.value.facts ≡ B.line d.name) × (d.head.word.book ≡ (B.line d.name).book) × ((B.line d.name).limit ≤ 1000000) };
+}
+
+impl<B: Lines> Desk<B> {
+    fn published<R: Wait>(self, rt: &R, next: Published) -> (Desk<B>, bool)
+        requires { next.facts ≡ B.line self.name }
+        ensures { MatchBool result.1 (result.0 ≡ with_history self next.changes) (result.0 ≡ self) }
+    {
+        let Desk {
+            writer,
+            head,
+            name,
+            alloc,
+            of,
+        } = self;
+        let (writer, done) = publish(rt, ManuallyDrop::into_inner(writer), next);
+        let desk = Desk {
+            writer: unsafe { ManuallyDrop::new_unchecked(writer) },
+            head,
+            name,
+            alloc,
+            of,
+        };
+        (desk, done)
+    }
+
+    // The desk of a line, whose history is the writer's.
+    pub(crate) fn new(alloc: Global, name: u64, head: Head, writer: LineWriter) -> Desk<B>
+        requires view { Knows (seat_view writer.desk.place) (B.line name) }
+        requires facts { (writer.desk.shown.value.facts ≡ B.line name) × (head.word.book ≡ (B.line name).book) × ((B.line name).limit ≤ 1000000) }
+        ensures { result ≡ line_of name (B.line name) writer.desk.shown.value.changes }
+    {
+        Desk {
+            writer: unsafe { ManuallyDrop::new_unchecked(writer) },
+            head,
+            name,
+            alloc,
+            of: PhantomData,
+        }
+    }
+
+    // Gives the line's memory up.
+    pub(crate) fn close<R: Wait>(self, rt: &R) {
+        let Desk {
+            writer,
+            head,
+            name: _,
+            alloc: _,
+            of: _,
+        } = self;
+        drop(head);
+        drop(ManuallyDrop::into_inner(writer).take(rt));
+    }
+
+    // A perch at the line, whose front is this beginning of its history, if there is a place for it.
+    pub(crate) fn perch(&mut self, trace: Trace) -> Option<Perch<B>>
+        requires { trace.book ≡ (B.line self.old.name).book }
+        ensures same { self.new ≡ self.old }
+        ensures perch { IfSome result (λ p. p ≡ sight_of self.old.name (B.line self.old.name) trace.changes) }
+    {
+        let writer = &mut *self.writer;
+        let mut reader = writer.factory().reader().ok()?;
+        reader.learn::<Note>(writer.tell::<Note>());
+        Some(Perch::new(reader, trace, self.name))
+    }
+
+    // The line's name, by which its facts are known.
+    pub(crate) fn name(&self) -> u64
+        ensures name { result ≡ self.now.name }
+        ensures facts { (self.now.opening ≡ (B.line self.now.name).opening) × (self.now.limit ≡ (B.line self.now.name).limit) }
+    {
+        self.name
+    }
+
+    // The whole history.
+    pub(crate) fn trace(&self) -> Trace
+        ensures book { result.book ≡ (B.line self.now.name).book }
+        ensures changes { result.changes ≡ self.now.history }
+        ensures fits { AllFit self.now.opening self.now.history × (length self.now.history ≤ self.now.limit) }
+    {
+        self.writer.published().trace.again()
+    }
+
+    /// Makes an edit, or says why it is refused: `VersionsSpent` where the history has as many changes as the line may
+    /// accept, then the document's refusal, then `OutOfMemory`. A refused edit leaves the history as it was.
+    pub fn apply<R: Wait>(&mut self, rt: &R, edit: &Edit) -> Result<Edited, LineFault>
+        ensures accepted { IfOk result (λ r. Accepts self.old edit.now self.new r) }
+        ensures refused { MatchResult result (λ _. Unit {0}) (λ f. (self.new ≡ self.old) × Rightly self.old.opening self.old.limit self.old.history edit.now f) }
+    {
+        let (next, edited) = self.next(edit)?;
+        let published = replace_with(
+            self,
+            next,
+            |desk: Desk<B>, next: Published| -> (Desk<B>, bool)
+                requires { next.facts ≡ B.line desk.name }
+                ensures { MatchBool result.1 (result.0 ≡ with_history desk next.changes) (result.0 ≡ desk) }
+            { desk.published(rt, next) },
+        );
+        if published {
+            Ok(edited)
+        } else {
+            Err(LineFault::OutOfMemory)
+        }
+    }
+
+    // What is to be published once the edit is accepted, and what is answered then.
+    fn next(&self, edit: &Edit) -> Result<(Published, Edited), LineFault>
+        ensures next { IfOk result (λ p. Next (B.line self.now.name) self.now.opening self.now.limit self.now.history edit.now p.0 p.1) }
+        ensures refused { MatchResult result (λ _. Unit {0}) (λ f. Rightly self.now.opening self.now.limit self.now.history edit.now f) }
+    {
+        next_published(self.alloc, self.writer.published(), &self.head, edit)
+    }
+}

@@ -1,0 +1,92 @@
+//! Answers of a line, and its refusals.
+ghost use Rattle.std.specs.Prelude.{◌≡◌};
+ghost use Rattle.canvas_code.specs.Names.{name_of};
+ghost use Rattle.canvas_line.specs.Fault.{line_fault_code};
+
+use canvas_code::OutOfMemory;
+use canvas_doc::Refusal;
+use std::alloc::AllocError;
+use thiserror::Error;
+
+/// An edit that was accepted.
+#[derive(Clone, Copy, Debug, PartialEq, Eq)]
+pub struct Edited {
+    /// How many changes are accepted then: the version that the edit made, from 1.
+    pub number: u64,
+    /// The id of the shape that the edit made, if it made one.
+    pub id: Option<u32>,
+}
+
+/// Why a line or a seat does not answer. After any of them the document is as it was.
+#[derive(Clone, Copy, Debug, Drop, PartialEq, Eq, Error)]
+pub enum LineFault {
+    /// Memory could not be had.
+    #[error("OutOfMemory")]
+    OutOfMemory,
+    /// The document does not allow the edit.
+    #[error("{0}")]
+    Refused(Refusal),
+    /// As many changes are accepted as the line may accept.
+    #[error("VersionsSpent")]
+    VersionsSpent,
+    /// The seat has seen `front` changes, and the desk has only `desk`.
+    #[error("Behind")]
+    Behind { desk: u64, front: u64 },
+    /// The seat is at the line named `own`, and was given one named `found`.
+    #[error("Strangers")]
+    Strangers { own: u64, found: u64 },
+    /// No more seats could be had.
+    #[error("NoSeats")]
+    NoSeats,
+    /// A line can't be opened with such a setting.
+    #[error("BadSetting")]
+    BadSetting,
+    /// The published version could not be entered.
+    #[error("NoView")]
+    NoView,
+}
+
+impl LineFault {
+    /// The number of the refusal.
+    pub fn code(&self) -> u16
+        ensures { result ≡ line_fault_code self.now }
+    {
+        match self {
+            LineFault::OutOfMemory => 1,
+            LineFault::Refused(why) => why.code(),
+            LineFault::VersionsSpent => 16,
+            LineFault::Behind { .. } => 17,
+            LineFault::Strangers { .. } => 18,
+            LineFault::NoSeats => 19,
+            LineFault::BadSetting => 32,
+            LineFault::NoView => 33,
+        }
+    }
+
+    /// The name of the refusal, which is also its text.
+    pub fn name(&self) -> &'static str
+        ensures { result.now ≡ name_of (line_fault_code self.now) }
+    {
+        canvas_code::name_of(self.code())
+    }
+}
+
+impl From<AllocError> for LineFault {
+    ghost use Rattle.canvas_line.specs.declared.fault.LineFault.TheVariants as fault;
+
+    ghost from_gives = { λ _ f. f ≡ fault.OutOfMemory };
+
+    fn from(_error: AllocError) -> LineFault {
+        LineFault::OutOfMemory
+    }
+}
+
+impl From<OutOfMemory> for LineFault {
+    ghost use Rattle.canvas_line.specs.declared.fault.LineFault.TheVariants as fault;
+
+    ghost from_gives = { λ _ f. f ≡ fault.OutOfMemory };
+
+    fn from(_error: OutOfMemory) -> LineFault {
+        LineFault::OutOfMemory
+    }
+}

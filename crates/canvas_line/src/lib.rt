@@ -1,0 +1,21 @@
+//! One history of a document under many threads: a desk under a lock publishes versions, and seats look without it.
+#![tactic(auto)]
+
+mod desk;
+mod fault;
+mod front;
+mod line;
+mod next;
+mod perch;
+mod published;
+mod rule;
+mod seat;
+mod version;
+mod writer;
+
+pub use desk::Desk;
+pub use fault::{Edited, LineFault};
+pub use front::{Lines, Opened};
+pub use line::Line;
+pub use seat::Seat;
+pub use version::Version;

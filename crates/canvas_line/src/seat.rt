@@ -1,0 +1,86 @@
+//! A session's place at a line.
+ghost use Rattle.std.specs.Prelude.{◌≡◌, length, IfOk, MatchResult};
+ghost use Rattle.std.specs.Arc.{arc_value};
+ghost use Rattle.canvas_line.specs.Seats.{Looks, EditAccepted, EditRefused, Meets, MeetRefused};
+ghost use Rattle.canvas_line.specs.declared.fault.LineFault.TheVariants as fault;
+
+use crate::desk::Desk;
+use crate::fault::{Edited, LineFault};
+use crate::front::Lines;
+use crate::perch::Perch;
+use crate::version::Version;
+use canvas_doc::Edit;
+use std::alloc::Global;
+use std::marker::Model;
+use std::sync::{Arc, Mutex, Wait};
+
+/// A session's place at a line. Contracts see it as a name, an opening document, a limit and a front.
+#[derive(Drop)]
+pub struct Seat<B: Lines> {
+    desk: Arc<Mutex<Desk<B>>, Global>,
+    perch: Perch<B>,
+}
+
+impl<B: Lines> Model for Seat<B> {
+    ghost use Rattle.canvas_line.specs.Lines.{Sight};
+
+    ghost Value = { Sight };
+
+    ghost view = { λ s. s.perch };
+}
+
+impl<B: Lines> Seat<B> {
+    pub(crate) fn new(desk: Arc<Mutex<Desk<B>>, Global>, perch: Perch<B>) -> Seat<B>
+        ensures { result ≡ perch }
+    {
+        Seat { desk, perch }
+    }
+
+    /// Makes an edit.
+    pub fn edit<R: Wait>(&mut self, rt: &R, edit: &Edit) -> Result<Edited, LineFault>
+        ensures accepted { IfOk result (λ r. EditAccepted self.old edit.now self.new r) }
+        ensures refused { MatchResult result (λ _. Unit {0}) (λ f. EditRefused self.old edit.now self.new f) }
+    {
+        let Seat { desk, perch } = self;
+        let mut guard = desk.lock(rt);
+        perch.edit_at(&mut *guard, rt, edit)
+    }
+
+    /// The published version, without the lock. Its history begins with the front, and becomes it.
+    pub fn look(&mut self) -> Result<Arc<Version, Global>, LineFault>
+        ensures { MatchResult result (λ v. Looks self.old self.new (arc_value v)) (λ f. (f ≡ fault.NoView) × (self.new ≡ self.old)) }
+    {
+        self.perch.look()
+    }
+
+    /// Brings two seats to one front.
+    pub fn meet<R: Wait>(&mut self, rt: &R, other: &mut Seat<B>) -> Result<(), LineFault>
+        ensures met { IfOk result (λ _. Meets self.old other.old self.new other.new) }
+        ensures refused { MatchResult result (λ _. Unit {0}) (λ f. MeetRefused self.old other.old self.new other.new f) }
+    {
+        let own = self.perch.name();
+        let found = other.perch.name();
+        if own != found {
+            return Err(LineFault::Strangers { own, found });
+        }
+        let Seat { desk, perch } = self;
+        let guard = desk.lock(rt);
+        perch.meet_at(&mut other.perch, &*guard)
+    }
+
+    /// How many changes the front has.
+    pub fn number(&self) -> u64
+        ensures { result ≡ length self.now.front }
+    {
+        self.perch.number()
+    }
+
+    /// Gives the seat up. The last one of a line gives up its memory too. It waits for no reader that could come.
+    pub fn close<R: Wait>(self, rt: &R) {
+        let Seat { desk, perch } = self;
+        drop(perch);
+        if let Some(desk) = Arc::into_inner(desk) {
+            desk.into_inner().close(rt);
+        }
+    }
+}

@@ -1,0 +1,13 @@
+//! What a look answers.
+use canvas_doc::{Change, Document};
+
+/// The document after so many accepted changes.
+#[derive(Drop)]
+pub struct Version {
+    /// How many changes were accepted, 0 to the line's limit.
+    pub number: u64,
+    /// The last of them; none at 0.
+    pub change: Option<Change>,
+    /// The document after them.
+    pub document: Document,
+}

@@ -1,0 +1,64 @@
+//! Strips at a gate: each strip of a picture passes it once, whatever the window's rows.
+
+use bumpalo::Bump;
+use canvas_doc::Document;
+use canvas_paint::{FreeGate, Gate, paint};
+use canvas_plane::Window;
+use canvas_scene::Scene;
+use std::sync::atomic::{AtomicU64, Ordering};
+use std::test::Fail;
+
+// Counts the strips that pass, by their numbers, and those whose number is no worker's.
+#[derive(Drop)]
+struct Counting {
+    passed: [AtomicU64; 4],
+    others: AtomicU64,
+}
+
+impl Gate for Counting {
+    ghost admits = { λ _ _. Unit {0} };
+
+    fn pass(&self, strip: u32) {
+        match self.passed.get(strip as usize) {
+            Some(passed) => passed.fetch_add(1, Ordering::SeqCst),
+            None => self.others.fetch_add(1, Ordering::SeqCst),
+        };
+    }
+}
+
+fn nobody_passed() -> Counting {
+    Counting {
+        passed: [
+            AtomicU64::new(0),
+            AtomicU64::new(0),
+            AtomicU64::new(0),
+            AtomicU64::new(0),
+        ],
+        others: AtomicU64::new(0),
+    }
+}
+
+// More workers than the window has rows are as many strips, and one worker is one.
+#[test]
+fn each_strip_passes_the_gate_once(rt: HostRuntime) -> Result<(), Fail> {
+    let alloc = rt.alloc();
+    let document = Document::empty(alloc);
+    let bump = Bump::new(alloc);
+    for rows in [1, 2, 3] {
+        let window = Window::new(0, 0, 4, rows)?;
+        let scene = Scene::build(&bump, &document, &window)?;
+        let items = scene.display_list();
+        let alone = paint(&rt, alloc, items, &window, 1, &FreeGate)?;
+        for workers in 1..5 {
+            let gate = nobody_passed();
+            let raster = paint(&rt, alloc, items, &window, workers, &gate)?;
+            assert_eq!(rt; raster.as_slice(), alone.as_slice());
+            assert_eq!(rt; gate.others.load(Ordering::SeqCst), 0);
+            for (strip, passed) in gate.passed.iter().enumerate() {
+                let once = if strip < workers as usize { 1 } else { 0 };
+                assert_eq!(rt; passed.load(Ordering::SeqCst), once);
+            }
+        }
+    }
+    Ok(())
+}

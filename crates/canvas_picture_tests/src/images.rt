@@ -1,0 +1,84 @@
+//! P6 images read and written by hand.
+
+use canvas_ppm::{header, read, start, write};
+use std::test::Fail;
+
+#[test]
+fn reads_files_by_hand(rt: HostRuntime) -> Result<(), Fail> {
+    let six = b"\x00\x01\x02\xfd\xfe\xff";
+    let rows: [(&[u8], &[u8], Result<(u32, u32), u16>); 34] = [
+        (b"P6\n2 1\n255\n", six, Ok((2, 1))),
+        (b"P6\n1 2\n255\n", six, Ok((1, 2))),
+        (b"P6\n2 1\n255\n", b"12345", Err(42)),
+        (b"P6\n2 1\n255\n", b"1234567", Err(43)),
+        (b"P6 2 1 255 ", six, Ok((2, 1))),
+        (b"P6\t2\r1\r\n255\t", six, Ok((2, 1))),
+        (b"P6 \t\r\n2 \t\r\n1 \t\r\n255\r", six, Ok((2, 1))),
+        (b"P6 002 01 0255 ", six, Ok((2, 1))),
+        (b"P6 000000002 1 000000255 ", six, Ok((2, 1))),
+        (b"P6 0000000002 1 255 ", six, Err(41)),
+        (b"P6 2 0000000001 255 ", six, Err(41)),
+        (b"P6 2 1 0000000255 ", six, Err(41)),
+        (b"P6 2 1 255\n\n", six, Err(43)),
+        (b"P6 2 1 255\n\n", b"12345", Ok((2, 1))),
+        (b"", b"", Err(40)),
+        (b"P", b"", Err(40)),
+        (b"P5", b"", Err(40)),
+        (b"p6 2 1 255 ", six, Err(40)),
+        (b" P6 2 1 255 ", six, Err(40)),
+        (b"P6", b"", Err(41)),
+        (b"P62 1 255 ", six, Err(41)),
+        (b"P6 2", b"", Err(41)),
+        (b"P6 2 1 255", b"", Err(41)),
+        (b"P6 2 1 255x", six, Err(41)),
+        (b"P6 # 2 by 1\n2 1 255 ", six, Err(41)),
+        (b"P6\x0b2 1 255 ", six, Err(41)),
+        (b"P6 +2 1 255 ", six, Err(41)),
+        (b"P6\n2 0\n255\n", b"", Err(41)),
+        (b"P6 0 1 255 ", b"", Err(41)),
+        (b"P6 65536 1 255 ", b"", Err(41)),
+        (b"P6 1 65536 255 ", b"", Err(41)),
+        (b"P6 65535 65535 255 ", b"", Err(42)),
+        (b"P6 2 1 254 ", six, Err(41)),
+        (b"P6 2 1 65535 ", six, Err(41)),
+    ];
+    for (head, samples, wanted) in rows {
+        let mut bytes = Vec::from_slice(rt.alloc(), head)?;
+        bytes.extend_from_slice(samples)?;
+        let answer = read(rt.alloc(), &bytes);
+        let found = match &answer {
+            Ok(image) => Ok((image.w, image.h)),
+            Err(fault) => Err(fault.code()),
+        };
+        assert_eq!(rt; found, wanted, "at {head:?}");
+    }
+    Ok(())
+}
+
+#[test]
+fn keeps_the_raster(rt: HostRuntime) -> Result<(), Fail> {
+    let image = read(rt.alloc(), b"P6\n2 1\n255\n\x00\x01\x02\xfd\xfe\xff")?;
+    assert_eq!(rt;
+        image.raster.as_slice(),
+        b"\x00\x01\x02\xfd\xfe\xff".as_slice()
+    );
+    Ok(())
+}
+
+#[test]
+fn writes_files_by_hand(rt: HostRuntime) -> Result<(), Fail> {
+    let white = write(rt.alloc(), 2, 1, b"\xff\xff\xff\xff\xff\xff")?;
+    assert_eq!(rt;
+        white.as_slice(),
+        b"P6\n2 1\n255\n\xff\xff\xff\xff\xff\xff".as_slice()
+    );
+    let red = write(rt.alloc(), 3, 1, b"\xff\x00\x00\xff\x00\x00\xff\xff\xff")?;
+    assert_eq!(rt;
+        red.as_slice(),
+        b"P6\n3 1\n255\n\xff\x00\x00\xff\x00\x00\xff\xff\xff".as_slice()
+    );
+    assert_eq!(rt; header(65_535, 65_535).as_str(), "P6\n65535 65535\n255\n");
+    let begun = start(rt.alloc(), 256, 100)?;
+    assert_eq!(rt; begun.as_slice(), b"P6\n256 100\n255\n".as_slice());
+    Ok(())
+}

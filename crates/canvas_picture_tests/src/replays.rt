@@ -1,0 +1,384 @@
+//! Random lists of events, with each entry compared with what is found by looking back over the list.
+
+use canvas_code::OutOfMemory;
+use canvas_doc::{Change, Document, Edit, Parent, Spot};
+use canvas_plane::{Pose, Window};
+use canvas_shape::{Colour, Kind};
+use canvas_world::{Entry, Event, Transcript, run};
+use std::alloc::Global;
+use std::process::Abort;
+use std::test::Fail;
+
+// Numbers that look random.
+#[derive(Drop)]
+struct Dice(u64);
+
+impl Dice {
+    fn below(&mut self, n: u32) -> u32 {
+        self.0 = self
+            .0
+            .wrapping_mul(6_364_136_223_846_793_005)
+            .wrapping_add(1_442_695_040_888_963_407);
+        let high = (self.0 >> 40) as u32;
+        if n == 0 { 0 } else { high % n }
+    }
+}
+
+fn random_edit(dice: &mut Dice) -> Edit {
+    let id = dice.below(5);
+    let pose = Pose {
+        dx: i64::from(dice.below(4)),
+        dy: i64::from(dice.below(4)),
+        quarter: 0,
+        flip: false,
+    };
+    match dice.below(7) {
+        0 => Edit::Delete { id },
+        1 => Edit::Pose { id, pose },
+        2 => Edit::Show {
+            id,
+            hidden: dice.below(2) == 0,
+        },
+        3 => Edit::Move {
+            id,
+            parent: Parent::Page,
+            spot: Spot::Front,
+        },
+        _ => Edit::Create {
+            kind: Kind::Rect {
+                w: dice.below(5),
+                h: 3,
+                fill: Colour([dice.below(200).min(200) as u8, 0, 9]),
+            },
+            pose,
+            hidden: false,
+            parent: Parent::Page,
+            spot: Spot::Front,
+        },
+    }
+}
+
+// An event of one of four seats, of which the last is not there. Most strips are of two.
+fn random_event(dice: &mut Dice, window: Window) -> Event {
+    let seat = dice.below(13) / 4;
+    match dice.below(13) {
+        0 | 1 => Event::Edit {
+            seat,
+            edit: random_edit(dice),
+        },
+        2 => Event::Look { seat, window },
+        3 | 4 => Event::Answer { seat },
+        5 => Event::Strip {
+            seat,
+            k: dice.below(4),
+            n: dice.below(4),
+        },
+        _ => Event::Strip {
+            seat,
+            k: dice.below(2),
+            n: 2,
+        },
+    }
+}
+
+// A small window.
+fn random_window(dice: &mut Dice) -> Option<Window> {
+    let w = dice.below(5).saturating_add(1);
+    let h = dice.below(4).saturating_add(2);
+    Window::new(dice.below(3).min(3) as i32, 0, w, h).ok()
+}
+
+fn random_events(alloc: Global, dice: &mut Dice) -> Result<Vec<Event>, OutOfMemory> {
+    let mut events = Vec::new(alloc);
+    for _ in 0..24u8 {
+        if let Some(window) = random_window(dice) {
+            events.push(random_event(dice, window))?;
+        }
+    }
+    Ok(events)
+}
+
+// The document after the first so many accepted edits, judged anew from the empty one.
+fn replayed(
+    alloc: Global,
+    events: &[Event],
+    entries: &[Entry],
+    many: u64,
+) -> Result<Document, OutOfMemory> {
+    let mut document = Document::empty(alloc);
+    let mut done = 0u64;
+    for (event, entry) in events.iter().zip(entries) {
+        if let (Event::Edit { edit, .. }, Entry::Edited { .. }) = (event, entry) {
+            if done < many {
+                if let Ok(change) = document.decide(alloc, edit) {
+                    document = document.with(alloc, &change)?;
+                }
+                done = done.wrapping_add(1);
+            }
+        }
+    }
+    Ok(document)
+}
+
+fn edits_in(entries: &[Entry]) -> u64 {
+    let mut many = 0u64;
+    for entry in entries {
+        if let Entry::Edited { .. } = entry {
+            many = many.wrapping_add(1);
+        }
+    }
+    many
+}
+
+// The place of a seat's latest look, if no tile of it stands after.
+fn latest_look(events: &[Event], entries: &[Entry], own: u32) -> Option<usize> {
+    let mut found = None;
+    let mut at = 0usize;
+    for (event, entry) in events.iter().zip(entries) {
+        if event.seat() == own {
+            match entry {
+                Entry::Looked { .. } => found = Some(at),
+                Entry::Tile { .. } => found = None,
+                _ => {}
+            }
+        }
+        at = at.wrapping_add(1);
+    }
+    found
+}
+
+// How often a seat painted strip k of n, and how many strips in all, since a place.
+fn painted(
+    events: &[Event],
+    entries: &[Entry],
+    own: u32,
+    since: usize,
+    wanted: (u32, u32),
+) -> (u32, u32) {
+    let (mut same, mut all) = (0u32, 0u32);
+    let mut at = 0usize;
+    for (event, entry) in events.iter().zip(entries) {
+        if let (Event::Strip { seat, k, n }, Entry::Painted) = (event, entry) {
+            if *seat == own && since < at {
+                all = all.wrapping_add(1);
+                if (*k, *n) == wanted {
+                    same = same.wrapping_add(1);
+                }
+            }
+        }
+        at = at.wrapping_add(1);
+    }
+    (same, all)
+}
+
+// Whether the bytes are the document's colours at the pixels of a window.
+fn shows(document: &Document, window: &Window, bytes: &[u8]) -> bool {
+    let mut at = 0usize;
+    for j in 0..window.h() {
+        let y = window.y().wrapping_add(j as i32);
+        for k in 0..window.w() {
+            let x = window.x().wrapping_add(k as i32);
+            let Colour([red, green, blue]) = document.colour_at(x, y);
+            for byte in [red, green, blue] {
+                if bytes.get(at) != Some(&byte) {
+                    return false;
+                }
+                at = at.wrapping_add(1);
+            }
+        }
+    }
+    at == bytes.len()
+}
+
+// The id of the shape that a change makes.
+fn new_id(change: &Change) -> Option<u32> {
+    match change {
+        Change::Create { id, .. } => Some(*id),
+        _ => None,
+    }
+}
+
+// Whether an edit came to the right entry.
+fn edited_right(document: &Document, alloc: Global, edit: &Edit, many: u64, entry: &Entry) -> bool {
+    match (document.decide(alloc, edit), entry) {
+        (Ok(change), Entry::Edited { version, id }) => {
+            *version == many.wrapping_add(1) && *id == new_id(&change)
+        }
+        (Err(why), Entry::Refused { code }) => *code == why.code(),
+        _ => false,
+    }
+}
+
+// Whether a strip came to the right entry after a look at a place.
+fn painted_right(
+    events: &[Event],
+    entries: &[Entry],
+    own: u32,
+    since: usize,
+    strip: (u32, u32),
+    entry: &Entry,
+) -> bool {
+    let (k, n) = strip;
+    let mut of_this_number = 0u32;
+    for other in 0..n.min(17) {
+        let (same, _) = painted(events, entries, own, since, (other, n));
+        of_this_number = of_this_number.wrapping_add(same);
+    }
+    let (same, all) = painted(events, entries, own, since, (k, n));
+    let may = 1 <= n && n <= 16 && k < n && same == 0 && of_this_number == all;
+    match entry {
+        Entry::Painted => may,
+        Entry::Skipped => !may,
+        _ => false,
+    }
+}
+
+// The number of strips of which the first strip since a place was one, none where there is no strip.
+fn strips_of(events: &[Event], entries: &[Entry], own: u32, since: usize) -> u32 {
+    let mut at = 0usize;
+    for (event, entry) in events.iter().zip(entries) {
+        if let (Event::Strip { seat, n, .. }, Entry::Painted) = (event, entry) {
+            if *seat == own && since < at {
+                return *n;
+            }
+        }
+        at = at.wrapping_add(1);
+    }
+    0
+}
+
+// Whether there are strips since a place, and all of them.
+fn is_whole(events: &[Event], entries: &[Entry], own: u32, since: usize) -> bool {
+    let n = strips_of(events, entries, own, since);
+    let mut there = 0u32;
+    for k in 0..n {
+        let (same, _) = painted(events, entries, own, since, (k, n));
+        there = there.wrapping_add(same.min(1));
+    }
+    0 < n && there == n
+}
+
+// Whether an answer came to the right entry after a look at a place.
+fn answered_right(
+    alloc: Global,
+    events: &[Event],
+    entries: &[Entry],
+    own: u32,
+    since: usize,
+    entry: &Entry,
+) -> Result<bool, OutOfMemory> {
+    let whole = is_whole(events, entries, own, since);
+    match (entry, events.get(since), entries.get(since)) {
+        (
+            Entry::Tile {
+                version,
+                window,
+                raster,
+            },
+            Some(Event::Look { window: asked, .. }),
+            Some(Entry::Looked { version: fixed }),
+        ) => {
+            let document = replayed(alloc, events, entries, *fixed)?;
+            Ok(
+                whole
+                    && version == fixed
+                    && window == asked
+                    && shows(&document, asked, raster.bytes()),
+            )
+        }
+        (Entry::Skipped, _, _) => Ok(!whole),
+        _ => Ok(false),
+    }
+}
+
+// Whether an event came to the right entry, by looking back over those before it.
+fn is_right(
+    alloc: Global,
+    events: &[Event],
+    entries: &[Entry],
+    event: &Event,
+    entry: &Entry,
+) -> Result<bool, OutOfMemory> {
+    let many = edits_in(entries);
+    if event.seat() >= 3 {
+        return Ok(matches!(entry, Entry::Skipped));
+    }
+    match (event, latest_look(events, entries, event.seat())) {
+        (Event::Edit { edit, .. }, _) => {
+            let document = replayed(alloc, events, entries, many)?;
+            Ok(edited_right(&document, alloc, edit, many, entry))
+        }
+        (Event::Look { .. }, _) => match entry {
+            Entry::Looked { version } => Ok(*version == many),
+            _ => Ok(false),
+        },
+        (Event::Strip { seat, k, n }, Some(at)) => Ok(painted_right(
+            events,
+            entries,
+            *seat,
+            at,
+            (*k, *n),
+            entry,
+        )),
+        (Event::Answer { seat }, Some(at)) => {
+            answered_right(alloc, events, entries, *seat, at, entry)
+        }
+        _ => Ok(matches!(entry, Entry::Skipped)),
+    }
+}
+
+// Whether all entries are right.
+fn all_right(
+    alloc: Global,
+    events: &[Event],
+    transcript: &Transcript,
+) -> Result<bool, OutOfMemory> {
+    let entries = transcript.entries();
+    if entries.len() != events.len() {
+        return Ok(false);
+    }
+    let mut at = 0usize;
+    for (event, entry) in events.iter().zip(entries) {
+        let (Some(before), Some(came)) = (events.get(..at), entries.get(..at)) else {
+            return Ok(false);
+        };
+        if !is_right(alloc, before, came, event, entry)? {
+            return Ok(false);
+        }
+        at = at.wrapping_add(1);
+    }
+    Ok(true)
+}
+
+// How many tiles are among the entries.
+fn tiles_in(entries: &[Entry]) -> u32 {
+    let mut many = 0u32;
+    for entry in entries {
+        if let Entry::Tile { .. } = entry {
+            many = many.wrapping_add(1);
+        }
+    }
+    many
+}
+
+// How many tiles there were in random lists of events, all compared.
+fn compared(rt: &impl Abort, alloc: Global, seed: u64) -> Result<u32, OutOfMemory> {
+    let mut dice = Dice(seed);
+    let mut tiles = 0u32;
+    for round in 0..2_000u32 {
+        let events = random_events(alloc, &mut dice)?;
+        let transcript = run(alloc, &Document::empty(alloc), 3, events.as_slice())?;
+        assert!(rt;
+            all_right(alloc, events.as_slice(), &transcript)?,
+            "{seed} {round}"
+        );
+        tiles = tiles.wrapping_add(tiles_in(transcript.entries()));
+    }
+    Ok(tiles)
+}
+
+#[test]
+fn random_lists_are_their_replay(rt: HostRuntime) -> Result<(), Fail> {
+    assert!(rt; compared(&rt, rt.alloc(), 1)? > 200);
+    Ok(())
+}

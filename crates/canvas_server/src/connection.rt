@@ -1,0 +1,87 @@
+//! The bytes of one connection.
+
+ghost use Rattle.std.specs.Prelude.{◌≡◌};
+ghost use Rattle.canvas_wire.specs.Replies.{line_of, refused};
+
+use crate::outlet::Outlet;
+use canvas_board::Board;
+use canvas_code::name_of;
+use canvas_session::{Cause, serve};
+use canvas_wire::{Reply, ReplyLine, write_reply};
+use std::alloc::Global;
+use std::io::{Read, Write};
+use std::net::{OpenStream, Shutdown, TcpStream};
+use std::sync::Wait;
+use std::thread::Threads;
+use std::time::{Clock, Duration, Instant};
+
+/// Answers what a client sends until it has sent all, and says whether the session was ended by a closing reply, so that
+/// more may still come.
+pub fn answer<H: Threads + Wait + Sync, B: Board>(
+    rt: &H,
+    alloc: Global,
+    board: &mut B,
+    workers: u32,
+    stream: &TcpStream,
+) -> bool {
+    // Where small replies are delayed they come all the same.
+    let _ = stream.set_nodelay(true);
+    let mut reader = stream;
+    let Ok(mut writer) = Outlet::new(alloc, stream) else {
+        return false;
+    };
+    match serve(rt, alloc, board, workers, &mut reader, &mut writer) {
+        Ok(_) => false,
+        Err(fault) => matches!(fault.cause, Cause::LineTooLong | Cause::TooManyRequests),
+    }
+}
+
+/// Tells a client that no seat is free.
+pub fn refuse(stream: &TcpStream) {
+    let line = no_seats();
+    let mut writer = stream;
+    // A client that is gone needs no reply.
+    let _ = writer.write_all(line.as_str().as_bytes());
+}
+
+// The reply where all seats are taken.
+fn no_seats() -> ReplyLine
+    ensures { result.bytes ≡ line_of (refused 19) }
+{
+    write_reply(&Reply::Refused {
+        code: 19,
+        name: name_of(19),
+    })
+}
+
+/// How many seconds the server reads on after a closing reply.
+const SETTLING: u64 = 2;
+
+/// How many pieces of at most 4,096 bytes it then reads at most: 1 MiB.
+const MOST_PIECES: u32 = 256;
+
+/// Ends what is sent, and reads what still comes, at most 1 MiB for at most two seconds: a connection that is closed
+/// with bytes unread is reset, and a reset may take the closing reply with it.
+pub fn settle<H: Clock>(rt: &H, stream: &TcpStream) {
+    let mut reader = stream;
+    let patience = Duration::from_secs(SETTLING);
+    let Ok(start) = Instant::now(rt) else {
+        return;
+    };
+    if stream.shutdown(Shutdown::Write).is_err()
+        || stream.set_read_timeout(Some(patience)).is_err()
+    {
+        return;
+    }
+    let mut bytes = [0u8; 4096];
+    for _ in 0..MOST_PIECES {
+        match reader.read(&mut bytes) {
+            Ok(count) if count > 0 => {}
+            _ => return,
+        }
+        match start.elapsed(rt) {
+            Ok(time) if time < patience => {}
+            _ => return,
+        }
+    }
+}

@@ -1,0 +1,30 @@
+//! The saved document of a file.
+
+ghost use Rattle.std.specs.Prelude.{◌≤◌, IfOk, vec_len};
+
+use crate::Fault;
+use canvas_doc::Document;
+use canvas_store::import;
+use std::alloc::Global;
+use std::io::Read;
+
+/// The most bytes of a saved document that is opened.
+const MOST_BYTES: u64 = 67_108_864;
+
+/// The document of a saved text of at most 67,108,864 bytes; a longer one is refused as 60, and is not read to its end.
+pub fn read_document<R: Read + Drop>(alloc: Global, file: R) -> Result<Document, Fault> {
+    let text = text_of(alloc, file)?;
+    Ok(import(alloc, &text)?)
+}
+
+// The bytes of a file, where they are not too many.
+fn text_of<R: Read + Drop>(alloc: Global, file: R) -> Result<Vec<u8>, Fault>
+    ensures { IfOk result (λ text. vec_len text ≤ 67108864) }
+{
+    let mut text = Vec::new(alloc);
+    file.take(MOST_BYTES + 1).read_to_end(&mut text)?;
+    if text.len() as u64 > MOST_BYTES {
+        return Err(Fault::Refused(60));
+    }
+    Ok(text)
+}

@@ -1,0 +1,407 @@
+//! Worked sessions, from the bytes of the requests to the bytes of the answers: each is served in one piece and byte by
+//! byte, with and without a CR before each LF.
+
+use crate::sessions::check;
+use canvas_board::Alone;
+use canvas_code::OutOfMemory;
+use canvas_doc::Document;
+use canvas_session::serve;
+use std::alloc::Global;
+use std::sync::Wait;
+use std::test::Fail;
+use std::thread::Threads;
+
+const RECTANGLE: &str = r#"{"verb":"create","shape":{"kind":"rect","w":2,"h":1,"fill":"ff0000"}}"#;
+
+/// A session that is written down: its requests, and the bytes of its answers.
+#[derive(Drop)]
+struct Session {
+    alloc: Global,
+    requests: Vec<String>,
+    answers: Vec<u8>,
+}
+
+impl Session {
+    fn new(alloc: Global) -> Session {
+        Session {
+            alloc,
+            requests: Vec::new(alloc),
+            answers: Vec::new(alloc),
+        }
+    }
+
+    /// A request, and the line of its answer.
+    fn line(&mut self, request: &str, answer: &str) -> Result<(), OutOfMemory> {
+        self.requests.push(String::from_str(self.alloc, request)?)?;
+        self.answers.extend_from_slice(answer.as_bytes())?;
+        self.answers.push(b'\n')?;
+        Ok(())
+    }
+
+    /// A request that makes a shape.
+    fn creates(&mut self, request: &str, id: u32, version: u32) -> Result<(), OutOfMemory> {
+        let answer = format!(in self.alloc;
+            r#"{{"body":0,"id":{id},"ok":true,"version":{version}}}"#
+        )?;
+        self.line(request, &answer)
+    }
+
+    /// A request that makes another edit.
+    fn edits(&mut self, request: &str, version: u32) -> Result<(), OutOfMemory> {
+        let answer = format!(in self.alloc; r#"{{"body":0,"ok":true,"version":{version}}}"#)?;
+        self.line(request, &answer)
+    }
+
+    /// A request that is refused.
+    fn refuses(&mut self, request: &str, code: u16, name: &str) -> Result<(), OutOfMemory> {
+        let answer = format!(in self.alloc;
+            r#"{{"body":0,"code":{code},"name":"{name}","ok":false}}"#
+        )?;
+        self.line(request, &answer)
+    }
+
+    /// A request for a picture, with its header and a letter for each pixel.
+    fn paints(
+        &mut self,
+        request: &str,
+        version: u32,
+        header: &str,
+        pixels: &str,
+    ) -> Result<(), OutOfMemory> {
+        let body = header.len().saturating_add(pixels.len().saturating_mul(3));
+        let answer = format!(in self.alloc; r#"{{"body":{body},"ok":true,"version":{version}}}"#)?;
+        self.line(request, &answer)?;
+        self.answers.extend_from_slice(header.as_bytes())?;
+        for letter in pixels.as_bytes() {
+            self.answers.extend_from_slice(&colour_of(*letter))?;
+        }
+        Ok(())
+    }
+
+    /// The bytes of the requests, each line ended as it is said.
+    fn input(&self, end: &str) -> Result<String, OutOfMemory> {
+        let mut input = String::new(self.alloc);
+        for request in self.requests.iter() {
+            input.push_str(request)?;
+            input.push_str(end)?;
+        }
+        Ok(input)
+    }
+
+    /// Serves it in each way.
+    fn check<H: Threads + Wait + Sync>(&self, rt: &H) -> Result<(), Fail> {
+        let requests = self.requests.len() as u64;
+        for end in ["\n", "\r\n"] {
+            let input = self.input(end)?;
+            let answers = self.answers.as_slice();
+            check(rt, self.alloc, input.as_bytes(), answers, requests)?;
+        }
+        Ok(())
+    }
+}
+
+/// The colour that a letter stands for: red, green, blue, or white.
+fn colour_of(letter: u8) -> [u8; 3] {
+    match letter {
+        b'r' => [255, 0, 0],
+        b'g' => [0, 255, 0],
+        b'b' => [0, 0, 255],
+        _ => [255, 255, 255],
+    }
+}
+
+/// Lines that are refused on the empty document.
+const REFUSED: [(&str, u16, &str); 17] = [
+    ("{", 50, "BadJson"),
+    ("7", 51, "NotObject"),
+    ("{}", 52, "BadVerb"),
+    (r#"{"verb":"paint"}"#, 52, "BadVerb"),
+    (r#"{"verb":"delete"}"#, 53, "BadField"),
+    (r#"{"verb":"delete","id":1,"x":2}"#, 54, "ExtraField"),
+    (r#"{"verb":"delete","x":2}"#, 53, "BadField"),
+    (r#"{"verb":"delete","id":1}"#, 2, "NoSuchShape"),
+    (r#"{"verb":"respace","parent":1}"#, 3, "NoSuchParent"),
+    (
+        r#"{"verb":"create","shape":{"kind":"rect","w":0,"h":1,"fill":"000000"}}"#,
+        8,
+        "BadSize",
+    ),
+    (
+        r#"{"verb":"create","shape":{"kind":"group"},"pose":{"dx":1048577}}"#,
+        9,
+        "BadPose",
+    ),
+    (
+        r#"{"verb":"create","shape":{"kind":"polygon","points":[[0,0],[1,1]],"fill":"000000"}}"#,
+        10,
+        "BadPolygon",
+    ),
+    (
+        r#"{"verb":"create","shape":{"kind":"rect","w":1,"h":1,"fill":"red"}}"#,
+        53,
+        "BadField",
+    ),
+    (
+        r#"{"verb":"create","shape":{"kind":"group"},"spot":{"over":1}}"#,
+        11,
+        "SpotNotSibling",
+    ),
+    (
+        r#"{"verb":"create","shape":{"kind":"group"},"spot":{"at":"a00"}}"#,
+        53,
+        "BadField",
+    ),
+    (
+        r#"{"verb":"patch","x":0,"y":0,"w":257,"h":1}"#,
+        30,
+        "BadWindow",
+    ),
+    (r#"{"verb":"tile","col":8192,"row":0}"#, 30, "BadWindow"),
+];
+
+#[test]
+fn lines_on_an_empty_document(rt: HostRuntime) -> Result<(), Fail> {
+    for (line, code, name) in REFUSED {
+        let mut session = Session::new(rt.alloc());
+        session.refuses(line, code, name)?;
+        session.check(&rt)?;
+    }
+    Ok(())
+}
+
+#[test]
+fn deep_nesting_is_no_json(rt: HostRuntime) -> Result<(), Fail> {
+    let alloc = rt.alloc();
+    let mut line = String::new(alloc);
+    for bracket in ["[", "]"] {
+        for _ in 0..200 {
+            line.push_str(bracket)?;
+        }
+    }
+    let mut session = Session::new(alloc);
+    session.refuses(&line, 50, "BadJson")?;
+    session.check(&rt)
+}
+
+#[test]
+fn lines_on_one_rectangle(rt: HostRuntime) -> Result<(), Fail> {
+    let mut session = Session::new(rt.alloc());
+    session.creates(RECTANGLE, 1, 1)?;
+    session.refuses(
+        r#"{"verb":"create","shape":{"kind":"group"},"parent":1}"#,
+        4,
+        "NotAContainer",
+    )?;
+    session.refuses(
+        r#"{"verb":"move","id":1,"parent":1,"spot":"front"}"#,
+        4,
+        "NotAContainer",
+    )?;
+    session.refuses(
+        r#"{"verb":"reshape","id":1,"shape":{"kind":"group"}}"#,
+        14,
+        "WrongKind",
+    )?;
+    session.refuses(
+        r#"{"verb":"create","shape":{"kind":"group"},"spot":{"at":"a0"}}"#,
+        12,
+        "IndexTaken",
+    )?;
+    session.edits(
+        r#"{"verb":"move","id":1,"parent":null,"spot":{"at":"a0"}}"#,
+        2,
+    )?;
+    session.edits(r#"{"verb":"move","id":1,"parent":null,"spot":"front"}"#, 3)?;
+    session.line(
+        r#"{"verb":"export"}"#,
+        r#"{"body":183,"ok":true,"version":3}"#,
+    )?;
+    session.answers.extend_from_slice(
+        br#"{"format":1,"next":2,"shapes":[{"hidden":false,"id":1,"index":"a0","parent":null,"pose":{"dx":0,"dy":0,"flip":false,"quarter":0},"shape":{"fill":"ff0000","h":1,"kind":"rect","w":2}}]}"#,
+    )?;
+    session.check(&rt)
+}
+
+#[test]
+fn a_turned_frame_cuts_what_it_holds(rt: HostRuntime) -> Result<(), Fail> {
+    let mut session = Session::new(rt.alloc());
+    session.creates(
+        r#"{"verb":"create","shape":{"kind":"frame","w":2,"h":1},"pose":{"dx":1,"quarter":1}}"#,
+        1,
+        1,
+    )?;
+    session.creates(
+        r#"{"verb":"create","shape":{"kind":"rect","w":5,"h":5,"fill":"00ff00"},"parent":1}"#,
+        2,
+        2,
+    )?;
+    session.paints(
+        r#"{"verb":"patch","x":-1,"y":-1,"w":3,"h":4}"#,
+        2,
+        "P6\n3 4\n255\n",
+        "wwwwgwwgwwww",
+    )?;
+    session.check(&rt)
+}
+
+#[test]
+fn frames_in_frames_cut_and_hide(rt: HostRuntime) -> Result<(), Fail> {
+    let mut session = Session::new(rt.alloc());
+    session.creates(
+        r#"{"verb":"create","shape":{"kind":"frame","w":4,"h":4}}"#,
+        1,
+        1,
+    )?;
+    session.creates(
+        r#"{"verb":"create","shape":{"kind":"frame","w":8,"h":2},"parent":1}"#,
+        2,
+        2,
+    )?;
+    session.creates(
+        r#"{"verb":"create","shape":{"kind":"rect","w":6,"h":2,"fill":"00ff00"},"parent":2}"#,
+        3,
+        3,
+    )?;
+    let patch = r#"{"verb":"patch","x":0,"y":0,"w":6,"h":2}"#;
+    session.paints(patch, 3, "P6\n6 2\n255\n", "ggggwwggggww")?;
+    session.edits(r#"{"verb":"show","id":1,"hidden":true}"#, 4)?;
+    session.paints(patch, 4, "P6\n6 2\n255\n", "wwwwwwwwwwww")?;
+    session.check(&rt)
+}
+
+#[test]
+fn no_shape_goes_below_itself(rt: HostRuntime) -> Result<(), Fail> {
+    let mut session = Session::new(rt.alloc());
+    session.creates(
+        r#"{"verb":"create","shape":{"kind":"frame","w":3,"h":1,"fill":"ff0000"}}"#,
+        1,
+        1,
+    )?;
+    session.creates(
+        r#"{"verb":"create","shape":{"kind":"frame","w":2,"h":1,"fill":"00ff00"},"parent":1}"#,
+        2,
+        2,
+    )?;
+    session.creates(
+        r#"{"verb":"create","shape":{"kind":"frame","w":1,"h":1,"fill":"0000ff"},"parent":2}"#,
+        3,
+        3,
+    )?;
+    let patch = r#"{"verb":"patch","x":0,"y":0,"w":4,"h":1}"#;
+    session.paints(patch, 3, "P6\n4 1\n255\n", "bgrw")?;
+    session.refuses(
+        r#"{"verb":"move","id":1,"parent":3,"spot":"front"}"#,
+        5,
+        "Cycle",
+    )?;
+    session.paints(patch, 3, "P6\n4 1\n255\n", "bgrw")?;
+    session.check(&rt)
+}
+
+#[test]
+fn no_shape_lies_below_thirty_two(rt: HostRuntime) -> Result<(), Fail> {
+    let alloc = rt.alloc();
+    let mut session = Session::new(alloc);
+    session.creates(r#"{"verb":"create","shape":{"kind":"group"}}"#, 1, 1)?;
+    for parent in 1..32u32 {
+        let request = format!(in alloc;
+            r#"{{"verb":"create","shape":{{"kind":"group"}},"parent":{parent}}}"#
+        )?;
+        session.creates(&request, parent + 1, parent + 1)?;
+    }
+    session.creates(RECTANGLE, 33, 33)?;
+    session.refuses(
+        r#"{"verb":"move","id":33,"parent":32,"spot":"front"}"#,
+        6,
+        "TooDeep",
+    )?;
+    session.refuses(
+        r#"{"verb":"create","shape":{"kind":"group"},"parent":32}"#,
+        6,
+        "TooDeep",
+    )?;
+    session.check(&rt)
+}
+
+#[test]
+fn spots_among_siblings(rt: HostRuntime) -> Result<(), Fail> {
+    let mut session = Session::new(rt.alloc());
+    session.creates(RECTANGLE, 1, 1)?;
+    session.creates(RECTANGLE, 2, 2)?;
+    session.creates(r#"{"verb":"create","shape":{"kind":"group"}}"#, 3, 3)?;
+    session.creates(
+        r#"{"verb":"create","shape":{"kind":"group"},"parent":3}"#,
+        4,
+        4,
+    )?;
+    session.refuses(
+        r#"{"verb":"create","shape":{"kind":"group"},"spot":{"at":"a1"}}"#,
+        12,
+        "IndexTaken",
+    )?;
+    session.refuses(
+        r#"{"verb":"move","id":1,"parent":null,"spot":{"over":4}}"#,
+        11,
+        "SpotNotSibling",
+    )?;
+    session.refuses(
+        r#"{"verb":"move","id":1,"parent":null,"spot":{"over":1}}"#,
+        11,
+        "SpotNotSibling",
+    )?;
+    session.check(&rt)
+}
+
+#[test]
+fn respacing_shows_the_same(rt: HostRuntime) -> Result<(), Fail> {
+    let mut session = Session::new(rt.alloc());
+    session.creates(
+        r#"{"verb":"create","shape":{"kind":"rect","w":3,"h":1,"fill":"ff0000"},"spot":{"at":"a0V"}}"#,
+        1,
+        1,
+    )?;
+    session.creates(
+        r#"{"verb":"create","shape":{"kind":"rect","w":2,"h":1,"fill":"00ff00"},"spot":{"at":"a0l"}}"#,
+        2,
+        2,
+    )?;
+    session.creates(
+        r#"{"verb":"create","shape":{"kind":"rect","w":1,"h":1,"fill":"0000ff"},"spot":{"at":"b00"}}"#,
+        3,
+        3,
+    )?;
+    let patch = r#"{"verb":"patch","x":0,"y":0,"w":4,"h":1}"#;
+    session.paints(patch, 3, "P6\n4 1\n255\n", "bgrw")?;
+    session.edits(r#"{"verb":"respace","parent":null}"#, 4)?;
+    session.paints(patch, 4, "P6\n4 1\n255\n", "bgrw")?;
+    for (index, version) in [("a0", 4u32), ("a1", 4), ("a2", 4)] {
+        let request = format!(in rt.alloc();
+            r#"{{"verb":"create","shape":{{"kind":"group"}},"spot":{{"at":"{index}"}}}}"#
+        )?;
+        session.refuses(&request, 12, "IndexTaken")?;
+        session.paints(patch, version, "P6\n4 1\n255\n", "bgrw")?;
+    }
+    session.creates(r#"{"verb":"create","shape":{"kind":"group"}}"#, 4, 5)?;
+    session.edits(r#"{"verb":"respace","parent":4}"#, 6)?;
+    session.check(&rt)
+}
+
+#[test]
+fn ids_are_spent(rt: HostRuntime) -> Result<(), Fail> {
+    let alloc = rt.alloc();
+    let document = match Document::restore(alloc, Vec::new(alloc), u32::MAX) {
+        Ok(document) => document,
+        Err(_) => return Err(Fail::from("no document")),
+    };
+    let mut board = match Alone::new(alloc, document, 10) {
+        Ok(board) => board,
+        Err(_) => return Err(Fail::from("no board")),
+    };
+    let mut out = Vec::new(alloc);
+    let mut reader: &[u8] = b"{\"verb\":\"create\",\"shape\":{\"kind\":\"group\"}}\n";
+    let served = serve(&rt, alloc, &mut board, 1, &mut reader, &mut out);
+    assert!(rt; served.is_ok());
+    let spent: &[u8] = b"{\"body\":0,\"code\":15,\"name\":\"IdsSpent\",\"ok\":false}\n";
+    assert!(rt; out.as_slice() == spent);
+    Ok(())
+}

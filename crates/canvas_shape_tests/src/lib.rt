@@ -1,0 +1,7 @@
+//! Tests of shapes, by what `canvas_shape` offers to callers.
+#![tactic(auto)]
+
+#[cfg(test)]
+mod random_leaves;
+#[cfg(test)]
+mod shapes;

@@ -1,0 +1,434 @@
+//! Random leaves: the spans of rows beside the pixels asked one by one.
+
+ghost use Rattle.std.specs.Prelude.{◌≡◌, ◌<◌, ◌≤◌, ◌≤ℤ◌, ◌+ℤ◌, ◌^◌, All, length, nat_le, pos, true};
+ghost use Rattle.canvas_plane.specs.Motion.{size_of};
+
+use canvas_code::OutOfMemory;
+use canvas_plane::{PageBox, Point, Pose};
+use canvas_shape::{Carried, Colour, EdgeFlags, Kind, Points, Span};
+use std::alloc::Global;
+use std::cmp::Ordering;
+use std::test::Fail;
+
+// A plain congruential generator: the same numbers in each run.
+#[derive(Drop)]
+struct Dice {
+    state: u64,
+}
+
+impl Dice {
+    fn roll(&mut self) -> u64
+        ensures { result < 2 ^ 32 }
+    {
+        self.state = self
+            .state
+            .wrapping_mul(6364136223846793005)
+            .wrapping_add(1442695040888963407);
+        self.state >> 32
+    }
+
+    fn below(&mut self, sides: u64) -> u64
+        requires { 0 < sides }
+        ensures { result < sides }
+    {
+        self.roll() % sides
+    }
+
+    // A number of at most this size.
+    fn within(&mut self, size: u32) -> i64 {
+        let size = size as i64;
+        self.below(2 * size as u64 + 1) as i64 - size
+    }
+
+    // One that is often extreme.
+    fn wild(&mut self, size: u32) -> i64 {
+        match self.below(5) {
+            0 => size as i64,
+            1 => -(size as i64),
+            2 => self.within(size),
+            _ => self.within(20),
+        }
+    }
+
+    fn side(&mut self) -> u32
+        ensures { (0 < result) × (result ≤ 65536) }
+    {
+        match self.below(5) {
+            0 => 65_536,
+            1 => 65_535,
+            2 => 1,
+            3 => self.below(65_536) as u32 + 1,
+            _ => self.below(20) as u32 + 1,
+        }
+    }
+
+    fn pose(&mut self, reach: u32) -> Pose {
+        Pose {
+            dx: self.wild(reach),
+            dy: self.wild(reach),
+            quarter: self.below(4) as u8,
+            flip: self.below(2) == 1,
+        }
+    }
+
+    fn point(&mut self, size: u32) -> Point {
+        Point {
+            x: self.wild(size),
+            y: self.wild(size),
+        }
+    }
+}
+
+/// The leaf of some vertices, if there are any and they are near enough.
+pub fn polygon(points: &[Point]) -> Option<Carried<'_>> {
+    if points.is_empty() || !are_near(points) {
+        None
+    } else {
+        Some(Carried::polygon(points))
+    }
+}
+
+fn are_near(points: &[Point]) -> bool
+    ensures { result ≡ true → All (λ p. size_of p ≤ 2 ^ 27) points.now }
+{
+    points.iter().all(|point| is_near(point))
+}
+
+fn is_near(point: &Point) -> bool
+    ensures { result ≡ nat_le (size_of point.now) (2 ^ 27) }
+{
+    point.x.unsigned_abs().max(point.y.unsigned_abs()) <= 1 << 27
+}
+
+fn has(out: &[Span], x: i32) -> bool {
+    out.iter().skip(1).any(|span| span.from <= x && x < span.to)
+}
+
+// Whether the spans behind the first rise, lie apart and are not empty.
+fn are_rising(out: &[Span]) -> bool {
+    let mut end = None;
+    for span in out.iter().skip(1) {
+        if span.to <= span.from || end.is_some_and(|end: i32| span.from < end) {
+            return false;
+        }
+        end = Some(span.to);
+    }
+    true
+}
+
+// Whether the spans of a row are the pixels that the leaf holds one by one, behind what was there.
+fn agrees(
+    alloc: Global,
+    leaf: &Carried<'_>,
+    y: i32,
+    left: i32,
+    right: i32,
+) -> Result<bool, OutOfMemory>
+    requires { left ≤ℤ right }
+{
+    let there = Span { from: 7, to: 7 };
+    let mut out = Vec::new(alloc);
+    out.push(there)?;
+    leaf.row_spans(alloc, y, left, right, &mut out)?;
+    let mut same = out.first() == Some(&there) && are_rising(&out);
+    for x in left..right {
+        same = same && has(&out, x) == leaf.holds(x, y);
+    }
+    Ok(same)
+}
+
+// The number as a coordinate of a pixel, or the nearest one.
+fn pixel(at: i64) -> i32 {
+    at.clamp(-2_147_483_648, 2_147_483_647) as i32
+}
+
+// Rows near the edges of a leaf, and columns near its sides.
+fn rows_agree(alloc: Global, dice: &mut Dice, leaf: &Carried<'_>) -> Result<bool, OutOfMemory> {
+    let shape = leaf.page_box();
+    let mut same = true;
+    for k in 0..6 {
+        let y = match k {
+            0 => shape.top,
+            1 => shape.bottom.saturating_sub(1),
+            2 => shape.bottom,
+            3 => shape.top.saturating_sub(1),
+            _ => shape.top.saturating_add(dice.below(70_000) as i64),
+        };
+        let left = match dice.below(3) {
+            0 => shape.left.saturating_add(dice.within(40)),
+            1 => shape.right.saturating_add(dice.within(40)),
+            _ => shape.left.saturating_add(dice.below(70_000) as i64),
+        };
+        let left = pixel(left);
+        let right = left.saturating_add(40);
+        if left <= right {
+            same = same && agrees(alloc, leaf, pixel(y), left, right)?;
+        }
+    }
+    Ok(same)
+}
+
+#[test]
+fn boxes_agree_with_their_pixels(rt: HostRuntime) -> Result<(), Fail> {
+    let mut dice = Dice { state: 1 };
+    for k in 0..2000u32 {
+        let pose = dice.pose(1 << 26);
+        let w = dice.side();
+        let h = dice.side();
+        if pose.quarter <= 3 && pose.reach() <= 1 << 26 {
+            let flat = Carried::rect(&pose, w, h);
+            let round = Carried::ellipse(&pose, w, h);
+            assert!(rt; rows_agree(rt.alloc(), &mut dice, &flat)?, "rectangle {k}");
+            assert!(rt; rows_agree(rt.alloc(), &mut dice, &round)?, "ellipse {k}");
+        }
+    }
+    Ok(())
+}
+
+#[test]
+fn polygons_agree_with_their_pixels(rt: HostRuntime) -> Result<(), Fail> {
+    let mut dice = Dice { state: 2 };
+    for k in 0..1500u32 {
+        let size = if k % 3 == 0 { 1 << 27 } else { 12 };
+        let count = dice.below(12) + 1;
+        let mut points = Vec::new(rt.alloc());
+        for _ in 0..count {
+            points.push(dice.point(size))?;
+        }
+        let leaf = polygon(&points).ok_or("a vertex is far")?;
+        assert!(rt; rows_agree(rt.alloc(), &mut dice, &leaf)?, "polygon {k}");
+    }
+    Ok(())
+}
+
+// The columns of a window, from `left` on.
+#[derive(Clone, Copy)]
+struct Columns {
+    left: i32,
+    width: u32,
+}
+
+// A width that is often that of a word or of all words.
+fn some_width(dice: &mut Dice) -> u32
+    ensures { result ≤ 256 }
+{
+    match dice.below(9) {
+        0 => 1,
+        1 => 63,
+        2 => 64,
+        3 => 65,
+        4 => 255,
+        5 => 256,
+        _ => dice.below(257) as u32,
+    }
+}
+
+// The place as the first of 256 columns, or the nearest one.
+fn first_column(at: i64) -> i32
+    ensures { (result +ℤ pos 256) ≤ℤ pos 2147483647 }
+{
+    at.clamp(-2_147_483_648, 2_147_483_391) as i32
+}
+
+// Some columns near a leaf.
+fn columns_near(dice: &mut Dice, shape: &PageBox) -> Columns
+    ensures wide { result.width ≤ 256 }
+    ensures range { (result.left +ℤ pos result.width) ≤ℤ pos 2147483647 }
+{
+    let left = match dice.below(4) {
+        0 => shape.left.saturating_add(dice.within(300)),
+        1 => shape.right.saturating_add(dice.within(300)),
+        2 => dice.wild(i32::MAX as u32),
+        _ => dice.within(40),
+    };
+    Columns {
+        left: first_column(left),
+        width: some_width(dice),
+    }
+}
+
+// Whether a bit of a row's words stands.
+fn is_set(words: &[u64; 4], i: u32) -> bool {
+    words
+        .get(i as usize / 64)
+        .is_some_and(|word| word >> (i % 64) & 1 == 1)
+}
+
+// Whether a row's held columns and its spans are the pixels that the leaf holds one by one, and nothing else.
+fn row_agrees(
+    alloc: Global,
+    flags: &EdgeFlags,
+    leaf: &Carried<'_>,
+    y: i32,
+    columns: Columns,
+) -> Result<bool, OutOfMemory>
+    requires wide { columns.width ≤ 256 }
+    requires range { (columns.left +ℤ pos columns.width) ≤ℤ pos 2147483647 }
+{
+    let there = Span { from: 7, to: 7 };
+    let mut out = Vec::new(alloc);
+    out.push(there)?;
+    flags.append_spans(columns.left, columns.width, &mut out)?;
+    let held = flags.held();
+    let mut same = out.first() == Some(&there) && are_rising(&out);
+    for i in 0..256u32 {
+        let x = columns.left.saturating_add(i as i32);
+        let is_held = i < columns.width && leaf.holds(x, y);
+        same = same && is_set(&held, i) == is_held;
+        same = same && (i >= columns.width || has(&out, x) == is_held);
+    }
+    Ok(same)
+}
+
+// Whether the flagged rows of a polygon near one of its ends hold its pixels.
+fn flags_agree(alloc: Global, dice: &mut Dice, leaf: &Carried<'_>) -> Result<bool, OutOfMemory> {
+    let Carried::Polygon(vertices) = leaf else {
+        return Ok(false);
+    };
+    let end = match dice.below(3) {
+        0 => vertices.bounds.top,
+        1 => vertices.bounds.bottom,
+        _ => dice.wild(1 << 27),
+    };
+    let top = pixel(end.saturating_add(dice.within(9))).min(i32::MAX - 5);
+    let columns = columns_near(dice, &vertices.bounds);
+    let mut rows = [EdgeFlags { words: [5; 4] }; 5];
+    vertices.flag_rows(top, columns.left, columns.width, &mut rows);
+    let mut same = true;
+    for (k, row) in rows.iter().enumerate() {
+        same = same && row_agrees(alloc, row, leaf, top.saturating_add(k as i32), columns)?;
+    }
+    Ok(same)
+}
+
+#[test]
+fn flagged_rows_agree_with_their_pixels(rt: HostRuntime) -> Result<(), Fail> {
+    let mut dice = Dice { state: 5 };
+    for k in 0..400u32 {
+        let size = if k % 3 == 0 { 1 << 27 } else { 120 };
+        let count = dice.below(12) + 1;
+        let mut points = Vec::new(rt.alloc());
+        for _ in 0..count {
+            points.push(dice.point(size))?;
+        }
+        let leaf = polygon(&points).ok_or("a vertex is far")?;
+        assert!(rt; flags_agree(rt.alloc(), &mut dice, &leaf)?, "polygon {k}");
+    }
+    Ok(())
+}
+
+// On which side of the line from `a` to `b` a point lies.
+fn side_of(a: Point, b: Point, p: Point) -> Ordering {
+    let across = b.x.wrapping_sub(a.x).wrapping_mul(p.y.wrapping_sub(a.y));
+    let down = b.y.wrapping_sub(a.y).wrapping_mul(p.x.wrapping_sub(a.x));
+    across.cmp(&down)
+}
+
+// Whether each pixel of two triangles on both sides of an edge, carried by a pose, is in exactly one of them, and
+// each other pixel near them in none.
+fn share_an_edge(pose: &Pose, a: Point, b: Point, c: Point, d: Point) -> Option<bool> {
+    let [a, b, c, d] = [
+        carried(pose, a)?,
+        carried(pose, b)?,
+        carried(pose, c)?,
+        carried(pose, d)?,
+    ];
+    let (first, second, whole) = ([a, b, c], [b, a, d], [a, d, b, c]);
+    let first = polygon(&first)?;
+    let second = polygon(&second)?;
+    let whole = polygon(&whole)?;
+    let mut once = true;
+    for y in -20..20 {
+        for x in -20..20 {
+            let is_first = first.holds(x, y);
+            let is_second = second.holds(x, y);
+            let is_either = is_first || is_second;
+            once = once && !(is_first && is_second) && is_either == whole.holds(x, y);
+        }
+    }
+    Some(once)
+}
+
+fn carried(pose: &Pose, point: Point) -> Option<Point> {
+    if pose.quarter <= 3 && pose.reach() <= 1 << 26 && is_near(&point) {
+        Some(pose.apply(point))
+    } else {
+        None
+    }
+}
+
+#[test]
+fn triangles_share_an_edge_in_every_pose(rt: HostRuntime) -> Result<(), Fail> {
+    let mut dice = Dice { state: 3 };
+    for pair in 0..900u32 {
+        let [a, b, c, d] = [dice.point(8), dice.point(8), dice.point(8), dice.point(8)];
+        if side_of(a, b, c) != Ordering::Equal && side_of(a, b, c) == side_of(a, b, d).reverse() {
+            assert!(rt; share_an_edge_in_every_pose(a, b, c, d), "pair {pair}");
+        }
+    }
+    Ok(())
+}
+
+fn share_an_edge_in_every_pose(a: Point, b: Point, c: Point, d: Point) -> bool {
+    let mut once = true;
+    for quarter in 0..4u8 {
+        for flip in [false, true] {
+            let pose = Pose {
+                dx: 1,
+                dy: -2,
+                quarter,
+                flip,
+            };
+            once = once && share_an_edge(&pose, a, b, c, d) == Some(true);
+        }
+    }
+    once
+}
+
+#[test]
+fn kinds_hold_what_their_leaves_hold(rt: HostRuntime) -> Result<(), Fail> {
+    let mut dice = Dice { state: 4 };
+    for k in 0..300u32 {
+        let mut points = Points::new(rt.alloc());
+        for _ in 0..dice.below(6) + 3 {
+            points.push(dice.point(9))?;
+        }
+        let kind = Kind::Polygon {
+            points,
+            fill: Colour([0, 0, 0]),
+        };
+        let pose = dice.pose(5);
+        assert_eq!(rt;
+            holds_as_leaf(rt.alloc(), &kind, &pose)?,
+            Some(true),
+            "kind {k}"
+        );
+    }
+    Ok(())
+}
+
+// Whether a polygon holds what its carried vertices hold.
+fn holds_as_leaf(alloc: Global, kind: &Kind, pose: &Pose) -> Result<Option<bool>, OutOfMemory> {
+    let Kind::Polygon { points, .. } = kind else {
+        return Ok(None);
+    };
+    let mut vertices = Vec::new(alloc);
+    for point in points.as_slice() {
+        if let Some(point) = carried(pose, *point) {
+            vertices.push(point)?;
+        }
+    }
+    if kind.check().is_err() || pose.quarter > 3 || pose.reach() > 1 << 26 {
+        return Ok(None);
+    }
+    let Some(leaf) = polygon(&vertices) else {
+        return Ok(None);
+    };
+    let mut same = true;
+    for y in -20..20 {
+        for x in -20..20 {
+            same = same && kind.holds(pose, x, y) == leaf.holds(x, y);
+        }
+    }
+    Ok(Some(same))
+}

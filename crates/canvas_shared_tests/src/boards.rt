@@ -1,0 +1,254 @@
+//! What boards over seats answer.
+
+ghost use Rattle.std.specs.Prelude.{◌≡◌};
+
+use canvas_board::{Board, BoardFault, Edited, Picture, Shared};
+use canvas_doc::{Document, Edit, Parent, Spot};
+use canvas_line::{Line, Lines, Opened, Seat};
+use canvas_plane::{Pose, Window};
+use canvas_shape::{Colour, Kind};
+use canvas_store::import;
+use std::alloc::Global;
+use std::marker::Brand;
+use std::process::Abort;
+use std::sync::Wait;
+use std::test::Fail;
+use std::thread::Threads;
+
+const RED: Colour = Colour([255, 0, 0]);
+
+const WHITE: Colour = Colour([255, 255, 255]);
+
+/// A red square in front of all others on the page.
+fn square(side: u32, dx: i64) -> Edit {
+    Edit::Create {
+        kind: Kind::Rect {
+            w: side,
+            h: side,
+            fill: RED,
+        },
+        pose: at(dx),
+        hidden: false,
+        parent: Parent::Page,
+        spot: Spot::Front,
+    }
+}
+
+fn at(dx: i64) -> Pose {
+    Pose {
+        dx,
+        dy: 0,
+        quarter: 0,
+        flip: false,
+    }
+}
+
+/// The boards of a line of two seats.
+pub(crate) fn boards<B: Lines, H: Wait>(
+    rt: &H,
+    alloc: Global,
+    opened: Opened,
+    document: Document,
+    limit: u64,
+) -> Result<(Shared<B>, Shared<B>), Fail>
+    requires { B.line 1 ≡ record { book = opened.head.word.book; opening = document; limit = limit } }
+{
+    let Ok(mut seats) = Line::open::<B, H>(rt, alloc, opened, 1, document, 2, limit) else {
+        return Err(Fail::from("no line"));
+    };
+    let first = board(alloc, seats.pop())?;
+    let second = board(alloc, seats.pop())?;
+    Ok((first, second))
+}
+
+fn board<B: Lines>(alloc: Global, seat: Option<Seat<B>>) -> Result<Shared<B>, Fail> {
+    let Some(seat) = seat else {
+        return Err(Fail::from("no seat"));
+    };
+    match Shared::new(alloc, seat, 4) {
+        Ok(board) => Ok(board),
+        Err(_) => Err(Fail::from("no board")),
+    }
+}
+
+/// Whether an edit was accepted as such a version, and made such a shape.
+fn is_edited(answer: Result<Edited, BoardFault>, number: u64, id: Option<u32>) -> bool {
+    answer == Ok(Edited { number, id })
+}
+
+/// Whether a picture of 16 by 16 names such a version and has such a colour at the left of its first row, and white elsewhere
+/// from the eleventh row on.
+fn is_painted(answer: &Result<Picture, BoardFault>, version: u64, left: Colour) -> bool {
+    let Ok(picture) = answer else {
+        return false;
+    };
+    let bytes = picture.bytes.as_slice();
+    let header = b"P6\n16 16\n255\n".as_slice();
+    picture.version == version
+        && bytes.len() == 781
+        && bytes.starts_with(header)
+        && bytes[13..43]
+            .chunks(3)
+            .all(|pixel| pixel == left.0.as_slice())
+        && bytes[43..61].iter().all(|byte| *byte == 255)
+        && bytes[493..].iter().all(|byte| *byte == 255)
+}
+
+#[test]
+fn a_square_moves_away(rt: HostRuntime) -> Result<(), Fail> {
+    let alloc = rt.alloc();
+    moves_away::<Brand, _>(&rt, alloc, Opened::new(), Document::empty(alloc))
+}
+
+fn moves_away<B: Lines, H: Threads + Wait + Abort + Sync>(
+    rt: &H,
+    alloc: Global,
+    opened: Opened,
+    document: Document,
+) -> Result<(), Fail>
+    requires { B.line 1 ≡ record { book = opened.head.word.book; opening = document; limit = 10 } }
+{
+    let (mut board, _) = boards::<B, H>(rt, alloc, opened, document, 10)?;
+    let Ok(window) = Window::new(0, 0, 16, 16) else {
+        return Err(Fail::from("no window"));
+    };
+    assert!(rt; is_edited(board.edit(rt, &square(10, 0)), 1, Some(1)));
+    assert!(rt; is_painted(&board.picture(rt, &window, 1), 1, RED));
+    let away = Edit::Pose {
+        id: 1,
+        pose: at(100),
+    };
+    assert!(rt; is_edited(board.edit(rt, &away), 2, None));
+    assert!(rt; is_painted(&board.picture(rt, &window, 2), 2, WHITE));
+    assert!(rt; is_edited(board.edit(rt, &square(1, 500)), 3, Some(2)));
+    assert!(rt; is_painted(&board.picture(rt, &window, 1), 3, WHITE));
+    let Ok(dot) = board.point(0, 0) else {
+        return Err(Fail::from("no colour"));
+    };
+    assert!(rt; dot.version == 3 && dot.colour == WHITE);
+    let Ok(saved) = board.saved() else {
+        return Err(Fail::from("not saved"));
+    };
+    assert_eq!(rt; saved.version, 3);
+    let Ok(again) = import(alloc, saved.text.as_slice()) else {
+        return Err(Fail::from("not imported"));
+    };
+    assert_eq!(rt; again.count(), 2);
+    board.close(rt);
+    Ok(())
+}
+
+#[test]
+fn versions_are_spent_first(rt: HostRuntime) -> Result<(), Fail> {
+    let alloc = rt.alloc();
+    spends::<Brand, _>(&rt, alloc, Opened::new(), Document::empty(alloc))
+}
+
+fn spends<B: Lines, H: Wait + Abort>(
+    rt: &H,
+    alloc: Global,
+    opened: Opened,
+    document: Document,
+) -> Result<(), Fail>
+    requires { B.line 1 ≡ record { book = opened.head.word.book; opening = document; limit = 2 } }
+{
+    let (mut board, _) = boards::<B, H>(rt, alloc, opened, document, 2)?;
+    assert!(rt; is_edited(board.edit(rt, &square(1, 0)), 1, Some(1)));
+    assert!(rt; is_edited(board.edit(rt, &square(1, 0)), 2, Some(2)));
+    let missing = Edit::Delete { id: 9 };
+    assert!(rt; board.edit(rt, &missing) == Err(BoardFault::VersionsSpent));
+    let Ok(dot) = board.point(0, 0) else {
+        return Err(Fail::from("no colour"));
+    };
+    assert!(rt; dot.version == 2 && dot.colour == RED);
+    Ok(())
+}
+
+#[test]
+fn two_boards_share_a_document(rt: HostRuntime) -> Result<(), Fail> {
+    let alloc = rt.alloc();
+    share::<Brand, _>(&rt, alloc, Opened::new(), Document::empty(alloc))
+}
+
+fn share<B: Lines, H: Wait + Abort>(
+    rt: &H,
+    alloc: Global,
+    opened: Opened,
+    document: Document,
+) -> Result<(), Fail>
+    requires { B.line 1 ≡ record { book = opened.head.word.book; opening = document; limit = 10 } }
+{
+    let (mut first, mut second) = boards::<B, H>(rt, alloc, opened, document, 10)?;
+    assert!(rt; is_edited(first.edit(rt, &square(1, 0)), 1, Some(1)));
+    let Ok(dot) = second.point(0, 0) else {
+        return Err(Fail::from("no colour"));
+    };
+    assert!(rt; dot.version == 1 && dot.colour == RED);
+    assert!(rt; is_edited(second.edit(rt, &Edit::Delete { id: 1 }), 2, None));
+    assert!(rt; is_edited(first.edit(rt, &square(1, 0)), 3, Some(2)));
+    Ok(())
+}
+
+#[test]
+fn a_board_alone_at_its_document_is_never_behind(rt: HostRuntime) -> Result<(), Fail> {
+    let alloc = rt.alloc();
+    goes_on::<Brand, _>(&rt, alloc, Opened::new(), Document::empty(alloc))
+}
+
+fn goes_on<B: Lines, H: Wait + Abort>(
+    rt: &H,
+    alloc: Global,
+    opened: Opened,
+    document: Document,
+) -> Result<(), Fail>
+    requires { B.line 1 ≡ record { book = opened.head.word.book; opening = document; limit = 100 } }
+{
+    let (mut board, _) = boards::<B, H>(rt, alloc, opened, document, 100)?;
+    for number in 1..=50 {
+        assert!(rt;
+            board
+                .edit(rt, &square(1, 0))
+                .is_ok_and(|edited| edited.number == number)
+        );
+        assert!(rt;
+            board
+                .edit(rt, &Edit::Delete { id: 99 })
+                .is_err_and(|fault| fault.code() == 2)
+        );
+        assert!(rt; board.point(0, 0).is_ok_and(|dot| dot.version == number));
+    }
+    Ok(())
+}
+
+#[test]
+fn settings_that_are_refused(rt: HostRuntime) -> Result<(), Fail> {
+    let alloc = rt.alloc();
+    refuses::<Brand, _>(&rt, alloc, Opened::new(), Document::empty(alloc))
+}
+
+fn refuses<B: Lines, H: Wait + Abort>(
+    rt: &H,
+    alloc: Global,
+    opened: Opened,
+    document: Document,
+) -> Result<(), Fail>
+    requires { B.line 1 ≡ record { book = opened.head.word.book; opening = document; limit = 10 } }
+{
+    let Ok(mut seats) = Line::open::<B, H>(rt, alloc, opened, 1, document, 1, 10) else {
+        return Err(Fail::from("no line"));
+    };
+    let Some(mut seat) = seats.pop() else {
+        return Err(Fail::from("no seat"));
+    };
+    assert!(rt; seat.edit(rt, &square(1, 0)).is_ok());
+    let Err((fault, seat)) = Shared::new(alloc, seat, 257) else {
+        return Err(Fail::from("a board"));
+    };
+    assert_eq!(rt; fault.code(), 32);
+    assert_eq!(rt; seat.number(), 1);
+    let Ok(mut board) = Shared::new(alloc, seat, 256) else {
+        return Err(Fail::from("no board"));
+    };
+    assert!(rt; is_edited(board.edit(rt, &square(1, 0)), 2, Some(2)));
+    Ok(())
+}

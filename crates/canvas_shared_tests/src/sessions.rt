@@ -1,0 +1,159 @@
+//! A session over a seat's board, from the bytes of the requests to the bytes of the answers.
+
+ghost use Rattle.std.specs.Prelude.{◌≡◌};
+
+use crate::boards::boards;
+use canvas_doc::Document;
+use canvas_line::{Lines, Opened};
+use canvas_session::{Served, serve};
+use std::alloc::{AllocError, Global};
+use std::io;
+use std::io::{Read, Write};
+use std::marker::Brand;
+use std::sync::Wait;
+use std::test::Fail;
+use std::thread::Threads;
+
+const REQUESTS: &[u8] = br#"{"verb":"create","shape":{"kind":"rect","w":10,"h":10,"fill":"ff0000"}}
+{"verb":"patch","x":0,"y":0,"w":16,"h":1}
+{"verb":"pose","id":1,"pose":{"dx":100}}
+{"verb":"patch","x":0,"y":0,"w":16,"h":1}
+{"verb":"create","shape":{"kind":"rect","w":1,"h":1,"fill":"ff0000"},"pose":{"dx":500}}
+{"verb":"patch","x":0,"y":0,"w":16,"h":1}
+{"verb":"point","x":0,"y":0}
+{"verb":"delete","id":9}
+{"verb":"export"}
+"#;
+
+const HEADER: &[u8] = b"P6\n16 1\n255\n";
+
+const SAVED: &[u8] =
+    br#"{"format":1,"next":3,"shapes":[{"hidden":false,"id":1,"index":"a0","parent":null,"pose":{"dx":100,"dy":0,"flip":false,"quarter":0},"shape":{"fill":"ff0000","h":10,"kind":"rect","w":10}},{"hidden":false,"id":2,"index":"a1","parent":null,"pose":{"dx":500,"dy":0,"flip":false,"quarter":0},"shape":{"fill":"ff0000","h":1,"kind":"rect","w":1}}]}"#;
+
+/// The bytes of all answers.
+fn answers(alloc: Global) -> Result<Vec<u8>, AllocError> {
+    let mut out = Vec::new(alloc);
+    let red = [255, 0, 0];
+    out.extend_from_slice(b"{\"body\":0,\"id\":1,\"ok\":true,\"version\":1}\n")?;
+    out.extend_from_slice(b"{\"body\":60,\"ok\":true,\"version\":1}\n")?;
+    out.extend_from_slice(HEADER)?;
+    for _ in 0..10 {
+        out.extend_from_slice(red.as_slice())?;
+    }
+    out.extend_from_slice([255; 18].as_slice())?;
+    out.extend_from_slice(b"{\"body\":0,\"ok\":true,\"version\":2}\n")?;
+    out.extend_from_slice(b"{\"body\":60,\"ok\":true,\"version\":2}\n")?;
+    out.extend_from_slice(HEADER)?;
+    out.extend_from_slice([255; 48].as_slice())?;
+    out.extend_from_slice(b"{\"body\":0,\"id\":2,\"ok\":true,\"version\":3}\n")?;
+    out.extend_from_slice(b"{\"body\":60,\"ok\":true,\"version\":3}\n")?;
+    out.extend_from_slice(HEADER)?;
+    out.extend_from_slice([255; 48].as_slice())?;
+    out.extend_from_slice(b"{\"body\":0,\"colour\":\"ffffff\",\"ok\":true,\"version\":3}\n")?;
+    out.extend_from_slice(b"{\"body\":0,\"code\":2,\"name\":\"NoSuchShape\",\"ok\":false}\n")?;
+    out.extend_from_slice(b"{\"body\":340,\"ok\":true,\"version\":3}\n")?;
+    out.extend_from_slice(SAVED)?;
+    Ok(out)
+}
+
+/// A reader that gives one byte a read.
+#[derive(Drop)]
+struct Drip<'a> {
+    rest: &'a [u8],
+}
+
+impl Read for Drip<'_> {
+    fn read(&mut self, buf: &mut [u8]) -> io::Result<usize> {
+        if buf.is_empty() {
+            return Ok(0);
+        }
+        match self.rest {
+            [] => Ok(0),
+            [first, others @ ..] => {
+                buf[0] = *first;
+                self.rest = others;
+                Ok(1)
+            }
+        }
+    }
+}
+
+/// A writer that takes one byte a write.
+#[derive(Drop)]
+struct Narrow {
+    out: Vec<u8>,
+}
+
+impl Write for Narrow {
+    fn write(&mut self, buf: &[u8]) -> io::Result<usize> {
+        let n = buf.len().min(1);
+        self.out.extend_from_slice(&buf[..n])?;
+        Ok(n)
+    }
+
+    fn flush(&mut self) -> io::Result<()> {
+        Ok(())
+    }
+}
+
+#[test]
+fn a_session_in_one_piece(rt: HostRuntime) -> Result<(), Fail> {
+    let alloc = rt.alloc();
+    in_one_piece::<Brand, _>(&rt, alloc, Opened::new(), Document::empty(alloc))
+}
+
+fn in_one_piece<B: Lines, H: Threads + Wait + Sync>(
+    rt: &H,
+    alloc: Global,
+    opened: Opened,
+    document: Document,
+) -> Result<(), Fail>
+    requires { B.line 1 ≡ record { book = opened.head.word.book; opening = document; limit = 10 } }
+{
+    let (mut board, _) = boards::<B, H>(rt, alloc, opened, document, 10)?;
+    let wanted = answers(alloc)?;
+    let mut reader = REQUESTS;
+    let mut whole = Vec::new(alloc);
+    let served = serve(rt, alloc, &mut board, 1, &mut reader, &mut whole);
+    is_served(served == Ok(all_served(&wanted)) && whole.as_slice() == wanted.as_slice())
+}
+
+#[test]
+fn a_session_byte_by_byte(rt: HostRuntime) -> Result<(), Fail> {
+    let alloc = rt.alloc();
+    byte_by_byte::<Brand, _>(&rt, alloc, Opened::new(), Document::empty(alloc))
+}
+
+fn byte_by_byte<B: Lines, H: Threads + Wait + Sync>(
+    rt: &H,
+    alloc: Global,
+    opened: Opened,
+    document: Document,
+) -> Result<(), Fail>
+    requires { B.line 1 ≡ record { book = opened.head.word.book; opening = document; limit = 10 } }
+{
+    let (mut board, _) = boards::<B, H>(rt, alloc, opened, document, 10)?;
+    let wanted = answers(alloc)?;
+    let mut drip = Drip { rest: REQUESTS };
+    let mut narrow = Narrow {
+        out: Vec::new(alloc),
+    };
+    let served = serve(rt, alloc, &mut board, 1, &mut drip, &mut narrow);
+    is_served(served == Ok(all_served(&wanted)) && narrow.out.as_slice() == wanted.as_slice())
+}
+
+/// What a session of nine requests counts.
+fn all_served(answers: &Vec<u8>) -> Served {
+    Served {
+        requests: 9,
+        written: answers.len() as u64,
+    }
+}
+
+fn is_served(holds: bool) -> Result<(), Fail> {
+    if holds {
+        Ok(())
+    } else {
+        Err(Fail::from("other answers"))
+    }
+}

@@ -1,0 +1,7 @@
+//! Tests of requests, replies and saved documents, by their texts.
+#![tactic(auto)]
+
+#[cfg(test)]
+mod requests;
+#[cfg(test)]
+mod saved;

@@ -1,0 +1,552 @@
+//! The worked rows, and how JSON itself is read.
+ghost use Rattle.canvas_wire.specs.Replies.{IsNamed};
+
+use canvas_code::name_of;
+use canvas_doc::{Edit, Parent, Spot};
+use canvas_key::Key;
+use canvas_plane::Pose;
+use canvas_shape::{Colour, Kind};
+use canvas_wire::{Reply, Request, read_request, write_reply};
+use std::alloc::{AllocError, Global};
+use std::process::Abort;
+use std::str;
+use std::test::Fail;
+
+// A request in words, or the number of the fault.
+fn told(alloc: Global, line: &[u8]) -> Result<String, AllocError> {
+    match read_request(alloc, line) {
+        Ok(Request::Edit(edit)) => told_edit(alloc, &edit),
+        Ok(Request::Tile { col, row }) => format!(in alloc; "tile {col} {row}"),
+        Ok(Request::Patch { x, y, w, h }) => format!(in alloc; "patch {x} {y} {w} {h}"),
+        Ok(Request::Point { x, y }) => format!(in alloc; "point {x} {y}"),
+        Ok(Request::Export) => format!(in alloc; "export"),
+        Err(fault) => format!(in alloc; "{}", fault.code()),
+    }
+}
+
+fn told_edit(alloc: Global, edit: &Edit) -> Result<String, AllocError> {
+    match edit {
+        Edit::Create {
+            kind,
+            pose,
+            hidden,
+            parent,
+            spot,
+        } => {
+            let kind = told_kind(alloc, kind)?;
+            let pose = told_pose(alloc, pose)?;
+            let parent = told_parent(alloc, *parent)?;
+            let spot = told_spot(alloc, spot)?;
+            format!(in alloc; "create {kind}; {pose}; {hidden}; {parent}; {spot}")
+        }
+        Edit::Move { id, parent, spot } => {
+            let parent = told_parent(alloc, *parent)?;
+            let spot = told_spot(alloc, spot)?;
+            format!(in alloc; "move {id}; {parent}; {spot}")
+        }
+        Edit::Pose { id, pose } => {
+            let pose = told_pose(alloc, pose)?;
+            format!(in alloc; "pose {id}; {pose}")
+        }
+        Edit::Reshape { id, kind } => {
+            let kind = told_kind(alloc, kind)?;
+            format!(in alloc; "reshape {id}; {kind}")
+        }
+        Edit::Show { id, hidden } => format!(in alloc; "show {id} {hidden}"),
+        Edit::Delete { id } => format!(in alloc; "delete {id}"),
+        Edit::Respace { parent } => {
+            let parent = told_parent(alloc, *parent)?;
+            format!(in alloc; "respace {parent}")
+        }
+    }
+}
+
+fn told_kind(alloc: Global, kind: &Kind) -> Result<String, AllocError> {
+    match kind {
+        Kind::Group => format!(in alloc; "group"),
+        Kind::Frame { w, h, fill } => {
+            let fill = match fill {
+                Some(fill) => told_colour(alloc, *fill)?,
+                None => format!(in alloc; "clear")?,
+            };
+            format!(in alloc; "frame {w} {h} {fill}")
+        }
+        Kind::Rect { w, h, fill } => {
+            let fill = told_colour(alloc, *fill)?;
+            format!(in alloc; "rect {w} {h} {fill}")
+        }
+        Kind::Ellipse { w, h, fill } => {
+            let fill = told_colour(alloc, *fill)?;
+            format!(in alloc; "ellipse {w} {h} {fill}")
+        }
+        Kind::Polygon { points, fill } => {
+            let mut text = format!(in alloc; "polygon")?;
+            for point in points.as_slice() {
+                let point = format!(in alloc; " {},{}", point.x, point.y)?;
+                text.push_str(point.as_str())?;
+            }
+            let fill = told_colour(alloc, *fill)?;
+            format!(in alloc; "{text} {fill}")
+        }
+    }
+}
+
+fn told_colour(alloc: Global, colour: Colour) -> Result<String, AllocError> {
+    let [red, green, blue] = colour.0;
+    format!(in alloc; "({red} {green} {blue})")
+}
+
+fn told_pose(alloc: Global, pose: &Pose) -> Result<String, AllocError> {
+    format!(in alloc; "{} {} {} {}", pose.dx, pose.dy, pose.quarter, pose.flip)
+}
+
+fn told_parent(alloc: Global, parent: Parent) -> Result<String, AllocError> {
+    match parent {
+        Parent::Page => format!(in alloc; "page"),
+        Parent::Shape(id) => format!(in alloc; "in {id}"),
+    }
+}
+
+fn told_spot(alloc: Global, spot: &Spot) -> Result<String, AllocError> {
+    match spot {
+        Spot::Back => format!(in alloc; "back"),
+        Spot::Front => format!(in alloc; "front"),
+        Spot::Over(id) => format!(in alloc; "over {id}"),
+        Spot::At(key) => told_key(alloc, key),
+    }
+}
+
+fn told_key(alloc: Global, key: &Key) -> Result<String, AllocError> {
+    match str::from_utf8(key.bytes()) {
+        Ok(text) => format!(in alloc; "at {text}"),
+        Err(_) => format!(in alloc; "at no text"),
+    }
+}
+
+// Each line says what stands beside it, and the same with a CR before its LF.
+fn assert_told(rt: &impl Abort, alloc: Global, rows: &[(&str, &str)]) -> Result<(), AllocError> {
+    for row in rows {
+        let (line, wanted) = *row;
+        let request = told(alloc, line.as_bytes())?;
+        assert_eq!(rt; request.as_str(), wanted, "at {line}");
+        let with_cr = format!(in alloc; "{line}\r")?;
+        let request = told(alloc, with_cr.as_bytes())?;
+        assert_eq!(rt; request.as_str(), wanted, "at {line} and a CR");
+    }
+    Ok(())
+}
+
+const RECT: &str = "create rect 0 1 (0 0 0); 0 0 0 false; false; page; front";
+
+#[test]
+fn worked_rows(rt: HostRuntime) -> Result<(), Fail> {
+    assert_told(
+        &rt,
+        rt.alloc(),
+        &[
+            (r#"{"#, "50"),
+            (r#"7"#, "51"),
+            (r#"{}"#, "52"),
+            (r#"{"verb":"paint"}"#, "52"),
+            (r#"{"verb":"delete"}"#, "53"),
+            (r#"{"verb":"delete","id":1,"x":2}"#, "54"),
+            (r#"{"verb":"delete","x":2}"#, "53"),
+            (r#"{"verb":"delete","id":1}"#, "delete 1"),
+            (r#"{"verb":"respace","parent":1}"#, "respace in 1"),
+            (
+                r#"{"verb":"create","shape":{"kind":"rect","w":0,"h":1,"fill":"000000"}}"#,
+                RECT,
+            ),
+            (
+                r#"{"verb":"create","shape":{"kind":"group"},"pose":{"dx":1048577}}"#,
+                "create group; 1048577 0 0 false; false; page; front",
+            ),
+            (
+                r#"{"verb":"create","shape":{"kind":"polygon","points":[[0,0],[1,1]],"fill":"000000"}}"#,
+                "create polygon 0,0 1,1 (0 0 0); 0 0 0 false; false; page; front",
+            ),
+            (
+                r#"{"verb":"create","shape":{"kind":"rect","w":1,"h":1,"fill":"red"}}"#,
+                "53",
+            ),
+            (
+                r#"{"verb":"create","shape":{"kind":"group"},"spot":{"over":1}}"#,
+                "create group; 0 0 0 false; false; page; over 1",
+            ),
+            (
+                r#"{"verb":"create","shape":{"kind":"group"},"spot":{"at":"a00"}}"#,
+                "53",
+            ),
+            (
+                r#"{"verb":"patch","x":0,"y":0,"w":257,"h":1}"#,
+                "patch 0 0 257 1",
+            ),
+            (r#"{"verb":"tile","col":8192,"row":0}"#, "tile 8192 0"),
+            (
+                r#"{"verb":"create","shape":{"kind":"group"},"parent":1}"#,
+                "create group; 0 0 0 false; false; in 1; front",
+            ),
+            (
+                r#"{"verb":"move","id":1,"parent":1,"spot":"front"}"#,
+                "move 1; in 1; front",
+            ),
+            (
+                r#"{"verb":"reshape","id":1,"shape":{"kind":"group"}}"#,
+                "reshape 1; group",
+            ),
+            (
+                r#"{"verb":"create","shape":{"kind":"group"},"spot":{"at":"a0"}}"#,
+                "create group; 0 0 0 false; false; page; at a0",
+            ),
+            (
+                r#"{"verb":"move","id":1,"parent":null,"spot":{"at":"a0"}}"#,
+                "move 1; page; at a0",
+            ),
+            (
+                r#"{"verb":"move","id":1,"parent":null,"spot":"front"}"#,
+                "move 1; page; front",
+            ),
+            (r#"[]"#, "51"),
+            (r#""#, "50"),
+            (r#" "#, "50"),
+        ],
+    )?;
+    Ok(())
+}
+
+#[test]
+fn every_member_of_each_verb(rt: HostRuntime) -> Result<(), Fail> {
+    assert_told(
+        &rt,
+        rt.alloc(),
+        &[
+            (
+                r#"{"verb":"create","shape":{"kind":"rect","w":2,"h":3,"fill":"Ff8000"},"pose":{"dx":-4,"dy":5,"quarter":3,"flip":true},"hidden":true,"parent":6,"spot":"back"}"#,
+                "create rect 2 3 (255 128 0); -4 5 3 true; true; in 6; back",
+            ),
+            (
+                r#"{"verb":"create","shape":{"kind":"frame","w":4,"h":5},"pose":{},"parent":null,"spot":{"over":7}}"#,
+                "create frame 4 5 clear; 0 0 0 false; false; page; over 7",
+            ),
+            (
+                r#"{"verb":"move","id":4294967295,"parent":0,"spot":{"at":"a0V"}}"#,
+                "move 4294967295; in 0; at a0V",
+            ),
+            (
+                r#"{"verb":"pose","id":1,"pose":{"dx":-2147483648,"dy":2147483647,"quarter":255,"flip":false}}"#,
+                "pose 1; -2147483648 2147483647 255 false",
+            ),
+            (r#"{"verb":"pose","id":1,"pose":{}}"#, "pose 1; 0 0 0 false"),
+            (
+                r#"{"verb":"reshape","id":1,"shape":{"kind":"frame","w":1,"h":2,"fill":null}}"#,
+                "reshape 1; frame 1 2 clear",
+            ),
+            (
+                r#"{"verb":"reshape","id":1,"shape":{"kind":"frame","w":1,"h":2,"fill":"0a0B0c"}}"#,
+                "reshape 1; frame 1 2 (10 11 12)",
+            ),
+            (
+                r#"{"verb":"reshape","id":1,"shape":{"kind":"ellipse","w":4294967295,"h":0,"fill":"ffffff"}}"#,
+                "reshape 1; ellipse 4294967295 0 (255 255 255)",
+            ),
+            (
+                r#"{"verb":"reshape","id":1,"shape":{"kind":"polygon","points":[[-2147483648,0],[2147483647,1],[2,-3]],"fill":"000001"}}"#,
+                "reshape 1; polygon -2147483648,0 2147483647,1 2,-3 (0 0 1)",
+            ),
+            (
+                r#"{"verb":"reshape","id":1,"shape":{"kind":"polygon","points":[],"fill":"000001"}}"#,
+                "reshape 1; polygon (0 0 1)",
+            ),
+            (r#"{"verb":"show","id":1,"hidden":false}"#, "show 1 false"),
+            (r#"{"verb":"delete","id":0}"#, "delete 0"),
+            (r#"{"verb":"respace","parent":null}"#, "respace page"),
+            (
+                r#"{"verb":"tile","col":-2147483648,"row":2147483647}"#,
+                "tile -2147483648 2147483647",
+            ),
+            (
+                r#"{"verb":"patch","x":-1,"y":-2,"w":4294967295,"h":0}"#,
+                "patch -1 -2 4294967295 0",
+            ),
+            (r#"{"verb":"point","x":-7,"y":8}"#, "point -7 8"),
+            (r#"{"verb":"export"}"#, "export"),
+            (
+                " \t{ \"row\" : 2 , \"verb\" : \"tile\" , \"col\" : 1 } ",
+                "tile 1 2",
+            ),
+        ],
+    )?;
+    Ok(())
+}
+
+#[test]
+fn missing_and_wrong_members(rt: HostRuntime) -> Result<(), Fail> {
+    assert_told(
+        &rt,
+        rt.alloc(),
+        &[
+            (r#"{"verb":7}"#, "52"),
+            (r#"{"verb":"Delete","id":1}"#, "52"),
+            (r#"{"verb":"create"}"#, "53"),
+            (r#"{"verb":"create","shape":{}}"#, "53"),
+            (r#"{"verb":"create","shape":"group"}"#, "53"),
+            (r#"{"verb":"create","shape":{"kind":"star"}}"#, "53"),
+            (
+                r#"{"verb":"create","shape":{"kind":"rect","w":1,"h":1}}"#,
+                "53",
+            ),
+            (
+                r#"{"verb":"create","shape":{"kind":"rect","w":1,"h":1,"fill":null}}"#,
+                "53",
+            ),
+            (
+                r#"{"verb":"create","shape":{"kind":"rect","w":-1,"h":1,"fill":"000000"}}"#,
+                "53",
+            ),
+            (
+                r#"{"verb":"create","shape":{"kind":"frame","w":1,"h":1,"fill":"00000"}}"#,
+                "53",
+            ),
+            (
+                r#"{"verb":"create","shape":{"kind":"polygon","points":[[0,0,0]],"fill":"000000"}}"#,
+                "53",
+            ),
+            (
+                r#"{"verb":"create","shape":{"kind":"polygon","points":[[0]],"fill":"000000"}}"#,
+                "53",
+            ),
+            (
+                r#"{"verb":"create","shape":{"kind":"polygon","points":[0,0],"fill":"000000"}}"#,
+                "53",
+            ),
+            (
+                r#"{"verb":"create","shape":{"kind":"polygon","points":{},"fill":"000000"}}"#,
+                "53",
+            ),
+            (
+                r#"{"verb":"create","shape":{"kind":"group"},"pose":null}"#,
+                "53",
+            ),
+            (
+                r#"{"verb":"create","shape":{"kind":"group"},"pose":[]}"#,
+                "53",
+            ),
+            (
+                r#"{"verb":"create","shape":{"kind":"group"},"pose":{"quarter":256}}"#,
+                "53",
+            ),
+            (
+                r#"{"verb":"create","shape":{"kind":"group"},"pose":{"quarter":-1}}"#,
+                "53",
+            ),
+            (
+                r#"{"verb":"create","shape":{"kind":"group"},"pose":{"flip":null}}"#,
+                "53",
+            ),
+            (
+                r#"{"verb":"create","shape":{"kind":"group"},"hidden":null}"#,
+                "53",
+            ),
+            (
+                r#"{"verb":"create","shape":{"kind":"group"},"parent":"page"}"#,
+                "53",
+            ),
+            (
+                r#"{"verb":"create","shape":{"kind":"group"},"spot":null}"#,
+                "53",
+            ),
+            (
+                r#"{"verb":"create","shape":{"kind":"group"},"spot":"middle"}"#,
+                "53",
+            ),
+            (
+                r#"{"verb":"create","shape":{"kind":"group"},"spot":{}}"#,
+                "53",
+            ),
+            (r#"{"verb":"move","id":1,"spot":"front"}"#, "53"),
+            (r#"{"verb":"move","id":1,"parent":null}"#, "53"),
+            (r#"{"verb":"pose","id":1}"#, "53"),
+            (r#"{"verb":"reshape","id":1}"#, "53"),
+            (r#"{"verb":"show","id":1}"#, "53"),
+            (r#"{"verb":"respace"}"#, "53"),
+            (r#"{"verb":"tile","col":0}"#, "53"),
+            (r#"{"verb":"tile","row":0}"#, "53"),
+            (r#"{"verb":"patch","x":0,"y":0,"w":1}"#, "53"),
+            (r#"{"verb":"patch","x":0,"y":0,"w":-1,"h":1}"#, "53"),
+            (r#"{"verb":"point","x":0,"y":"0"}"#, "53"),
+        ],
+    )?;
+    Ok(())
+}
+
+#[test]
+fn extra_members_come_last(rt: HostRuntime) -> Result<(), Fail> {
+    assert_told(
+        &rt,
+        rt.alloc(),
+        &[
+            (r#"{"verb":"export","id":1}"#, "54"),
+            (r#"{"verb":"create","shape":{"kind":"group","w":1}}"#, "54"),
+            (
+                r#"{"verb":"create","shape":{"kind":"rect","w":1,"h":1,"fill":"000000","points":[]}}"#,
+                "54",
+            ),
+            (
+                r#"{"verb":"create","shape":{"kind":"polygon","points":[],"fill":"000000","w":1}}"#,
+                "54",
+            ),
+            (
+                r#"{"verb":"create","shape":{"kind":"group"},"pose":{"x":1}}"#,
+                "54",
+            ),
+            (r#"{"verb":"create","shape":{"kind":"group"},"id":1}"#, "54"),
+            (
+                r#"{"verb":"move","id":1,"parent":null,"spot":{"at":"a0","by":1}}"#,
+                "54",
+            ),
+            (
+                r#"{"verb":"move","id":1,"parent":null,"spot":{"over":1,"at":"a0"}}"#,
+                "54",
+            ),
+            (
+                r#"{"verb":"move","id":1,"parent":null,"spot":{"over":1,"at":7}}"#,
+                "54",
+            ),
+            (
+                r#"{"verb":"move","id":1,"parent":null,"spot":{"over":"x","at":"a0"}}"#,
+                "53",
+            ),
+            (r#"{"verb":"delete","id":1,"pose":{"x":1}}"#, "54"),
+            (
+                r#"{"verb":"create","shape":{"kind":"group","x":1},"pose":{"dx":"1"}}"#,
+                "53",
+            ),
+            (
+                r#"{"verb":"create","x":1,"shape":{"kind":"group"},"spot":{"at":7}}"#,
+                "53",
+            ),
+            (r#"{"verb":"create","shape":{"kind":"rect","x":1}}"#, "53"),
+        ],
+    )?;
+    Ok(())
+}
+
+#[test]
+fn numbers_and_texts_as_json_has_them(rt: HostRuntime) -> Result<(), Fail> {
+    assert_told(
+        &rt,
+        rt.alloc(),
+        &[
+            (r#"{"verb":"delete","id":-0}"#, "53"),
+            (r#"{"verb":"delete","id":1.0}"#, "53"),
+            (r#"{"verb":"delete","id":1e3}"#, "53"),
+            (r#"{"verb":"delete","id":4294967296}"#, "53"),
+            (r#"{"verb":"point","x":-2147483649,"y":0}"#, "53"),
+            (r#"{"verb":"point","x":2147483648,"y":0}"#, "53"),
+            (r#"{"verb":"delete","id":9223372036854775807}"#, "53"),
+            (r#"{"verb":"delete","id":9223372036854775808}"#, "53"),
+            (r#"{"verb":"delete","id":18446744073709551616}"#, "53"),
+            (r#"{"verb":"delete","id":-9223372036854775809}"#, "53"),
+            (r#"{"verb":"delete","id":1e400}"#, "50"),
+            (r#"{"verb":"delete","id":01}"#, "50"),
+            (r#"{"verb":"delete","id":+1}"#, "50"),
+            (r#"{"verb":"delete","id":1,}"#, "50"),
+            (r#"{"verb":"delete","id":1} 2"#, "50"),
+            (r#"{"verb":"delete","id":1,"x":"\ud800"}"#, "50"),
+            (r#"{"verb":"delete","id":1,"x":"\ud83d\ude00"}"#, "54"),
+            (r#"{"verb":"delete","id":7,"id":8}"#, "delete 8"),
+            (r#"{"verb":"delete","id":7,"id":"8"}"#, "53"),
+            (r#"{"verb":"tile","verb":"delete","id":7}"#, "delete 7"),
+            (r#"{"v\u0065rb":"d\u0065lete","\u0069d":7}"#, "delete 7"),
+            (r#"{"verb":"delete\u0000","id":7}"#, "52"),
+        ],
+    )?;
+    Ok(())
+}
+
+// A request that has lists nested so deep beside its verb: the object is one level more.
+fn nested(alloc: Global, depth: usize) -> Result<String, AllocError> {
+    let mut line = format!(in alloc; "{{\"verb\":\"export\",\"x\":")?;
+    for _ in 0..depth {
+        line.push_str("[")?;
+    }
+    for _ in 0..depth {
+        line.push_str("]")?;
+    }
+    line.push_str("}")?;
+    Ok(line)
+}
+
+#[test]
+fn nesting_and_bytes(rt: HostRuntime) -> Result<(), Fail> {
+    let alloc = rt.alloc();
+    assert_eq!(rt; told(alloc, nested(alloc, 126)?.as_bytes())?.as_str(), "54");
+    assert_eq!(rt; told(alloc, nested(alloc, 127)?.as_bytes())?.as_str(), "50");
+    let brackets = format!(in alloc; "{}{}", "[".repeat(alloc, 200)?, "]".repeat(alloc, 200)?)?;
+    assert_eq!(rt; told(alloc, brackets.as_bytes())?.as_str(), "50");
+    assert_eq!(rt;
+        told(alloc, b"{\"verb\":\"export\",\"x\":\"\xff\"}")?.as_str(),
+        "50"
+    );
+    assert_eq!(rt;
+        told(alloc, b"\xef\xbb\xbf{\"verb\":\"export\"}")?.as_str(),
+        "50"
+    );
+    assert_eq!(rt; told(alloc, b"{\"verb\":\"export\"}\x0b")?.as_str(), "50");
+    assert_eq!(rt; told(alloc, b"{\"verb\":\"ex\x01port\"}")?.as_str(), "50");
+    Ok(())
+}
+
+#[test]
+fn each_reply(rt: HostRuntime) {
+    let most = u64::MAX;
+    let colour = Colour([255, 10, 0]);
+    let rows = [
+        (
+            write_reply(&Reply::Created { id: 1, version: 1 }),
+            "{\"body\":0,\"id\":1,\"ok\":true,\"version\":1}\n",
+        ),
+        (
+            write_reply(&Reply::Edited { version: 30 }),
+            "{\"body\":0,\"ok\":true,\"version\":30}\n",
+        ),
+        (
+            write_reply(&Reply::Body {
+                bytes: 17,
+                version: 0,
+            }),
+            "{\"body\":17,\"ok\":true,\"version\":0}\n",
+        ),
+        (
+            write_reply(&Reply::Point { colour, version: 1 }),
+            "{\"body\":0,\"colour\":\"ff0a00\",\"ok\":true,\"version\":1}\n",
+        ),
+        (
+            write_reply(&refusal(1)),
+            "{\"body\":0,\"code\":1,\"name\":\"OutOfMemory\",\"ok\":false}\n",
+        ),
+        (
+            write_reply(&refusal(73)),
+            "{\"body\":0,\"code\":73,\"name\":\"TooManyRequests\",\"ok\":false}\n",
+        ),
+        (
+            write_reply(&Reply::Behind {
+                desk: 3,
+                front: most,
+            }),
+            "{\"body\":0,\"code\":17,\"desk\":3,\"front\":18446744073709551615,\"name\":\"Behind\",\"ok\":false}\n",
+        ),
+    ];
+    for row in &rows {
+        assert_eq!(rt; row.0.as_str(), row.1);
+    }
+}
+
+fn refusal(code: u16) -> Reply
+    ensures { IsNamed result }
+{
+    Reply::Refused {
+        code,
+        name: name_of(code),
+    }
+}

@@ -1,0 +1,644 @@
+#!/usr/bin/env python3
+"""Runs the built program as a server on the loopback and checks what its sessions are answered.
+
+usage: tools/check_server.py [seconds of each history check, 20 where it is left out] [seed, 1 where it is left out]
+
+The heart of it is the history check: many clients make random edits and look at the document at once; afterwards the accepted
+edits are replayed, in the order of their versions, in plain_model.py, and each picture, colour, refusal and id is compared with
+the document after exactly the version that its reply names. Everything is bounded in count and in time.
+
+Prints each case that fails, and a last line 'N passed, M failed'; the status is 1 where something failed.
+"""
+
+import json
+import multiprocessing
+import os
+import random
+import re
+import socket
+import statistics
+import subprocess
+import sys
+import tempfile
+import threading
+import time
+from pathlib import Path
+
+from canvas_client import PROGRAM, TOP, Canvas, Refused, line_of
+from plain_model import Model
+from plain_model import Refused as Disallowed
+
+SEATS = 63
+SECONDS = 60
+EMPTY = b'{"format":1,"next":1,"shapes":[]}'
+NO_SEATS = b'{"body":0,"code":19,"name":"NoSeats","ok":false}\n'
+LONG_LINE = b'{"body":0,"code":70,"name":"LineTooLong","ok":false}\n'
+POINT = b'{"verb":"point","x":0,"y":0}\n'
+WHITE_POINT = b'{"body":0,"colour":"ffffff","ok":true,"version":0}\n'
+
+
+# -- the server --------------------------------------------------------------------------------------------------------
+
+def free_port():
+    with socket.create_server(("127.0.0.1", 0)) as found:
+        return found.getsockname()[1]
+
+
+class Server:
+    """A run of the program that serves a saved document."""
+
+    def __init__(self, folder, text=EMPTY, workers="1"):
+        file = Path(folder) / "document.json"
+        file.write_bytes(text)
+        self.port = free_port()
+        self.address = f"127.0.0.1:{self.port}"
+        self._process = subprocess.Popen([str(PROGRAM), "serve", self.address, str(file), workers], stdout=subprocess.PIPE)
+        line = self._process.stdout.readline()
+        if line != b"listening\n":
+            raise RuntimeError(f"the server says {line!r}")
+
+    def __enter__(self):
+        return self
+
+    def __exit__(self, *_):
+        self._process.kill()
+        self._process.wait()
+        self._process.stdout.close()
+
+    def connect(self):
+        return Canvas.connect(self.address, SECONDS)
+
+    def socket(self):
+        return socket.create_connection(("127.0.0.1", self.port), timeout=SECONDS)
+
+    def status(self, word):
+        """A number of the process, as VmRSS in KiB or Threads."""
+        text = Path(f"/proc/{self._process.pid}/status").read_text()
+        return int(re.search(rf"^{word}:\s+(\d+)", text, re.MULTILINE).group(1))
+
+    def files(self):
+        return len(list(Path(f"/proc/{self._process.pid}/fd").iterdir()))
+
+
+def read_all(sock):
+    """What comes until the other side ends."""
+    parts = []
+    while part := sock.recv(1 << 16):
+        parts.append(part)
+    return b"".join(parts)
+
+
+def read_line(sock):
+    line = b""
+    while not line.endswith(b"\n"):
+        part = sock.recv(1)
+        if not part:
+            break
+        line += part
+    return line
+
+
+def difference(got, wanted):
+    return None if got == wanted else f"got {str(got)[:300]}, wanted {str(wanted)[:300]}"
+
+
+# -- how the program starts --------------------------------------------------------------------------------------------
+
+def run(words):
+    done = subprocess.run([str(PROGRAM), *words], stdin=subprocess.DEVNULL, capture_output=True, timeout=SECONDS)
+    return done.stdout, done.stderr, done.returncode
+
+
+def starts(folder):
+    """What the program says where it can't serve."""
+    usage = b"usage: canvas script [workers] | canvas serve <address> <file> [workers]\n"
+    io = b"canvas: input or output fault\n"
+    address = f"127.0.0.1:{free_port()}"
+
+    def file(name, text):
+        path = Path(folder) / name
+        path.write_bytes(text)
+        return str(path)
+
+    good = file("empty.json", EMPTY)
+    for words in [["serve"], ["serve", "a"], ["serve", address, good, "0"], ["serve", address, good, "2", "3"]]:
+        yield f"usage at {words}", difference(run(words), (b"", usage, 2))
+    shape = b'{"hidden":false,"id":1,"index":"%s","parent":%s,"pose":{"dx":0,"dy":0,"flip":false,"quarter":0},"shape":{"kind":"group"}}'
+    saved = b'{"format":1,"next":2,"shapes":[%s]}'
+    for code, name, text in [(50, b"BadJson", b"{"), (60, b"BadFormat", b"{}"), (61, b"BadRecord", saved % (shape % (b"a00", b"null"))),
+                             (62, b"BadTree", saved % (shape % (b"a0", b"9")))]:
+        refusal = b"canvas: %d %s\n" % (code, name)
+        yield f"a document refused by {code}", difference(run(["serve", address, file("bad.json", text)]), (b"", refusal, 3))
+    large = Path(folder) / "large.json"
+    with large.open("wb") as hole:
+        hole.truncate(67_108_865)
+    yield "a document too large", difference(run(["serve", address, str(large)]), (b"", b"canvas: 60 BadFormat\n", 3))
+    large.unlink()
+    yield "no file", difference(run(["serve", address, str(Path(folder) / "none")]), (b"", io, 4))
+    yield "a folder for a file", difference(run(["serve", address, folder]), (b"", io, 4))
+    yield "no address", difference(run(["serve", "127.0.0.1", good]), (b"", io, 4))
+    with socket.create_server(("127.0.0.1", 0)) as taken:
+        words = ["serve", f"127.0.0.1:{taken.getsockname()[1]}", good]
+        yield "an address in use", difference(run(words), (b"", io, 4))
+
+
+# -- small sessions ----------------------------------------------------------------------------------------------------
+
+def rectangle(dx, fill):
+    return {"verb": "create", "shape": {"kind": "rect", "w": 1, "h": 1, "fill": fill}, "pose": {"dx": dx}}
+
+
+def two_editors_and_a_viewer(folder):
+    """Two editors at once, and a viewer that sees both of their shapes."""
+    with Server(folder) as server:
+        versions = []
+
+        def edit(request):
+            with server.connect() as canvas:
+                versions.append(canvas.ask(**request)[0]["version"])
+
+        editors = [threading.Thread(target=edit, args=(rectangle(*what),)) for what in [(0, "ff0000"), (1, "0000ff")]]
+        with server.connect() as viewer:
+            for editor in editors:
+                editor.start()
+            for _ in range(1000):
+                reply, image = viewer.ask(verb="patch", x=0, y=0, w=2, h=1)
+                if reply["version"] == 2:
+                    break
+        for editor in editors:
+            editor.join()
+        yield "two editors", difference(sorted(versions), [1, 2])
+        yield "their viewer", difference((reply["version"], image), (2, b"P6\n2 1\n255\n\xff\0\0\0\0\xff"))
+
+
+def small_sessions(folder):
+    with Server(folder, workers="2") as server:
+        with server.socket() as sock:
+            sock.sendall(POINT * 1000)
+            sock.shutdown(socket.SHUT_WR)
+            yield "a thousand requests in one piece", difference(read_all(sock), WHITE_POINT * 1000)
+        with server.socket() as sock:
+            for byte in POINT:
+                sock.sendall(bytes([byte]))
+            yield "a request in single bytes", difference(read_line(sock), WHITE_POINT)
+        with server.socket() as sock:
+            sock.sendall(POINT + b" " * 65537)
+            sock.sendall(b" " * 200_000)
+            yield "a line that is too long, and more behind it", difference(read_all(sock), WHITE_POINT + LONG_LINE)
+        with server.socket() as sock:
+            sock.sendall(POINT + POINT[:9])
+            sock.shutdown(socket.SHUT_WR)
+            yield "a line that is cut", difference(read_all(sock), WHITE_POINT)
+        with server.connect() as canvas:
+            _, tile = canvas.ask(verb="tile", col=0, row=0)
+            yield "a tile", difference(tile, b"P6\n256 256\n255\n" + b"\xff" * (3 * 256 * 256))
+
+
+# -- histories ---------------------------------------------------------------------------------------------------------
+
+MOST_SHAPES = 60
+BAD_LINES = [
+    ({"verb": "paint"}, 52),
+    ({"verb": "delete"}, 53),
+    ({"verb": "respace", "parent": None, "extra": 1}, 54),
+    ({"verb": "patch", "x": 0, "y": 0, "w": 257, "h": 1}, 30),
+]
+EDITS = ("create", "move", "pose", "reshape", "show", "delete", "respace")
+
+
+class Reply:
+    """What one request of a session was answered; of a tile a few pixels are kept."""
+
+    def __init__(self, request, reply, body):
+        self.request = request
+        self.reply = reply
+        self.body = body
+
+
+class Client(threading.Thread):
+    """A session that makes random edits and looks at the document, and keeps what it was answered."""
+
+    def __init__(self, server, seed, known, requests, end):
+        super().__init__()
+        self.replies = []
+        self.fault = None
+        self._server, self._chance, self._known = server, random.Random(seed), known
+        self._requests, self._end = requests, end
+
+    def run(self):
+        try:
+            with self._server.connect() as canvas:
+                while len(self.replies) < self._requests and time.monotonic() < self._end:
+                    self._burst(canvas, self._chance.choice([1, 1, 1, 2, 8]))
+        except (OSError, EOFError, ValueError) as fault:
+            self.fault = repr(fault)
+
+    def _burst(self, canvas, count):
+        requests = [self._request() for _ in range(count)]
+        for request in requests:
+            canvas.send(**request)
+        for request in requests:
+            try:
+                reply, body = canvas.read()
+            except Refused as refused:
+                reply, body = refused.reply, b""
+            self._keep(request, reply, body)
+
+    def _keep(self, request, reply, body):
+        if request["verb"] == "tile" and body:
+            size = len(body)
+            places = [(self._chance.randrange(256), self._chance.randrange(256)) for _ in range(12)]
+            at = [15 + 3 * (256 * y + x) for x, y in places]
+            body = (body[:15], size, [(x, y, body[k : k + 3].hex()) for (x, y), k in zip(places, at)])
+        if "id" in reply:
+            self._known.append(reply["id"])
+        self.replies.append(Reply(request, reply, body))
+
+    def _request(self):
+        chance = self._chance
+        what = chance.random()
+        if what < 0.45:
+            return self._edit()
+        if what < 0.75:
+            return {"verb": "point", "x": chance.randrange(-10, 300), "y": chance.randrange(-10, 300)}
+        if what < 0.95:
+            x, y, w, h = (chance.randrange(*ends) for ends in ((-10, 290), (-10, 290), (1, 13), (1, 9)))
+            return {"verb": "patch", "x": x, "y": y, "w": w, "h": h}
+        if what < 0.98:
+            return {"verb": "tile", "col": chance.randrange(-1, 2), "row": chance.randrange(-1, 2)}
+        return chance.choice(BAD_LINES)[0]
+
+    def _edit(self):
+        chance, known = self._chance, self._known
+        number = chance.choice(known[-MOST_SHAPES:]) if known else 1
+        parent = chance.choice([None, None, number, chance.choice(known[-20:] or [1])])
+        spot = chance.choice(["front", "front", "back", {"over": number}, {"at": chance.choice(["a0", "a1", "a5", "Zz", "a0V"])}])
+        what = chance.random()
+        if what < 0.30:
+            return {"verb": "create", "shape": self._shape(), "pose": self._pose(), "hidden": chance.random() < 0.05,
+                    "parent": parent, "spot": spot}
+        if what < 0.50:
+            return {"verb": "move", "id": number, "parent": parent, "spot": spot}
+        if what < 0.65:
+            return {"verb": "pose", "id": number, "pose": self._pose()}
+        if what < 0.75:
+            return {"verb": "reshape", "id": number, "shape": self._shape()}
+        if what < 0.80:
+            return {"verb": "show", "id": number, "hidden": chance.random() < 0.3}
+        if what < 0.95:
+            return {"verb": "delete", "id": known.pop(0) if len(known) > MOST_SHAPES else number}
+        return {"verb": "respace", "parent": parent}
+
+    def _pose(self):
+        chance = self._chance
+        pose = {"dx": chance.randrange(-20, 300), "dy": chance.randrange(-20, 300)}
+        if chance.random() < 0.02:
+            pose["dx"] = 1048577
+        if chance.random() < 0.3:
+            pose.update(quarter=chance.randrange(4), flip=chance.random() < 0.5)
+        return pose
+
+    def _shape(self):
+        chance = self._chance
+        kind = chance.choice(["group", "frame", "frame", "rect", "rect", "ellipse", "polygon"])
+        fill = f"{chance.randrange(1 << 24):06x}"
+        if kind == "group":
+            return {"kind": kind}
+        if kind == "polygon":
+            corners = chance.choice([2, 3, 4, 5, 6])
+            return {"kind": kind, "points": [[chance.randrange(-40, 80), chance.randrange(-40, 80)] for _ in range(corners)], "fill": fill}
+        sides = {"w": chance.choice([0, 5, 20, 50, 120, 250]), "h": chance.choice([5, 20, 50, 120, 250])}
+        return {"kind": kind, **sides, "fill": None if kind == "frame" and chance.random() < 0.5 else fill}
+
+
+class History:
+    """The replies of all clients, compared with the plain model."""
+
+    def __init__(self, clients):
+        self.faults = []
+        self.checked = 0
+        self.refusals = {}
+        self._edits = {}
+        self._looks = {}
+        self._pending = []
+        for number, client in enumerate(clients):
+            if client.fault:
+                self._say(f"client {number} ended by {client.fault}")
+            self._sort(client.replies)
+            self.checked += len(client.replies)
+
+    def _say(self, fault):
+        if len(self.faults) < 10:
+            self.faults.append(fault)
+
+    def _sort(self, replies):
+        """Puts the replies of one session in order under the versions at which they are to be checked."""
+        seen, waiting = 0, []
+        for entry in replies:
+            reply = entry.reply
+            if not reply["ok"]:
+                self._sort_refusal(entry, seen, waiting)
+                continue
+            version = reply["version"]
+            if version < seen:
+                self._say(f"version {version} after {seen}, to {entry.request}")
+            seen = version
+            for pending in waiting:
+                pending[1] = version
+            waiting.clear()
+            if entry.request["verb"] in EDITS:
+                if version in self._edits:
+                    self._say(f"version {version} was answered twice")
+                self._edits[version] = entry
+            else:
+                self._looks.setdefault(version, []).append(entry)
+
+    def _sort_refusal(self, entry, seen, waiting):
+        code = entry.reply["code"]
+        self.refusals[code] = self.refusals.get(code, 0) + 1
+        bad = next((wanted for line, wanted in BAD_LINES if line == entry.request), None)
+        if bad is not None or entry.request["verb"] not in EDITS:
+            if code != bad:
+                self._say(f"{entry.request} was refused by {code}")
+            return
+        # from, to, the request and its code; the end is the next version that the session saw
+        pending = [seen, None, entry.request, code]
+        self._pending.append(pending)
+        waiting.append(pending)
+
+    def check(self, text):
+        """Replays the edits; `text` is the document that was saved at the end."""
+        count = len(self._edits)
+        if sorted(self._edits) != list(range(1, count + 1)):
+            self._say(f"the versions of {count} accepted edits are not 1 to {count}")
+            return
+        model = Model()
+        begins = {}
+        for pending in self._pending:
+            begins.setdefault(pending[0], []).append(pending)
+        pending = []
+        for version in range(count + 1):
+            if version:
+                self._replay(model, self._edits[version])
+            for entry in self._looks.pop(version, []):
+                self._compare(model, entry)
+            pending = self._still_pending(model, version, pending + begins.get(version, []))
+        for _, _, request, code in pending:
+            self._say(f"{request} was refused by {code}, which is right at no version")
+        for version in self._looks:
+            self._say(f"version {version} was shown, and there are {count}")
+        if text != model.saved():
+            self._say("the saved document is not that of the model")
+
+    def _replay(self, model, entry):
+        try:
+            made = model.edit(entry.request)
+        except Disallowed as refused:
+            self._say(f"{entry.request} was accepted as {entry.reply}, and the model refuses it by {refused.code}")
+            return
+        if made != entry.reply.get("id"):
+            self._say(f"{entry.request} was answered {entry.reply}, and the model's id is {made}")
+
+    def _still_pending(self, model, version, pending):
+        """The refusals that are not right at this version, and may be at a later one."""
+        left = []
+        for refusal in pending:
+            _, end, request, code = refusal
+            if model.refusal(request) == code:
+                continue
+            if end is not None and version >= end:
+                self._say(f"{request} was refused by {code}, which is right at no version from {refusal[0]} to {end}")
+            else:
+                left.append(refusal)
+        return left
+
+    def _compare(self, model, entry):
+        request, reply = entry.request, entry.reply
+        if request["verb"] == "point":
+            got, wanted = reply["colour"], model.colour(request["x"], request["y"])
+        elif request["verb"] == "patch":
+            got, wanted = entry.body, model.image(request["x"], request["y"], request["w"], request["h"])
+        else:
+            head, size, pixels = entry.body
+            left, top = 256 * request["col"], 256 * request["row"]
+            got = entry.body
+            wanted = (b"P6\n256 256\n255\n", 15 + 3 * 256 * 256, [(x, y, model.colour(left + x, top + y)) for x, y, _ in pixels])
+        if got != wanted:
+            self._say(f"{request} was answered {reply} and {got}, and the model has {wanted}")
+
+
+def history(folder, count, seconds, seed, most):
+    """Some clients for some seconds, and the check of what they were answered."""
+    with Server(folder, workers=str(1 + count % 2)) as server:
+        known, end = [], time.monotonic() + seconds
+        clients = [Client(server, f"{seed} {number}", known, most // count, end) for number in range(count)]
+        for client in clients:
+            client.start()
+        for client in clients:
+            client.join()
+        with server.connect() as canvas:
+            _, text = canvas.ask(verb="export")
+    found = History(clients)
+    found.check(text)
+    edits = sum(found.refusals.values())
+    print(f"{count} clients: {found.checked} replies checked, {len(found._edits)} edits accepted, {edits} requests refused "
+          f"by {len(found.refusals)} codes, {len(found.faults)} wrong")
+    for fault in found.faults:
+        yield f"history of {count} clients", fault
+    yield f"history of {count} clients", None if not found.faults else "see above"
+    for code in (2, 3, 4, 5, 8, 9, 10, 11, 12, 14, 30, 52, 53, 54):
+        yield f"refusals by {code}, {count} clients", None if found.refusals.get(code) else "none came"
+
+
+# -- connections that come and go --------------------------------------------------------------------------------------
+
+def come_and_go(server, chance):
+    """A connection that ends in one of many ways."""
+    with server.socket() as sock:
+        way = chance.randrange(7)
+        try:
+            if way == 1:
+                sock.sendall(POINT)
+                read_line(sock)
+            elif way == 2:
+                sock.sendall(POINT[: chance.randrange(1, 20)])
+            elif way == 3:
+                sock.sendall(b'{"verb":"tile","col":0,"row":0}\n' * 20)
+                sock.recv(100)
+            elif way == 4:
+                sock.sendall(line_of(rectangle(1, "00ff00")) * 50)
+            elif way == 5:
+                sock.sendall(b" " * 70_000)
+            elif way == 6:
+                sock.sendall(POINT[:9])
+                sock.setsockopt(socket.SOL_SOCKET, socket.SO_LINGER, b"\1\0\0\0\0\0\0\0")
+        except OSError:
+            pass  # closed by the server, as it may
+
+
+def seats_left(server, most):
+    """The connections that are answered while all of them are open, and the first that is not, if there is one."""
+    open_ones, refusal = [], None
+    try:
+        for _ in range(most):
+            sock = server.socket()
+            open_ones.append(sock)
+            sock.sendall(POINT)
+            line = read_line(sock)
+            if b'"ok":true' not in line:
+                refusal = line
+                break
+        return len(open_ones) - (refusal is not None), refusal
+    finally:
+        for sock in open_ones:
+            sock.close()
+
+
+def wait_for(test):
+    for _ in range(500):
+        if test():
+            return True
+        time.sleep(0.01)
+    return False
+
+
+def comings_and_goings(folder, seed):
+    """A thousand connections; all seats are there afterwards, and nothing has grown."""
+    with Server(folder) as server:
+        chance = random.Random(seed)
+        for _ in range(100):
+            come_and_go(server, chance)
+        wait_for(lambda: server.status("Threads") == 1)
+        files, memory = server.files(), server.status("VmRSS")
+        crowd = [threading.Thread(target=lambda: [come_and_go(server, random.Random(chance.random())) for _ in range(125)]) for _ in range(8)]
+        for part in crowd:
+            part.start()
+        for part in crowd:
+            part.join()
+        yield "threads after 1,000 connections", None if wait_for(lambda: server.status("Threads") == 1) else f"{server.status('Threads')} are left"
+        yield "open files after 1,000 connections", difference(server.files(), files)
+        grown = server.status("VmRSS") - memory
+        yield "memory after 1,000 connections", None if grown < 20_000 else f"{grown} KiB more"
+        yield "seats after 1,000 connections", difference(seats_left(server, 70), (SEATS, NO_SEATS))
+        yield "a seat after a full house", None if wait_for(lambda: seats_left(server, 1) == (1, None)) else "none"
+
+
+def full_house(folder):
+    """The 64th connection is told that no seat is free, at once, and is served when one is."""
+    with Server(folder) as server:
+        guests = [server.connect() for _ in range(SEATS)]
+        for guest in guests:
+            guest.ask(verb="point", x=0, y=0)
+        refusals = set()
+        for _ in range(40):
+            with server.socket() as sock:
+                refusals.add(read_all(sock))
+        yield f"connection {SEATS + 1}, forty times", difference(refusals, {NO_SEATS})
+        guests.pop().close()
+        yield "a seat that was given back", None if wait_for(lambda: seats_left(server, 1)[0] == 1) else "none"
+        for guest in guests:
+            guest.close()
+
+
+# -- bad neighbours ----------------------------------------------------------------------------------------------------
+
+def flood(port, lines, end):
+    """Sends requests and reads no reply; where the server takes no more, begins anew."""
+    piece = b"".join(lines) * 20
+    while time.monotonic() < end:
+        try:
+            with socket.create_connection(("127.0.0.1", port), timeout=0.2) as sock:
+                while time.monotonic() < end:
+                    sock.sendall(piece)
+        except OSError:
+            pass
+
+
+def crawl(port, end):
+    """Sends a byte a second."""
+    with socket.create_connection(("127.0.0.1", port), timeout=SECONDS) as sock:
+        while time.monotonic() < end:
+            sock.sendall(b" ")
+            time.sleep(1)
+
+
+def latency(viewer, seconds):
+    """The middle time of a tile, in seconds, for a viewer that waits a little between them."""
+    times, end = [], time.monotonic() + seconds
+    while time.monotonic() < end:
+        begin = time.perf_counter()
+        viewer.ask(verb="tile", col=0, row=0)
+        times.append(time.perf_counter() - begin)
+        time.sleep(0.005)
+    return statistics.median(times)
+
+
+def bad_neighbours(folder, rounds=3):
+    """A viewer beside a client that floods and one that crawls: its tiles take no more than three times as long."""
+    with Server(folder) as server, server.connect() as viewer:
+        viewer.ask(**rectangle(0, "ff0000"))
+        ratios = []
+        for _ in range(rounds):
+            alone = latency(viewer, 1)
+            end = time.monotonic() + 3
+            lines = [POINT, line_of({"verb": "pose", "id": 1, "pose": {"dx": 5}})]
+            others = [multiprocessing.Process(target=flood, args=(server.port, lines, end)),
+                      multiprocessing.Process(target=crawl, args=(server.port, end))]
+            for other in others:
+                other.start()
+            time.sleep(0.5)
+            beside = latency(viewer, 2)
+            for other in others:
+                other.join()
+            ratios.append(beside / alone)
+            if ratios[-1] <= 3:
+                break
+        print(f"a viewer beside bad neighbours: a tile takes {min(ratios):.1f} times as long as alone")
+        yield "a viewer beside bad neighbours", None if min(ratios) <= 3 else f"{min(ratios):.1f} times as long"
+
+
+# -- the examples of the page ------------------------------------------------------------------------------------------
+
+def examples(folder):
+    """The blocks of docs/CLIENT.md, each beside a server of its own at the address that the page names."""
+    page = (TOP / "docs" / "CLIENT.md").read_text()
+    blocks = re.findall(r"```(python|bash)\n(.*?)```", page, re.DOTALL)
+    for number, (language, block) in enumerate(blocks, start=1):
+        with Server(folder, (TOP / "examples" / "poster.json").read_bytes()) as server:
+            script = block.replace("127.0.0.1:7878", server.address).replace("127.0.0.1/7878", f"127.0.0.1/{server.port}")
+            words = [sys.executable, "-c", script] if language == "python" else ["bash", "-ec", script]
+            done = subprocess.run(words, cwd=folder, capture_output=True, text=True, timeout=SECONDS,
+                                  env={**os.environ, "PYTHONPATH": str(TOP / "tools")})
+            yield f"example {number} of docs/CLIENT.md", difference((done.returncode, done.stderr), (0, ""))
+    yield "examples in docs/CLIENT.md", None if len(blocks) >= 5 else f"only {len(blocks)}"
+
+
+def main():
+    seconds = float(sys.argv[1]) if len(sys.argv) > 1 else 20
+    seed = int(sys.argv[2]) if len(sys.argv) > 2 else 1
+    subprocess.run([str(PROGRAM), "script"], stdin=subprocess.DEVNULL, check=True)  # builds it where it is not built
+    passed = failed = 0
+    with tempfile.TemporaryDirectory() as folder:
+        stages = [
+            starts(folder),
+            two_editors_and_a_viewer(folder),
+            small_sessions(folder),
+            examples(folder),
+            full_house(folder),
+            comings_and_goings(folder, seed),
+            history(folder, 8, seconds, seed, 24_000),
+            history(folder, 60, seconds, seed, 24_000),
+            bad_neighbours(folder),
+        ]
+        for stage in stages:
+            for name, fault in stage:
+                passed += fault is None
+                failed += fault is not None
+                if fault is not None:
+                    print(f"{name}: {fault}", flush=True)
+    print(f"{passed} passed, {failed} failed")
+    sys.exit(1 if failed else 0)
+
+
+if __name__ == "__main__":
+    main()

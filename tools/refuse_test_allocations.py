@@ -1,0 +1,74 @@
+#!/usr/bin/env python3
+"""Refuses every allocation of the memory tests of canvas_doc_tests in turn.
+
+usage: tools/refuse_test_allocations.py
+
+Proves and builds the tests, and runs each test of `memory` again and again, with the N-th allocation refused, N rising until a run
+meets no refusal. A run is right where the test passes, or where it ends with the error of a call that it needs; it is wrong where an
+assertion fails or the run ends in another way. Prints a last line 'N passed, M failed'. Needs a C compiler.
+"""
+
+import os
+import subprocess
+import sys
+import tempfile
+from pathlib import Path
+
+TOP = Path(__file__).resolve().parent.parent
+CRATE = TOP / "crates" / "canvas_doc_tests"
+PROGRAM = CRATE / "out" / "canvas_doc_tests_tests"
+TESTS = ["edits_with_little_memory", "refusals_with_little_memory", "restored_with_little_memory"]
+MOST_RUNS = 5_000
+
+
+def run(shim, test, number):
+    """How a run of a test ends, and whether it came to the allocation that is refused."""
+    refused = shim.with_suffix(".refused")
+    refused.unlink(missing_ok=True)
+    environment = {**os.environ, "LD_PRELOAD": str(shim), "REFUSE_AT": str(number), "REFUSED_FILE": str(refused)}
+    done = subprocess.run([str(PROGRAM), f"memory::{test}"], capture_output=True, text=True, env=environment, timeout=60)
+    return done, refused.exists()
+
+
+def fault(done):
+    """What is wrong with a run, or None."""
+    told = done.stdout + done.stderr
+    if "assert" in told or done.returncode < 0:
+        return f"status {done.returncode}: {told.strip()}"
+    return None
+
+
+def sweep(shim, test):
+    """How many runs of a test were right and how many were wrong."""
+    done, _ = run(shim, test, 0)
+    if done.returncode != 0:
+        sys.exit(f"{test}: with all memory it ends with {done.returncode}: {done.stdout}{done.stderr}")
+    passed = failed = 0
+    for number in range(1, MOST_RUNS):
+        done, is_refused = run(shim, test, number)
+        if not is_refused:
+            return passed, failed
+        found = fault(done)
+        if found:
+            failed += 1
+            print(f"{test}, allocation {number} refused: {found}")
+        else:
+            passed += 1
+    print(f"{test}: no end of allocations after {MOST_RUNS} runs")
+    return passed, failed + 1
+
+
+def main():
+    subprocess.run(["rt", "test"], cwd=CRATE, stdout=subprocess.DEVNULL, check=True)
+    with tempfile.TemporaryDirectory() as folder:
+        shim = Path(folder) / "refuse_allocation.so"
+        source = TOP / "tools" / "refuse_allocation.c"
+        subprocess.run(["cc", "-shared", "-fPIC", "-O1", "-o", shim, source, "-ldl"], check=True)
+        counts = [sweep(shim, test) for test in TESTS]
+    passed, failed = (sum(column) for column in zip(*counts))
+    print(f"{passed} passed, {failed} failed")
+    sys.exit(1 if failed else 0)
+
+
+if __name__ == "__main__":
+    main()

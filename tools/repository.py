@@ -1,0 +1,69 @@
+"""The crates of this repository, and copies of some of them, in which `rt` can work beside other runs of it.
+
+Two runs of `rt` never work over one library at once. In a copy of its own, with the built libraries below it, a crate can be checked
+while others are. A crate's built library and what its checks kept hold no path, so they are good in any copy of the same sources.
+"""
+
+import os
+import shutil
+from pathlib import Path
+
+TOP = Path(__file__).resolve().parent.parent
+SOURCES = ("src", "specs", "proofs")
+
+
+def lines():
+    """The line of each crate in crates.txt, by its name."""
+    found = {}
+    for line in (TOP / "crates.txt").read_text().splitlines():
+        head, colon, _ = line.partition(":")
+        if colon and not line.startswith("#"):
+            found[head.split()[0]] = line
+    return found
+
+
+def uses():
+    """The crates of the repository that each of its crates names in crates.txt."""
+    found = lines()
+    return {name: [it for it in line.partition(":")[2].split() if it in found] for name, line in found.items()}
+
+
+def below(name, used=None):
+    """The crates below a crate, each after those that it uses."""
+    used = used or uses()
+    found = []
+    for it in used[name]:
+        found += [lower for lower in [*below(it, used), it] if lower not in found]
+    return found
+
+
+def link_or_copy(source, target):
+    """Another name for a file, or a copy of it on a file system that has no such names. `rt` replaces files and never writes into them."""
+    try:
+        os.link(source, target)
+    except OSError:
+        shutil.copy2(source, target)
+
+
+def copy_crate(name, target, parts):
+    """Copies a crate's sources, and links these parts of its out/."""
+    source = TOP / "crates" / name
+    for part in SOURCES:
+        if (source / part).is_dir():
+            shutil.copytree(source / part, target / part)
+    for part in parts:
+        if (source / "out" / part).is_dir():
+            shutil.copytree(source / "out" / part, target / "out" / part, copy_function=link_or_copy)
+
+
+def copy_for(name, folder):
+    """Makes a repository of the crate with what its checks kept and of the built libraries below it, and gives the crate's folder in it."""
+    names = below(name)
+    (folder / ".git").mkdir(parents=True)
+    known = lines()
+    (folder / "crates.txt").write_text("".join(known[it] + "\n" for it in [*names, name]))
+    shutil.copy2(TOP / "HANDLES", folder)
+    for it in names:
+        copy_crate(it, folder / "crates" / it, ["rlib"])
+    copy_crate(name, folder / "crates" / name, ["rlib", "incremental"])
+    return folder / "crates" / name
