@@ -16,7 +16,7 @@ import time
 from pathlib import Path
 
 TOP = Path(__file__).resolve().parent.parent
-PROGRAM = TOP / "crates" / "canvas_server" / "out" / "canvas_server"
+PROGRAM = TOP / "crates" / "canvas" / "out" / "canvas"
 
 
 def rectangle(place, side):

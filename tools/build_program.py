@@ -20,7 +20,7 @@ from pathlib import Path
 
 from repository import SOURCES, TOP, below, copy_for, uses
 
-PROGRAM = "canvas_server"
+PROGRAM = "canvas"
 OUT = TOP / "crates" / PROGRAM / "out"
 # What a check beside others should find free, in bytes.
 ENOUGH = 4_000_000_000

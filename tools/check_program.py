@@ -23,6 +23,9 @@ CREATED = b'{"body":0,"id":1,"ok":true,"version":1}\n'
 PAINTED = b'{"body":20,"ok":true,"version":1}\nP6\n3 1\n255\n' + bytes([255, 0, 0] * 2 + [255] * 3)
 
 
+SHOW = b'{"verb":"show","id":1,"hidden":false}\n'
+
+
 def refused(code, name):
     return b'{"body":0,"code":%d,"name":"%s","ok":false}\n' % (code, name)
 
@@ -53,6 +56,13 @@ def sessions():
     with open("/dev/full", "wb") as full:
         out = run(["script"], CREATE + PATCH, full)
     yield "a full device", out, (None, b"canvas: 72 WriteFault\n", 4)
+
+
+def most_versions():
+    """A script may make as many versions as it may have requests, so it never runs out of versions."""
+    out, said, status = run(["script"], CREATE + SHOW * 999_999 + PATCH)
+    last = b'{"body":0,"ok":true,"version":1000000}\n' + refused(73, b"TooManyRequests")
+    yield "a million versions", (out[-len(last):], said, status), (last, b"canvas: 73 TooManyRequests\n", 4)
 
 
 def read_fault():
@@ -95,7 +105,7 @@ def waiting_client():
 
 def main():
     passed = failed = 0
-    for cases in (usage_faults, sessions, read_fault, waiting_client, readme_command):
+    for cases in (usage_faults, sessions, most_versions, read_fault, waiting_client, readme_command):
         for name, got, wanted in cases():
             if got == wanted:
                 passed += 1

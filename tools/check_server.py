@@ -194,6 +194,30 @@ def small_sessions(folder):
             yield "a tile", difference(tile, b"P6\n256 256\n255\n" + b"\xff" * (3 * 256 * 256))
 
 
+def last_replies(server, lines, count):
+    """The last lines that a session is answered."""
+    with server.socket() as sock:
+        sender = threading.Thread(target=lambda: (sock.sendall(lines), sock.shutdown(socket.SHUT_WR)))
+        sender.start()
+        replies = read_all(sock)
+        sender.join()
+    return replies.splitlines(True)[-count:]
+
+
+def most_versions(folder):
+    """Two sessions spend all versions: edits are refused then, before anything else about them is, and looks go on."""
+    with Server(folder) as server:
+        create = line_of(rectangle(0, "ff0000"))
+        show = line_of({"verb": "show", "id": 1, "hidden": False})
+        accepted = b'{"body":0,"ok":true,"version":%d}\n'
+        yield "half of all versions", difference(last_replies(server, create + show * 499_999, 1), [accepted % 500_000])
+        spent = b'{"body":0,"code":16,"name":"VersionsSpent","ok":false}\n'
+        red = b'{"body":0,"colour":"ff0000","ok":true,"version":1000000}\n'
+        unknown = line_of({"verb": "delete", "id": 9})
+        got = last_replies(server, show * 500_000 + show + unknown + POINT, 4)
+        yield "the last version, and edits behind it", difference(got, [accepted % 1_000_000, spent, spent, red])
+
+
 # -- histories ---------------------------------------------------------------------------------------------------------
 
 MOST_SHAPES = 60
@@ -623,6 +647,7 @@ def main():
             starts(folder),
             two_editors_and_a_viewer(folder),
             small_sessions(folder),
+            most_versions(folder),
             examples(folder),
             full_house(folder),
             comings_and_goings(folder, seed),

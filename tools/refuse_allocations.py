@@ -24,7 +24,7 @@ from pathlib import Path
 from canvas_client import replies
 
 TOP = Path(__file__).resolve().parent.parent
-PROGRAM = TOP / "crates" / "canvas_server" / "out" / "canvas_server"
+PROGRAM = TOP / "crates" / "canvas" / "out" / "canvas"
 WANT_OF_MEMORY = {"body": 0, "code": 1, "name": "OutOfMemory", "ok": False}
 MOST_RUNS = 5_000
 

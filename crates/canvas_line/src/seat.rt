@@ -11,8 +11,15 @@ use crate::perch::Perch;
 use crate::version::Version;
 use canvas_doc::Edit;
 use std::alloc::Global;
+use std::hint::spin_loop;
 use std::marker::Model;
-use std::sync::{Arc, Mutex, Wait};
+use std::sync::{Arc, Mutex, MutexGuard, Wait};
+
+/// How many times a seat tries the lock before it sleeps.
+const TRIES: u32 = 64;
+
+/// How many pauses of the processor lie between two tries: about a microsecond.
+const PAUSES: u32 = 16;
 
 /// A session's place at a line. Contracts see it as a name, an opening document, a limit and a front.
 #[derive(Drop)]
@@ -42,7 +49,7 @@ impl<B: Lines> Seat<B> {
         ensures refused { MatchResult result (λ _. Unit {0}) (λ f. EditRefused self.old edit.now self.new f) }
     {
         let Seat { desk, perch } = self;
-        let mut guard = desk.lock(rt);
+        let mut guard = held(rt, desk);
         perch.edit_at(&mut *guard, rt, edit)
     }
 
@@ -64,7 +71,7 @@ impl<B: Lines> Seat<B> {
             return Err(LineFault::Strangers { own, found });
         }
         let Seat { desk, perch } = self;
-        let guard = desk.lock(rt);
+        let guard = held(rt, desk);
         perch.meet_at(&mut other.perch, &*guard)
     }
 
@@ -82,5 +89,23 @@ impl<B: Lines> Seat<B> {
         if let Some(desk) = Arc::into_inner(desk) {
             desk.into_inner().close(rt);
         }
+    }
+}
+
+// Takes the lock. Edits are short, so a seat tries for a while before it sleeps: a lock that goes over to a sleeping thread
+// lies idle until that thread runs.
+fn held<'a, B: Lines, R: Wait>(rt: &R, desk: &'a Mutex<Desk<B>>) -> MutexGuard<'a, Desk<B>> {
+    for _ in 0..TRIES {
+        if let Some(guard) = desk.try_lock() {
+            return guard;
+        }
+        pause();
+    }
+    desk.lock(rt)
+}
+
+fn pause() {
+    for _ in 0..PAUSES {
+        spin_loop();
     }
 }

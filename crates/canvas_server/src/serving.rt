@@ -94,7 +94,11 @@ fn serve_line<L: Lines + Send + Sync, H: Threads + Wait + Clock + Sync>(
         Err(fault) => return Err(opening_fault(&fault)),
     };
     let boards = boards_of(alloc, seats, keep)?;
-    serve_boards(rt, alloc, listener, &boards, workers, connections)
+    let ended = serve_boards(rt, alloc, listener, &boards, workers, connections);
+    for board in boards {
+        board.into_inner().close(rt);
+    }
+    ended
 }
 
 // A board for each seat.

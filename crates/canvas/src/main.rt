@@ -8,26 +8,18 @@ ghost use Rattle.std.specs.Prelude.{◌≡◌};
 ghost use Rattle.canvas_board.specs.Fault.{board_fault_code};
 ghost use Rattle.canvas_session.specs.Cause.{cause_code};
 ghost use Rattle.canvas_store.specs.Faults.{fault_code as store_fault_code};
-ghost use Rattle.canvas_server.specs.declared.Fault.TheVariants.{Refused};
+ghost use Rattle.canvas.specs.declared.Fault.TheVariants.{Refused};
 ghost use Rattle.canvas_server.specs.Faults.{server_fault_code};
-ghost use Rattle.canvas_server.specs.Statuses.{fault_of_code, status_at};
+ghost use Rattle.canvas.specs.Statuses.{fault_of_code, status_at};
 
-mod connection;
-mod house;
 mod opening;
-mod outlet;
-mod seats;
-mod server_fault;
-mod serving;
-mod words;
 
 use canvas_board::{Alone, BoardFault};
 use canvas_doc::Document;
+use canvas_server::{Command, ServerFault, Settings, exit_status, serve_connections};
 use canvas_session::{SessionFault, serve};
 use canvas_store::StoreFault;
 use opening::read_document;
-use server_fault::ServerFault;
-use serving::{Settings, serve_connections};
 use std::alloc::{AllocError, AllocFailed, Global};
 use std::fs::{File, Files};
 use std::io::{BufWriter, Read, Write};
@@ -37,7 +29,6 @@ use std::sync::Wait;
 use std::thread::Threads;
 use std::time::Clock;
 use std::{env, io};
-use words::{Command, exit_status};
 
 const USAGE: &str = "usage: canvas script [workers] | canvas serve <address> <file> [workers]";
 

@@ -1,0 +1,21 @@
+//! Tests of lines, which stand apart since they paint: worked examples, settings, want of memory, and eight threads at one line.
+#![tactic(auto)]
+
+#[cfg(test)]
+mod editor;
+#[cfg(test)]
+mod lines;
+#[cfg(test)]
+mod memory;
+#[cfg(test)]
+mod refused;
+#[cfg(test)]
+mod replayed;
+#[cfg(test)]
+mod settings;
+#[cfg(test)]
+mod threads;
+#[cfg(test)]
+mod viewer;
+#[cfg(test)]
+mod worked;

@@ -1,0 +1,89 @@
+//! Lines for tests, and edits.
+ghost use Rattle.std.specs.Prelude.{◌≡◌};
+
+use canvas_doc::{Document, Edit, Parent, Spot};
+use canvas_line::{Line, LineFault, Lines, Opened, Seat};
+use canvas_plane::Pose;
+use canvas_shape::{Colour, Kind};
+use std::alloc::Global;
+use std::marker::Brand;
+use std::process::Abort;
+use std::sync::Wait;
+use std::test::Fail;
+
+pub(crate) const RED: Colour = Colour([255, 0, 0]);
+
+/// What a test does with the seats of a line.
+pub(crate) trait Play {
+    /// Plays it with all seats of a line that was just opened.
+    fn play<B: Lines, R: Wait + Abort>(
+        rt: &R,
+        alloc: Global,
+        seats: Vec<Seat<B>>,
+    ) -> Result<(), Fail>;
+}
+
+/// How a line is opened.
+pub(crate) struct Setting {
+    pub(crate) seats: u32,
+    pub(crate) limit: u64,
+}
+
+/// Plays at a line of its own.
+pub(crate) fn at_a_line<P: Play, R: Wait + Abort>(
+    rt: &R,
+    alloc: Global,
+    document: Document,
+    setting: Setting,
+) -> Result<(), Fail> {
+    let Setting { seats, limit } = setting;
+    opened::<Brand, P, R>(rt, alloc, Opened::new(), document, seats, limit)
+}
+
+fn opened<B: Lines, P: Play, R: Wait + Abort>(
+    rt: &R,
+    alloc: Global,
+    opened: Opened,
+    document: Document,
+    seats: u32,
+    limit: u64,
+) -> Result<(), Fail>
+    requires { B.line 1 ≡ record { book = opened.head.word.book; opening = document; limit = limit } }
+{
+    match Line::open::<B, R>(rt, alloc, opened, 1, document, seats, limit) {
+        Ok(seats) => P::play(rt, alloc, seats),
+        Err(fault) => Err(failed(fault)),
+    }
+}
+
+/// The failure of a test that a refusal ends.
+pub(crate) fn failed(fault: LineFault) -> Fail {
+    Fail::from(fault.name())
+}
+
+/// The edit that puts a rectangle in front of all on the page.
+pub(crate) fn rectangle(w: u32, h: u32, dx: i64) -> Edit {
+    create(
+        Kind::Rect { w, h, fill: RED },
+        dx,
+        Parent::Page,
+        Spot::Front,
+    )
+}
+
+/// The edit that makes a shape.
+pub(crate) fn create(kind: Kind, dx: i64, parent: Parent, spot: Spot) -> Edit {
+    let pose = Pose {
+        dx,
+        dy: 0,
+        quarter: 0,
+        flip: false,
+    };
+    Edit::Create {
+        kind,
+        pose,
+        hidden: false,
+        parent,
+        spot,
+    }
+}

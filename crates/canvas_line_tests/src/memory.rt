@@ -1,0 +1,57 @@
+//! Want of memory. Run with each allocation failing in turn.
+use crate::lines::{Play, Setting, at_a_line, failed, rectangle};
+use canvas_doc::Document;
+use canvas_line::{Edited, LineFault, Lines, Seat};
+use std::alloc::Global;
+use std::process::Abort;
+use std::sync::Wait;
+use std::test::Fail;
+
+/// An edit that wanted memory published nothing, and is made again.
+struct Again;
+
+// Makes an edit, and makes it again if it wanted memory. The seat's number and its version stay until it is accepted.
+fn made<B: Lines, R: Wait + Abort>(
+    rt: &R,
+    seat: &mut Seat<B>,
+    before: u64,
+) -> Result<Edited, LineFault> {
+    let edit = rectangle(1, 1, 0);
+    match seat.edit(rt, &edit) {
+        Err(LineFault::OutOfMemory) => {
+            assert_eq!(rt; seat.number(), before);
+            let version = seat.look()?;
+            assert_eq!(rt; version.number, before);
+            assert_eq!(rt; version.document.count() as u64, before);
+            seat.edit(rt, &edit)
+        }
+        outcome => outcome,
+    }
+}
+
+impl Play for Again {
+    fn play<B: Lines, R: Wait + Abort>(
+        rt: &R,
+        _alloc: Global,
+        mut seats: Vec<Seat<B>>,
+    ) -> Result<(), Fail> {
+        let mut seat = seats.pop().ok_or("no seat")?;
+        for before in 0..3u64 {
+            let edited = made(rt, &mut seat, before).map_err(failed)?;
+            assert_eq!(rt; edited.number, before + 1);
+            assert!(rt; edited.id == Some(before as u32 + 1));
+        }
+        assert_eq!(rt; seat.look().map_err(failed)?.document.count(), 3);
+        Ok(())
+    }
+}
+
+#[test]
+fn an_edit_that_wanted_memory_is_made_again(rt: HostRuntime) -> Result<(), Fail> {
+    let document = Document::empty(rt.alloc());
+    let setting = Setting {
+        seats: 1,
+        limit: 10,
+    };
+    at_a_line::<Again, _>(&rt, rt.alloc(), document, setting)
+}

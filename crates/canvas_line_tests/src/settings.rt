@@ -1,0 +1,92 @@
+//! Settings of a line, and seats of two lines.
+ghost use Rattle.std.specs.Prelude.{◌≡◌};
+
+use crate::lines::failed;
+use canvas_doc::Document;
+use canvas_line::{Line, LineFault, Lines, Opened};
+use std::alloc::Global;
+use std::marker::Brand;
+use std::process::Abort;
+use std::sync::Wait;
+use std::test::Fail;
+
+#[test]
+fn settings_outside_the_ranges(rt: HostRuntime) {
+    for (seats, limit) in [
+        (0, 1),
+        (65, 1),
+        (u32::MAX, 1),
+        (1, 0),
+        (1, 1_000_001),
+        (1, u64::MAX),
+        (0, 0),
+    ] {
+        let fault = fault_of(&rt, rt.alloc(), seats, limit);
+        assert!(rt;
+            fault == Some(LineFault::BadSetting),
+            "{seats} seats, limit {limit}"
+        );
+    }
+    for (seats, limit) in [(1, 1), (64, 1_000_000)] {
+        let fault = fault_of(&rt, rt.alloc(), seats, limit);
+        assert!(rt; fault.is_none(), "{seats} seats, limit {limit}");
+    }
+}
+
+// Why such a line is not opened, if it is not.
+fn fault_of<R: Wait + Abort>(rt: &R, alloc: Global, seats: u32, limit: u64) -> Option<LineFault> {
+    let document = Document::empty(alloc);
+    refused::<Brand, R>(rt, alloc, Opened::new(), document, seats, limit)
+}
+
+fn refused<B: Lines, R: Wait + Abort>(
+    rt: &R,
+    alloc: Global,
+    opened: Opened,
+    document: Document,
+    seats: u32,
+    limit: u64,
+) -> Option<LineFault>
+    requires { B.line 1 ≡ record { book = opened.head.word.book; opening = document; limit = limit } }
+{
+    match Line::open::<B, R>(rt, alloc, opened, 1, document, seats, limit) {
+        Ok(all) => {
+            assert_eq!(rt; all.len(), seats as usize);
+            for seat in all {
+                assert_eq!(rt; seat.number(), 0);
+                seat.close(rt);
+            }
+            None
+        }
+        Err(fault) => Some(fault),
+    }
+}
+
+#[test]
+fn seats_of_two_lines_are_strangers(rt: HostRuntime) -> Result<(), Fail> {
+    let alloc = rt.alloc();
+    let one = Document::empty(alloc);
+    let two = Document::empty(alloc);
+    apart::<Brand, _>(&rt, alloc, Opened::new(), one, Opened::new(), two)
+}
+
+fn apart<B: Lines, R: Wait + Abort>(
+    rt: &R,
+    alloc: Global,
+    first: Opened,
+    one: Document,
+    second: Opened,
+    two: Document,
+) -> Result<(), Fail>
+    requires first { B.line 1 ≡ record { book = first.head.word.book; opening = one; limit = 10 } }
+    requires second { B.line 2 ≡ record { book = second.head.word.book; opening = two; limit = 10 } }
+{
+    let mut ones = Line::open::<B, R>(rt, alloc, first, 1, one, 1, 10).map_err(failed)?;
+    let mut twos = Line::open::<B, R>(rt, alloc, second, 2, two, 1, 10).map_err(failed)?;
+    let mut a = ones.pop().ok_or("no seat")?;
+    let mut b = twos.pop().ok_or("no seat")?;
+    let strangers = LineFault::Strangers { own: 1, found: 2 };
+    assert!(rt; a.meet(rt, &mut b) == Err(strangers));
+    assert_eq!(rt; strangers.code(), 18);
+    Ok(())
+}

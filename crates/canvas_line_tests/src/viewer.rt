@@ -1,0 +1,65 @@
+//! A thread that looks and paints.
+use bumpalo::Bump;
+use canvas_code::OutOfMemory;
+use canvas_doc::Document;
+use canvas_line::{Lines, Seat, Version};
+use canvas_paint::append_picture;
+use canvas_plane::Window;
+use std::alloc::Global;
+use std::sync::Arc;
+use std::thread::Threads;
+
+/// What a viewer saw at once.
+#[derive(Drop)]
+pub(crate) struct Sight {
+    pub(crate) version: Arc<Version, Global>,
+    /// The raster of the window.
+    pub(crate) raster: Vec<u8>,
+}
+
+/// What a viewer saw.
+#[derive(Drop)]
+pub(crate) struct Sights {
+    pub(crate) seen: Vec<Sight>,
+    /// How many looks were refused, went back, or were not at the seat's number.
+    pub(crate) wrong: u32,
+}
+
+/// So many looks, each version painted where it is another than the last one.
+pub(crate) fn take_looks<B: Lines, R: Threads + Sync>(
+    rt: &R,
+    alloc: Global,
+    seat: &mut Seat<B>,
+    count: u32,
+) -> Result<Sights, OutOfMemory> {
+    let mut seen: Vec<Sight> = Vec::new(alloc);
+    let mut wrong = 0;
+    for _ in 0..count {
+        let before = seat.number();
+        match seat.look() {
+            Ok(version) if before <= version.number && seat.number() == version.number => {
+                if before < version.number {
+                    let raster = raster(rt, alloc, &version.document)?;
+                    seen.push(Sight { version, raster })?;
+                }
+            }
+            _ => wrong += 1,
+        }
+    }
+    Ok(Sights { seen, wrong })
+}
+
+/// The raster of a small window of a document, by one worker.
+pub(crate) fn raster<R: Threads + Sync>(
+    rt: &R,
+    alloc: Global,
+    document: &Document,
+) -> Result<Vec<u8>, OutOfMemory> {
+    let Ok(window) = Window::new(0, 0, 64, 4) else {
+        return Err(OutOfMemory);
+    };
+    let bump = Bump::new(alloc);
+    let mut out = Vec::new(alloc);
+    append_picture(rt, alloc, &bump, document, &window, 1, &mut out)?;
+    Ok(out)
+}

@@ -1,0 +1,126 @@
+//! Worked examples.
+ghost use Rattle.std.specs.Prelude.{◌≡◌};
+
+use crate::lines::{Play, RED, Setting, at_a_line, failed, rectangle};
+use canvas_doc::{Document, Edit, Refusal};
+use canvas_line::{Line, LineFault, Lines, Opened, Seat};
+use std::alloc::Global;
+use std::marker::Brand;
+use std::process::Abort;
+use std::sync::Wait;
+use std::test::Fail;
+use std::thread::{Threads, join};
+
+#[test]
+fn a_seat_sees_the_edit_of_one_that_it_met(rt: HostRuntime) -> Result<(), Fail> {
+    let document = Document::empty(rt.alloc());
+    meeting::<Brand, _>(&rt, rt.alloc(), Opened::new(), document)
+}
+
+// A seat edits on one thread, meets another, and that one looks on another thread.
+fn meeting<B: Lines + Send + Sync, R: Threads + Wait + Abort + Sync>(
+    rt: &R,
+    alloc: Global,
+    opened: Opened,
+    document: Document,
+) -> Result<(), Fail>
+    requires { B.line 1 ≡ record { book = opened.head.word.book; opening = document; limit = 10 } }
+{
+    let mut seats = Line::open::<B, R>(rt, alloc, opened, 1, document, 2, 10).map_err(failed)?;
+    let mut b = seats.pop().ok_or("no seat")?;
+    let mut a = seats.pop().ok_or("no seat")?;
+    let edit = rectangle(1, 1, 0);
+    let ((mut a, edited), before) = join(
+        rt,
+        || {
+            let edited = a.edit(rt, &edit);
+            (a, edited)
+        },
+        || b.number(),
+    );
+    let edited = edited.map_err(failed)?;
+    assert_eq!(rt; before, 0);
+    assert_eq!(rt; edited.number, 1);
+    assert!(rt; edited.id == Some(1));
+    a.meet(rt, &mut b).map_err(failed)?;
+    let ((b, version), after) = join(
+        rt,
+        || {
+            let version = b.look();
+            (b, version)
+        },
+        || a.number(),
+    );
+    let version = version.map_err(failed)?;
+    assert_eq!(rt; version.number, 1);
+    assert!(rt; version.document.colour_at(0, 0) == RED);
+    assert_eq!(rt; b.number(), 1);
+    assert_eq!(rt; after, 1);
+    Ok(())
+}
+
+/// A line accepts no more than its limit.
+struct Spending;
+
+impl Play for Spending {
+    fn play<B: Lines, R: Wait + Abort>(
+        rt: &R,
+        _alloc: Global,
+        mut seats: Vec<Seat<B>>,
+    ) -> Result<(), Fail> {
+        let mut seat = seats.pop().ok_or("no seat")?;
+        assert!(rt; seat.edit(rt, &rectangle(1, 1, 0)).is_ok());
+        assert!(rt; seat.edit(rt, &rectangle(1, 1, 1)).is_ok());
+        let missing = Edit::Delete { id: 9 };
+        assert!(rt; seat.edit(rt, &missing) == Err(LineFault::VersionsSpent));
+        assert!(rt; seat.edit(rt, &rectangle(1, 1, 2)) == Err(LineFault::VersionsSpent));
+        assert_eq!(rt; seat.number(), 2);
+        assert_eq!(rt; seat.look().map_err(failed)?.number, 2);
+        Ok(())
+    }
+}
+
+#[test]
+fn a_line_accepts_no_more_than_its_limit(rt: HostRuntime) -> Result<(), Fail> {
+    let document = Document::empty(rt.alloc());
+    let setting = Setting { seats: 1, limit: 2 };
+    at_a_line::<Spending, _>(&rt, rt.alloc(), document, setting)
+}
+
+/// Of three seats that never met, each goes on by its own edits and looks alone.
+struct Apart;
+
+impl Play for Apart {
+    fn play<B: Lines, R: Wait + Abort>(
+        rt: &R,
+        _alloc: Global,
+        mut seats: Vec<Seat<B>>,
+    ) -> Result<(), Fail> {
+        let mut c = seats.pop().ok_or("no seat")?;
+        let mut b = seats.pop().ok_or("no seat")?;
+        let mut a = seats.pop().ok_or("no seat")?;
+        assert!(rt; a.edit(rt, &rectangle(1, 1, 0)).is_ok());
+        let refused = LineFault::Refused(Refusal::NoSuchShape);
+        assert!(rt; b.edit(rt, &Edit::Delete { id: 9 }) == Err(refused));
+        assert_eq!(rt; b.number(), 1);
+        assert_eq!(rt; c.number(), 0);
+        assert_eq!(rt; c.look().map_err(failed)?.number, 1);
+        assert!(rt; a.edit(rt, &rectangle(1, 1, 1)).is_ok());
+        assert_eq!(rt; c.look().map_err(failed)?.number, 2);
+        assert_eq!(rt; b.number(), 1);
+        for seat in [a, b, c] {
+            seat.close(rt);
+        }
+        Ok(())
+    }
+}
+
+#[test]
+fn seats_that_never_met_go_on_by_themselves(rt: HostRuntime) -> Result<(), Fail> {
+    let document = Document::empty(rt.alloc());
+    let setting = Setting {
+        seats: 3,
+        limit: 10,
+    };
+    at_a_line::<Apart, _>(&rt, rt.alloc(), document, setting)
+}

@@ -1,0 +1,7 @@
+//! Tests of the server, on threads and over the loopback, and of the words that ask for it.
+#![tactic(auto)]
+
+#[cfg(test)]
+mod servers;
+#[cfg(test)]
+mod words;
