@@ -13,7 +13,7 @@ const ROUNDS: u32 = 20_001;
 /// Another pose for a shape in the middle of a document of so many records.
 pub fn pose_edit(records: usize, round: u32) -> Edit {
     Edit::Pose {
-        id: (records / 2) as u32,
+        id: (records / 2).min(4096) as u32,
         pose: Pose {
             dx: (round % 64) as i64,
             dy: 0,

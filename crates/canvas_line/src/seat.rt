@@ -10,16 +10,17 @@ use crate::front::Lines;
 use crate::perch::Perch;
 use crate::version::Version;
 use canvas_doc::Edit;
+use core::sync::yield_now;
 use std::alloc::Global;
 use std::hint::spin_loop;
 use std::marker::Model;
 use std::sync::{Arc, Mutex, MutexGuard, Wait};
 
-/// How many times a seat tries the lock before it sleeps.
-const TRIES: u32 = 64;
+/// How many times a seat tries the lock before it lets other threads run between its tries.
+const SPINS: u32 = 8;
 
-/// How many pauses of the processor lie between two tries: about a microsecond.
-const PAUSES: u32 = 16;
+/// How many times it tries the lock before it sleeps.
+const TRIES: u32 = 100;
 
 /// A session's place at a line. Contracts see it as a name, an opening document, a limit and a front.
 #[derive(Drop)]
@@ -95,17 +96,15 @@ impl<B: Lines> Seat<B> {
 // Takes the lock. Edits are short, so a seat tries for a while before it sleeps: a lock that goes over to a sleeping thread
 // lies idle until that thread runs.
 fn held<'a, B: Lines, R: Wait>(rt: &R, desk: &'a Mutex<Desk<B>>) -> MutexGuard<'a, Desk<B>> {
-    for _ in 0..TRIES {
+    for attempt in 0..TRIES {
         if let Some(guard) = desk.try_lock() {
             return guard;
         }
-        pause();
+        if attempt < SPINS {
+            spin_loop();
+        } else {
+            yield_now();
+        }
     }
     desk.lock(rt)
-}
-
-fn pause() {
-    for _ in 0..PAUSES {
-        spin_loop();
-    }
 }

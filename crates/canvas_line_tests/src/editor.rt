@@ -32,7 +32,7 @@ pub(crate) fn make_edits<B: Lines, R: Wait>(
 ) -> Result<Edits, OutOfMemory> {
     let mut own: Vec<u32> = Vec::new(alloc);
     let mut accepted = Vec::new(alloc);
-    let mut wrong = 0;
+    let mut wrong = 0u32;
     for step in 0..count {
         let edit = next_edit(&mut own, step);
         let before = seat.number();
@@ -47,7 +47,7 @@ pub(crate) fn make_edits<B: Lines, R: Wait>(
                     edit,
                 })?;
             }
-            _ => wrong += 1,
+            _ => wrong = wrong.saturating_add(1),
         }
     }
     Ok(Edits { accepted, wrong })

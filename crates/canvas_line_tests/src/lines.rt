@@ -2,13 +2,13 @@
 ghost use Rattle.std.specs.Prelude.{◌≡◌};
 
 use canvas_doc::{Document, Edit, Parent, Spot};
-use canvas_line::{Line, LineFault, Lines, Opened, Seat};
+use canvas_line::{Edited, Line, LineFault, Lines, Opened, Seat, Version};
 use canvas_plane::Pose;
 use canvas_shape::{Colour, Kind};
 use std::alloc::Global;
 use std::marker::Brand;
 use std::process::Abort;
-use std::sync::Wait;
+use std::sync::{Arc, Wait};
 use std::test::Fail;
 
 pub(crate) const RED: Colour = Colour([255, 0, 0]);
@@ -86,4 +86,18 @@ pub(crate) fn create(kind: Kind, dx: i64, parent: Parent, spot: Spot) -> Edit {
         parent,
         spot,
     }
+}
+
+/// What an edit through a seat gives. (Calls of this and of `seen` tell a proof nothing, which keeps tests quick to prove.)
+pub(crate) fn edited<B: Lines, R: Wait>(
+    rt: &R,
+    seat: &mut Seat<B>,
+    edit: &Edit,
+) -> Result<Edited, LineFault> {
+    seat.edit(rt, edit)
+}
+
+/// The version that a seat sees.
+pub(crate) fn seen<B: Lines>(seat: &mut Seat<B>) -> Result<Arc<Version, Global>, LineFault> {
+    seat.look()
 }

@@ -1,5 +1,5 @@
 //! Want of memory. Run with each allocation failing in turn.
-use crate::lines::{Play, Setting, at_a_line, failed, rectangle};
+use crate::lines::{Play, Setting, at_a_line, edited, failed, rectangle, seen};
 use canvas_doc::Document;
 use canvas_line::{Edited, LineFault, Lines, Seat};
 use std::alloc::Global;
@@ -17,13 +17,13 @@ fn made<B: Lines, R: Wait + Abort>(
     before: u64,
 ) -> Result<Edited, LineFault> {
     let edit = rectangle(1, 1, 0);
-    match seat.edit(rt, &edit) {
+    match edited(rt, seat, &edit) {
         Err(LineFault::OutOfMemory) => {
             assert_eq!(rt; seat.number(), before);
-            let version = seat.look()?;
+            let version = seen(seat)?;
             assert_eq!(rt; version.number, before);
             assert_eq!(rt; version.document.count() as u64, before);
-            seat.edit(rt, &edit)
+            edited(rt, seat, &edit)
         }
         outcome => outcome,
     }
@@ -37,11 +37,11 @@ impl Play for Again {
     ) -> Result<(), Fail> {
         let mut seat = seats.pop().ok_or("no seat")?;
         for before in 0..3u64 {
-            let edited = made(rt, &mut seat, before).map_err(failed)?;
-            assert_eq!(rt; edited.number, before + 1);
-            assert!(rt; edited.id == Some(before as u32 + 1));
+            let made = made(rt, &mut seat, before).map_err(failed)?;
+            assert_eq!(rt; made.number, before + 1);
+            assert!(rt; made.id == Some(before as u32 + 1));
         }
-        assert_eq!(rt; seat.look().map_err(failed)?.document.count(), 3);
+        assert_eq!(rt; seen(&mut seat).map_err(failed)?.document.count(), 3);
         Ok(())
     }
 }

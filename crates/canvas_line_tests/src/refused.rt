@@ -1,5 +1,5 @@
 //! Edits that the document refuses, on the only seat of a line.
-use crate::lines::{Play, RED, Setting, at_a_line, create, failed, rectangle};
+use crate::lines::{Play, RED, Setting, at_a_line, create, edited, failed, rectangle};
 use canvas_doc::{Document, Edit, Parent, Refusal, Spot};
 use canvas_key::Key;
 use canvas_line::{LineFault, Lines, Seat};
@@ -15,7 +15,7 @@ fn to(id: u32, parent: Parent, spot: Spot) -> Edit {
 
 /// Makes an edit that is to be accepted.
 fn accept<B: Lines, R: Wait>(rt: &R, seat: &mut Seat<B>, edit: &Edit) -> Result<(), Fail> {
-    match seat.edit(rt, edit) {
+    match edited(rt, seat, edit) {
         Ok(_) => Ok(()),
         Err(fault) => Err(failed(fault)),
     }
@@ -24,7 +24,7 @@ fn accept<B: Lines, R: Wait>(rt: &R, seat: &mut Seat<B>, edit: &Edit) -> Result<
 /// Makes an edit that is to be refused, after which the seat has the same number.
 fn refuse<B: Lines, R: Wait + Abort>(rt: &R, seat: &mut Seat<B>, edit: &Edit, why: Refusal) {
     let before = seat.number();
-    assert!(rt; seat.edit(rt, edit) == Err(LineFault::Refused(why)));
+    assert!(rt; edited(rt, seat, edit) == Err(LineFault::Refused(why)));
     assert_eq!(rt; seat.number(), before);
 }
 

@@ -33,7 +33,7 @@ pub(crate) fn take_looks<B: Lines, R: Threads + Sync>(
     count: u32,
 ) -> Result<Sights, OutOfMemory> {
     let mut seen: Vec<Sight> = Vec::new(alloc);
-    let mut wrong = 0;
+    let mut wrong = 0u32;
     for _ in 0..count {
         let before = seat.number();
         match seat.look() {
@@ -43,7 +43,7 @@ pub(crate) fn take_looks<B: Lines, R: Threads + Sync>(
                     seen.push(Sight { version, raster })?;
                 }
             }
-            _ => wrong += 1,
+            _ => wrong = wrong.saturating_add(1),
         }
     }
     Ok(Sights { seen, wrong })

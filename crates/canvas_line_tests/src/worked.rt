@@ -1,7 +1,7 @@
 //! Worked examples.
 ghost use Rattle.std.specs.Prelude.{◌≡◌};
 
-use crate::lines::{Play, RED, Setting, at_a_line, failed, rectangle};
+use crate::lines::{Play, RED, Setting, at_a_line, edited, failed, rectangle, seen};
 use canvas_doc::{Document, Edit, Refusal};
 use canvas_line::{Line, LineFault, Lines, Opened, Seat};
 use std::alloc::Global;
@@ -30,23 +30,23 @@ fn meeting<B: Lines + Send + Sync, R: Threads + Wait + Abort + Sync>(
     let mut b = seats.pop().ok_or("no seat")?;
     let mut a = seats.pop().ok_or("no seat")?;
     let edit = rectangle(1, 1, 0);
-    let ((mut a, edited), before) = join(
+    let ((mut a, answer), before) = join(
         rt,
         || {
-            let edited = a.edit(rt, &edit);
-            (a, edited)
+            let answer = edited(rt, &mut a, &edit);
+            (a, answer)
         },
         || b.number(),
     );
-    let edited = edited.map_err(failed)?;
+    let answer = answer.map_err(failed)?;
     assert_eq!(rt; before, 0);
-    assert_eq!(rt; edited.number, 1);
-    assert!(rt; edited.id == Some(1));
+    assert_eq!(rt; answer.number, 1);
+    assert!(rt; answer.id == Some(1));
     a.meet(rt, &mut b).map_err(failed)?;
     let ((b, version), after) = join(
         rt,
         || {
-            let version = b.look();
+            let version = seen(&mut b);
             (b, version)
         },
         || a.number(),
@@ -69,13 +69,13 @@ impl Play for Spending {
         mut seats: Vec<Seat<B>>,
     ) -> Result<(), Fail> {
         let mut seat = seats.pop().ok_or("no seat")?;
-        assert!(rt; seat.edit(rt, &rectangle(1, 1, 0)).is_ok());
-        assert!(rt; seat.edit(rt, &rectangle(1, 1, 1)).is_ok());
+        assert!(rt; edited(rt, &mut seat, &rectangle(1, 1, 0)).is_ok());
+        assert!(rt; edited(rt, &mut seat, &rectangle(1, 1, 1)).is_ok());
         let missing = Edit::Delete { id: 9 };
-        assert!(rt; seat.edit(rt, &missing) == Err(LineFault::VersionsSpent));
-        assert!(rt; seat.edit(rt, &rectangle(1, 1, 2)) == Err(LineFault::VersionsSpent));
+        assert!(rt; edited(rt, &mut seat, &missing) == Err(LineFault::VersionsSpent));
+        assert!(rt; edited(rt, &mut seat, &rectangle(1, 1, 2)) == Err(LineFault::VersionsSpent));
         assert_eq!(rt; seat.number(), 2);
-        assert_eq!(rt; seat.look().map_err(failed)?.number, 2);
+        assert_eq!(rt; seen(&mut seat).map_err(failed)?.number, 2);
         Ok(())
     }
 }
@@ -99,14 +99,14 @@ impl Play for Apart {
         let mut c = seats.pop().ok_or("no seat")?;
         let mut b = seats.pop().ok_or("no seat")?;
         let mut a = seats.pop().ok_or("no seat")?;
-        assert!(rt; a.edit(rt, &rectangle(1, 1, 0)).is_ok());
+        assert!(rt; edited(rt, &mut a, &rectangle(1, 1, 0)).is_ok());
         let refused = LineFault::Refused(Refusal::NoSuchShape);
-        assert!(rt; b.edit(rt, &Edit::Delete { id: 9 }) == Err(refused));
+        assert!(rt; edited(rt, &mut b, &Edit::Delete { id: 9 }) == Err(refused));
         assert_eq!(rt; b.number(), 1);
         assert_eq!(rt; c.number(), 0);
-        assert_eq!(rt; c.look().map_err(failed)?.number, 1);
-        assert!(rt; a.edit(rt, &rectangle(1, 1, 1)).is_ok());
-        assert_eq!(rt; c.look().map_err(failed)?.number, 2);
+        assert_eq!(rt; seen(&mut c).map_err(failed)?.number, 1);
+        assert!(rt; edited(rt, &mut a, &rectangle(1, 1, 1)).is_ok());
+        assert_eq!(rt; seen(&mut c).map_err(failed)?.number, 2);
         assert_eq!(rt; b.number(), 1);
         for seat in [a, b, c] {
             seat.close(rt);

@@ -12,7 +12,7 @@ use canvas_shape::Carried;
 const STRIP: u64 = 120_000;
 // About how many nanoseconds an item takes, and what a row of an ellipse or a polygon, a vertex, and a row that an edge of a
 // polygon meets add to that.
-const ITEM: u64 = 800;
+const ITEM: u64 = 900;
 
 const ROW: u64 = 30;
 

@@ -38,7 +38,10 @@ fn commands(rt: HostRuntime) {
 
 #[test]
 fn servers(rt: HostRuntime) {
-    for (words, workers) in [(&["serve", "a", "b", "3"][..], 3), (&["serve", "a", "b"][..], 2)] {
+    for (words, workers) in [
+        (&["serve", "a", "b", "3"][..], 3),
+        (&["serve", "a", "b"][..], 2),
+    ] {
         let wanted = Command::Serve {
             address: "a",
             file: "b",
