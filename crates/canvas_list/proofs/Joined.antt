@@ -1,0 +1,170 @@
+-- Lists in chunks: where each chunk starts, and edits of some chunks.
+use Rattle.std.proofs.Common.{◌≡◌, ◌∙◌, ℕ, zero, suc, ◌+◌, ◌-◌, ◌<◌, ◌≤◌, List, [], ◌∷◌, ◌++◌, take, drop, inl, inr, refl, sym, ap, subst, arith, length, get_or, add-zero, ◌^◌}
+use Rattle.std.proofs.lemmas.Bool.{cases_lt}
+use Rattle.std.proofs.lemmas.List.{append-nil, append_assoc, drop_more, get_or-append-add, get_or_append_left, length-append, take-append-drop, take-take, take_all, take_more}
+use Rattle.canvas_list.specs.Chunks.{joined, starts_from, IsLastBefore, IsTable}
+
+pub joined-append : {X : Type 0} (cs ds : List (List X)) → joined (cs ++ ds) ≡ joined cs ++ joined ds
+joined-append [] ds = refl
+joined-append (c ∷ cs) ds = ap (λ l. c ++ l) (joined-append cs ds) ∙ sym (append_assoc c (joined cs) (joined ds))
+
+pub joined-push : {X : Type 0} (cs : List (List X)) (c : List X) → joined (cs ++ c ∷ []) ≡ joined cs ++ c
+joined-push cs c = joined-append cs (c ∷ []) ∙ ap (λ l. joined cs ++ l) (append-nil c)
+
+pub joined_more : {X : Type 0} (cs : List (List X)) (i : ℕ) (c : List X) → i < length cs → joined (take (i + 1) cs) ≡ joined (take i cs) ++ get_or cs i c
+joined_more cs i c h = ap joined (take_more cs i c h) ∙ joined-push (take i cs) (get_or cs i c)
+
+pub length-starts_from : {X : Type 0} (n : ℕ) (cs : List (List X)) → length (starts_from n cs) ≡ length cs
+length-starts_from n [] = refl
+length-starts_from n (c ∷ cs) = ap suc (length-starts_from (n + length c) cs)
+
+pub starts_from-push : {X : Type 0} (n : ℕ) (cs : List (List X)) (c : List X) → starts_from n (cs ++ c ∷ []) ≡ starts_from n cs ++ (n + length (joined cs)) ∷ []
+starts_from-push n [] c = ap (λ k. k ∷ []) (sym (add-zero n))
+starts_from-push n (d ∷ cs) c =
+    let sum : n + length d + length (joined cs) ≡ n + length (d ++ joined cs) = omega (arith, length-append d (joined cs)) in
+    ap (λ l. n ∷ l) (starts_from-push (n + length d) cs c ∙ ap (λ k. starts_from (n + length d) cs ++ k ∷ []) sum)
+
+pub start-from : {X : Type 0} (n : ℕ) (cs : List (List X)) (k d : ℕ) → k < length cs → get_or (starts_from n cs) k d ≡ n + length (joined (take k cs))
+start-from n [] k d h = absurd (omega arith)
+start-from n (c ∷ cs) zero d h = sym (add-zero n)
+start-from n (c ∷ cs) (suc k) d h =
+    let more : get_or (starts_from (n + length c) cs) k d ≡ n + length c + length (joined (take k cs)) = start-from (n + length c) cs k d (omega arith) in
+    omega (arith, more, length-append c (joined (take k cs)))
+
+-- where a chunk starts
+pub start-is : {X : Type 0} (cs : List (List X)) (ss : List ℕ) (n k d : ℕ) → IsTable cs ss n → k < length cs → get_or ss k d ≡ length (joined (take k cs))
+start-is cs ss n k d t h =
+    let from : get_or (starts_from 0 cs) k d ≡ 0 + length (joined (take k cs)) = start-from 0 cs k d h in
+    ap (λ l. get_or l k d) t.has_starts ∙ omega (arith, from)
+
+pub length-starts : {X : Type 0} (cs : List (List X)) (ss : List ℕ) (n : ℕ) → IsTable cs ss n → length ss ≡ length cs
+length-starts cs ss n t = ap length t.has_starts ∙ length-starts_from 0 cs
+
+-- a table with one more chunk
+pub table-push : {X : Type 0} (cs : List (List X)) (ss : List ℕ) (n : ℕ) (c : List X) → IsTable cs ss n → n + length c < 2 ^ 32 → IsTable (cs ++ c ∷ []) (ss ++ n ∷ []) (n + length c)
+table-push cs ss n c t h =
+    let zero_more : 0 + length (joined cs) ≡ n = omega (arith, t.has_len) in
+    let long : length (joined (cs ++ c ∷ [])) ≡ length (joined cs) + length c = ap length (joined-push cs c) ∙ length-append (joined cs) c in
+    record {
+      has_starts = ap (λ l. l ++ n ∷ []) t.has_starts ∙ ap (λ k. starts_from 0 cs ++ k ∷ []) (sym zero_more) ∙ sym (starts_from-push 0 cs c);
+      has_len = omega (arith, long, t.has_len);
+      is_small = h;
+    }
+
+-- the chunks before one, that one, and the rest
+pub split_at : {X : Type 0} (cs : List (List X)) (k : ℕ) (c : List X) → k < length cs → joined cs ≡ joined (take k cs) ++ (get_or cs k c ++ joined (drop (k + 1) cs))
+split_at cs k c h =
+    ap joined (sym (take-append-drop k cs))
+    ∙ joined-append (take k cs) (drop k cs)
+    ∙ ap (λ l. joined (take k cs) ++ joined l) (drop_more cs k c h)
+
+-- the first chunks have no more items than all
+pub take-fewer : {X : Type 0} (cs : List (List X)) (j : ℕ) → length (joined (take j cs)) ≤ length (joined cs)
+take-fewer cs j =
+    let all : length (joined cs) ≡ length (joined (take j cs)) + length (joined (drop j cs)) =
+    ap (λ l. length (joined l)) (sym (take-append-drop j cs)) ∙ ap length (joined-append (take j cs) (drop j cs)) ∙ length-append (joined (take j cs)) (joined (drop j cs)) in
+    omega arith
+
+-- and so do the last ones
+pub drop-fewer : {X : Type 0} (cs : List (List X)) (j : ℕ) → length (joined (drop j cs)) ≤ length (joined cs)
+drop-fewer cs j =
+    let all : length (joined cs) ≡ length (joined (take j cs)) + length (joined (drop j cs)) =
+    ap (λ l. length (joined l)) (sym (take-append-drop j cs)) ∙ ap length (joined-append (take j cs) (drop j cs)) ∙ length-append (joined (take j cs)) (joined (drop j cs)) in
+    omega arith
+
+-- fewer chunks have no more items
+pub fewer : {X : Type 0} (cs : List (List X)) (i j : ℕ) → i ≤ j → length (joined (take i cs)) ≤ length (joined (take j cs))
+fewer cs i j h = subst (λ l. length (joined l) ≤ length (joined (take j cs))) (take-take i j cs h) (take-fewer (take j cs) i)
+
+-- a table has a chunk, if it has an item
+pub some-chunk : {X : Type 0} (cs : List (List X)) (at : ℕ) → at < length (joined cs) → 0 < length cs
+some-chunk [] at h = absurd (omega arith)
+some-chunk (c ∷ cs) at h = omega arith
+
+-- how many items a table has
+pub len-is : {X : Type 0} (cs : List (List X)) (ss : List ℕ) (n : ℕ) (xs : List X) → IsTable cs ss n → joined cs ≡ xs → n ≡ length xs
+len-is cs ss n xs t e = t.has_len ∙ ap length e
+
+-- a position of n ones stands in a chunk, or behind the last one
+pub record IsFound {X : Type 0} (cs : List (List X)) (n k s at : ℕ) : Type 0 where
+  pub within : k < length cs
+  pub start : s ≡ length (joined (take k cs))
+  pub from : s ≤ at
+  pub before : at < n → at < length (joined (take (k + 1) cs))
+  pub behind : at ≤ n → at ≤ length (joined (take (k + 1) cs))
+
+-- what a search among the starts finds
+pub found : {X : Type 0} (cs : List (List X)) (ss rs : List ℕ) (n k s at : ℕ) → IsTable cs ss n → rs ≡ ss → IsLastBefore rs at k s → IsFound cs n k s at
+found cs ss rs n k s at t e last =
+    let many : length rs ≡ length cs = ap length e ∙ length-starts cs ss n t in
+    let inside : k < length rs = last.within in
+    let here : s ≡ length (joined (take k cs)) = last.is ∙ ap (λ l. get_or l k 0) e ∙ start-is cs ss n k 0 t (omega arith) in
+    let sum : n ≡ length (joined cs) = t.has_len in
+    elim (cases_lt (k + 1) (length rs)) [
+      | inl more ↦
+          (let there : get_or rs (k + 1) 0 ≡ length (joined (take (k + 1) cs)) = ap (λ l. get_or l (k + 1) 0) e ∙ start-is cs ss n (k + 1) 0 t (omega arith) in
+          let next : at < get_or rs (k + 1) 0 = last.upto more in
+          record { within = omega arith; start = here; from = last.from; before = λ h. omega arith; behind = λ h. omega arith })
+      | inr none ↦
+          (let all : length (joined (take (k + 1) cs)) ≡ length (joined cs) = ap (λ l. length (joined l)) (take_all (k + 1) cs (omega arith)) in
+          record { within = omega arith; start = here; from = last.from; before = λ h. omega arith; behind = λ h. omega arith })
+    ]
+
+-- a search among the starts may be made
+pub search-some : {X : Type 0} (cs : List (List X)) (ss rs : List ℕ) (n : ℕ) → IsTable cs ss n → rs ≡ ss → 0 < length cs → 0 < length rs
+search-some cs ss rs n t e h = omega (arith, length-starts cs ss n t, ap length e)
+
+pub search-first : {X : Type 0} (cs : List (List X)) (ss rs : List ℕ) (n at : ℕ) → IsTable cs ss n → rs ≡ ss → 0 < length cs → get_or rs 0 0 ≤ at
+search-first cs ss rs n at t e h = omega (arith, ap (λ l. get_or l 0 0) e, start-is cs ss n 0 0 t h)
+
+-- a table has a chunk, if it has an item at a position
+pub has-chunk : {X : Type 0} (cs : List (List X)) (xs : List X) (at : ℕ) → joined cs ≡ xs → at < length xs → 0 < length cs
+has-chunk cs xs at e h = some-chunk cs at (omega (arith, ap length e))
+
+-- a position stands in the items of its chunk
+pub offset-in : {X : Type 0} (cs : List (List X)) (ss : List ℕ) (xs : List X) (n k s at : ℕ) (c items : List X) → IsTable cs ss n → IsFound cs n k s at → joined cs ≡ xs → c ≡ get_or cs k c → items ≡ c → at < length xs → at - s < length items
+offset-in cs ss xs n k s at c items t f e is same h =
+    omega (arith, f.before, f.from, f.start, len-is cs ss n xs t e, ap length (joined_more cs k c f.within), length-append (joined (take k cs)) (get_or cs k c), ap length (same ∙ is))
+
+-- the items of a chunk
+pub chunk-read : {X : Type 0} (cs : List (List X)) (k : ℕ) (c items : List X) → k < length cs → c ≡ get_or cs k c → items ≡ c → length (joined (take (k + 1) cs)) ≡ length (joined (take k cs)) + length items
+chunk-read cs k c items h e same =
+    ap length (joined_more cs k c h) ∙ length-append (joined (take k cs)) (get_or cs k c) ∙ ap (λ l. length (joined (take k cs)) + length l) (sym (same ∙ e))
+
+-- the item at a position, as it is read from a chunk
+pub item-read : {X : Type 0} (cs : List (List X)) (xs : List X) (n k s at : ℕ) (c items : List X) (x : X) → IsFound cs n k s at → joined cs ≡ xs → c ≡ get_or cs k c → items ≡ c → at - s < length items → x ≡ get_or items (at - s) x → x ≡ get_or xs at x
+item-read {X} cs xs n k s at c items x f all e same within is =
+    let rest : List X = joined (drop (k + 1) cs) in
+    let parts : joined cs ≡ joined (take k cs) ++ (items ++ rest) = split_at cs k c f.within ∙ ap (λ l. joined (take k cs) ++ (l ++ rest)) (sym (same ∙ e)) in
+    let place : at ≡ length (joined (take k cs)) + (at - s) = omega (arith, f.start, f.from) in
+    is
+    ∙ sym (get_or_append_left items rest x (at - s) within)
+    ∙ sym (get_or-append-add (joined (take k cs)) (items ++ rest) (at - s) x)
+    ∙ ap (λ i. get_or (joined (take k cs) ++ (items ++ rest)) i x) (sym place)
+    ∙ ap (λ l. get_or l at x) (sym parts ∙ all)
+
+-- one more chunk of others behind a table
+pub grown : {X : Type 0} (cs more : List (List X)) (xs : List X) (i : ℕ) (c : List X) → i < length more → c ≡ get_or more i c → joined cs ≡ xs ++ joined (take i more) → joined (cs ++ c ∷ []) ≡ xs ++ joined (take (i + 1) more)
+grown cs more xs i c h e is =
+    joined-push cs c ∙ ap (λ l. l ++ c) is ∙ append_assoc xs (joined (take i more)) c
+    ∙ ap (λ l. xs ++ l) (ap (λ l. joined (take i more) ++ l) e ∙ sym (joined_more more i c h))
+
+pub still-small : {X : Type 0} (cs more : List (List X)) (xs : List X) (n m i : ℕ) (c : List X) → i < length more → c ≡ get_or more i c → joined cs ≡ xs ++ joined (take i more) → n ≡ length (joined cs) → length xs + length (joined more) < m → n + length c < m
+still-small cs more xs n m i c h e is len few =
+    let long : length (joined cs) ≡ length xs + length (joined (take i more)) = ap length is ∙ length-append xs (joined (take i more)) in
+    let next : length (joined (take (i + 1) more)) ≡ length (joined (take i more)) + length c = chunk-read more i c c h e refl in
+    let all : length (joined (take (i + 1) more)) ≤ length (joined more) = take-fewer more (i + 1) in
+    omega arith
+
+-- one more chunk of others behind a part that is being gathered
+pub gathered : {X : Type 0} (more : List (List X)) (xs list part next : List X) (i : ℕ) (c : List X) → i < length more → c ≡ get_or more i c → list ++ part ≡ xs ++ joined (take i more) → next ≡ part ++ c → list ++ next ≡ xs ++ joined (take (i + 1) more)
+gathered more xs list part next i c h e is n =
+    ap (λ l. list ++ l) n
+    ∙ sym (append_assoc list part c)
+    ∙ ap (λ l. l ++ c) is
+    ∙ append_assoc xs (joined (take i more)) c
+    ∙ ap (λ l. xs ++ l) (ap (λ l. joined (take i more) ++ l) e ∙ sym (joined_more more i c h))
+
+pub gathered-few : {X : Type 0} (more : List (List X)) (xs list part : List X) (i m : ℕ) → list ++ part ≡ xs ++ joined (take i more) → length xs + length (joined more) < m → length list + length part < m
+gathered-few more xs list part i m is few =
+    omega (arith, ap length is, length-append list part, length-append xs (joined (take i more)), take-fewer more i)

@@ -1,0 +1,119 @@
+-- Other items in place of some chunks.
+use Rattle.std.proofs.Common.{◌≡◌, ◌∙◌, ℕ, ◌+◌, ◌-◌, ◌<◌, ◌≤◌, List, ◌++◌, take, drop, slice_set, slice_range, sym, ap, arith, length, get_or}
+use Rattle.std.specs.List.{insert, remove}
+use Rattle.std.proofs.lemmas.List.{append_assoc, length-append, set-append_left, set-append_right}
+use Rattle.std.proofs.lemmas.List.Edits.{insert-append_left, insert-append_right, remove-append_left, remove-append_right, split_between}
+use Rattle.std.proofs.Math.Seq.{take-add}
+use Rattle.canvas_list.specs.Chunks.{joined, IsLastBefore, IsTable}
+use Rattle.canvas_list.proofs.Joined.{fewer, found, joined-append, len-is, start-is, IsFound}
+
+-- the items before some chunks, those in them, and those behind them
+pub parts : {X : Type 0} (cs : List (List X)) (i j : ℕ) → i ≤ j → joined cs ≡ joined (take i cs) ++ (joined (slice_range cs i j) ++ joined (drop j cs))
+parts cs i j h =
+    ap joined (split_between cs i j h)
+    ∙ joined-append (take i cs) (slice_range cs i j ++ drop j cs)
+    ∙ ap (λ l. joined (take i cs) ++ l) (joined-append (slice_range cs i j) (drop j cs))
+
+-- what is read of some chunks
+pub record IsPart {X : Type 0} (cs : List (List X)) (xs : List X) (i j s : ℕ) (old : List X) : Type 0 where
+  pub order : i ≤ j
+  pub all : joined cs ≡ xs
+  pub start : s ≡ length (joined (take i cs))
+  pub items : old ≡ joined (slice_range cs i j)
+
+pub is-part : {X : Type 0} (cs ds : List (List X)) (xs : List X) (i j s : ℕ) (old : List X) → i ≤ j → joined cs ≡ xs → s ≡ length (joined (take i cs)) → ds ≡ cs → old ≡ joined (slice_range ds i j) → IsPart cs xs i j s old
+is-part cs ds xs i j s old o a b e is = record { order = o; all = a; start = b; items = is ∙ ap (λ l. joined (slice_range l i j)) e }
+
+-- where some chunks end
+pub part-end : {X : Type 0} (cs : List (List X)) (i j : ℕ) → i ≤ j → length (joined (take j cs)) ≡ length (joined (take i cs)) + length (joined (slice_range cs i j))
+part-end cs i j h =
+    let all : j ≡ i + (j - i) = omega arith in
+    ap (λ n. length (joined (take n cs))) all
+    ∙ ap (λ l. length (joined l)) (take-add i (j - i) cs)
+    ∙ ap length (joined-append (take i cs) (slice_range cs i j))
+    ∙ length-append (joined (take i cs)) (joined (slice_range cs i j))
+
+pub sum-parts : {X : Type 0} (cs ds : List (List X)) (xs : List X) (i j s : ℕ) (old : List X) → IsPart cs xs i j s old → ds ≡ cs → length (joined (take i ds)) + length old + length (joined (drop j ds)) ≡ length xs
+sum-parts cs ds xs i j s old p e =
+    let first : length (joined (take i ds)) ≡ length (joined (take i cs)) = ap (λ l. length (joined (take i l))) e in
+    let last : length (joined (drop j ds)) ≡ length (joined (drop j cs)) = ap (λ l. length (joined (drop j l))) e in
+    let all : length xs ≡ length (joined (take i cs)) + length (joined (slice_range cs i j) ++ joined (drop j cs)) =
+    ap length (sym p.all ∙ parts cs i j p.order) ∙ length-append (joined (take i cs)) (joined (slice_range cs i j) ++ joined (drop j cs)) in
+    omega (arith, length-append (joined (slice_range cs i j)) (joined (drop j cs)), ap length p.items)
+
+-- a position of some chunks
+pub record IsIn {X : Type 0} (xs : List X) (s at : ℕ) (old : List X) : Type 0 where
+  pub from : s ≤ at
+  pub before : at < length xs → at - s < length old
+  pub behind : at ≤ length xs → at - s ≤ length old
+
+pub is-in : {X : Type 0} (cs : List (List X)) (xs : List X) (n k t i j s at : ℕ) (old : List X) → IsFound cs n k t at → n ≡ length xs → i ≤ k → k < j → IsPart cs xs i j s old → IsIn xs s at old
+is-in cs xs n k t i j s at old f len l m p =
+    let end : length (joined (take j cs)) ≡ s + length old = part-end cs i j p.order ∙ omega (arith, p.start, ap length p.items) in
+    let low : length (joined (take i cs)) ≤ length (joined (take k cs)) = fewer cs i k l in
+    let high : length (joined (take (k + 1) cs)) ≤ length (joined (take j cs)) = fewer cs (k + 1) j (omega arith) in
+    record {
+      from = omega (arith, f.start, f.from, p.start);
+      before = λ h. omega (arith, f.start, f.from, p.start, f.before);
+      behind = λ h. omega (arith, f.start, f.from, p.start, f.behind);
+    }
+
+pub replaced : {X : Type 0} (cs ds : List (List X)) (xs : List X) (i j s at : ℕ) (old new : List X) (x : X) → IsPart cs xs i j s old → IsIn xs s at old → ds ≡ cs → new ≡ slice_set old (at - s) x → at < length xs → joined (take i ds) ++ new ++ joined (drop j ds) ≡ slice_set xs at x
+replaced {X} cs ds xs i j s at old new x p q e is h =
+    let front : List X = joined (take i cs) in
+    let back : List X = joined (drop j cs) in
+    let whole : xs ≡ front ++ (old ++ back) = sym p.all ∙ parts cs i j p.order ∙ ap (λ l. front ++ (l ++ back)) (sym p.items) in
+    ap (λ l. joined (take i l) ++ new ++ joined (drop j l)) e
+    ∙ ap (λ l. front ++ l ++ back) is
+    ∙ append_assoc front (slice_set old (at - s) x) back
+    ∙ ap (λ l. front ++ l) (sym (set-append_left old back (at - s) x (q.before h)))
+    ∙ sym (set-append_right front (old ++ back) s at x (sym p.start) q.from)
+    ∙ ap (λ l. slice_set l at x) (sym whole)
+
+pub inserted : {X : Type 0} (cs ds : List (List X)) (xs : List X) (i j s at : ℕ) (old new : List X) (x : X) → IsPart cs xs i j s old → IsIn xs s at old → ds ≡ cs → new ≡ insert old (at - s) x → at ≤ length xs → joined (take i ds) ++ new ++ joined (drop j ds) ≡ insert xs at x
+inserted {X} cs ds xs i j s at old new x p q e is h =
+    let front : List X = joined (take i cs) in
+    let back : List X = joined (drop j cs) in
+    let whole : xs ≡ front ++ (old ++ back) = sym p.all ∙ parts cs i j p.order ∙ ap (λ l. front ++ (l ++ back)) (sym p.items) in
+    ap (λ l. joined (take i l) ++ new ++ joined (drop j l)) e
+    ∙ ap (λ l. front ++ l ++ back) is
+    ∙ append_assoc front (insert old (at - s) x) back
+    ∙ ap (λ l. front ++ l) (sym (insert-append_left old back (at - s) x (q.behind h)))
+    ∙ sym (insert-append_right front (old ++ back) s at x (sym p.start) q.from)
+    ∙ ap (λ l. insert l at x) (sym whole)
+
+pub removed : {X : Type 0} (cs ds : List (List X)) (xs : List X) (i j s at : ℕ) (old new : List X) → IsPart cs xs i j s old → IsIn xs s at old → ds ≡ cs → new ≡ remove old (at - s) → at < length xs → joined (take i ds) ++ new ++ joined (drop j ds) ≡ remove xs at
+removed {X} cs ds xs i j s at old new p q e is h =
+    let front : List X = joined (take i cs) in
+    let back : List X = joined (drop j cs) in
+    let whole : xs ≡ front ++ (old ++ back) = sym p.all ∙ parts cs i j p.order ∙ ap (λ l. front ++ (l ++ back)) (sym p.items) in
+    ap (λ l. joined (take i l) ++ new ++ joined (drop j l)) e
+    ∙ ap (λ l. front ++ l ++ back) is
+    ∙ append_assoc front (remove old (at - s)) back
+    ∙ ap (λ l. front ++ l) (sym (remove-append_left old back (at - s) (q.before h)))
+    ∙ sym (remove-append_right front (old ++ back) s at (sym p.start) q.from)
+    ∙ ap (λ l. remove l at) (sym whole)
+
+-- the items of the chunk of a position
+pub record IsOfSpot {X : Type 0} (cs : List (List X)) (xs : List X) (k s at : ℕ) (old : List X) : Type 0 where
+  pub within : k < length cs
+  pub part : IsPart cs xs k (k + 1) s old
+  pub place : IsIn xs s at old
+
+pub of-spot : {X : Type 0} (cs ds : List (List X)) (ss rs : List ℕ) (xs : List X) (n k s at : ℕ) (old : List X) → IsTable cs ss n → rs ≡ ss → IsLastBefore rs at k s → joined cs ≡ xs → ds ≡ cs → old ≡ joined (slice_range ds k (k + 1)) → IsOfSpot cs xs k s at old
+of-spot cs ds ss rs xs n k s at old t e last all d is =
+    let f : IsFound cs n k s at = found cs ss rs n k s at t e last in
+    let p : IsPart cs xs k (k + 1) s old = is-part cs ds xs k (k + 1) s old (omega arith) all f.start d is in
+    record { within = f.within; part = p; place = is-in cs xs n k s k (k + 1) s at old f (len-is cs ss n xs t all) (omega arith) (omega arith) p }
+
+-- the items of some chunks with the chunk of a position
+pub record IsOfPart {X : Type 0} (cs : List (List X)) (xs : List X) (i j s at : ℕ) (old : List X) : Type 0 where
+  pub part : IsPart cs xs i j s old
+  pub place : IsIn xs s at old
+
+pub of-part : {X : Type 0} (cs ds : List (List X)) (ss rs : List ℕ) (xs : List X) (n k t i j s at : ℕ) (old : List X) → IsTable cs ss n → rs ≡ ss → IsLastBefore rs at k t → joined cs ≡ xs → ds ≡ cs → i ≤ k → k < j → s ≡ get_or ss i s → old ≡ joined (slice_range ds i j) → IsOfPart cs xs i j s at old
+of-part cs ds ss rs xs n k t i j s at old table e last all d l m read is =
+    let f : IsFound cs n k t at = found cs ss rs n k t at table e last in
+    let start : s ≡ length (joined (take i cs)) = read ∙ start-is cs ss n i s table (omega (arith, f.within)) in
+    let p : IsPart cs xs i j s old = is-part cs ds xs i j s old (omega arith) all start d is in
+    record { part = p; place = is-in cs xs n k t i j s at old f (len-is cs ss n xs table all) l m p }

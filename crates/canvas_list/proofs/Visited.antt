@@ -1,0 +1,86 @@
+-- Going over a list in chunks.
+use Rattle.std.proofs.Common.{◌≡◌, ◌∙◌, ℕ, zero, suc, false, ◌==◌, ◌+◌, ◌-◌, ◌<◌, ◌≤◌, List, [], ◌∷◌, ◌++◌, take, drop, sym, ap, arith, length, get_or, Bor, Option, None, Some}
+use Rattle.std.specs.Iterator.{item_count, MakesProgress, YieldsLastRef}
+use Rattle.std.proofs.lemmas.List.{append-nil, append_assoc, drop-append-le, drop-drop, drop_at, length-append, nil_from_length, take-append-le, take_all, take_at, take_more}
+use Rattle.std.proofs.Math.Seq.{take-add}
+use Rattle.canvas_list.specs.Chunks.{joined}
+use Rattle.canvas_list.proofs.Joined.{chunk-read, joined-push, split_at, IsFound}
+
+-- the last item of the last chunk
+pub back-step : {X : Type 0} (xs front back items new : List X) (cs rest : List (List X)) (c : List X) (x : X) → front ++ joined cs ++ back ≡ xs → length back ≡ 0 → cs ≡ rest ++ c ∷ [] → items ≡ c → 0 < length c → x ≡ get_or items (length items - 1) x → new ≡ take (length items - 1) items → xs ≡ (front ++ joined rest ++ new) ++ x ∷ []
+back-step {X} xs front back items new cs rest c x all none last same some is e =
+    let n : ℕ = length items - 1 in
+    let within : n < length items = omega (arith, ap length same) in
+    let end : n + 1 ≡ length items = omega arith in
+    let whole : items ≡ new ++ x ∷ [] =
+    sym (ap (λ k. take k items) end ∙ take_all (length items) items (omega arith))
+    ∙ take_more items n x within
+    ∙ ap (λ y. take n items ++ y ∷ []) (sym is)
+    ∙ ap (λ l. l ++ x ∷ []) (sym e) in
+    sym all
+    ∙ ap (λ l. front ++ joined cs ++ l) (nil_from_length back none)
+    ∙ append-nil (front ++ joined cs)
+    ∙ ap (λ l. front ++ joined l) last
+    ∙ ap (λ l. front ++ l) (joined-push rest c ∙ ap (λ l. joined rest ++ l) (sym same ∙ whole))
+    ∙ ap (λ l. front ++ l) (sym (append_assoc (joined rest) new (x ∷ [])))
+    ∙ sym (append_assoc front (joined rest ++ new) (x ∷ []))
+    ∙ ap (λ l. l ++ x ∷ []) (sym (append_assoc front (joined rest) new))
+
+pub back-less : {X : Type 0} (xs ys : List X) (x : X) → xs ≡ ys ++ x ∷ [] → length ys < length xs
+back-less xs ys x e = omega (arith, ap length e, length-append ys (x ∷ []))
+
+-- the place of a position in its chunk
+pub place-in : {X : Type 0} (cs : List (List X)) (xs : List X) (n k s at : ℕ) (c items : List X) → IsFound cs n k s at → n ≡ length xs → c ≡ get_or cs k c → items ≡ c → at ≤ length xs → at - s ≤ length items
+place-in cs xs n k s at c items f len is same h =
+    omega (arith, f.behind, f.from, f.start, chunk-read cs k c items f.within is same)
+
+-- the items from a position on
+pub items-from : {X : Type 0} (cs : List (List X)) (xs : List X) (n k s at : ℕ) (c items : List X) → IsFound cs n k s at → joined cs ≡ xs → c ≡ get_or cs k c → items ≡ c → at - s ≤ length items → drop (at - s) items ++ joined (drop (k + 1) cs) ≡ drop at xs
+items-from {X} cs xs n k s at c items f all is same le =
+    let first : List X = joined (take k cs) in
+    let rest : List X = joined (drop (k + 1) cs) in
+    let parts : xs ≡ first ++ (items ++ rest) = sym all ∙ split_at cs k c f.within ∙ ap (λ l. first ++ (l ++ rest)) (sym (same ∙ is)) in
+    let place : s + (at - s) ≡ at = omega (arith, f.from) in
+    sym (
+    ap (λ i. drop i xs) (sym place)
+    ∙ sym (drop-drop (at - s) s xs)
+    ∙ ap (λ l. drop (at - s) (drop s l)) parts
+    ∙ ap (drop (at - s)) (drop_at first (items ++ rest) s (sym f.start))
+    ∙ drop-append-le (at - s) items rest le)
+
+-- the items before a position
+pub items-before : {X : Type 0} (cs : List (List X)) (xs : List X) (n k s at : ℕ) (c items : List X) → IsFound cs n k s at → joined cs ≡ xs → c ≡ get_or cs k c → items ≡ c → at - s ≤ length items → joined (take k cs) ++ take (at - s) items ≡ take at xs
+items-before {X} cs xs n k s at c items f all is same le =
+    let first : List X = joined (take k cs) in
+    let rest : List X = joined (drop (k + 1) cs) in
+    let parts : xs ≡ first ++ (items ++ rest) = sym all ∙ split_at cs k c f.within ∙ ap (λ l. first ++ (l ++ rest)) (sym (same ∙ is)) in
+    let place : s + (at - s) ≡ at = omega (arith, f.from) in
+    sym (
+    ap (λ i. take i xs) (sym place)
+    ∙ take-add s (at - s) xs
+    ∙ ap (λ l. take s l ++ take (at - s) (drop s l)) parts
+    ∙ ap (λ l. l ++ take (at - s) (drop s (first ++ (items ++ rest)))) (take_at first (items ++ rest) s (sym f.start))
+    ∙ ap (λ l. first ++ take (at - s) l) (drop_at first (items ++ rest) s (sym f.start))
+    ∙ ap (λ l. first ++ l) (take-append-le (at - s) items rest le))
+
+-- what is not empty has an item
+pub not-empty : (n m : ℕ) → false ≡ (n == 0) → n ≡ m → 0 < m
+not-empty zero m h e = cc
+not-empty (suc n) m h e = omega arith
+
+-- the last item of the last block
+pub block-steps : {X : Type 0} (xs front back items new : List X) (cs rest : List (List X)) (c : List X) (r : Option (Bor X)) → front ++ joined cs ++ back ≡ xs → back ≡ [] → cs ≡ rest ++ c ∷ [] → items ≡ c → 0 < length c → YieldsLastRef (λ l. l) items r new → YieldsLastRef (λ l. l) xs r (front ++ joined rest ++ new)
+block-steps xs front back items new cs rest c None all none last same some is = absurd (omega (arith, ap length same, ap length is.0))
+block-steps xs front back items new cs rest c (Some x) all none last same some is =
+    sym all
+    ∙ ap (λ l. front ++ joined cs ++ l) none
+    ∙ append-nil (front ++ joined cs)
+    ∙ ap (λ l. front ++ joined l) last
+    ∙ ap (λ l. front ++ l) (joined-push rest c ∙ ap (λ l. joined rest ++ l) (sym same ∙ is))
+    ∙ ap (λ l. front ++ l) (sym (append_assoc (joined rest) new (x.now ∷ [])))
+    ∙ sym (append_assoc front (joined rest ++ new) (x.now ∷ []))
+    ∙ ap (λ l. l ++ x.now ∷ []) (sym (append_assoc front (joined rest) new))
+
+pub goes-back : {X : Type 0} {can : List X → Type 0} (every : (l : List X) → can l) (xs new : List X) (r : Option (Bor X)) → YieldsLastRef (λ l. l) xs r new → MakesProgress can (item_count (λ l. l)) xs r new
+goes-back every xs new None is = record { on = λ _. tt; keeps = tt; rests = λ _. tt }
+goes-back every xs new (Some x) is = record { on = λ _. (every new, tt, back-less xs new x.now is); keeps = every new; rests = λ _. tt }

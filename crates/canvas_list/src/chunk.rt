@@ -1,0 +1,85 @@
+//! Items side by side, shared by all lists that have them.
+
+ghost use Rattle.std.specs.Prelude.{◌≡◌, ◌<◌, ◌≤◌, ◌++◌, IfOk, OnOk, length};
+ghost use Rattle.canvas_list.specs.Chunks.{joined};
+
+use crate::share::Share;
+use crate::sizes::CHUNK;
+use canvas_code::OutOfMemory;
+use std::alloc::Global;
+use std::marker::Model;
+use std::sync::Arc;
+
+/// From one item to as many as a chunk holds, side by side, freed with the last list that has them.
+#[derive(Drop)]
+pub(crate) struct Chunk<T> {
+    items: Arc<Vec<T>>,
+}
+
+impl<T> Model for Chunk<T> {
+    ghost use Rattle.std.specs.Prelude.{List};
+    ghost use Rattle.std.specs.Arc.{arc_value};
+    ghost use Rattle.canvas_list.specs.Chunks.{FitsChunk};
+
+    ghost Value = { List T };
+
+    ghost view = { λ chunk. (arc_value chunk.items).items };
+
+    ghost invariant = { λ chunk. FitsChunk (arc_value chunk.items).items };
+}
+
+impl<T: Drop> Chunk<T> {
+    pub(crate) fn new(alloc: Global, items: Vec<T>) -> Result<Chunk<T>, OutOfMemory>
+        requires some { 0 < length items.items }
+        requires few { length items.items ≤ CHUNK }
+        ensures { IfOk result (λ chunk. chunk ≡ items.items) }
+    {
+        Ok(Chunk {
+            items: Arc::new(alloc, items)?,
+        })
+    }
+
+    /// The same chunk for another list: it takes no memory of its own.
+    #[inline(always)]
+    pub(crate) fn try_clone(&self) -> Result<Chunk<T>, OutOfMemory>
+        ensures { IfOk result (λ chunk. chunk ≡ self.now) }
+    {
+        Ok(Chunk {
+            items: Arc::try_clone(&self.items)?,
+        })
+    }
+
+    #[inline(always)]
+    pub(crate) fn items(&self) -> &[T]
+        ensures same { result.now ≡ self.now }
+        ensures some { 0 < length self.now }
+        ensures few { length self.now ≤ CHUNK }
+    {
+        &self.items
+    }
+}
+
+/// The items of some chunks, to be changed, with room for so many.
+pub(crate) fn items_of<T: Share>(
+    alloc: Global,
+    chunks: &[Chunk<T>],
+    room: usize,
+) -> Result<Vec<T>, OutOfMemory>
+    ensures { IfOk result (λ items. items.items ≡ joined chunks.now) }
+{
+    let mut items = Vec::with_capacity(alloc, room)?;
+    for chunk in chunks {
+        push_shared(&mut items, chunk.items())?;
+    }
+    Ok(items)
+}
+
+/// Puts items of the same values behind others.
+pub(crate) fn push_shared<T: Share>(items: &mut Vec<T>, more: &[T]) -> Result<(), OutOfMemory>
+    ensures { OnOk result (items.new.items ≡ items.old.items ++ more.now) }
+{
+    for item in more {
+        items.push(item.share()?)?;
+    }
+    Ok(())
+}

@@ -1,0 +1,331 @@
+//! A part of a list, as a table of its chunks.
+
+ghost use Rattle.std.specs.Prelude.{◌≡◌, ◌<◌, ◌≤◌, ◌+◌, ◌*◌, ◌^◌, ◌++◌, [], IfOk, false, take, drop, length, slice_set, slice_index, slice_index_or};
+ghost use Rattle.std.specs.List.{insert, remove};
+ghost use Rattle.canvas_list.specs.Chunks.{joined, IsLastBefore};
+
+use crate::chunk::{Chunk, items_of};
+use crate::share::Share;
+use crate::sizes::{BLOCK, CHUNK, GROWN_BLOCK, JOINED_BLOCK, JOINED_CHUNK};
+use canvas_code::OutOfMemory;
+use std::alloc::Global;
+use std::marker::Model;
+
+/// Items in order, seen as the list of them: some chunks, which stand in one block.
+#[derive(Drop)]
+pub(crate) struct Chunks<T> {
+    pub(crate) chunks: Vec<Chunk<T>>,
+    // Where each chunk starts.
+    pub(crate) starts: Vec<u32>,
+    pub(crate) count: usize,
+}
+
+impl<T> Model for Chunks<T> {
+    ghost use Rattle.std.specs.Prelude.{List};
+    ghost use Rattle.canvas_list.specs.Chunks.{joined, IsTable};
+
+    ghost Value = { List T };
+
+    ghost view = { λ list. joined list.chunks.items };
+
+    ghost invariant = { λ list. IsTable list.chunks.items list.starts.items list.count };
+}
+
+impl<T: Drop> Chunks<T> {
+    /// No items.
+    pub(crate) fn empty(alloc: Global) -> Chunks<T>
+        ensures { result ≡ [] }
+    {
+        Chunks {
+            chunks: Vec::new(alloc),
+            starts: Vec::new(alloc),
+            count: 0,
+        }
+    }
+
+    /// How many items there are.
+    #[inline(always)]
+    pub(crate) fn len(&self) -> usize
+        ensures len { result ≡ length self.now }
+        ensures few { result < 2 ^ 32 }
+    {
+        self.count
+    }
+
+    /// The item at a position.
+    #[inline(always)]
+    pub(crate) fn at(&self, at: usize) -> &T
+        requires { at < length self.now }
+        ensures { result.now ≡ slice_index_or self.now at result.now }
+    {
+        let spot = spot_of(&self.starts, at);
+        &self.chunks[spot.chunk].items()[at - spot.start]
+    }
+
+    /// Whether there is no room for one more chunk, and none for one more item in the last one.
+    pub(crate) fn is_full(&self) -> bool {
+        self.chunks.len() >= GROWN_BLOCK && is_full(&self.chunks)
+    }
+
+    /// Whether there are more chunks than a block has.
+    pub(crate) fn is_over(&self) -> bool {
+        self.chunks.len() > BLOCK
+    }
+
+    /// Whether there are few chunks.
+    pub(crate) fn is_small(&self) -> bool {
+        self.chunks.len() <= JOINED_BLOCK
+    }
+
+    /// How many chunks a part has, where these are put into as few blocks as hold them, of much the
+    /// same size.
+    pub(crate) fn part_len(&self) -> usize {
+        let parts = self.chunks.len() / BLOCK + 1;
+        (self.chunks.len() / parts).saturating_add(1)
+    }
+
+    /// The chunks.
+    pub(crate) fn chunks(&self) -> &[Chunk<T>]
+        ensures { joined result.now ≡ self.now }
+    {
+        &self.chunks
+    }
+
+    /// No items, and room for some chunks.
+    pub(crate) fn with_room(alloc: Global, chunks: usize) -> Result<Chunks<T>, OutOfMemory>
+        ensures { IfOk result (λ list. list ≡ []) }
+    {
+        Ok(Chunks {
+            chunks: Vec::with_capacity(alloc, chunks)?,
+            starts: Vec::with_capacity(alloc, chunks)?,
+            ..Chunks::empty(alloc)
+        })
+    }
+
+    /// One more chunk.
+    pub(crate) fn and(self, chunk: Chunk<T>) -> Result<Chunks<T>, OutOfMemory>
+        requires { length self + length chunk < 2 ^ 32 }
+        ensures { IfOk result (λ list. list ≡ self ++ chunk) }
+    {
+        let Chunks {
+            mut chunks,
+            mut starts,
+            count,
+        } = self;
+        starts.push(count as u32)?;
+        let more = chunk.items().len();
+        chunks.push(chunk)?;
+        Ok(Chunks {
+            chunks,
+            starts,
+            count: count + more,
+        })
+    }
+
+    /// More items, in some chunks.
+    pub(crate) fn and_items(self, alloc: Global, items: Vec<T>) -> Result<Chunks<T>, OutOfMemory>
+        requires { length self + length items.items < 2 ^ 32 }
+        ensures { IfOk result (λ list. list ≡ self ++ items.items) }
+    {
+        if items.len() <= 2 * CHUNK {
+            self.and_few(alloc, items)
+        } else {
+            self.and_shared(&Chunks::from_vec(alloc, items)?)
+        }
+    }
+
+    /// More items, in one chunk or in two.
+    pub(crate) fn and_few(self, alloc: Global, items: Vec<T>) -> Result<Chunks<T>, OutOfMemory>
+        requires few { length items.items ≤ 2 * CHUNK }
+        requires small { length self + length items.items < 2 ^ 32 }
+        ensures { IfOk result (λ list. list ≡ self ++ items.items) }
+    {
+        if items.is_empty() {
+            return Ok(self);
+        }
+        if items.len() <= CHUNK {
+            return self.and(Chunk::new(alloc, items)?);
+        }
+        let mut first = items;
+        let half = first.len() / 2;
+        let second = first.split_off(half)?;
+        self.and(Chunk::new(alloc, first)?)?
+            .and(Chunk::new(alloc, second)?)
+    }
+
+    /// The chunks of another, behind these.
+    pub(crate) fn and_shared(self, other: &Chunks<T>) -> Result<Chunks<T>, OutOfMemory>
+        requires { length self + length other.now < 2 ^ 32 }
+        ensures { IfOk result (λ list. list ≡ self ++ other.now) }
+    {
+        self.and_all(&other.chunks)
+    }
+
+    /// More chunks, which are shared.
+    pub(crate) fn and_all(self, more: &[Chunk<T>]) -> Result<Chunks<T>, OutOfMemory>
+        requires { length self + length (joined more.now) < 2 ^ 32 }
+        ensures { IfOk result (λ list. list ≡ self ++ joined more.now) }
+    {
+        let Chunks {
+            mut chunks,
+            mut starts,
+            mut count,
+        } = self;
+        for chunk in more {
+            starts.push(count as u32)?;
+            count += chunk.items().len();
+            chunks.push(chunk.try_clone()?)?;
+        }
+        Ok(Chunks {
+            chunks,
+            starts,
+            count,
+        })
+    }
+}
+
+impl<T: Share> Chunks<T> {
+    /// The list with another item at a position.
+    pub(crate) fn with_replaced(
+        &self,
+        alloc: Global,
+        at: usize,
+        item: T,
+    ) -> Result<Chunks<T>, OutOfMemory>
+        requires { at < length self.now }
+        ensures { IfOk result (λ list. list ≡ slice_set self.now at item) }
+    {
+        let spot = spot_of(&self.starts, at);
+        let end = spot.chunk + 1;
+        let mut items = items_of(alloc, &self.chunks[spot.chunk..end], CHUNK)?;
+        items[at - spot.start] = item;
+        spliced(alloc, &self.chunks, spot.chunk, end, items)
+    }
+
+    /// The list with one more item before the one at a position, or at the end.
+    pub(crate) fn with_inserted(
+        &self,
+        alloc: Global,
+        at: usize,
+        item: T,
+    ) -> Result<Chunks<T>, OutOfMemory>
+        requires within { at ≤ length self.now }
+        requires few { length self.now + 1 < 2 ^ 32 }
+        ensures { IfOk result (λ list. list ≡ insert self.now at item) }
+    {
+        if at == self.len() && is_full(&self.chunks) {
+            let mut items = Vec::with_capacity(alloc, 1)?;
+            items.push(item)?;
+            let end = self.chunks.len();
+            return spliced(alloc, &self.chunks, end, end, items);
+        }
+        let spot = spot_of(&self.starts, at);
+        let end = spot.chunk + 1;
+        let mut items = items_of(alloc, &self.chunks[spot.chunk..end], CHUNK + 1)?;
+        items.insert(at - spot.start, item)?;
+        spliced(alloc, &self.chunks, spot.chunk, end, items)
+    }
+
+    /// The list without the item at a position.
+    pub(crate) fn without(&self, alloc: Global, at: usize) -> Result<Chunks<T>, OutOfMemory>
+        requires { at < length self.now }
+        ensures { IfOk result (λ list. list ≡ remove self.now at) }
+    {
+        let spot = spot_of(&self.starts, at);
+        let part = small_about(&self.chunks, spot.chunk);
+        let mut items = items_of(alloc, &self.chunks[part.first..part.end], CHUNK)?;
+        items.remove(at - self.starts[part.first] as usize);
+        spliced(alloc, &self.chunks, part.first, part.end, items)
+    }
+}
+
+// Other items in place of some chunks.
+fn spliced<T: Drop>(
+    alloc: Global,
+    chunks: &[Chunk<T>],
+    first: usize,
+    end: usize,
+    items: Vec<T>,
+) -> Result<Chunks<T>, OutOfMemory>
+    requires first { first ≤ end }
+    requires end { end ≤ length chunks.now }
+    requires small { length (joined (take first chunks.now)) + length items.items + length (joined (drop end chunks.now)) < 2 ^ 32 }
+    ensures { IfOk result (λ list. list ≡ joined (take first chunks.now) ++ items.items ++ joined (drop end chunks.now)) }
+{
+    Chunks::with_room(alloc, chunks.len() + 2)?
+        .and_all(&chunks[..first])?
+        .and_items(alloc, items)?
+        .and_all(&chunks[end..])
+}
+
+/// A chunk, by its number, and where it starts.
+#[derive(Clone, Copy)]
+pub(crate) struct Spot {
+    pub(crate) chunk: usize,
+    pub(crate) start: usize,
+}
+
+/// The last chunk that starts at a position or before it.
+pub(crate) fn spot_of(starts: &[u32], at: usize) -> Spot
+    requires some { 0 < length starts.now }
+    requires first { slice_index starts.now 0 ≤ at }
+    ensures { IsLastBefore starts.now at result.chunk result.start }
+{
+    let mut low = 0;
+    let mut high = starts.len();
+    'halve: while high - low > 1 {
+        let middle = low + (high - low) / 2;
+        if starts[middle] as usize <= at {
+            low = middle;
+        } else {
+            high = middle;
+        }
+    }
+    Spot {
+        chunk: low,
+        start: starts[low] as usize,
+    }
+}
+
+// Whether the last chunk has no room for one more item, or there is no chunk.
+fn is_full<T: Drop>(chunks: &[Chunk<T>]) -> bool
+    ensures { result ≡ false → 0 < length chunks.now }
+{
+    match chunks.last() {
+        None => true,
+        Some(chunk) => chunk.items().len() == CHUNK,
+    }
+}
+
+/// Some chunks, from the first up to the end.
+#[derive(Clone, Copy)]
+pub(crate) struct Part {
+    pub(crate) first: usize,
+    pub(crate) end: usize,
+}
+
+// A chunk, with one beside it if both are small.
+fn small_about<T: Drop>(chunks: &[Chunk<T>], chunk: usize) -> Part
+    requires { chunk < length chunks.now }
+    ensures first { result.first ≤ chunk }
+    ensures end { chunk < result.end }
+    ensures within { result.end ≤ length chunks.now }
+{
+    let count = chunks[chunk].items().len();
+    if chunk > 0 && chunks[chunk - 1].items().len() + count <= JOINED_CHUNK {
+        return Part {
+            first: chunk - 1,
+            end: chunk + 1,
+        };
+    }
+    if chunk + 1 < chunks.len() && count + chunks[chunk + 1].items().len() <= JOINED_CHUNK {
+        return Part {
+            first: chunk,
+            end: chunk + 2,
+        };
+    }
+    Part {
+        first: chunk,
+        end: chunk + 1,
+    }
+}

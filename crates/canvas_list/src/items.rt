@@ -1,0 +1,116 @@
+//! Going over a list, item by item, without an allocation.
+
+ghost use Rattle.std.specs.Prelude.{◌≡◌, ◌<◌, ◌≤◌, ◌^◌, take, drop, length};
+ghost use Rattle.std.specs.Iterator.{YieldsFirstRef, YieldsLastRef, item_count};
+
+use crate::block::Block;
+use crate::chunk_items::ChunkItems;
+use crate::chunks::spot_of;
+use crate::table::SharedList;
+use std::marker::Model;
+
+/// The items of a list that are left to go over, in order, seen as the list of them.
+#[derive(Drop)]
+pub struct Items<'a, T> {
+    pub(crate) front: ChunkItems<'a, T>,
+    pub(crate) blocks: &'a [Block<T>],
+    pub(crate) back: ChunkItems<'a, T>,
+}
+
+impl<'a, T> Model for Items<'a, T> {
+    ghost use Rattle.std.specs.Prelude.{List, ◌++◌};
+    ghost use Rattle.canvas_list.specs.Chunks.{joined};
+
+    ghost Value = { List T };
+
+    ghost view = { λ items. items.front ++ joined items.blocks.now ++ items.back };
+}
+
+impl<'a, T: Drop> Iterator for Items<'a, T> {
+    type Item = &'a T;
+
+    ghost next_gives = { YieldsFirstRef (λ items. items) };
+
+    ghost remaining = { item_count (λ items. items) };
+
+    #[inline(always)]
+    fn next(&mut self) -> Option<&'a T> {
+        if let Some(first) = self.front.next() {
+            return Some(first);
+        }
+        if let Some((block, others)) = self.blocks.split_first() {
+            self.blocks = others;
+            self.front = block.chunks().iter();
+            return self.front.next();
+        }
+        self.back.next()
+    }
+}
+
+impl<'a, T: Drop> DoubleEndedIterator for Items<'a, T> {
+    ghost next_back_gives = { YieldsLastRef (λ items. items) };
+
+    #[inline(always)]
+    fn next_back(&mut self) -> Option<&'a T> {
+        if let Some(last) = self.back.next_back() {
+            return Some(last);
+        }
+        if let Some((block, others)) = self.blocks.split_last() {
+            self.blocks = others;
+            self.back = block.chunks().iter();
+            return self.back.next_back();
+        }
+        self.front.next_back()
+    }
+}
+
+impl<T: Drop> SharedList<T> {
+    /// All items.
+    pub fn iter(&self) -> Items<'_, T>
+        ensures items { result ≡ self.now }
+        ensures few { length result < 2 ^ 32 }
+    {
+        Items {
+            front: ChunkItems::none(),
+            blocks: &self.blocks,
+            back: ChunkItems::none(),
+        }
+    }
+
+    /// The items from a position on.
+    pub fn iter_from(&self, at: usize) -> Items<'_, T>
+        requires { at ≤ length self.now }
+        ensures items { result ≡ drop at self.now }
+        ensures few { length result < 2 ^ 32 }
+    {
+        if self.blocks.is_empty() {
+            return self.iter();
+        }
+        let spot = spot_of(&self.starts, at);
+        let next = spot.chunk + 1;
+        Items {
+            front: self.blocks[spot.chunk].chunks().iter_from(at - spot.start),
+            blocks: &self.blocks[next..],
+            back: ChunkItems::none(),
+        }
+    }
+
+    /// The items before a position; `rev` gives them backwards from it.
+    pub fn iter_before(&self, at: usize) -> Items<'_, T>
+        requires { at ≤ length self.now }
+        ensures items { result ≡ take at self.now }
+        ensures few { length result < 2 ^ 32 }
+    {
+        if self.blocks.is_empty() {
+            return self.iter();
+        }
+        let spot = spot_of(&self.starts, at);
+        Items {
+            front: ChunkItems::none(),
+            blocks: &self.blocks[..spot.chunk],
+            back: self.blocks[spot.chunk]
+                .chunks()
+                .iter_before(at - spot.start),
+        }
+    }
+}

@@ -1,0 +1,20 @@
+//! Lists that share their items: a list after a change holds the very blocks that the change left as
+//! they were, and the very chunks of the block that it changed.
+#![tactic(auto)]
+
+mod block;
+mod chunk;
+mod chunk_items;
+mod chunks;
+mod items;
+mod made;
+mod search;
+mod share;
+mod sizes;
+mod splice;
+mod table;
+
+pub use items::Items;
+pub use search::Keyed;
+pub use share::{Share, Shared};
+pub use table::SharedList;

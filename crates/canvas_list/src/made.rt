@@ -1,0 +1,51 @@
+//! Lists made of all its items at once.
+
+ghost use Rattle.std.specs.Prelude.{◌≡◌, ◌<◌, ◌^◌, IfOk, length};
+
+use crate::chunk::Chunk;
+use crate::chunks::Chunks;
+use crate::sizes::{CHUNK, GROWN_BLOCK};
+use crate::table::SharedList;
+use canvas_code::OutOfMemory;
+use std::alloc::Global;
+
+// How many items a block has that is full.
+const WHOLE: usize = CHUNK * GROWN_BLOCK;
+
+impl<T: Drop> Chunks<T> {
+    /// The items of a `Vec`.
+    pub(crate) fn from_vec(alloc: Global, items: Vec<T>) -> Result<Chunks<T>, OutOfMemory>
+        requires { length items.items < 2 ^ 32 }
+        ensures { IfOk result (λ chunks. chunks ≡ items.items) }
+    {
+        let mut list = Chunks::with_room(alloc, items.len() / CHUNK + 1)?;
+        let mut fresh = Vec::with_capacity(alloc, CHUNK)?;
+        for item in items {
+            fresh.push(item)?;
+            if fresh.len() == CHUNK {
+                list = list.and(Chunk::new(alloc, fresh)?)?;
+                fresh = Vec::with_capacity(alloc, CHUNK)?;
+            }
+        }
+        list.and_few(alloc, fresh)
+    }
+}
+
+impl<T: Drop> SharedList<T> {
+    /// The items of a `Vec`.
+    pub fn from_vec(alloc: Global, items: Vec<T>) -> Result<SharedList<T>, OutOfMemory>
+        requires { length items.items < 2 ^ 32 }
+        ensures { IfOk result (λ list. list ≡ items.items) }
+    {
+        let mut list = SharedList::with_room(alloc, items.len() / WHOLE + 1)?;
+        let mut fresh = Vec::new(alloc);
+        for item in items {
+            fresh.push(item)?;
+            if fresh.len() == WHOLE {
+                list = list.and_block(alloc, Chunks::from_vec(alloc, fresh)?)?;
+                fresh = Vec::new(alloc);
+            }
+        }
+        list.and_block(alloc, Chunks::from_vec(alloc, fresh)?)
+    }
+}

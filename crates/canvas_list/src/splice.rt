@@ -1,0 +1,90 @@
+//! Other items in place of a range of a list.
+
+ghost use Rattle.std.specs.Prelude.{◌≡◌, ◌<◌, ◌≤◌, ◌+◌, ◌^◌, ◌++◌, IfOk, take, drop, length};
+
+use crate::chunk::push_shared;
+use crate::chunk_items::ChunkItems;
+use crate::chunks::Chunks;
+use crate::items::Items;
+use crate::share::Share;
+use crate::table::SharedList;
+use canvas_code::OutOfMemory;
+use std::alloc::Global;
+
+impl<T: Share> SharedList<T> {
+    /// The list with other items in place of those from `first` up to `end`, which itself stays.
+    pub fn with_spliced(
+        &self,
+        alloc: Global,
+        first: usize,
+        end: usize,
+        items: Vec<T>,
+    ) -> Result<SharedList<T>, OutOfMemory>
+        requires order { first ≤ end }
+        requires within { end ≤ length self.now }
+        requires few { length self.now + length items.items < 2 ^ 32 }
+        ensures { IfOk result (λ list. list ≡ take first self.now ++ items.items ++ drop end self.now) }
+    {
+        list_between(alloc, &self.iter_before(first), items, &self.iter_from(end))
+    }
+}
+
+// What is left to go over of a list, other items, and what is left of a list.
+fn list_between<T: Share>(
+    alloc: Global,
+    before: &Items<'_, T>,
+    items: Vec<T>,
+    behind: &Items<'_, T>,
+) -> Result<SharedList<T>, OutOfMemory>
+    requires { length before.now + length items.items + length behind.now < 2 ^ 32 }
+    ensures { IfOk result (λ list. list ≡ before.now ++ items.items ++ behind.now) }
+{
+    let first = chunks_between(alloc, &before.front, Vec::new(alloc), &ChunkItems::none())?;
+    let middle = chunks_between(alloc, &before.back, items, &behind.front)?;
+    let last = chunks_between(alloc, &ChunkItems::none(), Vec::new(alloc), &behind.back)?;
+    SharedList::empty(alloc)
+        .and_chunks(alloc, first)?
+        .and_all(before.blocks)?
+        .and_chunks(alloc, middle)?
+        .and_all(behind.blocks)?
+        .and_chunks(alloc, last)
+}
+
+// The same of parts of lists.
+fn chunks_between<T: Share>(
+    alloc: Global,
+    before: &ChunkItems<'_, T>,
+    items: Vec<T>,
+    behind: &ChunkItems<'_, T>,
+) -> Result<Chunks<T>, OutOfMemory>
+    requires { length before.now + length items.items + length behind.now < 2 ^ 32 }
+    ensures { IfOk result (λ chunks. chunks ≡ before.now ++ items.items ++ behind.now) }
+{
+    let first = items_between(alloc, before.front, Vec::new(alloc), &[])?;
+    let middle = items_between(alloc, before.back, items, behind.front)?;
+    let last = items_between(alloc, &[], Vec::new(alloc), behind.back)?;
+    Chunks::empty(alloc)
+        .and_items(alloc, first)?
+        .and_all(before.chunks)?
+        .and_items(alloc, middle)?
+        .and_all(behind.chunks)?
+        .and_items(alloc, last)
+}
+
+// Items, others, and more items.
+fn items_between<T: Share>(
+    alloc: Global,
+    before: &[T],
+    items: Vec<T>,
+    behind: &[T],
+) -> Result<Vec<T>, OutOfMemory>
+    ensures { IfOk result (λ all. all.items ≡ before.now ++ items.items ++ behind.now) }
+{
+    let mut all = Vec::new(alloc);
+    push_shared(&mut all, before)?;
+    for item in items {
+        all.push(item)?;
+    }
+    push_shared(&mut all, behind)?;
+    Ok(all)
+}

@@ -1,0 +1,328 @@
+//! The list, as a table of its blocks.
+
+ghost use Rattle.std.specs.Prelude.{◌≡◌, ◌↔◌, ◌<◌, ◌≤◌, ◌+◌, ◌^◌, ◌++◌, [], IfOk, IsTrue, false, take, drop, length, slice_set, slice_index_or};
+ghost use Rattle.std.specs.List.{insert, remove, slice_get};
+ghost use Rattle.std.specs.Option.{option_copied};
+ghost use Rattle.canvas_list.specs.Chunks.{joined};
+
+use crate::block::{Block, chunks_of};
+use crate::chunk::Chunk;
+use crate::chunks::{Chunks, Part, spot_of};
+use crate::share::Share;
+use canvas_code::OutOfMemory;
+use std::alloc::Global;
+use std::marker::Model;
+
+/// Items in order, seen as the list of them. A call that answers want of memory leaves the list as it
+/// was.
+#[derive(Drop)]
+pub struct SharedList<T> {
+    pub(crate) blocks: Vec<Block<T>>,
+    // Where each block starts.
+    pub(crate) starts: Vec<u32>,
+    pub(crate) count: usize,
+}
+
+impl<T> Model for SharedList<T> {
+    ghost use Rattle.std.specs.Prelude.{List};
+    ghost use Rattle.canvas_list.specs.Chunks.{joined, IsTable};
+
+    ghost Value = { List T };
+
+    ghost view = { λ list. joined list.blocks.items };
+
+    ghost invariant = { λ list. IsTable list.blocks.items list.starts.items list.count };
+}
+
+impl<T: Drop> SharedList<T> {
+    /// No items.
+    pub fn empty(alloc: Global) -> SharedList<T>
+        ensures { result ≡ [] }
+    {
+        SharedList {
+            blocks: Vec::new(alloc),
+            starts: Vec::new(alloc),
+            count: 0,
+        }
+    }
+
+    /// How many items there are.
+    #[inline(always)]
+    pub fn len(&self) -> usize
+        ensures len { result ≡ length self.now }
+        ensures few { result < 2 ^ 32 }
+    {
+        self.count
+    }
+
+    /// Whether there are none.
+    pub fn is_empty(&self) -> bool
+        ensures { IsTrue result ↔ (self.now ≡ []) }
+    {
+        self.len() == 0
+    }
+
+    /// The item at a position.
+    #[inline(always)]
+    pub fn at(&self, at: usize) -> &T
+        requires { at < length self.now }
+        ensures { result.now ≡ slice_index_or self.now at result.now }
+    {
+        let spot = spot_of(&self.starts, at);
+        self.blocks[spot.chunk].chunks().at(at - spot.start)
+    }
+
+    /// The item at a position, if there is one.
+    #[inline(always)]
+    pub fn get(&self, at: usize) -> Option<&T>
+        ensures { option_copied result ≡ slice_get self.now at }
+    {
+        if at < self.len() {
+            Some(self.at(at))
+        } else {
+            None
+        }
+    }
+
+    /// The same items, in the same blocks.
+    pub fn try_clone(&self, alloc: Global) -> Result<SharedList<T>, OutOfMemory>
+        ensures { IfOk result (λ list. list ≡ self.now) }
+    {
+        SharedList::with_room(alloc, self.blocks.len())?.and_all(&self.blocks)
+    }
+
+    /// No items, and room for some blocks.
+    pub(crate) fn with_room(alloc: Global, blocks: usize) -> Result<SharedList<T>, OutOfMemory>
+        ensures { IfOk result (λ list. list ≡ []) }
+    {
+        Ok(SharedList {
+            blocks: Vec::with_capacity(alloc, blocks)?,
+            starts: Vec::with_capacity(alloc, blocks)?,
+            ..SharedList::empty(alloc)
+        })
+    }
+
+    // One more block.
+    fn and(self, block: Block<T>) -> Result<SharedList<T>, OutOfMemory>
+        requires { length self + length block < 2 ^ 32 }
+        ensures { IfOk result (λ list. list ≡ self ++ block) }
+    {
+        let SharedList {
+            mut blocks,
+            mut starts,
+            count,
+        } = self;
+        starts.push(count as u32)?;
+        let more = block.chunks().len();
+        blocks.push(block)?;
+        Ok(SharedList {
+            blocks,
+            starts,
+            count: count + more,
+        })
+    }
+
+    /// More chunks, in one block, if there are any.
+    pub(crate) fn and_block(
+        self,
+        alloc: Global,
+        chunks: Chunks<T>,
+    ) -> Result<SharedList<T>, OutOfMemory>
+        requires { length self + length chunks < 2 ^ 32 }
+        ensures { IfOk result (λ list. list ≡ self ++ chunks) }
+    {
+        if chunks.len() == 0 {
+            return Ok(self);
+        }
+        self.and(Block::new(alloc, chunks)?)
+    }
+
+    /// More chunks, in as few blocks as hold them.
+    pub(crate) fn and_chunks(
+        self,
+        alloc: Global,
+        chunks: Chunks<T>,
+    ) -> Result<SharedList<T>, OutOfMemory>
+        requires { length self + length chunks < 2 ^ 32 }
+        ensures { IfOk result (λ list. list ≡ self ++ chunks) }
+    {
+        if !chunks.is_over() {
+            return self.and_block(alloc, chunks);
+        }
+        self.and_parts(alloc, chunks.chunks(), chunks.part_len())
+    }
+
+    // More chunks, which are shared, in blocks of so many.
+    fn and_parts(
+        self,
+        alloc: Global,
+        more: &[Chunk<T>],
+        size: usize,
+    ) -> Result<SharedList<T>, OutOfMemory>
+        requires { length self + length (joined more.now) < 2 ^ 32 }
+        ensures { IfOk result (λ list. list ≡ self ++ joined more.now) }
+    {
+        let mut list = self;
+        let mut part = Chunks::with_room(alloc, size)?;
+        for chunk in more {
+            part = part.and(chunk.try_clone()?)?;
+            if part.chunks().len() >= size {
+                list = list.and_block(alloc, part)?;
+                part = Chunks::with_room(alloc, size)?;
+            }
+        }
+        list.and_block(alloc, part)
+    }
+
+    /// More blocks, which are shared.
+    pub(crate) fn and_all(self, more: &[Block<T>]) -> Result<SharedList<T>, OutOfMemory>
+        requires { length self + length (joined more.now) < 2 ^ 32 }
+        ensures { IfOk result (λ list. list ≡ self ++ joined more.now) }
+    {
+        let SharedList {
+            mut blocks,
+            mut starts,
+            mut count,
+        } = self;
+        for block in more {
+            starts.push(count as u32)?;
+            count += block.chunks().len();
+            blocks.push(block.try_clone()?)?;
+        }
+        Ok(SharedList {
+            blocks,
+            starts,
+            count,
+        })
+    }
+}
+
+impl<T: Share> SharedList<T> {
+    /// The list with another item at a position.
+    pub fn with_replaced(
+        &self,
+        alloc: Global,
+        at: usize,
+        item: T,
+    ) -> Result<SharedList<T>, OutOfMemory>
+        requires { at < length self.now }
+        ensures { IfOk result (λ list. list ≡ slice_set self.now at item) }
+    {
+        let spot = spot_of(&self.starts, at);
+        let end = spot.chunk + 1;
+        let old = self.blocks[spot.chunk].chunks();
+        let new = old.with_replaced(alloc, at - spot.start, item)?;
+        spliced(alloc, &self.blocks, spot.chunk, end, new)
+    }
+
+    /// The list with one more item before the one at a position, or at the end.
+    pub fn with_inserted(
+        &self,
+        alloc: Global,
+        at: usize,
+        item: T,
+    ) -> Result<SharedList<T>, OutOfMemory>
+        requires within { at ≤ length self.now }
+        requires few { length self.now + 1 < 2 ^ 32 }
+        ensures { IfOk result (λ list. list ≡ insert self.now at item) }
+    {
+        if at == self.len() && is_full(&self.blocks) {
+            let one = Chunks::empty(alloc).with_inserted(alloc, 0, item)?;
+            let end = self.blocks.len();
+            return spliced(alloc, &self.blocks, end, end, one);
+        }
+        let spot = spot_of(&self.starts, at);
+        let end = spot.chunk + 1;
+        let old = self.blocks[spot.chunk].chunks();
+        let new = old.with_inserted(alloc, at - spot.start, item)?;
+        spliced(alloc, &self.blocks, spot.chunk, end, new)
+    }
+
+    /// The list without the item at a position.
+    pub fn without(&self, alloc: Global, at: usize) -> Result<SharedList<T>, OutOfMemory>
+        requires { at < length self.now }
+        ensures { IfOk result (λ list. list ≡ remove self.now at) }
+    {
+        let spot = spot_of(&self.starts, at);
+        let part = small_about(&self.blocks, spot.chunk);
+        let place = at - self.starts[part.first] as usize;
+        let new = without_in(alloc, &self.blocks[part.first..part.end], place)?;
+        spliced(alloc, &self.blocks, part.first, part.end, new)
+    }
+}
+
+// The chunks of some blocks, without the item at a position.
+fn without_in<T: Share>(
+    alloc: Global,
+    blocks: &[Block<T>],
+    at: usize,
+) -> Result<Chunks<T>, OutOfMemory>
+    requires within { at < length (joined blocks.now) }
+    requires few { length (joined blocks.now) < 2 ^ 32 }
+    ensures { IfOk result (λ chunks. chunks ≡ remove (joined blocks.now) at) }
+{
+    if blocks.len() == 1 {
+        return blocks[0].chunks().without(alloc, at);
+    }
+    chunks_of(alloc, blocks)?.without(alloc, at)
+}
+
+// Other chunks in place of some blocks.
+fn spliced<T: Drop>(
+    alloc: Global,
+    blocks: &[Block<T>],
+    first: usize,
+    end: usize,
+    new: Chunks<T>,
+) -> Result<SharedList<T>, OutOfMemory>
+    requires first { first ≤ end }
+    requires end { end ≤ length blocks.now }
+    requires small { length (joined (take first blocks.now)) + length new + length (joined (drop end blocks.now)) < 2 ^ 32 }
+    ensures { IfOk result (λ list. list ≡ joined (take first blocks.now) ++ new ++ joined (drop end blocks.now)) }
+{
+    SharedList::with_room(alloc, blocks.len() + 2)?
+        .and_all(&blocks[..first])?
+        .and_chunks(alloc, new)?
+        .and_all(&blocks[end..])
+}
+
+// Whether the last block has no room for one more item at its end, or there is no block.
+fn is_full<T: Drop>(blocks: &[Block<T>]) -> bool
+    ensures { result ≡ false → 0 < length blocks.now }
+{
+    match blocks.last() {
+        None => true,
+        Some(block) => block.chunks().is_full(),
+    }
+}
+
+// A block, with one beside it if both are small.
+fn small_about<T: Drop>(blocks: &[Block<T>], block: usize) -> Part
+    requires { block < length blocks.now }
+    ensures first { result.first ≤ block }
+    ensures end { block < result.end }
+    ensures within { result.end ≤ length blocks.now }
+{
+    if !blocks[block].chunks().is_small() {
+        return Part {
+            first: block,
+            end: block + 1,
+        };
+    }
+    if block > 0 && blocks[block - 1].chunks().is_small() {
+        return Part {
+            first: block - 1,
+            end: block + 1,
+        };
+    }
+    if block + 1 < blocks.len() && blocks[block + 1].chunks().is_small() {
+        return Part {
+            first: block,
+            end: block + 2,
+        };
+    }
+    Part {
+        first: block,
+        end: block + 1,
+    }
+}

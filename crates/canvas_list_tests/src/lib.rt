@@ -1,0 +1,13 @@
+//! Tests of lists that share their items, beside plain lists.
+#![tactic(auto)]
+
+#[cfg(test)]
+mod changes;
+#[cfg(test)]
+mod dice;
+#[cfg(test)]
+mod made;
+#[cfg(test)]
+mod memory;
+#[cfg(test)]
+mod numbers;

@@ -1,0 +1,54 @@
+//! Lists made of all their items at once: what they have, where their keys stand, and how they are
+//! taken away.
+
+ghost use Rattle.std.specs.Prelude.{◌≡◌, ◌≤◌, length};
+ghost use Rattle.std.specs.List.Sorted.{IsNonDecreasingBy};
+
+use crate::numbers::{Numbers, evens, has, plain_evens};
+use canvas_code::OutOfMemory;
+use canvas_list::SharedList;
+use std::alloc::Global;
+use std::test::Fail;
+
+// Whether each number stands where it should, and each odd one before the next even one.
+fn finds_all(list: &Numbers, count: u32) -> bool
+    requires rising { IsNonDecreasingBy (λ number. number.value) list.now }
+    requires few { count ≤ 100000 }
+{
+    for key in 0..2 * count + 3 {
+        if list.position_of(key) != (key as usize).div_ceil(2).min(count as usize) {
+            return false;
+        }
+    }
+    true
+}
+
+// Whether the list is right while all of it is taken away from its middle.
+fn goes_away(alloc: Global, list: &Numbers, mut plain: Vec<u32>) -> Result<bool, OutOfMemory> {
+    let mut rest = list.try_clone(alloc)?;
+    for _ in 0..list.len() {
+        let at = plain.len() / 2;
+        if at >= rest.len() || at >= plain.len() {
+            return Ok(false);
+        }
+        rest = rest.without(alloc, at)?;
+        plain.remove(at);
+        if rest.len() % 50 == 0 && !has(&rest, &plain) {
+            return Ok(false);
+        }
+    }
+    Ok(rest.is_empty())
+}
+
+#[test]
+fn lists_made_at_once(rt: HostRuntime) -> Result<(), Fail> {
+    let alloc = rt.alloc();
+    for count in [0u32, 1, 15, 16, 17, 383, 384, 385, 3_000] {
+        let list = SharedList::from_vec(alloc, evens(alloc, count)?)?;
+        let plain = plain_evens(alloc, count)?;
+        assert!(rt; has(&list, &plain), "{count} items");
+        assert!(rt; finds_all(&list, count), "{count} items");
+        assert!(rt; goes_away(alloc, &list, plain)?, "{count} items");
+    }
+    Ok(())
+}

@@ -1,0 +1,48 @@
+//! Changes for which memory may be refused: run with each allocation refused in turn, they answer want of
+//! memory or the list that they answer with ample memory, and leave the list as it was.
+
+ghost use Rattle.std.specs.Prelude.{◌<◌, ◌≡◌, length};
+
+use crate::numbers::{Number, Numbers, evens, has, plain_evens, shared_number};
+use canvas_code::OutOfMemory;
+use canvas_list::{Shared, SharedList};
+use std::alloc::Global;
+use std::test::Fail;
+
+const COUNT: u32 = 600;
+
+// Each sort of change, and how many items the list then has.
+fn changed(
+    alloc: Global,
+    list: &Numbers,
+    item: Shared<Number>,
+    sort: u32,
+) -> Result<Numbers, OutOfMemory>
+    requires { length list.now ≡ 600 }
+{
+    match sort {
+        0 => list.with_replaced(alloc, 300, item),
+        1 => list.with_inserted(alloc, 600, item),
+        2 => list.with_inserted(alloc, 300, item),
+        3 => list.without(alloc, 300),
+        4 => list.with_spliced(alloc, 100, 500, Vec::new(alloc)),
+        5 => list.try_clone(alloc),
+        _ => SharedList::from_vec(alloc, evens(alloc, COUNT)?),
+    }
+}
+
+#[test]
+fn changes_with_little_memory(rt: HostRuntime) -> Result<(), Fail> {
+    let alloc = rt.alloc();
+    let list = SharedList::from_vec(alloc, evens(alloc, COUNT)?)?;
+    let plain = plain_evens(alloc, COUNT)?;
+    assert!(rt; list.len() == 600);
+    for (sort, len) in (0u32..).zip([600usize, 601, 601, 599, 200, 600, 600]) {
+        let item = shared_number(alloc, 7)?;
+        if let Ok(after) = changed(alloc, &list, item, sort) {
+            assert_eq!(rt; after.len(), len, "sort {sort}");
+        }
+        assert!(rt; has(&list, &plain), "sort {sort}");
+    }
+    Ok(())
+}

@@ -1,0 +1,94 @@
+//! Lists of numbers, and plain ones that should have the same.
+
+ghost use Rattle.std.specs.Prelude.{◌≡◌, ◌≤◌, IfOk, vec_len};
+ghost use Rattle.std.specs.List.Sorted.{IsNonDecreasingBy};
+
+use canvas_code::OutOfMemory;
+use canvas_list::{Items, Keyed, Shared, SharedList};
+use std::alloc::Global;
+
+/// A number, which is its own key.
+#[derive(Drop)]
+pub(crate) struct Number {
+    pub(crate) value: u32,
+}
+
+impl Keyed for Number {
+    ghost key = { λ number. number.value };
+
+    fn key(&self) -> u32 {
+        self.value
+    }
+}
+
+pub(crate) type Numbers = SharedList<Shared<Number>>;
+
+pub(crate) fn shared_number(alloc: Global, value: u32) -> Result<Shared<Number>, OutOfMemory>
+    ensures { IfOk result (λ number. number.value ≡ value) }
+{
+    Shared::new(alloc, Number { value })
+}
+
+/// The first even numbers.
+pub(crate) fn evens(alloc: Global, count: u32) -> Result<Vec<Shared<Number>>, OutOfMemory>
+    requires { count ≤ 100000 }
+    ensures len { IfOk result (λ items. vec_len items ≡ count) }
+    ensures rising { IfOk result (λ items. IsNonDecreasingBy (λ number. number.value) items.items) }
+{
+    let mut items = Vec::new(alloc);
+    for at in 0..count {
+        items.push(shared_number(alloc, 2 * at)?)?;
+    }
+    Ok(items)
+}
+
+/// The same numbers, as a plain list.
+pub(crate) fn plain_evens(alloc: Global, count: u32) -> Result<Vec<u32>, OutOfMemory>
+    requires { count ≤ 100000 }
+{
+    let mut values = Vec::new(alloc);
+    for at in 0..count {
+        values.push(2 * at)?;
+    }
+    Ok(values)
+}
+
+/// Whether a list has the numbers of a plain one, however it is read.
+pub(crate) fn has(list: &Numbers, plain: &[u32]) -> bool {
+    let third = list.len() / 3;
+    list.len() == plain.len()
+        && list.is_empty() == plain.is_empty()
+        && reads(list, plain)
+        && gives(list.iter(), plain)
+        && gives_back(list.iter(), plain)
+        && gives(list.iter_from(third), plain.get(third..).unwrap_or(&[]))
+        && gives_back(list.iter_before(third), plain.get(..third).unwrap_or(&[]))
+}
+
+fn reads(list: &Numbers, plain: &[u32]) -> bool {
+    let mut same = list.get(plain.len()).is_none();
+    for (at, value) in plain.iter().enumerate() {
+        same = same && at < list.len() && list.at(at).value().value == *value;
+    }
+    same
+}
+
+fn gives(items: Items<'_, Shared<Number>>, plain: &[u32]) -> bool {
+    let mut wanted = plain.iter();
+    for item in items {
+        if wanted.next() != Some(&item.key()) {
+            return false;
+        }
+    }
+    wanted.next().is_none()
+}
+
+fn gives_back(items: Items<'_, Shared<Number>>, plain: &[u32]) -> bool {
+    let mut wanted = plain.iter().rev();
+    for item in items.rev() {
+        if wanted.next() != Some(&item.key()) {
+            return false;
+        }
+    }
+    wanted.next().is_none()
+}
