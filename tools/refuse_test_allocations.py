@@ -1,10 +1,10 @@
 #!/usr/bin/env python3
-"""Refuses every allocation of the memory tests of canvas_doc_tests in turn.
+"""Refuses every allocation of the tests of want of memory in turn.
 
-usage: tools/refuse_test_allocations.py
+usage: tools/refuse_test_allocations.py [--built]
 
-Proves and builds the tests, and runs each test of `memory` again and again, with the N-th allocation refused, N rising until a run
-meets no refusal. A run is right where the test passes, or where it ends with the error of a call that it needs; it is wrong where an
+Proves and builds the tests (with --built it takes what was built before), and runs each of them again and again, with the N-th
+allocation refused, N rising until a run meets no refusal. A run is right where the test passes, or where it ends with the error of a call that it needs; it is wrong where an
 assertion fails or the run ends in another way. Prints a last line 'N passed, M failed'. Needs a C compiler.
 """
 
@@ -15,18 +15,24 @@ import tempfile
 from pathlib import Path
 
 TOP = Path(__file__).resolve().parent.parent
-CRATE = TOP / "crates" / "canvas_doc_tests"
-PROGRAM = CRATE / "out" / "canvas_doc_tests_tests"
-TESTS = ["edits_with_little_memory", "refusals_with_little_memory", "restored_with_little_memory"]
+TESTS = {
+    "canvas_list_tests": ["memory::changes_with_little_memory"],
+    "canvas_doc_tests": ["memory::edits_with_little_memory", "memory::refusals_with_little_memory", "memory::restored_with_little_memory"],
+    "canvas_line_tests": ["memory::an_edit_that_wanted_memory_is_made_again"],
+}
 MOST_RUNS = 5_000
 
 
-def run(shim, test, number):
+def program(crate):
+    return TOP / "crates" / crate / "out" / f"{crate}_tests"
+
+
+def run(shim, crate, test, number):
     """How a run of a test ends, and whether it came to the allocation that is refused."""
     refused = shim.with_suffix(".refused")
     refused.unlink(missing_ok=True)
     environment = {**os.environ, "LD_PRELOAD": str(shim), "REFUSE_AT": str(number), "REFUSED_FILE": str(refused)}
-    done = subprocess.run([str(PROGRAM), f"memory::{test}"], capture_output=True, text=True, env=environment, timeout=60)
+    done = subprocess.run([str(program(crate)), test], capture_output=True, text=True, env=environment, timeout=60)
     return done, refused.exists()
 
 
@@ -38,14 +44,14 @@ def fault(done):
     return None
 
 
-def sweep(shim, test):
+def sweep(shim, crate, test):
     """How many runs of a test were right and how many were wrong."""
-    done, _ = run(shim, test, 0)
+    done, _ = run(shim, crate, test, 0)
     if done.returncode != 0:
         sys.exit(f"{test}: with all memory it ends with {done.returncode}: {done.stdout}{done.stderr}")
     passed = failed = 0
     for number in range(1, MOST_RUNS):
-        done, is_refused = run(shim, test, number)
+        done, is_refused = run(shim, crate, test, number)
         if not is_refused:
             return passed, failed
         found = fault(done)
@@ -59,12 +65,14 @@ def sweep(shim, test):
 
 
 def main():
-    subprocess.run(["rt", "test"], cwd=CRATE, stdout=subprocess.DEVNULL, check=True)
+    if "--built" not in sys.argv[1:]:
+        for crate in TESTS:
+            subprocess.run(["rt", "test"], cwd=TOP / "crates" / crate, stdout=subprocess.DEVNULL, check=True)
     with tempfile.TemporaryDirectory() as folder:
         shim = Path(folder) / "refuse_allocation.so"
         source = TOP / "tools" / "refuse_allocation.c"
         subprocess.run(["cc", "-shared", "-fPIC", "-O1", "-o", shim, source, "-ldl"], check=True)
-        counts = [sweep(shim, test) for test in TESTS]
+        counts = [sweep(shim, crate, test) for crate, tests in TESTS.items() for test in tests]
     passed, failed = (sum(column) for column in zip(*counts))
     print(f"{passed} passed, {failed} failed")
     sys.exit(1 if failed else 0)
