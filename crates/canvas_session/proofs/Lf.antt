@@ -1,8 +1,8 @@
-use Rattle.std.proofs.Common.{◌≡◌, ℕ, ◌+◌, ◌-◌, ◌<◌, ◌≤◌, ◌⊎◌, ◌==◌, true, List, ◌++◌, length, get_or, take, drop, refl, sym, ap, ◌∙◌, arith, length-drop, inl, inr, Option, Some, None, IfSome, IfNone}
+use Rattle.std.proofs.Common.{◌≡◌, ℕ, ◌+◌, ◌-◌, ◌<◌, ◌≤◌, List, length, get_or, drop, refl, sym, ap, ◌∙◌, arith, length-drop, inl, inr, Option, Some, None, IfSome, IfNone}
 use Rattle.std.proofs.lemmas.Bool.{cases_lt}
 use Rattle.std.proofs.lemmas.Bool.Decides.{nat_tests}
 use Rattle.std.proofs.lemmas.List.{get_or-drop}
-use Rattle.memchr.specs.Find.{IsFirstByte, Nowhere, NoneBefore, Passes, is_byte}
+use Rattle.memchr.specs.Find.{IsFirstByte, is_byte}
 use Rattle.canvas_session.specs.Line.{LacksLf, HasNoLf}
 
 -- no LF in the first s bytes, nor in the n after them

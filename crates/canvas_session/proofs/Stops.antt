@@ -1,7 +1,7 @@
 -- How a session ends.
-use Rattle.std.proofs.Common.{◌≡◌, ℕ, ◌+◌, ◌<◌, ◌≤◌, ◌⊎◌, inl, inr, List, [], Option, length, take, refl, sym, ap, ◌∙◌, arith, subst, add-zero}
-use Rattle.std.specs.Io.KnownBytes.{Appends, IsAtEnd, Keeps}
-use Rattle.std.proofs.KnownBytes.{Appends-nil, Appends-kept}
+use Rattle.std.proofs.Common.{◌≡◌, ℕ, ◌+◌, ◌<◌, ◌≤◌, ◌⊎◌, inl, inr, List, [], Option, length, take, refl, sym, ◌∙◌, arith, subst, add-zero}
+use Rattle.std.specs.Io.KnownBytes.{Appends, IsAtEnd}
+use Rattle.std.proofs.KnownBytes.{Appends-nil}
 use Rattle.canvas_board.specs.Seen.{Seen}
 use Rattle.canvas_session.specs.declared.fault.Cause.{Cause}
 use Rattle.canvas_session.specs.declared.fault.Cause.TheVariants.{LineTooLong, WriteFault, TooManyRequests}

@@ -1,5 +1,5 @@
 -- What comes next in a session.
-use Rattle.std.specs.Prelude.{◌≡◌, ◌≢◌, ℕ, ◌<◌, ◌≤◌, List, [], length, slice_index, Option}
+use Rattle.std.specs.Prelude.{◌≡◌, ℕ, ◌<◌, ◌≤◌, List, [], length, slice_index, Option}
 use Rattle.std.specs.Io.KnownBytes.{IsAtEnd}
 use Rattle.canvas_session.specs.Line.{LacksLf, HasNoLf}
 use Rattle.canvas_session.specs.declared.next.Interruption.{Interruption}

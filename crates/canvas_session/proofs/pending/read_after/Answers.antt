@@ -1,4 +1,4 @@
-use Rattle.std.proofs.Common.{◌≡◌, ◌+◌, ◌-◌, ◌<◌, [], length, take, drop, nat_lt, arith, sym, ap, ◌∙◌, append-nil}
+use Rattle.std.proofs.Common.{[], take, drop, sym, ◌∙◌, append-nil}
 use Rattle.std.proofs.KnownBytes.{Consumes-nil, Consumes-kept}
 use Rattle.canvas_session.proofs.Ranges.{range_more, range_same}
 use Rattle.canvas_session.proofs.pending.read_after.Goals as goal

@@ -1,10 +1,10 @@
-use Rattle.std.proofs.Common.{◌≡◌, ◌≢◌, ℕ, ◌+◌, ◌-◌, ◌*◌, ◌<◌, ◌≤◌, ◌⊎◌, length, take, drop, ap, sym, ◌∙◌, arith, subst, List, length-drop, ◌++◌}
+use Rattle.std.proofs.Common.{◌≡◌, ◌+◌, ◌≤◌, length, take, ap, sym, ◌∙◌, arith, subst, length-drop, ◌++◌}
 use Rattle.canvas_session.specs.declared.fault.SessionFault.{SessionFault}
 use Rattle.canvas_session.specs.declared.next.Next.TheVariants.{Line, Cut, End, TooLong}
 use Rattle.canvas_session.specs.Line.{ended}
 use Rattle.canvas_session.specs.declared.next.Interruption.TheVariants.{Read}
 use Rattle.canvas_session.specs.Next.{IsInterrupted, IsNext}
-use Rattle.canvas_session.specs.Session.{IsStopped, IsSession}
+use Rattle.canvas_session.specs.Session.{IsStopped}
 use Rattle.canvas_session.proofs.Exchanges.{ends, session_begins, session_waits, session_answers, session_breaks, line_at, line_and_rest}
 use Rattle.canvas_session.proofs.Stops.{served, cut, unread, unflushed, closes_long, closes_spent}
 use Rattle.canvas_session.proofs.session.serve.Goals as goal

@@ -1,4 +1,4 @@
-use Rattle.std.proofs.Common.{◌≤◌, ◌-◌, ◌≡◌, length, take, drop, arith, ◌∙◌, ap, sym}
+use Rattle.std.proofs.Common.{◌≤◌, ◌-◌, ◌≡◌, length, take, drop, arith, ◌∙◌, ap}
 use Rattle.canvas_session.proofs.Ranges.{range_after, length-range}
 use Rattle.canvas_session.proofs.pending.Pending.drop_front.Goals as goal
 
