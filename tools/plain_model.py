@@ -95,6 +95,14 @@ def check_pose(pose):
     refuse_if(reach > MOST_COORDINATE or pose.get("quarter", 0) > 3, 9)
 
 
+def first_colour(leaves, x, y):
+    """The fill of the first leaf that holds a pixel, or white."""
+    for holds, where, clip, fill in leaves:
+        if (clip is None or in_box(clip, x, y)) and holds(where, x, y):
+            return fill.lower()
+    return WHITE
+
+
 class Model:
     """A document, empty at first: records by their ids."""
 
@@ -144,6 +152,10 @@ class Model:
             number = self.records[number]["parent"]
         return line
 
+    def depth(self, number):
+        """How many levels a shape lies below the page; a child of the page has depth 1."""
+        return len(self._line(number))
+
     def _height(self, number):
         return 1 + max((self._height(child) for child in self.children(number)), default=0)
 
@@ -179,7 +191,7 @@ class Model:
     def _create(self, request):
         shape, pose, parent = request["shape"], request.get("pose", {}), request.get("parent")
         self._check_parent(parent)
-        refuse_if(len(self._line(parent)) + 1 > MOST_DEPTH, 6)
+        refuse_if(self.depth(parent) + 1 > MOST_DEPTH, 6)
         refuse_if(len(self.records) >= MOST_RECORDS, 7)
         refuse_if(self.next == MOST_IDS, 15)
         check_shape(shape)
@@ -196,7 +208,7 @@ class Model:
         record = self._known(number)
         self._check_parent(parent)
         refuse_if(number in self._line(parent), 5)
-        refuse_if(len(self._line(parent)) + self._height(number) > MOST_DEPTH, 6)
+        refuse_if(self.depth(parent) + self._height(number) > MOST_DEPTH, 6)
         index = self._index(parent, request["spot"], number)
         self.records[number] = {**record, "parent": parent, "index": index}
 
@@ -252,18 +264,27 @@ class Model:
                 if shape.get("fill"):
                     yield in_ellipse if shape["kind"] == "ellipse" else in_box, box, clip, shape["fill"]
 
+    def leaves(self):
+        """Each leaf, from front to back, with the box that it lies in."""
+        if self._leaves is None:
+            leaves = self._leaves_of(None, lambda point: point, None)
+            self._leaves = [(leaf, box_of(leaf[1]) if leaf[0] is in_polygon else leaf[1]) for leaf in leaves]
+        return self._leaves
+
+    def _leaves_near(self, x, y, w, h):
+        """The leaves, from front to back, without those that lie wholly beside a window."""
+        for leaf, (left, top, right, bottom) in self.leaves():
+            if left <= x + w and x <= right and top <= y + h and y <= bottom:
+                yield leaf
+
     def colour(self, x, y):
         """The colour of a pixel: that of the first leaf that holds it, walked from front to back."""
-        if self._leaves is None:
-            self._leaves = list(self._leaves_of(None, lambda point: point, None))
-        for holds, where, clip, fill in self._leaves:
-            if (clip is None or in_box(clip, x, y)) and holds(where, x, y):
-                return fill.lower()
-        return WHITE
+        return first_colour(self._leaves_near(x, y, 1, 1), x, y)
 
     def image(self, x, y, w, h):
         """The P6 file of a window."""
-        raster = b"".join(bytes.fromhex(self.colour(x + i, y + j)) for j in range(h) for i in range(w))
+        near = list(self._leaves_near(x, y, w, h))
+        raster = bytes.fromhex("".join(first_colour(near, x + i, y + j) for j in range(h) for i in range(w)) if near else WHITE * (w * h))
         return b"P6\n%d %d\n255\n" % (w, h) + raster
 
     # -- the saved text ----------------------------------------------------------------------------------------------

@@ -1,12 +1,29 @@
-/* Preloaded before a program: refuses the allocation whose number, counted from 1, is in REFUSE_AT, and gives all others.
-   When it refuses one it makes the file REFUSED_FILE. Built and used by refuse_allocations.py. Not thread safe: meant for programs of one
-   thread. */
+/* Preloaded before a program: refuses the allocation whose number, counted from 1, is in REFUSE_AT, and gives all others; where
+   REFUSE_COUNT is set, it refuses so many one after another. When it refuses one it makes the file REFUSED_FILE. Allocations are
+   counted over all threads. Built and used by refuse_allocations.py. */
 #define _GNU_SOURCE
 #include <dlfcn.h>
 #include <errno.h>
 #include <fcntl.h>
+#include <stdatomic.h>
 #include <stdlib.h>
 #include <unistd.h>
+
+static atomic_long given;
+static long first;
+static long count;
+
+/* The number of a name of the environment, or what stands for it where it is not set. */
+static long number_of(const char *name, long otherwise) {
+    const char *number = getenv(name);
+    return number ? atol(number) : otherwise;
+}
+
+__attribute__((constructor)) static void begin(void) {
+    first = number_of("REFUSE_AT", 0);
+    count = number_of("REFUSE_COUNT", 1);
+    atomic_store(&given, 0);
+}
 
 /* Leaves the file that tells of the refusal. */
 static void tell(void) {
@@ -17,16 +34,10 @@ static void tell(void) {
     }
 }
 
-/* Whether the allocation that is asked for now is the one to refuse. */
+/* Whether the allocation that is asked for now is one to refuse. */
 static int is_refused(void) {
-    static long given;
-    static long refused = -1;
-    if (refused < 0) {
-        const char *number = getenv("REFUSE_AT");
-        refused = number ? atol(number) : 0;
-    }
-    given += 1;
-    if (given != refused) {
+    long number = atomic_fetch_add(&given, 1) + 1;
+    if (first == 0 || number < first || first + count <= number) {
         return 0;
     }
     tell();

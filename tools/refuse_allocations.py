@@ -1,30 +1,43 @@
 #!/usr/bin/env python3
 """Refuses every allocation of the built program in turn, and checks what it answers.
 
-usage: tools/refuse_allocations.py
+usage: tools/refuse_allocations.py [long]
 
-Runs the program on two inputs, again and again, with the N-th allocation refused, N rising until a run meets no refusal. At each
-run the program must end by itself in one of these ways:
+Runs the program again and again with the N-th allocation refused, N rising until a run meets no refusal. A run of `canvas script` must
+end by itself in one of these ways:
 
 - status 5 with `canvas: 1 OutOfMemory` on standard error, and nothing written;
 - status 0, each line answered by its reply or by the reply for want of memory.
 
 An edit that was accepted is never answered by want of memory: each version in a reply is the number of edits that were
-answered as accepted before it. Prints a last line 'N passed, M failed'. Needs a C compiler.
+answered as accepted before it.
+
+A run of `canvas serve` must end with status 5 and that message before it answers anything, or serve a conversation of two clients,
+in turns. One request of it may be answered by want of memory, or one connection be closed before its first reply and made anew; all
+else is answered as plain_session.py says for the edits that were accepted, by both sessions. Afterwards the saved document has exactly
+these edits, and all seats are free.
+
+With `long` the conversation is longer, is painted by two workers too, and several allocations are refused in a row.
+
+Prints a last line 'N passed, M failed'. Needs a C compiler.
 """
 
 import io
 import json
 import os
+import socket
 import subprocess
 import sys
 import tempfile
 from pathlib import Path
 
-from canvas_client import replies
+from canvas_client import PROGRAM, TOP, line_of, replies
+from check_server import NO_SEATS, SEATS, free_port, seats_left, wait_for
+from plain_session import Session, open_document
 
-TOP = Path(__file__).resolve().parent.parent
-PROGRAM = TOP / "crates" / "canvas" / "out" / "canvas"
+# The program itself: the script bin/canvas makes allocations of its own.
+BUILT = PROGRAM if "CANVAS" in os.environ else TOP / "crates" / "canvas" / "out" / "canvas"
+SECONDS = 20
 WANT_OF_MEMORY = {"body": 0, "code": 1, "name": "OutOfMemory", "ok": False}
 MOST_RUNS = 5_000
 
@@ -50,6 +63,22 @@ EVERY_VERB = [
     {"verb": "delete", "id": 1},
     {"verb": "export"},
 ]
+# Who asks what, in turns.
+CONVERSATION = [
+    (0, EVERY_VERB[0]),
+    (1, {"verb": "point", "x": 1, "y": 1}),
+    (1, EVERY_VERB[1]),
+    (0, EVERY_VERB[3]),
+    (1, {"verb": "move", "id": 3, "parent": 1, "spot": "front"}),
+    (0, {"verb": "delete", "id": 9}),
+    (1, {"verb": "patch", "x": -2, "y": 0, "w": 12, "h": 12}),
+    (0, {"verb": "respace", "parent": None}),
+    (1, {"verb": "paint"}),
+    (0, {"verb": "export"}),
+    (1, {"verb": "delete", "id": 2}),
+    (0, {"verb": "point", "x": 0, "y": 0}),
+]
+LONG_CONVERSATION = CONVERSATION + [(k % 2, request) for k, request in enumerate(EVERY_VERB * 2)]
 EDITS = {"create", "move", "pose", "reshape", "show", "delete", "respace"}
 
 
@@ -62,7 +91,7 @@ def run(shim, number, given):
     refused = shim.with_suffix(".refused")
     refused.unlink(missing_ok=True)
     environment = {**os.environ, "LD_PRELOAD": str(shim), "REFUSE_AT": str(number), "REFUSED_FILE": str(refused)}
-    done = subprocess.run([str(PROGRAM), "script", "1"], input=given, capture_output=True, env=environment, timeout=60)
+    done = subprocess.run([str(BUILT), "script", "1"], input=given, capture_output=True, env=environment, timeout=60)
     return (done.stdout, done.stderr, done.returncode), refused.exists()
 
 
@@ -101,6 +130,7 @@ def sweep(shim, name, requests):
     for number in range(1, MOST_RUNS):
         end, is_refused = run(shim, number, given)
         if not is_refused:
+            print(f"{name}: {number} runs", flush=True)
             return passed, failed
         found = fault(requests, wanted, *end)
         if found:
@@ -112,13 +142,176 @@ def sweep(shim, name, requests):
     return passed, failed + 1
 
 
+# -- the server --------------------------------------------------------------------------------------------------------
+
+class Wrong(Exception):
+    """Something that no refused allocation allows."""
+
+
+class Server:
+    """A run that serves a document, with some allocations refused."""
+
+    def __init__(self, shim, number, count, file, workers):
+        self.refused = shim.with_suffix(".refused")
+        self.refused.unlink(missing_ok=True)
+        self.port = free_port()
+        environment = {**os.environ, "LD_PRELOAD": str(shim), "REFUSE_AT": str(number), "REFUSE_COUNT": str(count),
+                       "REFUSED_FILE": str(self.refused)}
+        words = [str(BUILT), "serve", f"127.0.0.1:{self.port}", str(file), str(workers)]
+        self.process = subprocess.Popen(words, stdout=subprocess.PIPE, stderr=subprocess.PIPE, env=environment)
+        self.is_listening = self.process.stdout.readline() == b"listening\n"
+        self.has_answered = False
+
+    def __enter__(self):
+        return self
+
+    def __exit__(self, *_):
+        self.process.kill()
+        self.process.communicate()
+
+    def socket(self):
+        return socket.create_connection(("127.0.0.1", self.port), timeout=SECONDS)
+
+    def threads(self):
+        return len(list(Path(f"/proc/{self.process.pid}/task").iterdir()))
+
+
+class Client:
+    """A session with the server, which is begun anew where its connection is closed before the first reply."""
+
+    def __init__(self, server):
+        self._server = server
+        self.turned_away = 0
+        self._connect()
+
+    def _connect(self):
+        self._socket = self._server.socket()
+        self._stream = self._socket.makefile("rb")
+        self._is_answered = False
+
+    def close(self):
+        self._stream.close()
+        self._socket.close()
+
+    def ask(self, request):
+        """The bytes of the reply and its body."""
+        try:
+            self._socket.sendall(line_of(request))
+            line = self._stream.readline()
+        except ConnectionError:
+            line = b""
+        if line:
+            self._is_answered = self._server.has_answered = True
+            return line + self._stream.read(json.loads(line)["body"])
+        if self._is_answered or self.turned_away > 9:
+            raise Wrong(f"the session ends at {request}")
+        self.turned_away += 1
+        self.close()
+        self._connect()
+        return self.ask(request)
+
+
+def model_of(text):
+    return Session(open_document(text))
+
+
+def converse(server, text, requests, most):
+    """The model after the conversation, if each answer is the model's or one for want of memory, and these are not too many."""
+    model, clients, spared = model_of(text), [Client(server), Client(server)], 0
+    try:
+        for number, request in requests:
+            got = clients[number].ask(request)
+            if got == WANT_LINE:
+                spared += 1
+                continue
+            wanted = model.reply(line_of(request)[:-1])
+            if got != wanted:
+                raise Wrong(f"{request} is answered {got[:200]}, wanted {wanted[:200]}")
+        disturbed = spared + sum(client.turned_away for client in clients)
+        if disturbed > most:
+            raise Wrong(f"{disturbed} requests were answered by want of memory or by the end of a connection")
+    finally:
+        for client in clients:
+            client.close()
+    return model
+
+
+WANT_LINE = json.dumps(WANT_OF_MEMORY, separators=(",", ":")).encode() + b"\n"
+EXPORT = {"verb": "export"}
+
+
+def serving_fault(server, text, requests, most):
+    """What is wrong with a run that serves, or None, and whether the conversation met a refusal."""
+    try:
+        model = converse(server, text, requests, most)
+        is_refused = server.refused.exists()
+        if not is_refused:
+            return None, False
+        # A run that refuses several may have some of them left, which these requests then meet.
+        client = Client(server)
+        saved = next((got for got in (client.ask(EXPORT) for _ in range(most)) if got != WANT_LINE), client.ask(EXPORT))
+        client.close()
+        if saved != model.reply(line_of(EXPORT)[:-1]):
+            return f"the saved document is {saved[:300]}", True
+        if not wait_for(lambda: server.threads() == 1):
+            return f"{server.threads()} threads are left", True
+        left = seats_left(server, SEATS + 1)
+        return (None if left == (SEATS, NO_SEATS) else f"{left} seats are free"), True
+    except (Wrong, OSError, ValueError) as wrong:
+        has_ended = not server.has_answered and wait_for(lambda: server.process.poll() is not None)
+        return starting_fault(server) if has_ended else f"{wrong!r}", True
+
+
+def starting_fault(server):
+    """What is wrong with a run that ends before it answers, or None."""
+    out, said = server.process.communicate(timeout=SECONDS)
+    end = (out, said, server.process.returncode)
+    return None if end == (b"", b"canvas: 1 OutOfMemory\n", 5) else f"ends with {end}"
+
+
+def sweep_server(shim, name, file, requests, workers=1, count=1):
+    """How many runs of a server were right and how many were wrong."""
+    passed = failed = 0
+    for number in range(1, MOST_RUNS):
+        with Server(shim, number, count, file, workers) as server:
+            if server.is_listening:
+                found, is_refused = serving_fault(server, file.read_bytes(), requests, count)
+            else:
+                found, is_refused = starting_fault(server), True
+        passed += found is None
+        failed += found is not None
+        if found:
+            print(f"{name}, allocation {number} refused: {found}", flush=True)
+        if not is_refused:
+            print(f"{name}: {passed + failed} runs", flush=True)
+            return passed, failed
+    print(f"{name}: no end of allocations after {MOST_RUNS} runs")
+    return passed, failed + 1
+
+
+def sweeps(shim, folder, is_long):
+    yield sweep(shim, "the first path", FIRST_PATH)
+    yield sweep(shim, "every verb", EVERY_VERB)
+    file = folder / "document.json"
+    file.write_bytes(b'{"format":1,"next":1,"shapes":[]}')
+    yield sweep_server(shim, "two clients", file, CONVERSATION)
+    if is_long:
+        yield sweep_server(shim, "two clients, all verbs", file, LONG_CONVERSATION)
+        yield sweep_server(shim, "two clients and two workers", file, LONG_CONVERSATION, workers=2)
+        yield sweep_server(shim, "two clients, three refused", file, LONG_CONVERSATION, count=3)
+        file.write_bytes((TOP / "examples" / "poster.json").read_bytes())
+        looks_and_edit = [(0, EXPORT), (1, {"verb": "tile", "col": 0, "row": 0}), (0, EVERY_VERB[4])]
+        yield sweep_server(shim, "two clients and a poster", file, looks_and_edit)
+
+
 def main():
-    subprocess.run([str(TOP / "bin" / "canvas"), "script", "1"], stdin=subprocess.DEVNULL, check=True)
+    is_long = sys.argv[1:] == ["long"]
+    subprocess.run([str(PROGRAM), "script", "1"], stdin=subprocess.DEVNULL, check=True)  # builds it where it is not built
     with tempfile.TemporaryDirectory() as folder:
         shim = Path(folder) / "refuse_allocation.so"
         source = TOP / "tools" / "refuse_allocation.c"
         subprocess.run(["cc", "-shared", "-fPIC", "-O1", "-o", shim, source, "-ldl"], check=True)
-        counts = [sweep(shim, "the first path", FIRST_PATH), sweep(shim, "every verb", EVERY_VERB)]
+        counts = list(sweeps(shim, Path(folder), is_long))
     passed, failed = (sum(column) for column in zip(*counts))
     print(f"{passed} passed, {failed} failed")
     sys.exit(1 if failed else 0)

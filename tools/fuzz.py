@@ -1,0 +1,624 @@
+#!/usr/bin/env python3
+"""Random sessions and random saved documents, by grammar, against the plain model of plain_session.py, byte by byte.
+
+usage: tools/fuzz.py [sessions, 300 where it is left out] [seed, 1 where it is left out]
+
+A session goes to a run of `canvas script`; what the program writes to standard output and standard error and its status must be
+exactly what the model says. For every five sessions a saved text is opened by `canvas serve`, which must refuse it with the model's
+code and status 3, or serve it: then a session of it is compared, which ends by an export.
+
+Each session has a seed of its own, made of the seed given and its number, and uses as many processor cores as this tool may. What
+differs is cut down to a short input and printed. The last line is 'N passed, M failed'; the status is 1 where something failed.
+"""
+
+import json
+import multiprocessing
+import os
+import random
+import socket
+import subprocess
+import sys
+import tempfile
+import threading
+from pathlib import Path
+
+import key_rows
+from canvas_client import PROGRAM
+from plain_model import Refused
+from plain_session import NAMES, Session, open_document, run_script
+
+SECONDS = 60
+MOST_SHRINKING_RUNS = 600
+MOST_SHOWN = 5
+DOCUMENT_FOR_EVERY = 5
+LARGE_DOCUMENT_OF = 100
+PROGRESS_EVERY = 10_000
+BIG, SIDE = 1 << 20, 1 << 16
+
+
+# -- texts of JSON -----------------------------------------------------------------------------------------------------
+
+class Raw(str):
+    """A piece of text that stands as it is."""
+
+
+ODD = [
+    None, True, False, 0, 1, -1, 7, "", "x", "a0", "front", "ff0000", [], {}, [[0, 0]], {"kind": "group"}, {"over": 1}, {"at": "a1"},
+    Raw("-0"), Raw("1.0"), Raw("1e0"), Raw("0.5"), Raw("1E400"), Raw("-1e999"), Raw("1e-999"), Raw("01"), Raw("+1"), Raw("1."), Raw(".5"),
+    Raw("-"), Raw("NaN"), Raw("Infinity"), Raw("-Infinity"), Raw("nul"), Raw("True"), Raw("'a'"), Raw("1.7976931348623157e308"),
+    Raw("1.7976931348623159e308"), Raw("9" * 309), Raw("9" * 308), Raw("[1,]"), Raw("[,1]"), Raw('{"a":1,}'), Raw('{"a"}'), Raw("[1 2]"),
+    Raw(r'"\ud800"'), Raw(r'"\ud83d\ude00"'), Raw(r'"\ude00\ud83d"'), Raw(r'"\uD800x"'), Raw(r'"\u0066ront"'), Raw(r'"\x41"'),
+    Raw('"a\tb"'), Raw(r'"\u00"'), Raw('"\x7f"'), Raw('"unended'), Raw("\x00"), Raw("\ufeff1"), Raw("/*c*/1"), Raw('"\u00e9"'),
+    255, 256, 4095, 4096, BIG, BIG + 1, -BIG, -BIG - 1, SIDE, SIDE + 1, 2**31 - 1, 2**31, -(2**31), -(2**31) - 1, 2**32 - 1, 2**32,
+    2**63 - 1, 2**63, -(2**63), -(2**63) - 1, 2**64 - 1, 2**64,
+]
+
+
+def blank(chance):
+    return chance.choice([" ", "  ", "\t", "\r", " \r\t "]) if chance.random() < 0.3 else ""
+
+
+def string_text(chance, value):
+    if chance.random() < 0.01 and value:
+        at = chance.randrange(len(value))
+        return json.dumps(value[:at])[:-1] + f"\\u{ord(value[at]):04x}" + json.dumps(value[at + 1 :])[1:]
+    return json.dumps(value, ensure_ascii=chance.random() < 0.5)
+
+
+def text_of(chance, value, is_loose):
+    """The JSON text of a value; a loose one has blanks and repeated members."""
+    gap = (lambda: blank(chance)) if is_loose else str
+    if isinstance(value, Raw):
+        return str(value)
+    if isinstance(value, str):
+        return string_text(chance, value)
+    if isinstance(value, list):
+        return "[" + gap() + ",".join(gap() + text_of(chance, item, is_loose) + gap() for item in value) + "]"
+    if not isinstance(value, dict):
+        return json.dumps(value)
+    members = list(value.items())
+    if is_loose:
+        chance.shuffle(members)
+        if members and chance.random() < 0.3:
+            members.insert(chance.randrange(len(members) + 1), (chance.choice(members)[0], chance.choice(ODD)))
+    texts = (gap() + string_text(chance, name) + gap() + ":" + gap() + text_of(chance, item, is_loose) for name, item in members)
+    return "{" + gap() + ",".join(texts) + gap() + "}"
+
+
+def objects_in(value):
+    """All lists and objects of a value, itself among them."""
+    if isinstance(value, (dict, list)):
+        yield value
+        for item in value.values() if isinstance(value, dict) else value:
+            yield from objects_in(item)
+
+
+EXTRA = ["x", "verb", "id", "level", "place", "at", "over", "kind", "fill", "w", "points", "dx", "Verb", "pose", "shape", "spot", "index",
+         ""]
+
+
+def spoil_value(chance, value):
+    """Changes one place of a value: another value there, one too few, or one too many."""
+    part = chance.choice(list(objects_in(value)))
+    places = list(part) if isinstance(part, dict) else list(range(len(part)))
+    what = chance.random()
+    if places and what < 0.5:
+        part[chance.choice(places)] = chance.choice(ODD)
+    elif places and what < 0.75:
+        del part[chance.choice(places)]
+    elif isinstance(part, dict):
+        part[chance.choice(EXTRA)] = chance.choice(ODD)
+    else:
+        part.insert(chance.randrange(len(part) + 1), chance.choice(ODD))
+
+
+BYTES = [b"", b'"', b"{", b"}", b"[", b"]", b",", b":", b"\\", b"\n", b"\r", b"\x00", b"\x1f", b"\x7f", b"\x80", b"\xff", b"\xc0\xaf",
+         b"\xed\xa0\x80", b"\xf4\x90\x80\x80", b"\xc3\xa9", b"\xef\xbb\xbf", b"0", b"-", b".", b"e", b" ", b"\x0b", b"\xc2\xa0"]
+
+
+def spoil_bytes(chance, data):
+    """Puts bytes in, takes bytes out, repeats some, or cuts the text."""
+    for _ in range(chance.choice([1, 1, 1, 2, 4])):
+        at = chance.randrange(len(data) + 1)
+        end = min(len(data), at + chance.choice([0, 0, 1, 1, 2, 9]))
+        what = chance.random()
+        if what < 0.7:
+            data = data[:at] + chance.choice(BYTES) + data[end:]
+        elif what < 0.85:
+            data = data[:end] + data[at:]
+        else:
+            data = data[:at]
+    return data
+
+
+# -- requests ----------------------------------------------------------------------------------------------------------
+
+LONG_KEYS = [
+    "a0" + "z" * 126, "a0" + "z" * 125, "a0" + "z" * 127, "a0" + "0" * 125 + "1", "z" * 27, "z" * 27 + "V", "z" * 27 + "z" * 101,
+    "z" * 26 + "y", "A" + "0" * 26, "A" + "0" * 26 + "1", "A" + "0" * 26 + "0" * 100 + "1", "A" + "0" * 25 + "1", "A" + "0" * 26 + "V",
+]
+KEYS = [
+    "a0", "a1", "a2", "a5", "az", "a0V", "a0G", "a00V", "a01", "a001", "Zz", "Zy", "Zz1", "b00", "b0z", "bzz", "Y00", "Yzz", "c000", "a0zz",
+    "a00", "0", "", "b1", "a-", "a", "b", "Z", "a0 ", "a\u00e9", "aa\n", "@0", "[0", "`0", "{0", "Z0", "ZzV0", *LONG_KEYS,
+]
+
+
+class Requests:
+    """Random requests for a session, most of which fit the document as it then is."""
+
+    def __init__(self, chance, session, habit):
+        self._chance = chance
+        self._session = session
+        self._habit = habit
+
+    def _any_id(self):
+        model, chance = self._session.model, self._chance
+        if model.records and chance.random() < 0.93:
+            return chance.choice(list(model.records))
+        return chance.choice([0, 1, 2, 3, model.next - 1, model.next, model.next + 1, 99, 2**32 - 1, 2**32])
+
+    def _parent(self):
+        model, chance = self._session.model, self._chance
+        inner = [number for number, record in model.records.items() if record["shape"]["kind"] in ("group", "frame")]
+        if self._habit == "deep" and inner and chance.random() < 0.9:
+            return max(inner, key=model.depth)
+        if self._habit == "flat" or not inner or chance.random() < 0.3:
+            return None
+        return chance.choice(inner) if chance.random() < 0.85 else chance.choice([self._any_id(), self._any_id(), 0, 99, 2**32 - 1])
+
+    def _spot(self, parent):
+        model, chance = self._session.model, self._chance
+        what = chance.random()
+        if what < 0.5:
+            return chance.choice(["front", "back"])
+        siblings = model.children(parent)
+        if what < 0.75:
+            return {"over": chance.choice(siblings) if siblings and chance.random() < 0.9 else self._any_id()}
+        if siblings and what < 0.8:
+            return {"at": model.records[chance.choice(siblings)]["index"]}
+        return {"at": chance.choice(KEYS)}
+
+    def _number(self, usual, limits):
+        return self._chance.choice(limits) if self._chance.random() < 0.03 else self._chance.randrange(*usual)
+
+    def _far(self):
+        usual = (-12, 40) if self._chance.random() < 0.97 else (-BIG, BIG + 1)
+        return self._number(usual, [BIG, BIG + 1, -BIG, -BIG - 1, 2**31 - 1, 2**31, -(2**31), -(2**31) - 1])
+
+    def _pose(self):
+        chance = self._chance
+        pose = {"dx": self._far(), "dy": self._far(), "quarter": self._number((0, 4), [4, 255, 256, -1]), "flip": chance.random() < 0.5}
+        for name in list(pose):
+            if chance.random() < 0.25:
+                del pose[name]
+        return pose
+
+    def _fill(self):
+        if self._chance.random() < 0.03:
+            return self._chance.choice(["ff000", "ff00000", "gg0000", "", " ff000", "+f0000", "0x0000", "ff00\u0660\u0660", None])
+        fill = f"{self._chance.randrange(1 << 24):06x}"
+        return fill.upper() if self._chance.random() < 0.2 else fill
+
+    def _shape(self, kind=None):
+        chance = self._chance
+        kind = kind or chance.choice(["group", "frame", "frame", "rect", "rect", "ellipse", "polygon"])
+        if self._habit == "deep":
+            kind = chance.choice(["group", "frame", "group", "group", kind])
+        if kind == "group":
+            return {"kind": kind}
+        if kind == "polygon":
+            count = chance.choice([2, 256, 257]) if chance.random() < 0.03 else chance.randrange(3, 8)
+            place = (lambda: chance.randint(-BIG, BIG)) if chance.random() < 0.15 else self._far
+            return {"kind": kind, "points": [[place(), place()] for _ in range(count)], "fill": self._fill()}
+        sides, usual = [0, SIDE, SIDE + 1, 2**32 - 1, 2**32, -1], (1, 30) if chance.random() < 0.85 else (1, SIDE + 1)
+        made = {"kind": kind, "w": self._number(usual, sides), "h": self._number(usual, sides), "fill": self._fill()}
+        if kind == "frame" and chance.random() < 0.5:
+            if chance.random() < 0.5:
+                del made["fill"]
+            else:
+                made["fill"] = None
+        return made
+
+    def _create(self):
+        chance = self._chance
+        made = {"shape": self._shape()}
+        if chance.random() < 0.7:
+            made["pose"] = self._pose()
+        if chance.random() < 0.1:
+            made["hidden"] = chance.random() < 0.5
+        parent = self._parent()
+        if parent is not None or chance.random() < 0.2:
+            made["parent"] = parent
+        if chance.random() < 0.6:
+            made["spot"] = self._spot(parent)
+        return made
+
+    def _move(self):
+        parent = self._parent()
+        return {"id": self._any_id(), "parent": parent, "spot": self._spot(parent)}
+
+    def _reshape(self):
+        number = self._any_id()
+        record = self._session.model.records.get(number)
+        return {"id": number, "shape": self._shape(record and self._chance.random() < 0.8 and record["shape"]["kind"])}
+
+    def _tile(self):
+        ends = [8191, 8192, -8192, -8193, 2**31 - 1, 2**31, -(2**31), -(2**31) - 1]
+        place = lambda: self._chance.choice(ends) if self._chance.random() < 0.5 else self._chance.randrange(-3, 4)
+        return {"col": place(), "row": place()}
+
+    def _pixel(self, edges):
+        """A place near the middle of the page, or on the border of a shape that shows."""
+        chance, leaves = self._chance, self._session.model.leaves()
+        if not leaves or chance.random() < 0.4:
+            return {"x": self._number((-15, 45), edges), "y": self._number((-15, 45), edges)}
+        left, top, right, bottom = chance.choice(leaves)[1]
+        x, y = chance.choice([left, right, (left + right) // 2, chance.randint(left, right)]), chance.randint(top, bottom)
+        x, y = (x, y) if chance.random() < 0.5 else (chance.randint(left, right), chance.choice([top, bottom, (top + bottom) // 2]))
+        return {"x": x - chance.randrange(12), "y": y - chance.randrange(9)}
+
+    def _patch(self):
+        edges = [2**21, 2**21 - 1, 2**21 - 5, -(2**21), -(2**21) - 1, 2**31 - 1, 2**31, -(2**31), -(2**31) - 1]
+        sides = [0, 257, 2**31, 2**32 - 1, 2**32, -1]
+        made = self._pixel(edges)
+        made.update(w=self._number((1, 16), sides), h=self._number((1, 12), sides))
+        if self._chance.random() < 0.02:
+            made[self._chance.choice("wh")] = 256
+        return made
+
+    def _point(self):
+        return self._pixel([2**31 - 1, 2**31, -(2**31), -(2**31) - 1, BIG, -BIG, 2**21])
+
+    def request(self):
+        """A request, as a dict."""
+        verbs = {"create": 36, "move": 14, "pose": 9, "reshape": 9, "show": 3, "delete": 5, "respace": 3,
+                 "tile": 0.4, "patch": 9, "point": 9, "export": 3}
+        if self._habit == "pictures":
+            verbs["patch"] = 40
+        if self._habit == "deep":
+            verbs.update(create=90, delete=1)
+        verb = self._chance.choices(list(verbs), list(verbs.values()))[0]
+        members = {
+            "create": self._create,
+            "move": self._move,
+            "pose": lambda: {"id": self._any_id(), "pose": self._pose()},
+            "reshape": self._reshape,
+            "show": lambda: {"id": self._any_id(), "hidden": self._chance.random() < 0.4},
+            "delete": lambda: {"id": self._any_id()},
+            "respace": lambda: {"parent": self._parent()},
+            "tile": self._tile,
+            "patch": self._patch,
+            "point": self._point,
+            "export": dict,
+        }[verb]()
+        return {"verb": verb, **members}
+
+    def piece(self):
+        """The bytes of a request or of something that is none, with the LF that ends it."""
+        chance = self._chance
+        if chance.random() < 0.02:
+            return chance.choice(STRANGE)(chance)
+        request = self.request()
+        if chance.random() < 0.12:
+            spoil_value(chance, request)
+        if chance.random() < 0.01:
+            request["verb"] = chance.choice(["Create", "paint", "", "tile ", "\u0074ile\u0000", None, 1, ["create"]])
+        line = text_of(chance, request, chance.random() < 0.1).encode()
+        if chance.random() < 0.06:
+            line = spoil_bytes(chance, line)
+        return line + (b"\r\n" if chance.random() < 0.05 else b"\n")
+
+
+def nested(chance):
+    depth = chance.choice([1, 126, 127, 128, 129, 500])
+    inner = chance.choice([b"", b"1", b"{}"])
+    return chance.choice([b"[" * depth + inner + b"]" * depth, b'{"a":' * depth + b"1" + b"}" * depth]) + b"\n"
+
+
+def nested_member(chance):
+    depth = chance.choice([125, 126, 127, 128])
+    return b'{"verb":"export","x":' + b"[" * depth + b"]" * depth + b"}\n"
+
+
+def long_line(chance):
+    """A line of 65,536 bytes, or a few more or less; now and then a request."""
+    length = chance.choice([65_530, 65_535, 65_536, 65_536, 65_537, 65_538, 70_000])
+    line = chance.choice([b"", b'{"verb":"export"}', b'{"verb":"point","x":1,"y":1}'])
+    return line + chance.choice([b" ", b" ", b"x", b"\r"]) * (length - len(line)) + b"\n"
+
+
+STRANGE = [
+    lambda chance: chance.choice([b"\n", b"\r\n", b" \n", b"\t\r\n", b"\n\n\n", b"\x00\n"]),
+    lambda chance: chance.choice([b"null\n", b"[]\n", b"7\n", b'"x"\n', b"{}\n", b"true\n"]),
+    lambda chance: text_of(chance, chance.choice(ODD), False).encode("utf-8", "surrogatepass") + b"\n",
+    nested,
+    nested_member,
+    lambda chance: long_line(chance) if chance.random() < 0.1 else b"{\n",
+    lambda chance: bytes(chance.randrange(256) for _ in range(chance.randrange(1, 40))) + b"\n",
+]
+
+
+def pieces_of(chance, session, most):
+    """The pieces of a random session, given to a model of it while they are made."""
+    habit = chance.choices(["any", "deep", "flat", "pictures"], [10, 1, 3, 3])[0]
+    requests, pieces = Requests(chance, session, habit), []
+    for _ in range(chance.randrange(1, most) if habit != "deep" else 110):
+        pieces.append(requests.piece())
+        session.feed(pieces[-1])
+        if session.fault is not None:
+            break
+    if chance.random() < 0.1:
+        pieces.append(requests.piece()[:-1][: chance.choice([0, 1, 5, 99_999])])
+        session.feed(pieces[-1])
+    return pieces
+
+
+# -- sessions of `canvas script` ---------------------------------------------------------------------------------------
+
+def run_program(data):
+    """What the program writes for the bytes of a session, and its status."""
+    words = [str(PROGRAM), "script", "1"]
+    done = subprocess.run(words, input=data, capture_output=True, timeout=SECONDS)
+    return done.stdout, done.stderr, done.returncode
+
+
+def differs(data):
+    return run_program(data) != run_script(data)
+
+
+def fuzz_session(chance):
+    """The pieces of a session whose answers differ, or None."""
+    session = Session()
+    pieces = pieces_of(chance, session, chance.choice([6, 14, 14, 30, 70]))
+    out, code, status = session.end()
+    said = b"" if code is None else b"canvas: %d %s\n" % (code, NAMES[code].encode())
+    return None if run_program(b"".join(pieces)) == (out, said, status) else pieces
+
+
+def shorter(parts, test, runs):
+    """Leaves parts out of a list, many at first and then one by one, as long as the test holds of what is left."""
+    size = max(1, len(parts) // 2)
+    while size and runs[0] > 0:
+        at = 0
+        while at < len(parts) and runs[0] > 0:
+            runs[0] -= 1
+            if test(parts[:at] + parts[at + size :]):
+                parts = parts[:at] + parts[at + size :]
+            else:
+                at += size
+        size //= 2
+    return parts
+
+
+def shrunk(pieces, test):
+    """A short input of which the test still holds: fewer lines, then fewer bytes."""
+    runs = [MOST_SHRINKING_RUNS]
+    lines = shorter([line for piece in pieces for line in piece.splitlines(True)], lambda parts: test(b"".join(parts)), runs)
+    single = shorter([bytes([byte]) for byte in b"".join(lines)], lambda parts: test(b"".join(parts)), runs)
+    return b"".join(single)
+
+
+def first_difference(got, wanted):
+    """Where two texts part, with a little of both."""
+    at = next((k for k, (a, b) in enumerate(zip(got, wanted)) if a != b), min(len(got), len(wanted)))
+    begin = max(0, at - 40)
+    return f"at byte {at} got {got[begin : at + 80]!r}, wanted {wanted[begin : at + 80]!r}"
+
+
+def told_session(pieces):
+    """What differs for a session, and a short input that shows it."""
+    if not differs(b"".join(pieces)):
+        return f"the answers to {b''.join(pieces)!r} differed once, and not again"
+    data = shrunk(pieces, differs)
+    parts = zip(("standard output", "standard error", "status"), run_program(data), run_script(data))
+    faults = [f"{name} {first_difference(got, wanted) if isinstance(got, bytes) else f'got {got}, wanted {wanted}'}"
+              for name, got, wanted in parts if got != wanted]
+    return f"the session {data!r}: {'; '.join(faults)}"
+
+
+# -- saved documents ---------------------------------------------------------------------------------------------------
+
+def saved_value(chance):
+    """A saved document that mostly opens, as a value."""
+    session = Session()
+    pieces_of(chance, session, chance.choice([3, 14, 40]))
+    value = json.loads(session.model.saved())
+    what = chance.random()
+    if what < 0.1:
+        value["next"] = chance.choice([2**32 - 1, 2**32 - 2, 2**32, 0, 1, value["next"] - 1])
+    elif what < 0.2:
+        chance.shuffle(value["shapes"])
+    elif what < 0.3:
+        value["shapes"] = chain(chance.choice([31, 32, 33, 34]), chance)
+        value["next"] = 99
+    return value
+
+
+QUIET = {"dx": 0, "dy": 0, "flip": False, "quarter": 0}
+
+
+def group(number, index, parent):
+    return {"hidden": False, "id": number, "index": index, "parent": parent, "pose": dict(QUIET), "shape": {"kind": "group"}}
+
+
+def chain(length, chance):
+    """Groups one in another; the first may have one of them for its parent, or none that is there."""
+    first = chance.choice([None, None, None, length, 98])
+    return [group(k, "a0", k - 1 if k > 1 else first) for k in range(1, length + 1)]
+
+
+def large_text(chance):
+    """The bytes of a saved document with about as many records as there may be."""
+    count = chance.choice([4095, 4096, 4097])
+    groups = [group(k + 1, key_rows.fresh(k), None) for k in range(count)]
+    return json.dumps({"format": 1, "next": count + 1, "shapes": groups}).encode()
+
+
+RECORD_VALUES = {
+    "id": [0, 1, 2, 3, 2**32 - 1, 2**32],
+    "index": KEYS,
+    "parent": [None, 0, 1, 2, 3, 99, 2**32 - 1, 2**32, -1],
+    "hidden": [0, None, "true"],
+    "pose": [{}, {**QUIET, "dx": BIG}, {**QUIET, "dx": BIG + 1}, {**QUIET, "quarter": 4}, {**QUIET, "dy": -BIG - 1}, {**QUIET, "z": 0}],
+    "shape": [
+        {"kind": "frame", "w": 1, "h": 1},
+        {"kind": "frame", "w": 1, "h": 1, "fill": None},
+        {"kind": "rect", "w": SIDE, "h": SIDE + 1, "fill": "000000"},
+        {"kind": "rect", "w": 0, "h": 1, "fill": "000000"},
+        {"kind": "rect", "w": SIDE, "h": SIDE, "fill": "ABCDEF"},
+        {"kind": "group", "w": 1},
+        {"kind": "polygon", "points": [[0, 0], [1, 1]], "fill": "000000"},
+        {"kind": "polygon", "points": [[0, 0], [BIG, -BIG], [1, 0]], "fill": "000000"},
+        {"kind": "polygon", "points": [[0, 0], [BIG + 1, 0], [1, 0]], "fill": "000000"},
+        {"kind": "ellipse", "w": 1, "h": 1, "fill": None},
+    ],
+}
+
+
+def saved_text(chance):
+    """The bytes of a saved document, good or spoiled."""
+    value = saved_value(chance)
+    for _ in range(chance.choice([0, 0, 1, 2])):
+        record = chance.choice(value["shapes"]) if value["shapes"] else {}
+        name = chance.choice(list(RECORD_VALUES))
+        if record:
+            record[name] = chance.choice(RECORD_VALUES[name])
+    if value["shapes"] and chance.random() < 0.1:
+        value["shapes"].append(dict(chance.choice(value["shapes"])))
+    if chance.random() < 0.15:
+        spoil_value(chance, value)
+    data = text_of(chance, value, chance.random() < 0.3).encode("utf-8", "surrogatepass")
+    data = data if chance.random() < 0.8 else chance.choice([b" ", b"\n", b"\r\n\t"]) + data + chance.choice([b"\n", b" \n", b""])
+    return spoil_bytes(chance, data) if chance.random() < 0.1 else data
+
+
+def opened_code(data):
+    """The code that a saved text is refused with, or None."""
+    try:
+        open_document(data)
+    except Refused as refused:
+        return refused.code
+    return None
+
+
+def serve(data):
+    """A program that serves these bytes as a saved document, with its port; or what it wrote and its status, where it ended."""
+    for _ in range(20):
+        with socket.create_server(("127.0.0.1", 0)) as found:
+            port = found.getsockname()[1]
+        with tempfile.NamedTemporaryFile() as file:
+            file.write(data)
+            file.flush()
+            words = [str(PROGRAM), "serve", f"127.0.0.1:{port}", file.name, "1"]
+            process = subprocess.Popen(words, stdout=subprocess.PIPE, stderr=subprocess.PIPE)
+            if process.stdout.readline() == b"listening\n":
+                return process, port
+            out, said = process.communicate(timeout=SECONDS)
+        if said != b"canvas: input or output fault\n":
+            break  # else another program took the port
+    return (said, process.returncode), None
+
+
+def talk(port, data):
+    """What a session with a server writes for these bytes."""
+    with socket.create_connection(("127.0.0.1", port), timeout=SECONDS) as sock:
+        sender = threading.Thread(target=lambda: (sock.sendall(data), sock.shutdown(socket.SHUT_WR)))
+        sender.start()
+        parts = []
+        while part := sock.recv(1 << 16):
+            parts.append(part)
+        sender.join()
+    return b"".join(parts)
+
+
+def opening_fault(data, lines, wanted=None):
+    """What is wrong with how the program opens a saved text and answers the lines then, or None; `wanted` are these answers, if known."""
+    code = None if wanted else opened_code(data)
+    process, port = serve(data)
+    if port is None:
+        refusal = (b"canvas: %d %s\n" % (code, NAMES[code].encode()), 3) if code else "that it serves"
+        return None if process == refusal else f"got {process}, wanted {refusal}"
+    try:
+        if code:
+            return f"it serves, wanted {code} {NAMES[code]}"
+        got = talk(port, lines)
+    finally:
+        process.kill()
+        process.communicate()
+    if wanted is None:
+        session = Session(open_document(data))
+        session.feed(lines)
+        wanted = session.out
+    return None if got == wanted else f"its session {lines!r}: {first_difference(got, wanted)}"
+
+
+CREATE, EXPORT = b'{"verb":"create","shape":{"kind":"group"}}\n', b'{"verb":"export"}\n'
+
+
+def fuzz_document(chance, data, begin=b""):
+    """A saved text, and the lines of its session, where the program does otherwise than the model; or None."""
+    try:
+        session = Session(open_document(data))
+    except Refused:
+        return (data, EXPORT) if opening_fault(data, EXPORT) else None
+    session.feed(begin)
+    pieces = [begin, *pieces_of(chance, session, 8), EXPORT]
+    session.feed(EXPORT)
+    lines = b"".join(pieces)
+    return (data, lines) if opening_fault(data, lines, session.out) else None
+
+
+def told_document(found):
+    data, lines = found
+    if not opening_fault(data, lines):
+        return f"the saved text {data!r} with the session {lines!r} differed once, and not again"
+    runs = [MOST_SHRINKING_RUNS // 2]
+    if len(data) < 5_000:
+        lines = b"".join(shorter(lines.splitlines(True), lambda parts: opening_fault(data, b"".join(parts)), runs))
+        data = b"".join(shorter([bytes([byte]) for byte in data], lambda parts: opening_fault(b"".join(parts), lines), runs))
+    return f"the saved text {data[:5_000]!r}: {opening_fault(data, lines)}"
+
+
+# -- all of them -------------------------------------------------------------------------------------------------------
+
+FUZZERS = {
+    "session": (fuzz_session, told_session),
+    "document": (lambda chance: fuzz_document(chance, saved_text(chance)), told_document),
+    "large document": (lambda chance: fuzz_document(chance, large_text(chance), CREATE * 2), told_document),
+}
+
+
+def one(job):
+    """What differs at one number of a seed, with what it is a job of."""
+    kind, number = job
+    try:
+        return job, FUZZERS[kind][0](random.Random(f"{kind} {number}"))
+    except subprocess.TimeoutExpired:
+        return job, f"no end after {SECONDS} seconds"
+
+
+def jobs_of(count, seed):
+    yield from (("session", f"{seed} {number}") for number in range(count))
+    for number in range(count // DOCUMENT_FOR_EVERY):
+        yield "large document" if number % LARGE_DOCUMENT_OF == 9 else "document", f"{seed} {number}"
+
+
+def main():
+    count = int(sys.argv[1]) if len(sys.argv) > 1 else 300
+    seed = int(sys.argv[2]) if len(sys.argv) > 2 else 1
+    subprocess.run([str(PROGRAM), "script"], stdin=subprocess.DEVNULL, check=True)  # builds it where it is not built
+    passed = failed = 0
+    with multiprocessing.Pool(len(os.sched_getaffinity(0))) as pool:
+        for (kind, number), found in pool.imap_unordered(one, jobs_of(count, seed), chunksize=10):
+            passed += found is None
+            failed += found is not None
+            if (passed + failed) % PROGRESS_EVERY == 0:
+                print(f"{passed + failed} so far, {failed} failed", flush=True)
+            if found is not None and failed <= MOST_SHOWN:
+                print(f"{kind} {number}: {found if isinstance(found, str) else FUZZERS[kind][1](found)}", flush=True)
+    print(f"{passed} passed, {failed} failed")
+    sys.exit(1 if failed else 0)
+
+
+if __name__ == "__main__":
+    main()
