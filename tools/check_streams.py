@@ -18,6 +18,7 @@ import struct
 import subprocess
 import sys
 import tempfile
+import termios
 import threading
 import time
 import tty
@@ -28,7 +29,7 @@ from canvas_client import PROGRAM, TOP
 from check_server import EMPTY, free_port, read_all, read_line
 
 BUILT = PROGRAM if "CANVAS" in os.environ else TOP / "crates" / "canvas" / "out" / "canvas"
-"""The program itself: the script bin/canvas has streams of its own."""
+"""The program itself, where the script bin/canvas would be in the way: it has streams and allocations of its own."""
 
 SECONDS = 30
 CREATE = b'{"verb":"create","shape":{"kind":"rect","w":2,"h":1,"fill":"ff0000"}}\n'
@@ -122,8 +123,6 @@ def terminal(is_raw):
 
 
 def switch_echo_off(side):
-    import termios
-
     settings = termios.tcgetattr(side)
     settings[3] &= ~termios.ECHO
     termios.tcsetattr(side, termios.TCSANOW, settings)

@@ -20,10 +20,10 @@ import subprocess
 import sys
 import tempfile
 import threading
-from pathlib import Path
 
 import key_rows
 from canvas_client import PROGRAM
+from check_streams import BUILT
 from plain_model import Refused
 from plain_session import NAMES, Session, open_document, run_script
 
@@ -357,7 +357,7 @@ def pieces_of(chance, session, most):
 
 def run_program(data):
     """What the program writes for the bytes of a session, and its status."""
-    words = [str(PROGRAM), "script", "1"]
+    words = [str(BUILT), "script", "1"]
     done = subprocess.run(words, input=data, capture_output=True, timeout=SECONDS)
     return done.stdout, done.stderr, done.returncode
 
@@ -509,7 +509,7 @@ def serve(data):
         with tempfile.NamedTemporaryFile() as file:
             file.write(data)
             file.flush()
-            words = [str(PROGRAM), "serve", f"127.0.0.1:{port}", file.name, "1"]
+            words = [str(BUILT), "serve", f"127.0.0.1:{port}", file.name, "1"]
             process = subprocess.Popen(words, stdout=subprocess.PIPE, stderr=subprocess.PIPE)
             if process.stdout.readline() == b"listening\n":
                 return process, port

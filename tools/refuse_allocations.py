@@ -33,13 +33,12 @@ from pathlib import Path
 
 from canvas_client import PROGRAM, TOP, line_of, replies
 from check_server import NO_SEATS, SEATS, free_port, seats_left, wait_for
+from check_streams import BUILT
 from plain_session import Session, open_document
 
-# The program itself: the script bin/canvas makes allocations of its own.
-BUILT = PROGRAM if "CANVAS" in os.environ else TOP / "crates" / "canvas" / "out" / "canvas"
 SECONDS = 20
 WANT_OF_MEMORY = {"body": 0, "code": 1, "name": "OutOfMemory", "ok": False}
-MOST_RUNS = 5_000
+MOST_RUNS = 20_000
 
 FIRST_PATH = [
     {"verb": "create", "shape": {"kind": "rect", "w": 2, "h": 1, "fill": "ff0000"}},
@@ -215,16 +214,32 @@ def model_of(text):
     return Session(open_document(text))
 
 
+LOOKS = {}
+"""What the model answers to looks, by the document and the edits that it has had: many runs ask for the same."""
+
+
+def answer(model, known, request):
+    """What the model answers; `known` is the document's text and the edits so far."""
+    line = line_of(request)[:-1]
+    if request["verb"] in EDITS:
+        known.append(line)
+        return model.reply(line)
+    key = (*known, line)
+    if key not in LOOKS:
+        LOOKS[key] = model.reply(line)
+    return LOOKS[key]
+
+
 def converse(server, text, requests, most):
     """The model after the conversation, if each answer is the model's or one for want of memory, and these are not too many."""
-    model, clients, spared = model_of(text), [Client(server), Client(server)], 0
+    model, clients, known, spared = model_of(text), [Client(server), Client(server)], [text], 0
     try:
         for number, request in requests:
             got = clients[number].ask(request)
             if got == WANT_LINE:
                 spared += 1
                 continue
-            wanted = model.reply(line_of(request)[:-1])
+            wanted = answer(model, known, request)
             if got != wanted:
                 raise Wrong(f"{request} is answered {got[:200]}, wanted {wanted[:200]}")
         disturbed = spared + sum(client.turned_away for client in clients)

@@ -27,7 +27,7 @@ import time
 
 import key_rows
 from canvas_client import line_of, replies
-from check_server import NO_SEATS, SEATS, SECONDS, Server, seats_left, wait_for
+from check_server import NO_SEATS, SEATS, Server, seats_left, wait_for
 
 WARM_UP = 10
 MOST_GROWTH = 8 * 1024

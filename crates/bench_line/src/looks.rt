@@ -1,4 +1,4 @@
-//! Looks by many seats at once.
+//! Looks by many seats, in turn and at once.
 
 use crate::edits::pose_edit;
 use canvas_line::{LineFault, Lines, Seat};
@@ -13,6 +13,9 @@ const LOOKS: u32 = 1_000_000;
 /// How many edits the editor makes.
 const EDITS: u32 = 200_000;
 
+/// How many rounds of looks are taken in turn.
+const ROUNDS: u32 = 100_000;
+
 /// A thread's work at its seat.
 #[derive(Drop)]
 struct Job<B: Lines> {
@@ -25,6 +28,29 @@ struct Job<B: Lines> {
 struct Done {
     calls: u32,
     took: Duration,
+}
+
+/// Times looks by one seat after another, on one thread.
+pub fn time_in_turn<B: Lines, R: Clock + Print>(
+    rt: &R,
+    mut seats: Vec<Seat<B>>,
+) -> anyhow::Result<()> {
+    let count = seats.len();
+    let start = Instant::now(rt)?;
+    for _ in 0..ROUNDS {
+        look_by_each(&mut seats)?;
+    }
+    let took = start.elapsed(rt)?;
+    let round = took.as_nanos() / u128::from(ROUNDS);
+    println!(rt; "{count:>2} seats in turn: {round} ns a round")?;
+    Ok(())
+}
+
+fn look_by_each<B: Lines>(seats: &mut [Seat<B>]) -> Result<(), LineFault> {
+    for seat in seats {
+        let _ = seat.look()?;
+    }
+    Ok(())
 }
 
 /// Times looks by all seats, each on a thread of its own; the first one edits instead, if it is to.

@@ -24,7 +24,9 @@ use std::{env, io};
 enum Work {
     /// Edits through one seat.
     Edits,
-    /// Looks that find nothing new, by each seat on a thread of its own.
+    /// Looks that find nothing new, by one seat after another.
+    LooksInTurn,
+    /// Such looks by each seat on a thread of its own.
     Looks,
     /// The same while the first seat edits.
     LooksBesideEdits,
@@ -40,8 +42,10 @@ fn main(rt: HostRuntime) -> anyhow::Result<()> {
         edits::time_alone(&rt, alloc, document(alloc, records)?)?;
         time(&rt, alloc, document(alloc, records)?, 1, Work::Edits)?;
     }
-    for seats in [1, 4, 16] {
-        time(&rt, alloc, document(alloc, 100)?, seats, Work::Looks)?;
+    for work in [Work::LooksInTurn, Work::Looks] {
+        for seats in [1, 4, 16] {
+            time(&rt, alloc, document(alloc, 100)?, seats, work)?;
+        }
     }
     for seats in [2, 4] {
         time(
@@ -119,6 +123,7 @@ fn run<B: Lines + Send + Sync, R: Clock + Print + Threads + Wait + Sync>(
 ) -> anyhow::Result<()> {
     match work {
         Work::Edits => edits::time_through_seats(rt, alloc, seats, records),
+        Work::LooksInTurn => looks::time_in_turn(rt, seats),
         Work::Looks => looks::time_looks(rt, alloc, seats, false),
         Work::LooksBesideEdits => looks::time_looks(rt, alloc, seats, true),
     }
