@@ -15,10 +15,13 @@ use std::sync::Wait;
 use std::test::Fail;
 use std::thread::{self, Threads};
 
-/// How many edits each editor makes.
+/// At how many lines the threads meet, one after another.
+const LINES: u32 = 20;
+
+/// How many edits each editor makes at a line.
 const EDITS: u32 = 4_000;
 
-/// How many looks each viewer takes.
+/// How many looks each viewer takes at a line.
 const LOOKS: u32 = 100_000;
 
 /// A thread's work at its seat.
@@ -37,8 +40,15 @@ struct Done {
 
 #[test]
 fn four_threads_edit_and_four_look(rt: HostRuntime) -> Result<(), Fail> {
-    let document = Document::empty(rt.alloc());
-    crowd::<Brand, _>(&rt, rt.alloc(), Opened::new(), document)
+    for _ in 0..LINES {
+        crowd_at_a_line(&rt, rt.alloc())?;
+    }
+    Ok(())
+}
+
+fn crowd_at_a_line<R: Threads + Wait + Abort + Sync>(rt: &R, alloc: Global) -> Result<(), Fail> {
+    let document = Document::empty(alloc);
+    crowd::<Brand, R>(rt, alloc, Opened::new(), document)
 }
 
 fn crowd<B: Lines + Send + Sync, R: Threads + Wait + Abort + Sync>(

@@ -1,4 +1,4 @@
-use Rattle.canvas_line_tests.proofs.threads.four_threads_edit_and_four_look.Given as goal
+use Rattle.canvas_line_tests.proofs.threads.crowd_at_a_line.Given as goal
 
 -- the line that is opened
 abbrev pub ghosts-crowd : goal.ghosts-crowd
