@@ -1,7 +1,7 @@
 //! The lists that are timed.
 
 use canvas_code::OutOfMemory;
-use canvas_list::{Keyed, Share, Shared, SharedList};
+use canvas_list::{Share, Shared, SharedList};
 use std::alloc::Global;
 
 /// A record of 224 bytes.
@@ -11,10 +11,10 @@ pub struct Record {
     words: [u64; 27],
 }
 
-impl Keyed for Record {
-    ghost key = { λ item. item.id };
-
-    fn key(&self) -> u32 {
+impl Record {
+    /// The id.
+    #[inline(always)]
+    pub fn id(&self) -> u32 {
         self.id
     }
 }

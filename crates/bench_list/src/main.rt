@@ -5,7 +5,7 @@
 
 mod lists;
 
-use canvas_list::{Keyed, Share, Shared, SharedList};
+use canvas_list::{Share, Shared, SharedList};
 use lists::Record;
 use std::alloc::Global;
 use std::time::{Clock, Duration, Instant};
@@ -35,12 +35,13 @@ fn is_to_time(rt: &HostRuntime) -> io::Result<bool> {
 }
 
 fn time_all<R: Clock + Print>(rt: &R, alloc: Global) -> anyhow::Result<()> {
-    println!(rt; "items   call     least   middle, of {ROUNDS} rounds")?;
+    println!(rt; "items   call      least   middle, of {ROUNDS} rounds")?;
     for count in [1024u32, 4096, 16384] {
         let list = lists::records(alloc, count)?;
         time_changes(rt, alloc, ("record", count), &list)?;
         time_copies(rt, alloc, ("record", count), &list)?;
         time_reads(rt, alloc, ("record", count), &list)?;
+        time_searches(rt, alloc, ("record", count), &list)?;
     }
     for count in [4096u32, 16384] {
         let list = lists::children(alloc, count)?;
@@ -152,21 +153,46 @@ fn time_reads<R: Clock + Print>(
         let start = Instant::now(rt)?;
         for round in 0..1000u32 {
             let at = round as usize * 7919 % len;
-            sum = sum.wrapping_add(u64::from(list.at(at).key()));
+            sum = sum.wrapping_add(u64::from(list.at(at).value().id()));
         }
         reads.add(rt, start, ())?;
         let start = Instant::now(rt)?;
         for item in list.iter() {
-            sum = sum.wrapping_add(u64::from(item.key()));
+            sum = sum.wrapping_add(u64::from(item.value().id()));
         }
         for item in list.iter().rev() {
-            sum = sum.wrapping_add(u64::from(item.key()));
+            sum = sum.wrapping_add(u64::from(item.value().id()));
         }
         walks.add(rt, start, ())?;
     }
-    println!(rt; "sum of keys: {sum}")?;
+    println!(rt; "sum of ids: {sum}")?;
     print_times(rt, names, "1000 at", reads)?;
     print_times(rt, names, "walks", walks)
+}
+
+/// Times 1,000 searches for ids.
+fn time_searches<R: Clock + Print>(
+    rt: &R,
+    alloc: Global,
+    names: (&str, u32),
+    list: &SharedList<Shared<Record>>,
+) -> anyhow::Result<()> {
+    let len = list.len();
+    if len == 0 {
+        return Ok(());
+    }
+    let mut searches = Times::new(alloc);
+    let mut sum = 0usize;
+    for _ in 0..201u32 {
+        let start = Instant::now(rt)?;
+        for round in 0..1000u32 {
+            let id = (round as usize * 7919 % len) as u32;
+            sum = sum.wrapping_add(list.partition_point(|item| item.value().id() < id));
+        }
+        searches.add(rt, start, ())?;
+    }
+    println!(rt; "sum of places: {sum}")?;
+    print_times(rt, names, "1000 find", searches)
 }
 
 /// Prints the least and the middle of some times.
@@ -179,7 +205,7 @@ fn print_times<R: Print>(
     let (least, middle) = least_and_middle(times.made)?;
     let (least_dropped, middle_dropped) = least_and_middle(times.dropped)?;
     println!(rt;
-        "{:<7} {:<6} {call:<8} {least:?} {middle:?}, with the drop {least_dropped:?} {middle_dropped:?}",
+        "{:<7} {:<6} {call:<9} {least:?} {middle:?}, with the drop {least_dropped:?} {middle_dropped:?}",
         names.0, names.1
     )?;
     Ok(())

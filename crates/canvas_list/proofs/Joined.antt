@@ -2,6 +2,7 @@
 use Rattle.std.proofs.Common.{◌≡◌, ◌∙◌, ℕ, zero, suc, ◌+◌, ◌-◌, ◌<◌, ◌≤◌, List, [], ◌∷◌, ◌++◌, take, drop, inl, inr, refl, sym, ap, subst, arith, length, get_or, add-zero, ◌^◌}
 use Rattle.std.proofs.lemmas.Bool.{cases_lt}
 use Rattle.std.proofs.lemmas.List.{append-nil, append_assoc, drop_more, get_or-append-add, get_or_append_left, length-append, take-append-drop, take-take, take_all, take_more}
+use Rattle.std.proofs.lemmas.List.Elements.{All-push}
 use Rattle.canvas_list.specs.Chunks.{joined, starts_from, IsLastBefore, IsTable}
 
 pub joined-append : {X : Type 0} (cs ds : List (List X)) → joined (cs ++ ds) ≡ joined cs ++ joined ds
@@ -41,11 +42,13 @@ pub length-starts : {X : Type 0} (cs : List (List X)) (ss : List ℕ) (n : ℕ) 
 length-starts cs ss n t = ap length t.has_starts ∙ length-starts_from 0 cs
 
 -- a table with one more chunk
-pub table-push : {X : Type 0} (cs : List (List X)) (ss : List ℕ) (n : ℕ) (c : List X) → IsTable cs ss n → n + length c < 2 ^ 32 → IsTable (cs ++ c ∷ []) (ss ++ n ∷ []) (n + length c)
-table-push cs ss n c t h =
+pub table-push : {X : Type 0} (cs : List (List X)) (ss : List ℕ) (n : ℕ) (c : List X) → IsTable cs ss n → 0 < length c → n + length c < 2 ^ 32 → IsTable (cs ++ c ∷ []) (ss ++ n ∷ []) (n + length c)
+table-push {X} cs ss n c t some h =
     let zero_more : 0 + length (joined cs) ≡ n = omega (arith, t.has_len) in
     let long : length (joined (cs ++ c ∷ [])) ≡ length (joined cs) + length c = ap length (joined-push cs c) ∙ length-append (joined cs) c in
+    let has : List X → Type 0 = λ d. 0 < length d in
     record {
+      some = All-push has cs c t.some some;
       has_starts = ap (λ l. l ++ n ∷ []) t.has_starts ∙ ap (λ k. starts_from 0 cs ++ k ∷ []) (sym zero_more) ∙ sym (starts_from-push 0 cs c);
       has_len = omega (arith, long, t.has_len);
       is_small = h;
@@ -90,6 +93,7 @@ pub record IsFound {X : Type 0} (cs : List (List X)) (n k s at : ℕ) : Type 0 w
   pub within : k < length cs
   pub start : s ≡ length (joined (take k cs))
   pub from : s ≤ at
+  pub next : k + 1 < length cs → at < length (joined (take (k + 1) cs))
   pub before : at < n → at < length (joined (take (k + 1) cs))
   pub behind : at ≤ n → at ≤ length (joined (take (k + 1) cs))
 
@@ -104,10 +108,10 @@ found cs ss rs n k s at t e last =
       | inl more ↦
           (let there : get_or rs (k + 1) 0 ≡ length (joined (take (k + 1) cs)) = ap (λ l. get_or l (k + 1) 0) e ∙ start-is cs ss n (k + 1) 0 t (omega arith) in
           let next : at < get_or rs (k + 1) 0 = last.upto more in
-          record { within = omega arith; start = here; from = last.from; before = λ h. omega arith; behind = λ h. omega arith })
+          record { within = omega arith; start = here; from = last.from; next = λ _. omega arith; before = λ h. omega arith; behind = λ h. omega arith })
       | inr none ↦
           (let all : length (joined (take (k + 1) cs)) ≡ length (joined cs) = ap (λ l. length (joined l)) (take_all (k + 1) cs (omega arith)) in
-          record { within = omega arith; start = here; from = last.from; before = λ h. omega arith; behind = λ h. omega arith })
+          record { within = omega arith; start = here; from = last.from; next = λ h. absurd (omega arith); before = λ h. omega arith; behind = λ h. omega arith })
     ]
 
 -- a search among the starts may be made

@@ -1,6 +1,6 @@
 pub mod Between
 pub mod Blocks
 pub mod Joined
-pub mod Placed
+pub mod Parted
 pub mod Spliced
 pub mod Visited

@@ -1,6 +1,7 @@
 //! Chunks side by side, shared by all lists that have them.
 
 ghost use Rattle.std.specs.Prelude.{◌≡◌, ◌<◌, ◌^◌, IfOk, length};
+ghost use Rattle.std.specs.List.{slice_get};
 ghost use Rattle.canvas_list.specs.Chunks.{joined};
 
 use crate::chunks::Chunks;
@@ -52,6 +53,14 @@ impl<T: Drop> Block<T> {
         ensures some { 0 < length self.now }
     {
         &self.chunks
+    }
+
+    /// The first item.
+    #[inline(always)]
+    pub(crate) fn first(&self) -> &T
+        ensures { slice_get self.now 0 ≡ Some result.now }
+    {
+        self.chunks.first()
     }
 }
 

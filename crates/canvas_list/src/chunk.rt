@@ -1,6 +1,7 @@
 //! Items side by side, shared by all lists that have them.
 
 ghost use Rattle.std.specs.Prelude.{◌≡◌, ◌<◌, ◌≤◌, ◌++◌, IfOk, OnOk, length};
+ghost use Rattle.std.specs.List.{slice_get};
 ghost use Rattle.canvas_list.specs.Chunks.{joined};
 
 use crate::share::Share;
@@ -56,6 +57,14 @@ impl<T: Drop> Chunk<T> {
         ensures few { length self.now ≤ CHUNK }
     {
         &self.items
+    }
+
+    /// The first item.
+    #[inline(always)]
+    pub(crate) fn first(&self) -> &T
+        ensures { slice_get self.now 0 ≡ Some result.now }
+    {
+        &self.items[0]
     }
 }
 

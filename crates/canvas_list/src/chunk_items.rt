@@ -1,6 +1,6 @@
 //! Going over the chunks of a block, item by item, without an allocation.
 
-ghost use Rattle.std.specs.Prelude.{◌≡◌, ◌<◌, ◌≤◌, ◌^◌, [], take, drop, length};
+ghost use Rattle.std.specs.Prelude.{◌≡◌, ◌<◌, ◌≤◌, ◌-◌, ◌^◌, [], take, drop, length};
 ghost use Rattle.std.specs.Iterator.{YieldsFirstRef, YieldsLastRef, item_count};
 
 use crate::chunk::Chunk;
@@ -129,6 +129,33 @@ impl<T: Drop> Chunks<T> {
             front: &[],
             chunks: &self.chunks[..spot.chunk],
             back: &self.chunks[spot.chunk].items()[..at - spot.start],
+        }
+    }
+    /// The items from a position on, up to another, which itself stays out.
+    pub(crate) fn iter_range(&self, from: usize, to: usize) -> ChunkItems<'_, T>
+        requires order { from ≤ to }
+        requires within { to ≤ length self.now }
+        ensures items { result ≡ take (to - from) (drop from self.now) }
+        ensures few { length result < 2 ^ 32 }
+    {
+        if self.chunks.is_empty() {
+            return self.iter();
+        }
+        let first = spot_of(&self.starts, from);
+        let last = spot_of(&self.starts, to);
+        let items = self.chunks[first.chunk].items();
+        if first.chunk == last.chunk {
+            return ChunkItems {
+                front: &items[from - first.start..to - first.start],
+                chunks: &[],
+                back: &[],
+            };
+        }
+        let next = first.chunk + 1;
+        ChunkItems {
+            front: &items[from - first.start..],
+            chunks: &self.chunks[next..last.chunk],
+            back: &self.chunks[last.chunk].items()[..to - last.start],
         }
     }
 }

@@ -1,7 +1,7 @@
 //! A part of a list, as a table of its chunks.
 
 ghost use Rattle.std.specs.Prelude.{◌≡◌, ◌<◌, ◌≤◌, ◌+◌, ◌*◌, ◌^◌, ◌++◌, [], IfOk, false, take, drop, length, slice_set, slice_index, slice_index_or};
-ghost use Rattle.std.specs.List.{insert, remove};
+ghost use Rattle.std.specs.List.{insert, remove, slice_get};
 ghost use Rattle.canvas_list.specs.Chunks.{joined, IsLastBefore};
 
 use crate::chunk::{Chunk, items_of};
@@ -60,6 +60,15 @@ impl<T: Drop> Chunks<T> {
     {
         let spot = spot_of(&self.starts, at);
         &self.chunks[spot.chunk].items()[at - spot.start]
+    }
+
+    /// The first item.
+    #[inline(always)]
+    pub(crate) fn first(&self) -> &T
+        requires { 0 < length self.now }
+        ensures { slice_get self.now 0 ≡ Some result.now }
+    {
+        self.chunks[0].first()
     }
 
     /// Whether there is no room for one more chunk, and none for one more item in the last one.

@@ -1,6 +1,6 @@
 //! Going over a list, item by item, without an allocation.
 
-ghost use Rattle.std.specs.Prelude.{◌≡◌, ◌<◌, ◌≤◌, ◌^◌, take, drop, length};
+ghost use Rattle.std.specs.Prelude.{◌≡◌, ◌<◌, ◌≤◌, ◌-◌, ◌^◌, take, drop, length};
 ghost use Rattle.std.specs.Iterator.{YieldsFirstRef, YieldsLastRef, item_count};
 
 use crate::block::Block;
@@ -111,6 +111,35 @@ impl<T: Drop> SharedList<T> {
             back: self.blocks[spot.chunk]
                 .chunks()
                 .iter_before(at - spot.start),
+        }
+    }
+    /// The items from a position on, up to another, which itself stays out.
+    pub fn iter_range(&self, from: usize, to: usize) -> Items<'_, T>
+        requires order { from ≤ to }
+        requires within { to ≤ length self.now }
+        ensures items { result ≡ take (to - from) (drop from self.now) }
+        ensures few { length result < 2 ^ 32 }
+    {
+        if self.blocks.is_empty() {
+            return self.iter();
+        }
+        let first = spot_of(&self.starts, from);
+        let last = spot_of(&self.starts, to);
+        let block = self.blocks[first.chunk].chunks();
+        if first.chunk == last.chunk {
+            return Items {
+                front: block.iter_range(from - first.start, to - first.start),
+                blocks: &[],
+                back: ChunkItems::none(),
+            };
+        }
+        let next = first.chunk + 1;
+        Items {
+            front: block.iter_from(from - first.start),
+            blocks: &self.blocks[next..last.chunk],
+            back: self.blocks[last.chunk]
+                .chunks()
+                .iter_before(to - last.start),
         }
     }
 }

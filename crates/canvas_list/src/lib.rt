@@ -15,6 +15,5 @@ mod splice;
 mod table;
 
 pub use items::Items;
-pub use search::Keyed;
 pub use share::{Share, Shared};
 pub use table::SharedList;

@@ -1,8 +1,8 @@
-//! Lists made of all their items at once: what they have, where their keys stand, and how they are
+//! Lists made of all their items at once: what they have, where their numbers stand, and how they are
 //! taken away.
 
-ghost use Rattle.std.specs.Prelude.{◌≡◌, ◌≤◌, length};
-ghost use Rattle.std.specs.List.Sorted.{IsNonDecreasingBy};
+ghost use Rattle.std.specs.Prelude.{◌≡◌, ◌<◌, ◌≤◌, length};
+ghost use Rattle.std.specs.List.Sorted.{IsNonDecreasingBy, IsPartitionPoint};
 
 use crate::numbers::{Numbers, evens, has, plain_evens};
 use canvas_code::OutOfMemory;
@@ -10,13 +10,21 @@ use canvas_list::SharedList;
 use std::alloc::Global;
 use std::test::Fail;
 
+// Where the first number stands that is no less than another.
+fn place_of(list: &Numbers, least: u32) -> usize
+    requires { IsNonDecreasingBy (λ number. number.value) list.now }
+    ensures { IsPartitionPoint (λ number. number.value < least) (λ number. least ≤ number.value) list.now result }
+{
+    list.partition_point(|number| number.value().value < least)
+}
+
 // Whether each number stands where it should, and each odd one before the next even one.
 fn finds_all(list: &Numbers, count: u32) -> bool
     requires rising { IsNonDecreasingBy (λ number. number.value) list.now }
     requires few { count ≤ 100000 }
 {
-    for key in 0..2 * count + 3 {
-        if list.position_of(key) != (key as usize).div_ceil(2).min(count as usize) {
+    for value in 0..2 * count + 3 {
+        if place_of(list, value) != (value as usize).div_ceil(2).min(count as usize) {
             return false;
         }
     }

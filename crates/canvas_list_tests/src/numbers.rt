@@ -4,21 +4,13 @@ ghost use Rattle.std.specs.Prelude.{◌≡◌, ◌≤◌, IfOk, vec_len};
 ghost use Rattle.std.specs.List.Sorted.{IsNonDecreasingBy};
 
 use canvas_code::OutOfMemory;
-use canvas_list::{Items, Keyed, Shared, SharedList};
+use canvas_list::{Items, Shared, SharedList};
 use std::alloc::Global;
 
-/// A number, which is its own key.
+/// A number.
 #[derive(Drop)]
 pub(crate) struct Number {
     pub(crate) value: u32,
-}
-
-impl Keyed for Number {
-    ghost key = { λ number. number.value };
-
-    fn key(&self) -> u32 {
-        self.value
-    }
 }
 
 pub(crate) type Numbers = SharedList<Shared<Number>>;
@@ -56,6 +48,8 @@ pub(crate) fn plain_evens(alloc: Global, count: u32) -> Result<Vec<u32>, OutOfMe
 /// Whether a list has the numbers of a plain one, however it is read.
 pub(crate) fn has(list: &Numbers, plain: &[u32]) -> bool {
     let third = list.len() / 3;
+    let end = list.len() - third;
+    let middle = plain.get(third..end).unwrap_or(&[]);
     list.len() == plain.len()
         && list.is_empty() == plain.is_empty()
         && reads(list, plain)
@@ -63,6 +57,8 @@ pub(crate) fn has(list: &Numbers, plain: &[u32]) -> bool {
         && gives_back(list.iter(), plain)
         && gives(list.iter_from(third), plain.get(third..).unwrap_or(&[]))
         && gives_back(list.iter_before(third), plain.get(..third).unwrap_or(&[]))
+        && gives(list.iter_range(third, end), middle)
+        && gives_back(list.iter_range(third, end), middle)
 }
 
 fn reads(list: &Numbers, plain: &[u32]) -> bool {
@@ -76,7 +72,7 @@ fn reads(list: &Numbers, plain: &[u32]) -> bool {
 fn gives(items: Items<'_, Shared<Number>>, plain: &[u32]) -> bool {
     let mut wanted = plain.iter();
     for item in items {
-        if wanted.next() != Some(&item.key()) {
+        if wanted.next() != Some(&item.value().value) {
             return false;
         }
     }
@@ -86,7 +82,7 @@ fn gives(items: Items<'_, Shared<Number>>, plain: &[u32]) -> bool {
 fn gives_back(items: Items<'_, Shared<Number>>, plain: &[u32]) -> bool {
     let mut wanted = plain.iter().rev();
     for item in items.rev() {
-        if wanted.next() != Some(&item.key()) {
+        if wanted.next() != Some(&item.value().value) {
             return false;
         }
     }

@@ -5,7 +5,7 @@ use Rattle.canvas_list.proofs.chunks.Chunks.and.Goals as goal
 pub invariant_of-result : goal.invariant_of-result
 invariant_of-result g c =
     rw (c.in_ok-push.ensures.items, c.in_ok-push-2.ensures.items, c.items-more.ensures.same)
-    (table-push c.self.inside.chunks.items c.self.inside.starts.items c.self.inside.count c.args.chunk c.self.invariant
+    (table-push c.self.inside.chunks.items c.self.inside.starts.items c.self.inside.count c.args.chunk c.self.invariant c.items-more.ensures.some
     (omega (arith, c.requires, len-is c.self.inside.chunks.items c.self.inside.starts.items c.self.inside.count c.args.self c.self.invariant c.self.view_is)))
 
 pub returns : goal.returns

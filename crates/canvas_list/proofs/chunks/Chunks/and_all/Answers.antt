@@ -10,7 +10,7 @@ loop-chunk-preserved g c =
     record {
       table =
           rw (pushed, c.in_ok-push.ensures.items, c.items.ensures.same)
-          (table-push cs c.loop-chunk.starts.items c.loop-chunk.count item c.loop-chunk.invariant.table
+          (table-push cs c.loop-chunk.starts.items c.loop-chunk.count item c.loop-chunk.invariant.table c.items.ensures.some
           (still-small cs c.args.more.now c.args.self c.loop-chunk.count (2 ^ 32) c.loop-chunk.chunk-index item c.loop-chunk-test.true c.chunk-item.is c.loop-chunk.invariant.list c.loop-chunk.invariant.table.has_len c.requires));
       list = rw pushed (grown cs c.args.more.now c.args.self c.loop-chunk.chunk-index item c.loop-chunk-test.true c.chunk-item.is c.loop-chunk.invariant.list);
     }

@@ -10,7 +10,7 @@ loop-block-preserved g c =
     record {
       table =
           rw (pushed, c.in_ok-push.ensures.items, c.len.ensures.len, c.chunks.ensures.same)
-          (table-push cs c.loop-block.starts.items c.loop-block.count item c.loop-block.invariant.table
+          (table-push cs c.loop-block.starts.items c.loop-block.count item c.loop-block.invariant.table c.chunks.ensures.some
           (still-small cs c.args.more.now c.args.self c.loop-block.count (2 ^ 32) c.loop-block.block-index item c.loop-block-test.true c.block-item.is c.loop-block.invariant.list c.loop-block.invariant.table.has_len c.requires));
       list = rw pushed (grown cs c.args.more.now c.args.self c.loop-block.block-index item c.loop-block-test.true c.block-item.is c.loop-block.invariant.list);
     }
