@@ -1,5 +1,5 @@
--- The least and the greatest index, and the index of a spot, as loops find them.
-use Rattle.std.proofs.Common.{◌≡◌, ℕ, ◌+◌, ◌<◌, ◌==◌, List, [], ◌∷◌, ◌++◌, Bool, true, false, cond, ◌&&◌, ◌||◌, Option, Some, None, refl, sym, ap, ◌∙◌, arith, filter, inl, inr, subst, take, length, get_or}
+-- The least and the greatest index, and the index of a spot.
+use Rattle.std.proofs.Common.{◌≡◌, ℕ, ◌<◌, ◌==◌, List, [], ◌∷◌, Bool, true, false, cond, ◌&&◌, ◌||◌, Option, Some, None, refl, sym, ap, ◌∙◌, arith, filter, inl, inr, subst}
 use Rattle.std.specs.List.{AllByRecursion, list_any}
 use Rattle.std.specs.Ordering.{nat_cmp, is_lt}
 use Rattle.std.specs.declared.cmp.Ordering.{Ordering}
@@ -7,12 +7,10 @@ use Rattle.std.specs.declared.cmp.Ordering.TheVariants.{Less, Equal, Greater}
 use Rattle.std.specs.Cmp.Lexicographic.{slice_cmp}
 use Rattle.std.proofs.lemmas.Map.Lookups.{exact_bytes}
 use Rattle.std.proofs.lemmas.Bool.{cases_Bool, true≢false, eqb-true}
-use Rattle.std.proofs.lemmas.List.Elements.{filter_more}
 use Rattle.canvas_key.specs.Order.{is_before, AreApart, Before}
-use Rattle.canvas_doc.specs.declared.records.Parent.{Parent}
 use Rattle.canvas_doc.specs.declared.records.Record.{Record}
 use Rattle.canvas_doc.specs.Contents.{record_of, AreRising}
-use Rattle.canvas_doc.specs.Siblings.{is_sibling, siblings, lesser, greater, is_above, least_above, greatest_index}
+use Rattle.canvas_doc.specs.Siblings.{lesser, greater, least_above}
 use Rattle.canvas_doc.proofs.Fronts.{before-trans, before-asym, before-gt, not_before, upto-trans}
 
 -- of two keys of which neither comes before the other
@@ -54,56 +52,36 @@ lesser-turn : (o : Option (List ℕ)) (a b : List ℕ) → lesser (Some (lesser 
 lesser-turn None a b = lesser-swap a b
 lesser-turn (Some k) a b = lesser-join k a b ∙ ap (lesser (Some k)) (lesser-swap a b) ∙ sym (lesser-join k b a)
 
-greater-turn : (o : Option (List ℕ)) (a b : List ℕ) → greater (Some (greater o a)) b ≡ greater (Some (greater o b)) a
+pub greater-turn : (o : Option (List ℕ)) (a b : List ℕ) → greater (Some (greater o a)) b ≡ greater (Some (greater o b)) a
 greater-turn None a b = greater-swap a b
 greater-turn (Some k) a b = greater-join k a b ∙ ap (greater (Some k)) (greater-swap a b) ∙ sym (greater-join k b a)
+
+both-same : (k : List ℕ) (b : Bool) → cond b k k ≡ k
+both-same k true = refl
+both-same k false = refl
+
+-- a key once more
+lesser-twice : (o : Option (List ℕ)) (k : List ℕ) → lesser (Some (lesser o k)) k ≡ lesser o k
+lesser-twice None k = both-same k (is_before k k)
+lesser-twice (Some a) k = elim (cases_Bool (is_before k a)) [ inl t ↦ rw t (both-same k (is_before k k)) | inr f ↦ rw (f, f) refl ]
+
+pub greater-twice : (o : Option (List ℕ)) (k : List ℕ) → greater (Some (greater o k)) k ≡ greater o k
+greater-twice None k = both-same k (is_before k k)
+greater-twice (Some a) k = elim (cases_Bool (is_before a k)) [ inl t ↦ rw t (both-same k (is_before k k)) | inr f ↦ rw (f, f) refl ]
 
 -- the least with one more
 abbrev pub least_with : Bool → Option (List ℕ) → List ℕ → Option (List ℕ)
 least_with counts o key = cond counts (Some (lesser o key)) o
 
-least-turn : (o : Option (List ℕ)) (a b : List ℕ) (p q : Bool) → least_with p (least_with q o b) a ≡ least_with q (least_with p o a) b
+pub least-turn : (o : Option (List ℕ)) (a b : List ℕ) (p q : Bool) → least_with p (least_with q o b) a ≡ least_with q (least_with p o a) b
 least-turn o a b true true = ap Some (lesser-turn o b a)
 least-turn o a b true false = refl
 least-turn o a b false true = refl
 least-turn o a b false false = refl
 
-least-push : (bound : Option (List ℕ)) (xs : List Record) (r : Record) → least_above bound (xs ++ r ∷ []) ≡ least_with (is_above bound r.place.index) (least_above bound xs) r.place.index
-least-push bound [] r = refl
-least-push bound (x ∷ xs) r =
-    ap (λ o. least_with (is_above bound x.place.index) o x.place.index) (least-push bound xs r)
-    ∙ least-turn (least_above bound xs) x.place.index r.place.index (is_above bound x.place.index) (is_above bound r.place.index)
-
-greatest-push : (xs : List Record) (r : Record) → greatest_index (xs ++ r ∷ []) ≡ Some (greater (greatest_index xs) r.place.index)
-greatest-push [] r = refl
-greatest-push (x ∷ xs) r = ap (λ o. Some (greater o x.place.index)) (greatest-push xs r) ∙ ap Some (greater-turn (greatest_index xs) r.place.index x.place.index)
-
-append-none : (xs : List Record) → xs ++ [] ≡ xs
-append-none [] = refl
-append-none (x ∷ xs) = ap (λ l. x ∷ l) (append-none xs)
-
-least-one : (bound : Option (List ℕ)) (xs : List Record) (r : Record) (counts : Bool) → least_above bound (xs ++ cond counts (r ∷ []) []) ≡ least_with (counts && is_above bound r.place.index) (least_above bound xs) r.place.index
-least-one bound xs r true = least-push bound xs r
-least-one bound xs r false = ap (least_above bound) (append-none xs)
-
--- a step of the loop over all records
-pub least-more : (bound : Option (List ℕ)) (own : ℕ) (p : Parent) (rs : List Record) (i : ℕ) (r : Record) (old : Option (List ℕ)) → i < length rs → r ≡ get_or rs i r → old ≡ least_above bound (siblings own p (take i rs)) → least_with (is_sibling own p r && is_above bound r.place.index) old r.place.index ≡ least_above bound (siblings own p (take (i + 1) rs))
-least-more bound own p rs i r old h e o =
-    ap (λ x. least_with (is_sibling own p r && is_above bound r.place.index) x r.place.index) o
-    ∙ sym (least-one bound (siblings own p (take i rs)) r (is_sibling own p r))
-    ∙ ap (λ (x : Record). least_above bound (siblings own p (take i rs) ++ cond (is_sibling own p x) (x ∷ []) [])) e
-    ∙ ap (least_above bound) (sym (filter_more (is_sibling own p) rs i r h))
-
-greatest-one : (xs : List Record) (r : Record) (counts : Bool) → greatest_index (xs ++ cond counts (r ∷ []) []) ≡ cond counts (Some (greater (greatest_index xs) r.place.index)) (greatest_index xs)
-greatest-one xs r true = greatest-push xs r
-greatest-one xs r false = ap greatest_index (append-none xs)
-
-pub greatest-more : (own : ℕ) (p : Parent) (rs : List Record) (i : ℕ) (r : Record) (old : Option (List ℕ)) → i < length rs → r ≡ get_or rs i r → old ≡ greatest_index (siblings own p (take i rs)) → cond (is_sibling own p r) (Some (greater old r.place.index)) old ≡ greatest_index (siblings own p (take (i + 1) rs))
-greatest-more own p rs i r old h e o =
-    ap (λ x. cond (is_sibling own p r) (Some (greater x r.place.index)) x) o
-    ∙ sym (greatest-one (siblings own p (take i rs)) r (is_sibling own p r))
-    ∙ ap (λ (x : Record). greatest_index (siblings own p (take i rs) ++ cond (is_sibling own p x) (x ∷ []) [])) e
-    ∙ ap greatest_index (sym (filter_more (is_sibling own p) rs i r h))
+pub least-twice : (o : Option (List ℕ)) (k : List ℕ) (b : Bool) → least_with b (least_with b o k) k ≡ least_with b o k
+least-twice o k true = ap Some (lesser-twice o k)
+least-twice o k false = refl
 
 lt-Less : (o : Ordering) → is_lt o ≡ true → o ≡ Less
 lt-Less Less h = refl
@@ -186,13 +164,3 @@ found-filter id t (s ∷ rs) w = elim (cases_Bool (t s)) [
     | inr m ↦ rw (e, m) (found-filter id t rs w.1)
   ]
 ]
-
-pub both-hold : (a b : Bool) → a ≡ true → b ≡ true → (a && b) ≡ true
-both-hold a b h k = rw (h, k) refl
-
-pub first-fails : (a b : Bool) → a ≡ false → (a && b) ≡ false
-first-fails a b h = rw h refl
-
-pub second-fails : (a b : Bool) → b ≡ false → (a && b) ≡ false
-second-fails true b h = h
-second-fails false b h = refl

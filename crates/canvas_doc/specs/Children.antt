@@ -1,5 +1,5 @@
 -- The children of a parent, from front to back.
-use Rattle.std.specs.Prelude.{List, [], ◌∷◌, Bool, true, false, cond, ◌==◌, filter}
+use Rattle.std.specs.Prelude.{◌≡◌, ◌⊎◌, List, [], ◌∷◌, Bool, true, false, cond, ◌==◌, filter}
 use Rattle.canvas_key.specs.Order.{is_before}
 use Rattle.canvas_doc.specs.declared.records.Parent.{Parent}
 use Rattle.canvas_doc.specs.declared.records.Parent.TheVariants.{Page, Shape}
@@ -31,3 +31,9 @@ front_first (r ∷ rs) = put r (front_first rs)
 -- the records with the parent p, greatest index first
 abbrev pub children : Parent → List Record → List Record
 children p rs = front_first (filter (is_child p) rs)
+
+-- the items of the part stand in the whole in the same order, some left out
+abbrev pub IsPartOf : {A : Type 0} → List A → List A → Type 0
+IsPartOf [] whole = Unit {0}
+IsPartOf (p ∷ part) [] = ⊥
+IsPartOf (p ∷ part) (w ∷ whole) = ((p ≡ w) × IsPartOf part whole) ⊎ IsPartOf (p ∷ part) whole

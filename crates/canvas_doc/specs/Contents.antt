@@ -1,5 +1,5 @@
 -- What a document is seen as.
-use Rattle.std.specs.Prelude.{ℕ, ◌≡◌, ◌<◌, ◌≤◌, ◌^◌, List, [], ◌∷◌, ◌==◌, Option, Some, None, Bool, true, false, ◌&&◌, All, length, zero, suc, find, slice_index_or}
+use Rattle.std.specs.Prelude.{ℕ, ◌≡◌, ◌≢◌, ◌<◌, ◌≤◌, ◌^◌, List, [], ◌∷◌, ◌==◌, Option, Some, None, Bool, true, false, ◌&&◌, All, length, zero, suc, find, slice_index_or}
 use Rattle.std.specs.List.{AllByRecursion}
 use Rattle.canvas_shape.specs.declared.Kind.{Kind}
 use Rattle.canvas_shape.specs.declared.Kind.TheVariants.{Group, Frame, Rect, Ellipse, Polygon}
@@ -44,6 +44,10 @@ reaches_page (suc steps) rs (Shape id) = reaches_from (λ p. reaches_page steps 
 abbrev pub AreRising : List Record → Type 0
 AreRising [] = Unit {0}
 AreRising (r ∷ rs) = AllByRecursion (λ s. r.id < s.id) rs × AreRising rs
+
+-- no id stands twice
+abbrev pub HaveIds : List Record → Type 0
+HaveIds rs = (i j : ℕ) (d : Record) → i < j → j < length rs → (slice_index_or rs i d).id ≢ (slice_index_or rs j d).id
 
 -- a page tree within the product's limits
 pub record IsWellFormed (d : Contents) : Type 0 where

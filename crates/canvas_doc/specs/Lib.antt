@@ -10,6 +10,8 @@ pub mod History
 pub mod Depth
 pub mod Fitting
 pub mod Restored
-pub mod Rows
 pub mod Listed
 pub mod PlaceOrder
+pub mod Ends
+pub mod Edges
+pub mod Bounds

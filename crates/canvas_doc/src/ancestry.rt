@@ -8,9 +8,10 @@ ghost use Rattle.canvas_doc.specs.Effect.{is_below};
 ghost use Rattle.canvas_doc.specs.Depth.{depth_of, one_more, levels_to, levels_of, height_of, is_above_32, AreMarks};
 ghost use Rattle.canvas_doc.specs.Decision.{has_shape, has_parent, can_have_children, holds_container, lies_too_deep, put_under, parent_after};
 
+use crate::Document;
 use crate::lookup::{find, position_of};
-use crate::records::{Parent, Record};
-use crate::rows::Records;
+use crate::place_order::children_range;
+use crate::records::{Parent, Record, Records};
 use canvas_code::OutOfMemory;
 use canvas_shape::Kind;
 use std::alloc::Global;
@@ -162,7 +163,7 @@ pub(crate) fn lies_too_deep(records: &Records, id: u32, under: Parent) -> bool
     ensures { result ≡ lies_too_deep records.now id under }
 {
     for at in 0..records.len() {
-        let shape = records.at(at);
+        let shape = records.at(at).value();
         let parent = parent_after(shape, id, under);
         let reaches = reaches_page_after(records, STEPS, id, under, parent);
         if !reaches {
@@ -242,17 +243,31 @@ fn levels_of(records: &Records, id: u32, shape: &Record) -> u32
 }
 
 // Whether the depth of a parent and the height of a subtree are together above 32.
-pub(crate) fn is_above_32(alloc: Global, records: &Records, id: u32, parent: Parent) -> bool
-    requires rising { AreRising records.now }
-    requires grounded { All (λ r. reaches_page 31 records.now r.place.parent ≡ true) records.now }
-    ensures { result ≡ is_above_32 records.now id parent }
+pub(crate) fn is_above_32(alloc: Global, document: &Document, id: u32, parent: Parent) -> bool
+    ensures { result ≡ is_above_32 document.now.records id parent }
 {
-    depth_of(records, STEPS + 1, parent) + height_of(alloc, records, id) > 32
+    depth_of(&document.records, STEPS + 1, parent) + height_of(alloc, document, id) > 32
+}
+
+// The height of a subtree: 0 where there is no such shape, and 1 where nothing lies below it.
+fn height_of(alloc: Global, document: &Document, id: u32) -> u32
+    ensures value { result ≡ height_of id document.now.records }
+    ensures small { result ≤ 32 }
+{
+    let below = children_range(&document.order, Parent::Shape(id));
+    if below.start < below.end {
+        return tall_height(alloc, &document.records, id);
+    }
+    if has_shape(&document.records, id) {
+        1
+    } else {
+        0
+    }
 }
 
 // The height of a subtree, each record looked at once; where there is no memory for marks, by
 // walking up from each record.
-fn height_of(alloc: Global, records: &Records, id: u32) -> u32
+fn tall_height(alloc: Global, records: &Records, id: u32) -> u32
     requires rising { AreRising records.now }
     requires grounded { All (λ r. reaches_page 31 records.now r.place.parent ≡ true) records.now }
     ensures value { result ≡ height_of id records.now }
@@ -284,7 +299,7 @@ fn walked_height(records: &Records, id: u32) -> u32
 {
     let mut height: u32 = 0;
     for at in 0..records.len() {
-        height = height.max(levels_of(records, id, records.at(at)));
+        height = height.max(levels_of(records, id, records.at(at).value()));
     }
     height
 }
@@ -320,7 +335,7 @@ pub(crate) fn level_at(records: &Records, marks: &mut [u8], steps: u32, id: u32,
     if mark > 0 {
         return mark - 1;
     }
-    let level = level_above(records, marks, steps, id, records.at(at));
+    let level = level_above(records, marks, steps, id, records.at(at).value());
     marks[at] = level + 1;
     level
 }

@@ -1,17 +1,16 @@
 //! The colour of a pixel, walked from front to back.
 
-ghost use Rattle.std.specs.Prelude.{◌≡◌, ◌≤◌, ◌+◌, ◌*◌, ◌^◌, All, cond};
+ghost use Rattle.std.specs.Prelude.{◌≡◌, ◌≤◌, ◌+◌, ◌+ℤ◌, ◌*◌, ◌^◌, cond, pos};
 ghost use Rattle.canvas_plane.specs.Motion.{carry, reach_of};
 ghost use Rattle.canvas_shape.specs.Inside.{holds_of};
 ghost use Rattle.canvas_doc.specs.Picture.{answer_among, answer_of, or_else, or_white, colour};
-ghost use Rattle.canvas_doc.specs.PlaceOrder.{IsInPlaceOrder};
-ghost use Rattle.canvas_doc.specs.Tree.{IsInLimits, HavePlaces};
+ghost use Rattle.canvas_doc.specs.Tree.{IsInLimits};
 
 use crate::Document;
+use crate::bounds::Bounds;
 use crate::place_order::children_range;
 use crate::records::{Parent, Record};
-use crate::rows::Records;
-use canvas_plane::Pose;
+use canvas_plane::{PageBox, Pose};
 use canvas_shape::{Colour, Kind};
 use std::ops::Range;
 
@@ -21,18 +20,9 @@ impl Document {
     pub fn colour_at(&self, x: i32, y: i32) -> Colour
         ensures { result ≡ colour self.now.records x y }
     {
-        colour_among(&self.records, &self.order, Pixel { x, y })
+        let at = Pixel { x, y };
+        or_white(answer_among(self, DEPTH, Parent::Page, &Pose::STILL, at))
     }
-}
-
-// The colour of a pixel among records.
-fn colour_among(records: &Records, order: &[u32], at: Pixel) -> Colour
-    requires order { IsInPlaceOrder order.now records.now }
-    requires places { HavePlaces records.now }
-    requires limits { All IsInLimits records.now }
-    ensures { result ≡ colour records.now at.x at.y }
-{
-    or_white(answer_among(records, order, DEPTH, Parent::Page, &Pose::STILL, at))
 }
 
 fn or_white(answer: Option<Colour>) -> Colour
@@ -54,34 +44,51 @@ struct Pixel {
     y: i32,
 }
 
+impl Pixel {
+    // The box of this pixel alone.
+    fn sides(self) -> PageBox
+        ensures { result ≡ record { left = self.x; top = self.y; right = self.x +ℤ pos 1; bottom = self.y +ℤ pos 1 } }
+    {
+        let x = i64::from(self.x);
+        let y = i64::from(self.y);
+        PageBox {
+            left: x,
+            top: y,
+            right: x + 1,
+            bottom: y + 1,
+        }
+    }
+}
+
 // What the children of `parent` answer, where `out` carries its points to the page: the answer of
 // the foremost child that has one. A child behind one that has answered is never asked.
 #[cycle(walk)]
 fn answer_among(
-    records: &Records,
-    order: &[u32],
+    document: &Document,
     levels: u32,
     parent: Parent,
     out: &Pose,
     at: Pixel,
 ) -> Option<Colour>
-    requires order { IsInPlaceOrder order.now records.now }
-    requires places { HavePlaces records.now }
-    requires limits { All IsInLimits records.now }
     requires quarter { out.now.quarter ≤ 3 }
     requires reach { reach_of out.now + levels * 2 ^ 20 ≤ 2 ^ 26 }
-    ensures { result ≡ answer_among levels records.now parent (carry out.now) at.x at.y }
+    ensures { result ≡ answer_among levels document.now.records parent (carry out.now) at.x at.y }
 {
     if levels == 0 {
         return None;
     }
-    let Range { start, end } = children_range(records, order, parent);
-    for slot in (start..end).rev() {
-        let shape = records.at(order[slot] as usize);
-        let answer = answer_of(records, order, levels - 1, shape, out, at);
-        if answer.is_some() {
-            return answer;
+    let Range { start, end } = children_range(&document.order, parent);
+    let area = Bounds::of_clip(out, &at.sides());
+    let mut slot = start;
+    for bounds in document.bounds.iter_range(start, end) {
+        if bounds.meets(&area) {
+            let shape = document.order.at(slot).value();
+            let answer = answer_of(document, levels - 1, shape, out, at);
+            if answer.is_some() {
+                return answer;
+            }
         }
+        slot += 1;
     }
     None
 }
@@ -89,20 +96,16 @@ fn answer_among(
 // What a shape answers with all below it.
 #[cycle(walk)]
 fn answer_of(
-    records: &Records,
-    order: &[u32],
+    document: &Document,
     levels: u32,
     shape: &Record,
     out: &Pose,
     at: Pixel,
 ) -> Option<Colour>
-    requires order { IsInPlaceOrder order.now records.now }
-    requires places { HavePlaces records.now }
-    requires limits { All IsInLimits records.now }
     requires shape { IsInLimits shape.now }
     requires quarter { out.now.quarter ≤ 3 }
     requires reach { reach_of out.now + (levels + 1) * 2 ^ 20 ≤ 2 ^ 26 }
-    ensures { result ≡ answer_of levels records.now (carry out.now) at.x at.y shape.now }
+    ensures { result ≡ answer_of levels document.now.records (carry out.now) at.x at.y shape.now }
 {
     if shape.hidden {
         return None;
@@ -110,11 +113,11 @@ fn answer_of(
     let page = shape.pose.then(out);
     let holds = holds_at(shape, &page, at);
     match &shape.kind {
-        Kind::Group => answer_among(records, order, levels, Parent::Shape(shape.id), &page, at),
+        Kind::Group => answer_among(document, levels, Parent::Shape(shape.id), &page, at),
         Kind::Frame { fill, .. } => {
             if holds {
                 or_fill(
-                    answer_among(records, order, levels, Parent::Shape(shape.id), &page, at),
+                    answer_among(document, levels, Parent::Shape(shape.id), &page, at),
                     *fill,
                 )
             } else {

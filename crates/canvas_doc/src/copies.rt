@@ -3,8 +3,8 @@
 ghost use Rattle.std.specs.Prelude.{◌≡◌, IfOk, map};
 ghost use Rattle.canvas_doc.specs.Contents.{AreRising, IsWellFormed};
 
-use crate::rows::Records;
-use crate::{Document, Record};
+use crate::Document;
+use crate::records::{Record, Records};
 use canvas_code::OutOfMemory;
 use std::alloc::Global;
 
@@ -18,13 +18,14 @@ impl Document {
         in_order(alloc, &self.records)
     }
 
-    /// An equal document, which shares all records.
+    /// An equal document, which shares all records; it takes memory for two small tables.
     pub fn try_clone(&self, alloc: Global) -> Result<Document, OutOfMemory>
         ensures { IfOk result (λ clone. clone ≡ self.now) }
     {
         Ok(Document {
             records: self.records.try_clone(alloc)?,
-            order: self.order.clone()?,
+            order: self.order.try_clone(alloc)?,
+            bounds: self.bounds.try_clone(alloc)?,
             next: self.next,
         })
     }
@@ -34,8 +35,8 @@ fn in_order<'a>(alloc: Global, records: &'a Records) -> Result<Vec<&'a Record>, 
     ensures { IfOk result (λ all. map (λ shape. shape.now) all.items ≡ records.now) }
 {
     let mut all = Vec::with_capacity(alloc, records.len())?;
-    for at in 0..records.len() {
-        all.push(records.at(at))?;
+    for shape in records.iter() {
+        all.push(shape.value())?;
     }
     Ok(all)
 }

@@ -1,11 +1,11 @@
 //! What is decided of an edit.
 
-ghost use Rattle.std.specs.Prelude.{◌≡◌, All, IfOk, false, true};
+ghost use Rattle.std.specs.Prelude.{◌≡◌, IfOk, false};
 ghost use Rattle.std.specs.Option.{option_copied};
 ghost use Rattle.canvas_plane.specs.Limits.{is_pose};
 ghost use Rattle.canvas_shape.specs.Limits.{takes_memory};
 ghost use Rattle.canvas_key.specs.Text.{IsKey};
-ghost use Rattle.canvas_doc.specs.Contents.{AreRising, reaches_page};
+ghost use Rattle.canvas_doc.specs.Contents.{AreRising, IsWellFormed};
 ghost use Rattle.canvas_doc.specs.Effect.{Fits, HasKey};
 ghost use Rattle.canvas_doc.specs.Decision.{same_variant, is_another_kind, move_index, create_index, move_decision, pose_decision, reshape_judgement, reshape_decision, show_decision, delete_decision, respace_decision, decision_of, asks_memory, IsAnswer};
 
@@ -15,9 +15,8 @@ use crate::ancestry::{
 };
 use crate::edits::{Change, Edit, Spot};
 use crate::lookup::find;
-use crate::records::{Parent, Place, Record};
+use crate::records::{Parent, Place, Record, Records};
 use crate::refusals::Refusal;
-use crate::rows::Records;
 use crate::spots::index_at;
 use canvas_key::Key;
 use canvas_plane::Pose;
@@ -34,18 +33,18 @@ impl Document {
         ensures exact { asks_memory edit.now ≡ false → result ≡ decision_of edit.now self.now }
         ensures fits { IfOk result (λ change. Fits change self.now) }
     {
-        decision(alloc, &self.records, self.next, edit)
+        decision(alloc, self, edit)
     }
 }
 
 // The change, or the refusal.
-fn decision(alloc: Global, records: &Records, next: u32, edit: &Edit) -> Result<Change, Refusal>
-    requires rising { AreRising records.now }
-    requires grounded { All (λ r. reaches_page 31 records.now r.place.parent ≡ true) records.now }
-    ensures value { IsAnswer result (decision_of edit.now (record { records = records.now; next = next })) }
-    ensures exact { asks_memory edit.now ≡ false → result ≡ decision_of edit.now (record { records = records.now; next = next }) }
+fn decision(alloc: Global, document: &Document, edit: &Edit) -> Result<Change, Refusal>
+    ensures value { IsAnswer result (decision_of edit.now document.now) }
+    ensures exact { asks_memory edit.now ≡ false → result ≡ decision_of edit.now document.now }
     ensures key { IfOk result HasKey }
+    ensures well_formed { IsWellFormed document.now }
 {
+    let records = &document.records;
     match edit {
         Edit::Create {
             kind,
@@ -54,9 +53,9 @@ fn decision(alloc: Global, records: &Records, next: u32, edit: &Edit) -> Result<
             parent,
             spot,
         } => {
-            let index = create_index(records, next, kind, pose, *parent, spot)?;
+            let index = create_index(document, kind, pose, *parent, spot)?;
             Ok(Change::Create {
-                id: next,
+                id: document.next,
                 kind: kind.try_clone(alloc)?,
                 pose: *pose,
                 hidden: *hidden,
@@ -66,7 +65,7 @@ fn decision(alloc: Global, records: &Records, next: u32, edit: &Edit) -> Result<
                 },
             })
         }
-        Edit::Move { id, parent, spot } => decide_move(alloc, records, *id, *parent, spot),
+        Edit::Move { id, parent, spot } => decide_move(alloc, document, *id, *parent, spot),
         Edit::Pose { id, pose } => decide_pose(records, *id, *pose),
         Edit::Reshape { id, kind } => decide_reshape(alloc, records, *id, kind),
         Edit::Show { id, hidden } => decide_show(records, *id, *hidden),
@@ -77,17 +76,16 @@ fn decision(alloc: Global, records: &Records, next: u32, edit: &Edit) -> Result<
 
 // The index of a new shape, or why it is refused.
 fn create_index(
-    records: &Records,
-    next: u32,
+    document: &Document,
     kind: &Kind,
     pose: &Pose,
     parent: Parent,
     spot: &Spot,
 ) -> Result<Key, Refusal>
-    requires { AreRising records.now }
-    ensures value { result ≡ create_index kind.now pose.now parent spot.now (record { records = records.now; next = next }) }
+    ensures value { result ≡ create_index kind.now pose.now parent spot.now document.now }
     ensures key { IfOk result IsKey }
 {
+    let records = &document.records;
     if !has_parent(records, parent) {
         return Err(Refusal::NoSuchParent);
     }
@@ -100,7 +98,7 @@ fn create_index(
     if records.len() >= 4096 {
         return Err(Refusal::TooMany);
     }
-    if next == 4_294_967_295 {
+    if document.next == 4_294_967_295 {
         return Err(Refusal::IdsSpent);
     }
     if !kind.has_sides() {
@@ -112,23 +110,21 @@ fn create_index(
     if !kind.has_vertices() {
         return Err(Refusal::BadPolygon);
     }
-    index_at(records, next, parent, spot)
+    index_at(document, document.next, parent, spot)
 }
 
 // Another place, or why it is refused.
 fn decide_move(
     alloc: Global,
-    records: &Records,
+    document: &Document,
     id: u32,
     parent: Parent,
     spot: &Spot,
 ) -> Result<Change, Refusal>
-    requires rising { AreRising records.now }
-    requires grounded { All (λ r. reaches_page 31 records.now r.place.parent ≡ true) records.now }
-    ensures value { result ≡ move_decision id parent spot.now records.now }
+    ensures value { result ≡ move_decision id parent spot.now document.now.records }
     ensures key { IfOk result HasKey }
 {
-    let index = move_index(alloc, records, id, parent, spot)?;
+    let index = move_index(alloc, document, id, parent, spot)?;
     Ok(Change::Move {
         id,
         place: Place { parent, index },
@@ -138,16 +134,15 @@ fn decide_move(
 // The index of a moved shape, or why the move is refused.
 fn move_index(
     alloc: Global,
-    records: &Records,
+    document: &Document,
     id: u32,
     parent: Parent,
     spot: &Spot,
 ) -> Result<Key, Refusal>
-    requires rising { AreRising records.now }
-    requires grounded { All (λ r. reaches_page 31 records.now r.place.parent ≡ true) records.now }
-    ensures value { result ≡ move_index id parent spot.now records.now }
+    ensures value { result ≡ move_index id parent spot.now document.now.records }
     ensures key { IfOk result IsKey }
 {
+    let records = &document.records;
     if !has_shape(records, id) {
         return Err(Refusal::NoSuchShape);
     }
@@ -160,10 +155,10 @@ fn move_index(
     if is_below(records, STEPS + 1, id, parent) {
         return Err(Refusal::Cycle);
     }
-    if is_above_32(alloc, records, id, parent) {
+    if is_above_32(alloc, document, id, parent) {
         return Err(Refusal::TooDeep);
     }
-    index_at(records, id, parent, spot)
+    index_at(document, id, parent, spot)
 }
 
 // Another pose, or why it is refused.

@@ -1,22 +1,30 @@
 //! The document after a change.
 
-ghost use Rattle.std.specs.Prelude.{◌≡◌, ◌+◌, ◌≤◌, ◌++◌, ◌∷◌, [], not, map, filter, length, replicate, ◌==◌, All, IfOk, MatchOption, None, false, true};
-ghost use Rattle.canvas_doc.specs.Contents.{AreRising, IsWellFormed, reaches_page};
+ghost use Rattle.std.specs.Prelude.{◌≡◌, ◌+◌, ◌≤◌, ◌<◌, ◌++◌, ◌∷◌, [], not, map, filter, length, ◌==◌, All, IfOk, MatchOption, None, false, true, slice_index_or, slice_set};
+ghost use Rattle.std.specs.List.{remove};
+ghost use Rattle.std.specs.List.Sorted.{IsStrictlySortedBy};
+ghost use Rattle.std.specs.Option.{unwrap_or};
+ghost use Rattle.canvas_key.specs.Rank.{fresh_key};
+ghost use Rattle.canvas_doc.specs.Bounds.{AreBounds, HaveOneShape};
+ghost use Rattle.canvas_doc.specs.Children.{is_child};
+ghost use Rattle.canvas_doc.specs.Contents.{record_of, HaveIds, AreRising, IsWellFormed, reaches_page};
+ghost use Rattle.canvas_doc.specs.Decision.{has_shape};
 ghost use Rattle.canvas_doc.specs.declared.records.Record.{Record};
 ghost use Rattle.canvas_doc.specs.Depth.{AreMarks};
-ghost use Rattle.canvas_doc.specs.Effect.{changed_by, respaced, child_rank, indexes, is_in_subtree, ReplacesAt};
-ghost use Rattle.canvas_doc.specs.PlaceOrder.{IsInPlaceOrder};
+ghost use Rattle.canvas_doc.specs.Effect.{changed_by, respaced, is_in_subtree, ReplacesAt};
+ghost use Rattle.canvas_doc.specs.PlaceOrder.{comes_first, AreChildrenWithin, IsInPlaceOrder};
 ghost use Rattle.canvas_doc.specs.Tree.{HavePlaces};
 
 use crate::Document;
-use crate::ancestry::{STEPS, level_at, no_marks};
+use crate::ancestry::{STEPS, has_shape, level_at, no_marks};
 use crate::edits::Change;
-use crate::gathering::{Gathering, ROW};
+use crate::kept_bounds::{BoundsList, bounds_for, raised};
 use crate::lookup::position_of;
-use crate::place_order::{children_range, order_after_deletion, put_by_place, take_by_place};
-use crate::records::{Parent, Place, Record};
-use crate::rows::Records;
+use crate::place_order::{children_range, position_in, shares};
+use crate::records::{Parent, Place, Record, Records};
 use canvas_code::OutOfMemory;
+use canvas_key::fresh;
+use canvas_list::{Share, Shared};
 use canvas_plane::Pose;
 use canvas_shape::Kind;
 use std::alloc::Global;
@@ -25,7 +33,7 @@ use std::ops::Range;
 impl Document {
     ghost use Rattle.std.specs.Prelude.{◌+◌, ℤ, true};
     ghost use Rattle.canvas_doc.specs.Effect.{changes_one, effect_of, Fits, SpacesOnly};
-    ghost use Rattle.canvas_doc.specs.declared.edits.Change.TheVariants.{Respace};
+    ghost use Rattle.canvas_doc.specs.declared.edits.Change.TheVariants.{Delete, Respace};
     ghost use Rattle.canvas_doc.specs.Picture.{colour};
 
     /// The document after a change that fits.
@@ -51,16 +59,7 @@ impl Document {
                 };
                 self.with_record(alloc, shape)
             }
-            Change::Delete { id } => {
-                let records = without(alloc, &self.records, *id)?;
-                let order = order_after_deletion(alloc, &self.order, &self.records, &records)?;
-                let next = self.next;
-                Ok(Document {
-                    records,
-                    order,
-                    next,
-                })
-            }
+            Change::Delete { id } => self.without(alloc, *id),
             Change::Respace { parent } => self.with_new_indexes(alloc, *parent),
             Change::Move { .. } => self.with_one_changed(alloc, change),
             Change::Pose { .. } => self.with_one_changed(alloc, change),
@@ -74,26 +73,19 @@ impl Document {
         requires { IsWellFormed (record { records = self.now.records ++ shape ∷ []; next = self.now.next + 1 }) }
         ensures { IfOk result (λ after. after ≡ record { records = self.now.records ++ shape ∷ []; next = self.now.next + 1 }) }
     {
-        let records = self.records.with_one_more(alloc, shape)?;
-        let mut order = Vec::with_capacity(alloc, self.order.len() + 1)?;
-        order.extend_from_slice(&self.order)?;
-        put_by_place(&mut order, &records, self.records.len())?;
+        let at = position_in(&self.order, &shape.place);
+        let last = self.records.len();
+        let own = bounds_for(&self.order, &self.bounds, &shape);
+        let shape = Shared::new(alloc, shape)?;
+        let records = self.records.with_inserted(alloc, last, shape.share()?)?;
+        let order = self.order.with_inserted(alloc, at, shape)?;
+        let bounds = self.bounds.with_inserted(alloc, at, own)?;
+        let bounds = raised(alloc, &records, &order, bounds, at, STEPS)?;
         Ok(Document {
             records,
             order,
+            bounds,
             next: self.next + 1,
-        })
-    }
-
-    // The document with new indexes for the children of a parent, which leave the order as it is.
-    fn with_new_indexes(&self, alloc: Global, parent: Parent) -> Result<Document, OutOfMemory>
-        ensures { IfOk result (λ after. after ≡ effect_of (Respace parent) self.now) }
-    {
-        let records = all_respaced(alloc, &self.records, &self.order, parent)?;
-        Ok(Document {
-            records,
-            order: self.order.clone()?,
-            next: self.next,
         })
     }
 
@@ -103,31 +95,130 @@ impl Document {
         requires fits { Fits change.now self.now }
         ensures { IfOk result (λ after. after ≡ effect_of change.now self.now) }
     {
-        let records = changed(alloc, &self.records, change)?;
-        let order = self.order_after(&records, change)?;
+        let Some(at) = changed_position(&self.records, change) else {
+            return self.try_clone(alloc);
+        };
+        let old = self.records.at(at).value();
+        let new = Shared::new(alloc, changed_by(alloc, old, change)?)?;
+        let records = self.records.with_replaced(alloc, at, new.share()?)?;
+        let placed = match change {
+            Change::Move { .. } => self.moved(alloc, &records, at)?,
+            _ => self.replaced(alloc, &records, at)?,
+        };
         Ok(Document {
             records,
-            order,
+            order: placed.order,
+            bounds: placed.bounds,
             next: self.next,
         })
     }
 
-    // The order after a change of one shape: only a move changes it.
-    fn order_after(&self, records: &Records, change: &Change) -> Result<Vec<u32>, OutOfMemory>
-        requires changed { records.now ≡ map (changed_by change.now) self.now.records }
-        requires places { HavePlaces records.now }
-        ensures { IfOk result (λ order. IsInPlaceOrder order.items records.now) }
+    // The order of records that are the document's but for the one at a position, which has another
+    // place.
+    fn moved(&self, alloc: Global, records: &Records, at: usize) -> Result<Placed, OutOfMemory>
+        requires there { at < length self.now.records }
+        requires one { (r : Record) → records.now ≡ slice_set self.now.records at (slice_index_or records.now at r) }
+        requires shape { (r : Record) → HaveOneShape (slice_index_or self.now.records at r) (slice_index_or records.now at r) }
+        requires well_formed { IsWellFormed (record { records = records.now; next = self.now.next }) }
+        ensures order { IfOk result (λ placed. IsInPlaceOrder placed.order records.now) }
+        ensures bounds { IfOk result (λ placed. AreBounds placed.order placed.bounds) }
     {
-        if let Change::Move { id, .. } = change {
-            if let Some(position) = position_of(&self.records, *id) {
-                let mut order = self.order.clone()?;
-                take_by_place(&mut order, &self.records, position);
-                put_by_place(&mut order, records, position)?;
-                return Ok(order);
-            }
-        }
-        Ok(self.order.clone()?)
+        let from = position_in(&self.order, &self.records.at(at).value().place);
+        let others = self.order.without(alloc, from)?;
+        let moved = records.at(at);
+        let to = position_in(&others, &moved.value().place);
+        let order = others.with_inserted(alloc, to, moved.share()?)?;
+        let own = *self.bounds.at(from);
+        let left = self.bounds.without(alloc, from)?;
+        let bounds = left.with_inserted(alloc, to, own)?;
+        let bounds = raised(alloc, records, &order, bounds, to, STEPS)?;
+        Ok(Placed { order, bounds })
     }
+
+    // The order of records that are the document's but for the one at a position, which has the same
+    // place.
+    fn replaced(&self, alloc: Global, records: &Records, at: usize) -> Result<Placed, OutOfMemory>
+        requires there { at < length self.now.records }
+        requires one { (r : Record) → records.now ≡ slice_set self.now.records at (slice_index_or records.now at r) }
+        requires place { (r : Record) → (slice_index_or self.now.records at r).place ≡ (slice_index_or records.now at r).place }
+        requires well_formed { IsWellFormed (record { records = records.now; next = self.now.next }) }
+        ensures order { IfOk result (λ placed. IsInPlaceOrder placed.order records.now) }
+        ensures bounds { IfOk result (λ placed. AreBounds placed.order placed.bounds) }
+    {
+        let from = position_in(&self.order, &self.records.at(at).value().place);
+        let replaced = records.at(at);
+        let own = bounds_for(&self.order, &self.bounds, replaced.value());
+        let order = self.order.with_replaced(alloc, from, replaced.share()?)?;
+        let bounds = self.bounds.with_replaced(alloc, from, own)?;
+        let bounds = raised(alloc, records, &order, bounds, from, STEPS)?;
+        Ok(Placed { order, bounds })
+    }
+
+    // The document without a shape and all below it.
+    fn without(&self, alloc: Global, id: u32) -> Result<Document, OutOfMemory>
+        requires { Fits (Delete id) self.now }
+        ensures { IfOk result (λ after. after ≡ effect_of (Delete id) self.now) }
+    {
+        let below = children_range(&self.order, Parent::Shape(id));
+        match position_of(&self.records, id) {
+            Some(at) if below.start == below.end => self.without_one(alloc, at),
+            _ => self.without_subtree(alloc, id),
+        }
+    }
+
+    // The document without the record at a position, below which nothing lies.
+    fn without_one(&self, alloc: Global, at: usize) -> Result<Document, OutOfMemory>
+        requires there { at < length self.now.records }
+        requires well_formed { IsWellFormed (record { records = remove self.now.records at; next = self.now.next }) }
+        ensures { IfOk result (λ after. after ≡ record { records = remove self.now.records at; next = self.now.next }) }
+    {
+        let from = position_in(&self.order, &self.records.at(at).value().place);
+        Ok(Document {
+            records: self.records.without(alloc, at)?,
+            order: self.order.without(alloc, from)?,
+            bounds: self.bounds.without(alloc, from)?,
+            next: self.next,
+        })
+    }
+
+    // The document without a shape and all below it, made of the records that are left.
+    fn without_subtree(&self, alloc: Global, id: u32) -> Result<Document, OutOfMemory>
+        requires { Fits (Delete id) self.now }
+        ensures { IfOk result (λ after. after ≡ effect_of (Delete id) self.now) }
+    {
+        let records = without(alloc, &self.records, id)?;
+        let placed = placed_among(alloc, &self.order, &self.bounds, &records)?;
+        Ok(Document {
+            records,
+            order: placed.order,
+            bounds: placed.bounds,
+            next: self.next,
+        })
+    }
+
+    // The document with new indexes for the children of a parent.
+    fn with_new_indexes(&self, alloc: Global, parent: Parent) -> Result<Document, OutOfMemory>
+        ensures { IfOk result (λ after. after ≡ effect_of (Respace parent) self.now) }
+    {
+        let Range { start, end } = children_range(&self.order, parent);
+        let children = respaced_children(alloc, &self.order, parent, start, end)?;
+        let records = with_each(alloc, &self.records, &children)?;
+        let order = self.order.with_spliced(alloc, start, end, children)?;
+        let bounds = self.bounds.try_clone(alloc)?;
+        Ok(Document {
+            records,
+            order,
+            bounds,
+            next: self.next,
+        })
+    }
+}
+
+// The records of a document by place, and their bounds in the same positions.
+#[derive(Drop)]
+struct Placed {
+    order: Records,
+    bounds: BoundsList,
 }
 
 fn changed_by(alloc: Global, shape: &Record, change: &Change) -> Result<Record, OutOfMemory>
@@ -216,21 +307,6 @@ fn shown(alloc: Global, shape: &Record, hidden: bool) -> Result<Record, OutOfMem
     })
 }
 
-// The records after a change of one shape's place, pose, kind or mark.
-fn changed(alloc: Global, records: &Records, change: &Change) -> Result<Records, OutOfMemory>
-    requires rising { AreRising records.now }
-    requires few { length records.now ≤ 4096 }
-    ensures { IfOk result (λ all. all ≡ map (changed_by change.now) records.now) }
-{
-    match changed_position(records, change) {
-        Some(at) => {
-            let after = changed_by(alloc, records.at(at), change)?;
-            records.with_replaced(alloc, at, after)
-        }
-        None => records.try_clone(alloc),
-    }
-}
-
 // The position of the only record that a change replaces, if there is one.
 fn changed_position(records: &Records, change: &Change) -> Option<usize>
     requires { AreRising records.now }
@@ -259,13 +335,14 @@ fn changed_id(change: &Change) -> Option<u32>
 
 // The records without a shape and all below it.
 fn without(alloc: Global, records: &Records, id: u32) -> Result<Records, OutOfMemory>
+    requires few { length records.now ≤ 4096 }
     requires rising { AreRising records.now }
     requires grounded { All (λ r. reaches_page 31 records.now r.place.parent ≡ true) records.now }
-    requires few { length records.now ≤ 4096 }
     ensures { IfOk result (λ all. all ≡ filter (λ r. not (is_in_subtree id records.now r)) records.now) }
 {
     let mut marks = no_marks(alloc, records, id)?;
-    without_marked(alloc, records, &mut marks, id)
+    let left = without_marked(alloc, records, &mut marks, id)?;
+    Records::from_vec(alloc, left)
 }
 
 fn without_marked(
@@ -273,77 +350,105 @@ fn without_marked(
     records: &Records,
     marks: &mut [u8],
     id: u32,
-) -> Result<Records, OutOfMemory>
+) -> Result<Vec<Shared<Record>>, OutOfMemory>
     requires rising { AreRising records.now }
     requires grounded { All (λ r. reaches_page 31 records.now r.place.parent ≡ true) records.now }
-    requires few { length records.now ≤ 4096 }
     requires marks { AreMarks id records.now marks.old }
-    ensures { IfOk result (λ all. all ≡ filter (λ r. not (is_in_subtree id records.now r)) records.now) }
+    ensures { IfOk result (λ left. left.items ≡ filter (λ r. not (is_in_subtree id records.now r)) records.now) }
 {
-    let mut all = Gathering::new(alloc, records.len(), 0)?;
-    // The first record that is left and not yet put there.
-    let mut from: usize = 0;
+    let mut left = Vec::with_capacity(alloc, records.len())?;
     for at in 0..records.len() {
-        if level_at(records, marks, STEPS, id, at) > 0 {
-            if from < at {
-                all = all.keep(records, from, at)?;
-            }
-            from = at + 1;
+        if level_at(records, marks, STEPS, id, at) == 0 {
+            left.push(records.at(at).share()?)?;
         }
     }
-    all.keep(records, from, records.len())?.finish()
+    Ok(left)
 }
 
-// The records, with new indexes for the children of a parent.
-fn all_respaced(
+// The order without those that are not among the records that are left.
+fn placed_among(
+    alloc: Global,
+    order: &Records,
+    bounds: &BoundsList,
+    left: &Records,
+) -> Result<Placed, OutOfMemory>
+    requires few { length order.now ≤ 4096 }
+    requires bounds { AreBounds order.now bounds.now }
+    requires rising { AreRising left.now }
+    ensures order { IfOk result (λ placed. placed.order ≡ filter (λ r. has_shape left.now r.id) order.now) }
+    ensures bounds { IfOk result (λ placed. AreBounds placed.order placed.bounds) }
+{
+    let mut kept = Vec::with_capacity(alloc, left.len())?;
+    let mut kept_bounds = Vec::with_capacity(alloc, left.len())?;
+    for at in 0..order.len() {
+        let shape = order.at(at);
+        if has_shape(left, shape.value().id) {
+            kept.push(shape.share()?)?;
+            kept_bounds.push(*bounds.at(at))?;
+        }
+    }
+    Ok(Placed {
+        order: Records::from_vec(alloc, kept)?,
+        bounds: BoundsList::from_vec(alloc, kept_bounds)?,
+    })
+}
+
+// The children of a parent, which stand from one position up to another, each with the index that
+// stands for its place from the back.
+fn respaced_children(
+    alloc: Global,
+    order: &Records,
+    parent: Parent,
+    start: usize,
+    end: usize,
+) -> Result<Vec<Shared<Record>>, OutOfMemory>
+    requires rising { IsStrictlySortedBy comes_first order.now }
+    requires children { AreChildrenWithin parent order.now start end }
+    requires few { end ≤ start + 4096 }
+    ensures { IfOk result (λ children. children.items ≡ map (respaced parent order.now) (filter (is_child parent) order.now)) }
+{
+    let mut children = Vec::with_capacity(alloc, end - start)?;
+    for at in start..end {
+        let rank = (end - 1 - at) as u32;
+        let respaced = respaced(alloc, order.at(at).value(), rank)?;
+        children.push(Shared::new(alloc, respaced)?)?;
+    }
+    Ok(children)
+}
+
+// A record with the index that stands for a rank.
+fn respaced(alloc: Global, shape: &Record, rank: u32) -> Result<Record, OutOfMemory>
+    requires { rank < 4096 }
+    ensures { IfOk result (λ after. after ≡ record shape.now { place = record shape.now.place { index = fresh_key rank } }) }
+{
+    Ok(Record {
+        id: shape.id,
+        kind: shape.kind.try_clone(alloc)?,
+        pose: shape.pose,
+        hidden: shape.hidden,
+        place: Place {
+            parent: shape.place.parent,
+            index: fresh(rank),
+        },
+    })
+}
+
+// The records, with others in the place of those that have their ids.
+fn with_each(
     alloc: Global,
     records: &Records,
-    order: &[u32],
-    parent: Parent,
+    others: &[Shared<Record>],
 ) -> Result<Records, OutOfMemory>
     requires few { length records.now ≤ 4096 }
-    requires places { HavePlaces records.now }
-    requires order { IsInPlaceOrder order.now records.now }
-    ensures { IfOk result (λ all. all ≡ map (respaced parent records.now) records.now) }
+    requires rising { AreRising records.now }
+    requires once { HaveIds others.now }
+    ensures { IfOk result (λ all. all ≡ map (λ r. unwrap_or (record_of r.id others.now) r) records.now) }
 {
-    let ranks = child_ranks(alloc, records, order, parent)?;
-    let mut all = Gathering::new(alloc, records.len(), ROW)?;
-    // The first record that keeps its index and is not yet put there.
-    let mut from: usize = 0;
-    for at in 0..records.len() {
-        if let Some(rank) = ranks[at] {
-            if from < at {
-                all = all.keep(records, from, at)?;
-            }
-            all = all.add_respaced(records.at(at), rank)?;
-            from = at + 1;
+    let mut all = shares(alloc, records)?;
+    for other in others {
+        if let Some(at) = position_of(records, other.value().id) {
+            all[at] = other.share()?;
         }
     }
-    all.keep(records, from, records.len())?.finish()
-}
-
-// The rank of each child of a parent by position, from back to front, and none of other records.
-fn child_ranks(
-    alloc: Global,
-    records: &Records,
-    order: &[u32],
-    parent: Parent,
-) -> Result<Vec<Option<u32>>, OutOfMemory>
-    requires few { length records.now ≤ 4096 }
-    requires places { HavePlaces records.now }
-    requires order { IsInPlaceOrder order.now records.now }
-    ensures { IfOk result (λ ranks. ranks.items ≡ map (child_rank parent (indexes parent records.now)) records.now) }
-{
-    let Range { start, end } = children_range(records, order, parent);
-    let mut ranks = no_ranks(alloc, records.len())?;
-    for slot in start..end {
-        ranks[order[slot] as usize] = Some((slot - start) as u32);
-    }
-    Ok(ranks)
-}
-
-fn no_ranks(alloc: Global, count: usize) -> Result<Vec<Option<u32>>, OutOfMemory>
-    ensures { IfOk result (λ all. all.items ≡ replicate count None) }
-{
-    Ok(vec![in alloc; None; count]?)
+    Records::from_vec(alloc, all)
 }

@@ -2,7 +2,7 @@
 
 ghost use Rattle.std.specs.Prelude.{◌≡◌, Decides, IsTrue};
 ghost use Rattle.canvas_key.specs.Text.{IsKey};
-ghost use Rattle.canvas_doc.specs.Contents.{AreRising};
+ghost use Rattle.canvas_doc.specs.Contents.{IsWellFormed};
 ghost use Rattle.canvas_doc.specs.Effect.{Fits, HasKey};
 ghost use Rattle.canvas_doc.specs.Fitting.{creation_test, fits_test, has_no_child, kind_test, move_test};
 
@@ -10,8 +10,8 @@ use crate::Document;
 use crate::ancestry::{has_parent, has_shape, is_container, lies_too_deep, reaches_page};
 use crate::decisions::is_pose;
 use crate::edits::Change;
-use crate::records::{Parent, Place, Record};
-use crate::rows::Records;
+use crate::place_order::children_range;
+use crate::records::{Parent, Place};
 use crate::spots::is_taken;
 use canvas_plane::Pose;
 use canvas_shape::Kind;
@@ -21,26 +21,23 @@ impl Document {
     pub fn fits(&self, change: &Change) -> bool
         ensures { Decides result (Fits change.now self.now) }
     {
-        fits_test(&self.records, self.next, change)
+        fits_test(self, change)
     }
 }
 
-fn has_no_child(records: &Records, id: u32) -> bool
-    ensures { result ≡ has_no_child id records.now }
+fn has_no_child(document: &Document, id: u32) -> bool
+    ensures { result ≡ has_no_child id document.now.records }
 {
-    for at in 0..records.len() {
-        if records.at(at).place.parent == Parent::Shape(id) {
-            return false;
-        }
-    }
-    true
+    let children = children_range(&document.order, Parent::Shape(id));
+    children.start == children.end
 }
 
-fn fits_test(records: &Records, next: u32, change: &Change) -> bool
-    requires { AreRising records.now }
-    ensures value { result ≡ fits_test change.now (record { records = records.now; next = next }) }
+fn fits_test(document: &Document, change: &Change) -> bool
+    ensures value { result ≡ fits_test change.now document.now }
     ensures key { IsTrue result → HasKey change.now }
+    ensures well_formed { IsWellFormed document.now }
 {
+    let records = &document.records;
     match change {
         Change::Create {
             id,
@@ -48,10 +45,10 @@ fn fits_test(records: &Records, next: u32, change: &Change) -> bool
             pose,
             place,
             ..
-        } => *id == next && can_be_created(records, next, kind, pose, place),
-        Change::Move { id, place } => can_be_moved(records, *id, place),
+        } => *id == document.next && can_be_created(document, kind, pose, place),
+        Change::Move { id, place } => can_be_moved(document, *id, place),
         Change::Pose { id, pose } => has_shape(records, *id) && is_pose(pose),
-        Change::Reshape { id, kind } => can_be_reshaped(records, *id, kind),
+        Change::Reshape { id, kind } => can_be_reshaped(document, *id, kind),
         Change::Show { id, .. } => has_shape(records, *id),
         Change::Delete { id } => has_shape(records, *id),
         Change::Respace { parent } => has_parent(records, *parent),
@@ -59,15 +56,14 @@ fn fits_test(records: &Records, next: u32, change: &Change) -> bool
 }
 
 // Whether a new shape may be put here.
-fn can_be_created(records: &Records, next: u32, kind: &Kind, pose: &Pose, place: &Place) -> bool
-    requires { AreRising records.now }
-    ensures value { result ≡ creation_test kind.now pose.now place.now (record { records = records.now; next = next }) }
+fn can_be_created(document: &Document, kind: &Kind, pose: &Pose, place: &Place) -> bool
+    ensures value { result ≡ creation_test kind.now pose.now place.now document.now }
     ensures key { IsTrue result → IsKey place.now.index }
 {
-    if next == 4_294_967_295 {
+    if document.next == 4_294_967_295 {
         return false;
     }
-    if records.len() >= 4096 {
+    if document.records.len() >= 4096 {
         return false;
     }
     if !kind.has_sides() {
@@ -79,33 +75,31 @@ fn can_be_created(records: &Records, next: u32, kind: &Kind, pose: &Pose, place:
     if !is_pose(pose) {
         return false;
     }
-    if !reaches_page(records, 31, place.parent) {
+    if !reaches_page(&document.records, 31, place.parent) {
         return false;
     }
-    !is_taken(records, next, place.parent, &place.index)
+    !is_taken(document, document.next, place.parent, &place.index)
 }
 
 // Whether a shape may be moved here.
-fn can_be_moved(records: &Records, id: u32, place: &Place) -> bool
-    requires { AreRising records.now }
-    ensures value { result ≡ move_test id place.now records.now }
+fn can_be_moved(document: &Document, id: u32, place: &Place) -> bool
+    ensures value { result ≡ move_test id place.now document.now.records }
     ensures key { IsTrue result → IsKey place.now.index }
 {
-    if !has_shape(records, id) {
+    if !has_shape(&document.records, id) {
         return false;
     }
-    if lies_too_deep(records, id, place.parent) {
+    if lies_too_deep(&document.records, id, place.parent) {
         return false;
     }
-    !is_taken(records, id, place.parent, &place.index)
+    !is_taken(document, id, place.parent, &place.index)
 }
 
 // Whether a shape may have this kind.
-fn can_be_reshaped(records: &Records, id: u32, kind: &Kind) -> bool
-    requires { AreRising records.now }
-    ensures { result ≡ kind_test id kind.now records.now }
+fn can_be_reshaped(document: &Document, id: u32, kind: &Kind) -> bool
+    ensures { result ≡ kind_test id kind.now document.now.records }
 {
-    if !has_shape(records, id) {
+    if !has_shape(&document.records, id) {
         return false;
     }
     if !kind.has_sides() {
@@ -117,5 +111,5 @@ fn can_be_reshaped(records: &Records, id: u32, kind: &Kind) -> bool
     if is_container(kind) {
         return true;
     }
-    has_no_child(records, id)
+    has_no_child(document, id)
 }

@@ -6,38 +6,42 @@ ghost use Rattle.std.specs.Prelude.{◌≡◌, [], length};
 ghost use Rattle.std.specs.Option.{option_copied};
 
 mod ancestry;
+mod bounds;
 mod colour;
 mod copies;
+mod corners;
 mod decisions;
 mod edits;
 mod effects;
 mod fits;
-mod gathering;
+mod kept_bounds;
 mod lookup;
 mod order;
 mod place_order;
 mod records;
 mod refusals;
 mod restored;
-mod rows;
 mod spots;
 
 pub use edits::{Change, Edit, Spot};
+use kept_bounds::BoundsList;
 use lookup::find;
+use records::Records;
 pub use records::{Parent, Place, Record};
 pub use refusals::Refusal;
 pub use restored::TreeFault;
-use rows::Records;
 use std::alloc::Global;
 use std::marker::Model;
 
 /// A design document: records in a page tree, and the next id. It is always well formed.
 #[derive(Drop)]
 pub struct Document {
-    // In rising id, in rows that are shared with the documents before and after a change that left them as they were.
+    // In rising id.
     records: Records,
-    // The positions of the records by place: by the parent, then by the index.
-    order: Vec<u32>,
+    // By the parent, and the children of a parent from front to back.
+    order: Records,
+    // Of the records, in the same positions as in the order.
+    bounds: BoundsList,
     next: u32,
 }
 
@@ -49,7 +53,7 @@ impl Model for Document {
 
     ghost view = { λ d. record { records = d.records; next = d.next } };
 
-    ghost invariant = { λ d. IsKeptInOrder (record { records = d.records; next = d.next }) d.order.items };
+    ghost invariant = { λ d. IsKeptInOrder (record { records = d.records; next = d.next }) d.order d.bounds };
 }
 
 impl Document {
@@ -60,8 +64,9 @@ impl Document {
         ensures { result ≡ record { records = []; next = 1 } }
     {
         Document {
-            records: Records::none(alloc),
-            order: Vec::new(alloc),
+            records: Records::empty(alloc),
+            order: Records::empty(alloc),
+            bounds: BoundsList::empty(alloc),
             next: 1,
         }
     }

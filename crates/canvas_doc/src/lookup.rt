@@ -5,8 +5,7 @@ ghost use Rattle.std.specs.Option.{option_copied};
 ghost use Rattle.canvas_doc.specs.declared.records.Record.{Record};
 ghost use Rattle.canvas_doc.specs.Contents.{record_of, AreRising, StandsAt};
 
-use crate::records::Record;
-use crate::rows::Records;
+use crate::records::{Record, Records};
 use std::cmp::Ordering;
 
 // The record of an id.
@@ -15,7 +14,7 @@ pub(crate) fn find(records: &Records, id: u32) -> Option<&Record>
     ensures { option_copied result ≡ record_of id records.now }
 {
     match position_of(records, id) {
-        Some(at) => Some(records.at(at)),
+        Some(at) => Some(records.at(at).value()),
         None => None,
     }
 }
@@ -43,7 +42,7 @@ fn position_within(records: &Records, id: u32, low: usize, end: usize) -> Option
         return None;
     }
     let middle = low + (end - low) / 2;
-    match records.at(middle).id.cmp(&id) {
+    match records.at(middle).value().id.cmp(&id) {
         Ordering::Less => position_within(records, id, middle + 1, end),
         Ordering::Equal => Some(middle),
         Ordering::Greater => position_within(records, id, low, middle),
@@ -60,7 +59,7 @@ fn least_position(records: &Records, id: u32) -> usize
         return 0;
     }
     let last = records.len() - 1;
-    last.saturating_sub(records.at(last).id.saturating_sub(id) as usize)
+    last.saturating_sub(records.at(last).value().id.saturating_sub(id) as usize)
 }
 
 // A position with greater ids from it on: ids rise by 1 at least from the first.
@@ -73,6 +72,6 @@ fn end_of_positions(records: &Records, id: u32) -> usize
         return 0;
     }
     (id as usize + 1)
-        .saturating_sub(records.at(0).id as usize)
+        .saturating_sub(records.at(0).value().id as usize)
         .min(records.len())
 }

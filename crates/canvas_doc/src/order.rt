@@ -1,15 +1,20 @@
 //! The children of a parent, from front to back.
 
-ghost use Rattle.std.specs.Prelude.{◌≡◌, All, IfOk, map};
-ghost use Rattle.canvas_doc.specs.Children.{children};
-ghost use Rattle.canvas_doc.specs.PlaceOrder.{IsInPlaceOrder};
-ghost use Rattle.canvas_doc.specs.Tree.{HavePlaces, IsInLimits};
+ghost use Rattle.std.specs.Prelude.{◌≡◌, ◌≤◌, ◌^◌, ℕ, ℤ, All, IfOk, filter, map, true};
+ghost use Rattle.std.specs.List.Sorted.{IsStrictlySortedBy};
+ghost use Rattle.canvas_plane.specs.Motion.{carry, reach_of};
+ghost use Rattle.canvas_plane.specs.Page.{is_in};
+ghost use Rattle.canvas_doc.specs.Children.{IsPartOf, children, is_child};
+ghost use Rattle.canvas_doc.specs.Picture.{answer_of, first_answer};
+ghost use Rattle.canvas_doc.specs.PlaceOrder.{comes_first};
+ghost use Rattle.canvas_doc.specs.Tree.{IsInLimits};
 
 use crate::Document;
+use crate::bounds::Bounds;
 use crate::place_order::children_range;
-use crate::records::{Parent, Record};
-use crate::rows::Records;
+use crate::records::{Parent, Record, Records};
 use canvas_code::OutOfMemory;
+use canvas_plane::{PageBox, Pose};
 use std::alloc::Allocator;
 use std::ops::Range;
 
@@ -23,27 +28,52 @@ impl Document {
         ensures children { IfOk result (λ list. map (λ shape. shape.now) list.items ≡ children parent self.now.records) }
         ensures limits { IfOk result (λ list. All (λ shape. IsInLimits shape.now) list.items) }
     {
-        children(alloc, &self.records, &self.order, parent)
+        children(alloc, &self.order, parent)
+    }
+
+    /// Children of `parent`, from front to back, where `out` carries its points to the page: those that
+    /// may show within `clip`. Those left out show nothing there, they nor what lies below them. Want of
+    /// memory is the only refusal.
+    pub fn children_meeting<A: Allocator>(
+        &self,
+        alloc: A,
+        parent: Parent,
+        out: &Pose,
+        clip: &PageBox,
+    ) -> Result<Vec<&Record, A>, OutOfMemory>
+        requires quarter { out.now.quarter ≤ 3 }
+        requires reach { reach_of out.now ≤ 2 ^ 26 }
+        ensures part { IfOk result (λ list. IsPartOf (map (λ shape. shape.now) list.items) (children parent self.now.records)) }
+        ensures answers { IfOk result (λ list. (levels : ℕ) (x y : ℤ) → is_in clip.now x y ≡ true → first_answer (answer_of levels self.now.records (carry out.now) x y) (map (λ shape. shape.now) list.items) ≡ first_answer (answer_of levels self.now.records (carry out.now) x y) (children parent self.now.records)) }
+        ensures limits { IfOk result (λ list. All (λ shape. IsInLimits shape.now) list.items) }
+    {
+        let Range { start, end } = children_range(&self.order, parent);
+        let area = Bounds::of_clip(out, clip);
+        let mut seen = Vec::new(alloc);
+        let mut at = start;
+        for bounds in self.bounds.iter_range(start, end) {
+            if bounds.meets(&area) {
+                seen.push(self.order.at(at).value())?;
+            }
+            at += 1;
+        }
+        Ok(seen)
     }
 }
 
 // All children of `parent`, from front to back.
 fn children<'a, A: Allocator>(
     alloc: A,
-    records: &'a Records,
-    order: &[u32],
+    order: &'a Records,
     parent: Parent,
 ) -> Result<Vec<&'a Record, A>, OutOfMemory>
-    requires order { IsInPlaceOrder order.now records.now }
-    requires places { HavePlaces records.now }
-    requires limits { All IsInLimits records.now }
-    ensures children { IfOk result (λ list. map (λ shape. shape.now) list.items ≡ children parent records.now) }
-    ensures limits { IfOk result (λ list. All (λ shape. IsInLimits shape.now) list.items) }
+    requires { IsStrictlySortedBy comes_first order.now }
+    ensures { IfOk result (λ list. map (λ shape. shape.now) list.items ≡ filter (is_child parent) order.now) }
 {
-    let Range { start, end } = children_range(records, order, parent);
-    let mut list = Vec::with_capacity(alloc, end.saturating_sub(start))?;
-    for at in (start..end).rev() {
-        list.push(records.at(order[at] as usize))?;
+    let Range { start, end } = children_range(order, parent);
+    let mut list = Vec::with_capacity(alloc, end - start)?;
+    for at in start..end {
+        list.push(order.at(at).value())?;
     }
     Ok(list)
 }

@@ -4,6 +4,7 @@ ghost use Rattle.std.specs.Prelude.{◌≡◌, IfOk};
 
 use canvas_code::OutOfMemory;
 use canvas_key::Key;
+use canvas_list::{Shared, SharedList};
 use canvas_plane::Pose;
 use canvas_shape::Kind;
 use std::alloc::Global;
@@ -43,6 +44,10 @@ pub struct Record {
     /// Where it hangs.
     pub place: Place,
 }
+
+/// Records in some order, which documents share, seen as the list of them: the lists of a document
+/// after a change hold the very records that the change left as they were.
+pub(crate) type Records = SharedList<Shared<Record>>;
 
 impl Place {
     /// An equal place.

@@ -12,11 +12,12 @@ ghost use Rattle.canvas_doc.specs.Restored.{is_record, record_fault, leads_to_pa
 ghost use Rattle.canvas_doc.specs.Listed.{GivesFirsts, holder_of, has_place};
 
 use crate::ancestry::{STEPS, is_container};
-use crate::gathering::{Gathering, ROW};
-use crate::place_order::{holder_of, sorted_positions};
-use crate::rows::Records;
+use crate::kept_bounds::made_bounds;
+use crate::place_order::{holder_of, in_place_order};
+use crate::records::Records;
 use crate::{Document, Parent, Record};
 use canvas_code::OutOfMemory;
+use canvas_list::Shared;
 use std::alloc::{AllocError, Global};
 use std::collections::{BTreeMap, BTreeSet};
 use thiserror::Error;
@@ -106,7 +107,7 @@ impl Document {
         if let Some(position) = tree_fault(alloc, &records)? {
             return Err(TreeFault::BadTree { position });
         }
-        let records = in_rows(alloc, by_id(records)?)?;
+        let records = shared(alloc, by_id(records)?)?;
         let document = Document::of_sorted(alloc, records, next)?;
         Ok(document)
     }
@@ -116,10 +117,12 @@ impl Document {
         requires { IsWellFormed (record { records = records; next = next }) }
         ensures { IfOk result (λ document. document ≡ record { records = records; next = next }) }
     {
-        let order = sorted_positions(alloc, &records)?;
+        let order = in_place_order(alloc, &records)?;
+        let bounds = made_bounds(alloc, &records, &order)?;
         Ok(Document {
             records,
             order,
+            bounds,
             next,
         })
     }
@@ -140,16 +143,16 @@ fn by_id(mut records: Vec<Record>) -> Result<Vec<Record>, OutOfMemory>
     Ok(records)
 }
 
-// The records, in rows that can be shared.
-fn in_rows(alloc: Global, records: Vec<Record>) -> Result<Records, OutOfMemory>
+// The records, so that they can be shared.
+fn shared(alloc: Global, records: Vec<Record>) -> Result<Records, OutOfMemory>
     requires { length records.items ≤ 4096 }
     ensures { IfOk result (λ all. all ≡ records.items) }
 {
-    let mut all = Gathering::new(alloc, records.len(), ROW)?;
+    let mut all = Vec::with_capacity(alloc, records.len())?;
     for shape in records {
-        all = all.add(shape)?;
+        all.push(Shared::new(alloc, shape)?)?;
     }
-    all.finish()
+    Records::from_vec(alloc, all)
 }
 
 // The least position of a record that does not belong to a page tree.

@@ -1,38 +1,39 @@
 //! The index of a spot among siblings.
 
-ghost use Rattle.std.specs.Prelude.{◌≡◌, ◌&&◌, IfOk};
-ghost use Rattle.std.specs.List.{list_any};
+ghost use Rattle.std.specs.Prelude.{◌≡◌, ◌≤◌, ◌-◌, ◌&&◌, IfOk, Some, None, length, take, drop};
+ghost use Rattle.std.specs.List.{Contains};
 ghost use Rattle.std.specs.Option.{option_copied};
 ghost use Rattle.canvas_key.specs.Order.{AreApart};
 ghost use Rattle.canvas_key.specs.Text.{IsKey, is_same};
 ghost use Rattle.canvas_key.specs.Between.{key_between};
-ghost use Rattle.canvas_doc.specs.Contents.{AreRising};
-ghost use Rattle.canvas_doc.specs.Siblings.{is_sibling, siblings, is_above, least_above, greatest_index, lesser, greater, is_taken, with_room, index_over, index_at};
+ghost use Rattle.canvas_doc.specs.Siblings.{is_sibling, siblings, least_above, greatest_index, is_taken, with_room, index_at};
+ghost use Rattle.canvas_doc.specs.Ends.{first_index, last_index};
 
+use crate::Document;
 use crate::edits::Spot;
 use crate::lookup::find;
-use crate::records::{Parent, Record};
+use crate::place_order::{children_range, position_in};
+use crate::records::{Parent, Place, Record, Records};
 use crate::refusals::Refusal;
-use crate::rows::Records;
 use canvas_key::{Key, between};
+use std::ops::Range;
 
 // The index of a spot among the children of a parent but for one shape.
 pub(crate) fn index_at(
-    records: &Records,
+    document: &Document,
     own: u32,
     parent: Parent,
     spot: &Spot,
 ) -> Result<Key, Refusal>
-    requires { AreRising records.now }
-    ensures value { result ≡ index_at spot.now (siblings own parent records.now) }
+    ensures value { result ≡ index_at spot.now (siblings own parent document.now.records) }
     ensures key { IfOk result IsKey }
 {
     match spot {
-        Spot::Back => key_between(None, least_above(records, own, parent, None)),
-        Spot::Front => key_between(greatest_index(records, own, parent), None),
-        Spot::Over(id) => index_over(records, own, parent, *id),
+        Spot::Back => key_between(None, least_index(document, own, parent)),
+        Spot::Front => key_between(greatest_index(document, own, parent), None),
+        Spot::Over(id) => index_over(document, own, parent, *id),
         Spot::At(key) => {
-            if is_taken(records, own, parent, key) {
+            if is_taken(document, own, parent, key) {
                 Err(Refusal::IndexTaken)
             } else {
                 Ok(key.copy())
@@ -42,16 +43,15 @@ pub(crate) fn index_at(
 }
 
 // The index just in front of a sibling.
-fn index_over(records: &Records, own: u32, parent: Parent, id: u32) -> Result<Key, Refusal>
-    requires { AreRising records.now }
-    ensures value { result ≡ index_at (Spot.Over id) (siblings own parent records.now) }
+fn index_over(document: &Document, own: u32, parent: Parent, id: u32) -> Result<Key, Refusal>
+    ensures value { result ≡ index_at (Spot.Over id) (siblings own parent document.now.records) }
     ensures key { IfOk result IsKey }
 {
-    match find(records, id) {
+    match find(&document.records, id) {
         Some(shape) => {
             if is_sibling(own, parent, shape) {
-                let low = Some(&shape.place.index);
-                key_between(low, least_above(records, own, parent, low))
+                let high = next_above(document, own, shape);
+                key_between(Some(&shape.place.index), high)
             } else {
                 Err(Refusal::SpotNotSibling)
             }
@@ -78,83 +78,80 @@ fn is_sibling(own: u32, parent: Parent, shape: &Record) -> bool
     shape.place.parent == parent && shape.id != own
 }
 
-// The least index among the siblings above a bound.
-fn least_above<'a>(
-    records: &'a Records,
-    own: u32,
-    parent: Parent,
-    bound: Option<&Key>,
-) -> Option<&'a Key>
-    ensures value { option_copied result ≡ least_above (option_copied bound.entry) (siblings own parent records.now) }
-    ensures apart { AreApart (option_copied bound.entry) (option_copied result) }
+// The greatest index among the siblings: that of the foremost.
+fn greatest_index(document: &Document, own: u32, parent: Parent) -> Option<&Key>
+    ensures { option_copied result ≡ greatest_index (siblings own parent document.now.records) }
 {
-    let mut least: Option<&'a Key> = None;
-    for at in 0..records.len() {
-        let shape = records.at(at);
-        if is_sibling(own, parent, shape) && is_above(bound, &shape.place.index) {
-            least = Some(lesser(least, &shape.place.index));
+    let Range { start, end } = children_range(&document.order, parent);
+    first_index(&document.order, own, start, end)
+}
+
+// The index of the first record from one position of the order up to another that is not the shape.
+fn first_index(order: &Records, own: u32, start: usize, end: usize) -> Option<&Key>
+    requires from { start ≤ end }
+    requires bound { end ≤ length order.now }
+    ensures { option_copied result ≡ first_index own (take (end - start) (drop start order.now)) }
+{
+    for at in start..end {
+        let shape = order.at(at).value();
+        if shape.id != own {
+            return Some(&shape.place.index);
         }
     }
-    least
+    None
 }
 
-fn is_above(bound: Option<&Key>, index: &Key) -> bool
-    ensures { result ≡ is_above (option_copied bound.entry) index.now }
+// The least index among the siblings: that of the backmost.
+fn least_index(document: &Document, own: u32, parent: Parent) -> Option<&Key>
+    ensures { option_copied result ≡ least_above None (siblings own parent document.now.records) }
 {
-    match bound {
-        Some(bound) => bound.is_before(index),
-        None => true,
-    }
+    let Range { start, end } = children_range(&document.order, parent);
+    last_index(&document.order, own, start, end)
 }
 
-fn lesser<'a>(other: Option<&'a Key>, index: &'a Key) -> &'a Key
-    ensures { result.now ≡ lesser (option_copied other.entry) index.entry.now }
+// The least index above that of a record, among the siblings of a shape beside it.
+fn next_above<'a>(document: &'a Document, own: u32, shape: &Record) -> Option<&'a Key>
+    requires { Contains document.now.records shape.now }
+    ensures value { option_copied result ≡ least_above (Some shape.now.place.index) (siblings own shape.now.place.parent document.now.records) }
+    ensures apart { AreApart (Some shape.now.place.index) (option_copied result) }
 {
-    match other {
-        Some(other) => { if index.is_before(other) { index } else { other } }
-        None => index,
-    }
+    let start = children_range(&document.order, shape.place.parent).start;
+    let end = position_in(&document.order, &shape.place);
+    last_index(&document.order, own, start, end)
 }
 
-// The greatest index among the siblings.
-fn greatest_index<'a>(records: &'a Records, own: u32, parent: Parent) -> Option<&'a Key>
-    ensures { option_copied result ≡ greatest_index (siblings own parent records.now) }
+// The index of the last record from one position of the order up to another that is not the shape.
+fn last_index(order: &Records, own: u32, start: usize, end: usize) -> Option<&Key>
+    requires from { start ≤ end }
+    requires bound { end ≤ length order.now }
+    ensures { option_copied result ≡ last_index own (take (end - start) (drop start order.now)) }
 {
-    let mut greatest: Option<&'a Key> = None;
-    for at in 0..records.len() {
-        let shape = records.at(at);
-        if is_sibling(own, parent, shape) {
-            greatest = Some(greater(greatest, &shape.place.index));
+    for at in (start..end).rev() {
+        let shape = order.at(at).value();
+        if shape.id != own {
+            return Some(&shape.place.index);
         }
     }
-    greatest
-}
-
-fn greater<'a>(other: Option<&'a Key>, index: &'a Key) -> &'a Key
-    ensures { result.now ≡ greater (option_copied other.entry) index.entry.now }
-{
-    match other {
-        Some(other) => { if other.is_before(index) { index } else { other } }
-        None => index,
-    }
+    None
 }
 
 // Whether a sibling has the index.
-pub(crate) fn is_taken(records: &Records, own: u32, parent: Parent, key: &Key) -> bool
-    ensures value { result ≡ is_taken key.now (siblings own parent records.now) }
+pub(crate) fn is_taken(document: &Document, own: u32, parent: Parent, key: &Key) -> bool
+    ensures value { result ≡ is_taken key.now (siblings own parent document.now.records) }
     ensures key { IsKey key.now }
 {
-    has_index(records, own, parent, key.bytes())
+    let place = Place {
+        parent,
+        index: key.copy(),
+    };
+    match document.order.get(position_in(&document.order, &place)) {
+        Some(shape) => is_sibling_at(own, &place, shape.value()),
+        None => false,
+    }
 }
 
-fn has_index(records: &Records, own: u32, parent: Parent, text: &[u8]) -> bool
-    ensures { result ≡ list_any (λ s. is_sibling own parent s && is_same s.place.index text.now) records.now }
+fn is_sibling_at(own: u32, place: &Place, shape: &Record) -> bool
+    ensures { result ≡ (is_sibling own place.now.parent shape.now && is_same shape.now.place.index place.now.index) }
 {
-    for at in 0..records.len() {
-        let shape = records.at(at);
-        if is_sibling(own, parent, shape) && shape.place.index.bytes() == text {
-            return true;
-        }
-    }
-    false
+    is_sibling(own, place.parent, shape) && shape.place.index.bytes() == place.index.bytes()
 }

@@ -7,6 +7,8 @@ mod dice;
 #[cfg(test)]
 mod examples;
 #[cfg(test)]
+mod histories;
+#[cfg(test)]
 mod memory;
 #[cfg(test)]
 mod plain;
@@ -19,6 +21,6 @@ mod restored;
 #[cfg(test)]
 mod shapes;
 #[cfg(test)]
-mod shared_rows;
+mod sight;
 #[cfg(test)]
 mod viewed;

@@ -23,15 +23,16 @@ fn some_record<'a>(dice: &mut Dice, plain: &'a Plain) -> Option<&'a Record> {
         .get(dice.below(count.saturating_add(2)) as usize)
 }
 
-// An id that most often is there.
-fn id(dice: &mut Dice, plain: &Plain) -> u32 {
+/// An id that most often is there.
+pub(crate) fn id(dice: &mut Dice, plain: &Plain) -> u32 {
     match some_record(dice, plain) {
         Some(shape) => shape.id,
         None => dice.below(60) as u32,
     }
 }
 
-fn parent(dice: &mut Dice, plain: &Plain) -> Parent {
+/// A parent, most often one that is there.
+pub(crate) fn parent(dice: &mut Dice, plain: &Plain) -> Parent {
     match dice.below(6) {
         0 => Parent::Page,
         // A parent that has a child.
@@ -69,7 +70,8 @@ fn child_spot(dice: &mut Dice, plain: &Plain, parent: Parent) -> Spot {
     spot
 }
 
-fn pose(dice: &mut Dice) -> Pose {
+/// A pose, now and then one that is refused.
+pub(crate) fn pose(dice: &mut Dice) -> Pose {
     let far = dice.below(30) == 0;
     Pose {
         dx: if far { 1_048_577 } else { dice.near() },
@@ -145,7 +147,8 @@ fn displace(dice: &mut Dice, plain: &Plain) -> Edit {
     }
 }
 
-fn edit(alloc: Global, dice: &mut Dice, plain: &Plain) -> Result<Edit, OutOfMemory> {
+/// An edit, many of which are refused.
+pub(crate) fn edit(alloc: Global, dice: &mut Dice, plain: &Plain) -> Result<Edit, OutOfMemory> {
     Ok(match dice.below(20) {
         0 | 1 | 2 | 3 | 4 | 5 | 6 => create(alloc, dice, plain)?,
         7 | 8 | 9 | 10 | 11 | 12 => displace(dice, plain),
@@ -210,8 +213,8 @@ fn look_alike(
     Ok(same)
 }
 
-// Groups and a few frames, each of which holds the next.
-fn nested(alloc: Global, levels: u32) -> Result<Vec<Record>, OutOfMemory> {
+/// Groups and a few frames, each of which holds the next.
+pub(crate) fn nested(alloc: Global, levels: u32) -> Result<Vec<Record>, OutOfMemory> {
     let mut records = Vec::new(alloc);
     for above in 0..levels {
         let parent = if above == 0 {

@@ -1,6 +1,6 @@
 //! The colour of a pixel by a plain model: of all that holds the pixel, what lies furthest in front.
 
-use crate::plain::Plain;
+use crate::plain::{Plain, position_in};
 use crate::shapes::WHITE;
 use canvas_code::OutOfMemory;
 use canvas_doc::{Parent, Record};
@@ -22,7 +22,7 @@ pub(crate) fn colour_at(alloc: Global, plain: &Plain, at: Pixel) -> Result<Colou
     for shape in &plain.records {
         if let Some(fill) = fill_of(&shape.kind) {
             let path = plain.path(alloc, Parent::Shape(shape.id))?;
-            if is_seen(plain, &path, at) {
+            if is_seen(plain, &path, path.len(), at) {
                 let place = place_of(alloc, plain, &path)?;
                 let in_front = match &best {
                     Some((other, _)) => is_behind(other, &place),
@@ -79,10 +79,24 @@ fn is_behind(place: &[&Key], other: &[&Key]) -> bool {
     place.len() < other.len()
 }
 
-// Whether no shape of a path is hidden, and each but a group holds the pixel.
-fn is_seen(plain: &Plain, path: &[u32], at: Pixel) -> bool {
+/// Whether a shape, with what lies below it, shows something at a pixel, whatever lies about it.
+pub(crate) fn shows(alloc: Global, plain: &Plain, id: u32, at: Pixel) -> Result<bool, OutOfMemory> {
+    for shape in &plain.records {
+        let path = plain.path(alloc, Parent::Shape(shape.id))?;
+        if let Some(above) = position_in(&path, id) {
+            let has_fill = fill_of(&shape.kind).is_some();
+            if has_fill && is_seen(plain, &path, above.saturating_add(1), at) {
+                return Ok(true);
+            }
+        }
+    }
+    Ok(false)
+}
+
+// Whether of so many shapes of a path none is hidden, and each but a group holds the pixel.
+fn is_seen(plain: &Plain, path: &[u32], count: usize, at: Pixel) -> bool {
     let mut from: usize = 0;
-    for id in path {
+    for id in path.iter().take(count) {
         if let Some(shape) = plain.find(*id) {
             if shape.hidden || !holds(plain, shape, path, from, at) {
                 return false;

@@ -7,8 +7,8 @@ use Rattle.canvas_doc.proofs.Saved.{restoration_of-same}
 use Rattle.canvas_doc.proofs.RestoredWell.{length-by_id, restores-well}
 use Rattle.canvas_doc.proofs.Document.restore.Goals as goal
 
-pub in_rows-requires : goal.in_rows-requires
-in_rows-requires c =
+pub shared-requires : goal.shared-requires
+shared-requires c =
     subst (λ (rs : List Record). length rs ≤ 4096) (sym c.in_ok-by_id.ensures) (rw length-by_id c.requires.few)
 
 pub of_sorted-requires : goal.of_sorted-requires

@@ -1,18 +1,104 @@
-use Rattle.std.proofs.Common.{◌≡◌, ◌∙◌, sym, ap, subst}
+use Rattle.std.proofs.Common.{◌≡◌, ◌∙◌, ℕ, List, IfOk, ap, map, subst, sym, get_or}
+use Rattle.std.proofs.lemmas.List.{get_or-map}
+use Rattle.canvas_doc.specs.declared.records.Record.{Record}
+use Rattle.canvas_doc.specs.declared.edits.Change.{Change}
+use Rattle.canvas_doc.specs.declared.edits.Change.TheVariants.{Move}
+use Rattle.canvas_doc.specs.Bounds.{AreBounds, HaveOneShape}
 use Rattle.canvas_doc.specs.Contents.{Contents, IsWellFormed}
-use Rattle.canvas_doc.specs.Effect.{effect_of}
-use Rattle.canvas_doc.proofs.OneChanged.{one-effect}
+use Rattle.canvas_doc.specs.Effect.{changed_by, effect_of}
+use Rattle.canvas_doc.specs.PlaceOrder.{IsInPlaceOrder}
+use Rattle.canvas_doc.proofs.OneChanged.{made-whole, one-effect, place-kept, shape-kept, whole-is}
 use Rattle.canvas_doc.proofs.Document.with_one_changed.Goals as goal
+use Rattle.canvas_doc.proofs.Document.with_one_changed.Goals.{in-Move+in_ok-placed-in-Move, in_default-change+in_ok-placed-in_default-change}
+
+pub returns-in_default : goal.returns-in_default
+returns-in_default c =
+    let ch : Change = c.args.change.now in
+    let now : Contents = c.args.self.now in
+    let kept : map (changed_by ch) now.records ≡ now.records =
+    subst (λ (d : Contents). map (changed_by ch) d.records ≡ d.records) c.self.view_is c.in_default.ensures in
+    let same : now ≡ effect_of ch now = ap (λ (l : List Record). record { records = l; next = now.next }) (sym kept) ∙ sym (one-effect ch now c.requires.one) in
+    subst (λ (d : Contents). IfOk c.try_clone.result (λ after. after ≡ d)) same c.try_clone.ensures
+
+pub moved-requires-clause-shape : goal.moved-requires-clause-shape
+moved-requires-clause-shape c =
+    let ch : Change = c.args.change.now in
+    let rs : List Record = c.self.inside.records in
+    let at : ℕ = c.in-Some.at in
+    let e : rs ≡ c.args.self.now.records = ap (λ (d : Contents). d.records) c.self.view_is in
+    let made : c.in_ok-records.records ≡ map (changed_by ch) rs =
+    made-whole ch rs c.in_ok-records.records at c.at.result.now c.value-old.result.now c.in_ok-share.field-0
+    c.in-Some.ensures c.at.ensures c.value-old.ensures c.in_ok-records.ensures (c.in_ok-share.ensures ∙ c.in_ok-new.ensures ∙ c.in_ok-changed_by.ensures) in
+    λ r.
+    let new : changed_by (Move c.in-Move.id c.in-Move.place) (get_or rs at r) ≡ get_or c.in_ok-records.records at r =
+    ap (λ (k : Change). changed_by k (get_or rs at r)) (sym c.in-Move.is) ∙ sym (get_or-map (changed_by ch) rs at r r c.in-Some.ensures.there) ∙ ap (λ (l : List Record). get_or l at r) (sym made) in
+    subst (λ (l : List Record). HaveOneShape (get_or l at r) (get_or c.in_ok-records.records at r)) e
+    (subst (HaveOneShape (get_or rs at r)) new (shape-kept c.in-Move.id c.in-Move.place (get_or rs at r)))
+
+pub moved-requires-clause-well_formed : goal.moved-requires-clause-well_formed
+moved-requires-clause-well_formed c =
+    let inside : Contents = record { records = c.self.inside.records; next = c.self.inside.next } in
+    let made : c.in_ok-records.records ≡ map (changed_by c.args.change.now) inside.records =
+    made-whole c.args.change.now c.self.inside.records c.in_ok-records.records c.in-Some.at c.at.result.now c.value-old.result.now c.in_ok-share.field-0
+    c.in-Some.ensures c.at.ensures c.value-old.ensures c.in_ok-records.ensures (c.in_ok-share.ensures ∙ c.in_ok-new.ensures ∙ c.in_ok-changed_by.ensures) in
+    let whole : record { records = c.in_ok-records.records; next = inside.next } ≡ effect_of c.args.change.now c.args.self.now =
+    whole-is c.args.change.now inside c.args.self.now c.in_ok-records.records c.self.view_is c.requires.one made in
+    let well : IsWellFormed (record { records = c.in_ok-records.records; next = inside.next }) = subst IsWellFormed (sym whole) c.requires.fits.left in
+    subst (λ n. IsWellFormed (record { records = c.in_ok-records.records; next = n })) (ap (λ (d : Contents). d.next) c.self.view_is) well
+
+pub replaced-requires-clause-place : goal.replaced-requires-clause-place
+replaced-requires-clause-place c =
+    let ch : Change = c.args.change.now in
+    let rs : List Record = c.self.inside.records in
+    let at : ℕ = c.in-Some.at in
+    let e : rs ≡ c.args.self.now.records = ap (λ (d : Contents). d.records) c.self.view_is in
+    let made : c.in_ok-records.records ≡ map (changed_by ch) rs =
+    made-whole ch rs c.in_ok-records.records at c.at.result.now c.value-old.result.now c.in_ok-share.field-0
+    c.in-Some.ensures c.at.ensures c.value-old.ensures c.in_ok-records.ensures (c.in_ok-share.ensures ∙ c.in_ok-new.ensures ∙ c.in_ok-changed_by.ensures) in
+    λ r.
+    ap (λ (l : List Record). (get_or l at r).place) (sym e)
+    ∙ sym (place-kept ch c.in_default-change.not-Move (get_or rs at r))
+    ∙ ap (λ (x : Record). x.place) (sym (get_or-map (changed_by ch) rs at r r c.in-Some.ensures.there))
+    ∙ ap (λ (l : List Record). (get_or l at r).place) (sym made)
+
+pub replaced-requires-clause-well_formed : goal.replaced-requires-clause-well_formed
+replaced-requires-clause-well_formed c =
+    let inside : Contents = record { records = c.self.inside.records; next = c.self.inside.next } in
+    let made : c.in_ok-records.records ≡ map (changed_by c.args.change.now) inside.records =
+    made-whole c.args.change.now c.self.inside.records c.in_ok-records.records c.in-Some.at c.at.result.now c.value-old.result.now c.in_ok-share.field-0
+    c.in-Some.ensures c.at.ensures c.value-old.ensures c.in_ok-records.ensures (c.in_ok-share.ensures ∙ c.in_ok-new.ensures ∙ c.in_ok-changed_by.ensures) in
+    let whole : record { records = c.in_ok-records.records; next = inside.next } ≡ effect_of c.args.change.now c.args.self.now =
+    whole-is c.args.change.now inside c.args.self.now c.in_ok-records.records c.self.view_is c.requires.one made in
+    let well : IsWellFormed (record { records = c.in_ok-records.records; next = inside.next }) = subst IsWellFormed (sym whole) c.requires.fits.left in
+    subst (λ n. IsWellFormed (record { records = c.in_ok-records.records; next = n })) (ap (λ (d : Contents). d.next) c.self.view_is) well
 
 pub invariant_of-result : goal.invariant_of-result
 invariant_of-result c =
     let inside : Contents = record { records = c.self.inside.records; next = c.self.inside.next } in
-    let after : Contents = record { records = c.in_ok-records.records; next = c.self.inside.next } in
-    let e : effect_of c.args.change.now c.args.self.now ≡ after =
-    ap (effect_of c.args.change.now) (sym c.self.view_is)
-    ∙ one-effect c.args.change.now inside c.requires.one
-    ∙ ap (λ rs. record { records = rs; next = c.self.inside.next }) (sym c.in_ok-records.ensures) in
+    let made : c.in_ok-records.records ≡ map (changed_by c.args.change.now) inside.records =
+    made-whole c.args.change.now c.self.inside.records c.in_ok-records.records c.in-Some.at c.at.result.now c.value-old.result.now c.in_ok-share.field-0
+    c.in-Some.ensures c.at.ensures c.value-old.ensures c.in_ok-records.ensures (c.in_ok-share.ensures ∙ c.in_ok-new.ensures ∙ c.in_ok-changed_by.ensures) in
+    let whole : record { records = c.in_ok-records.records; next = inside.next } ≡ effect_of c.args.change.now c.args.self.now =
+    whole-is c.args.change.now inside c.args.self.now c.in_ok-records.records c.self.view_is c.requires.one made in
+    let well : IsWellFormed (record { records = c.in_ok-records.records; next = inside.next }) = subst IsWellFormed (sym whole) c.requires.fits.left in
     record {
-      well_formed = subst IsWellFormed e c.requires.fits.left;
-      in_order = c.in_ok-order.ensures;
+      well_formed = well;
+      in_order = elim c.match-change.branch [
+        | in-Move+in_ok-placed-in-Move w ↦ subst (λ p. IsInPlaceOrder p.order c.in_ok-records.records) (sym w.placed-is) w.in_ok-placed-in-Move.ensures.order
+        | in_default-change+in_ok-placed-in_default-change w ↦ subst (λ p. IsInPlaceOrder p.order c.in_ok-records.records) (sym w.placed-is) w.in_ok-placed-in_default-change.ensures.order
+      ];
+      bounded = elim c.match-change.branch [
+        | in-Move+in_ok-placed-in-Move w ↦ subst (λ p. AreBounds p.order p.bounds) (sym w.placed-is) w.in_ok-placed-in-Move.ensures.bounds
+        | in_default-change+in_ok-placed-in_default-change w ↦ subst (λ p. AreBounds p.order p.bounds) (sym w.placed-is) w.in_ok-placed-in_default-change.ensures.bounds
+      ];
     }
+
+pub returns : goal.returns
+returns c =
+    let inside : Contents = record { records = c.self.inside.records; next = c.self.inside.next } in
+    let made : c.in_ok-records.records ≡ map (changed_by c.args.change.now) inside.records =
+    made-whole c.args.change.now c.self.inside.records c.in_ok-records.records c.in-Some.at c.at.result.now c.value-old.result.now c.in_ok-share.field-0
+    c.in-Some.ensures c.at.ensures c.value-old.ensures c.in_ok-records.ensures (c.in_ok-share.ensures ∙ c.in_ok-new.ensures ∙ c.in_ok-changed_by.ensures) in
+    let whole : record { records = c.in_ok-records.records; next = inside.next } ≡ effect_of c.args.change.now c.args.self.now =
+    whole-is c.args.change.now inside c.args.self.now c.in_ok-records.records c.self.view_is c.requires.one made in
+    whole

@@ -1,4 +1,4 @@
-use Rattle.std.proofs.Common.{◌≡◌, ◌<◌, ◌∙◌, arith, length, sym, ap, rules, false}
+use Rattle.std.proofs.Common.{◌≡◌, ◌<◌, ◌∙◌, arith, length, get_or, sym, ap, rules, false}
 use Rattle.std.specs.List.{list_all}
 use Rattle.std.proofs.lemmas.List.{take_all}
 use Rattle.canvas_doc.specs.Contents.{reaches_page}
@@ -10,7 +10,8 @@ pub returns-then-not-reaches : goal.returns-then-not-reaches
 returns-then-not-reaches c =
     let within : c.loop-at.at < length c.args.records.now = omega arith in
     let fails : c.reaches_page_after-reaches.result ≡ false = search rules in
-    deep-at c.args.records.now c.args.id c.args.under c.parent_after-parent.result c.loop-at.at c.at-shape.result.now c.reaches_page_after-reaches.result within c.at-shape.ensures c.parent_after-parent.ensures c.reaches_page_after-reaches.ensures fails
+    let here : c.value-shape.result.now ≡ get_or c.args.records.now c.loop-at.at c.value-shape.result.now = cc (c.value-shape.ensures, c.at.ensures) in
+    deep-at c.args.records.now c.args.id c.args.under c.parent_after-parent.result c.loop-at.at c.value-shape.result.now c.reaches_page_after-reaches.result within here c.parent_after-parent.ensures c.reaches_page_after-reaches.ensures fails
 
 pub returns : goal.returns
 returns c =

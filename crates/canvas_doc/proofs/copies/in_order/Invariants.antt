@@ -1,5 +1,5 @@
-use Rattle.std.proofs.Common.{◌≡◌, map, take}
+use Rattle.std.proofs.Common.{◌≡◌, ◌++◌, map}
 use Rattle.canvas_doc.proofs.copies.in_order.Given as goal
 
-abbrev pub invariant-loop-at : goal.invariant-loop-at
-invariant-loop-at l = map (λ shape. shape.now) l.all.items ≡ take l.at l.records
+abbrev pub invariant-loop-shape : goal.invariant-loop-shape
+invariant-loop-shape l = map (λ shape. shape.now) l.all.items ++ l.shape-iterator ≡ l.records

@@ -1,0 +1,117 @@
+use Rattle.std.proofs.Common.{◌≡◌, ◌<◌, ◌∙◌, ℕ, List, ap, arith, get_or, length, set, subst, sym}
+use Rattle.std.proofs.Math.ListN.{length-set}
+use Rattle.canvas_doc.specs.declared.bounds.Bounds.{Bounds}
+use Rattle.canvas_doc.specs.declared.records.Record.{Record}
+use Rattle.canvas_doc.specs.Bounds.{AreBoundsBut}
+use Rattle.canvas_doc.specs.Contents.{Contents}
+use Rattle.canvas_doc.specs.PlaceOrder.{IsInPlaceOrder}
+use Rattle.canvas_doc.specs.Tree.{IsInLimits}
+use Rattle.canvas_doc.proofs.Rebounded as rebounded
+use Rattle.canvas_doc.proofs.Rebounded.{Suits}
+use Rattle.canvas_doc.proofs.Reordered.{IsReplaced, leads-up, replaced-from, replaced-in_order}
+use Rattle.canvas_doc.proofs.Document.replaced.Goals as goal
+
+pub at-replaced-requires : goal.at-replaced-requires
+at-replaced-requires c =
+    let e : length c.args.records.now ≡ length c.args.self.now.records = ap length (c.requires.one c.at.result.now) ∙ length-set c.args.self.now.records c.args.at (get_or c.args.records.now c.args.at c.at.result.now) in
+    let b : c.args.at < length c.args.self.now.records = c.requires.there in
+    omega arith
+
+pub bounds_for-own-requires-clause-limits : goal.bounds_for-own-requires-clause-limits
+bounds_for-own-requires-clause-limits c =
+    let e : length c.args.records.now ≡ length c.args.self.now.records = ap length (c.requires.one c.at.result.now) ∙ length-set c.args.self.now.records c.args.at (get_or c.args.records.now c.args.at c.at.result.now) in
+    let b : c.args.at < length c.args.self.now.records = c.requires.there in
+    subst IsInLimits (sym (c.value-2.ensures ∙ c.at-replaced.ensures)) (c.requires.well_formed.limits c.args.at c.at-replaced.result.now (omega arith))
+
+pub with_replaced-requires : goal.with_replaced-requires
+with_replaced-requires c =
+    let order : List Record = c.self.inside.order in
+    let rs : List Record = c.self.inside.records in
+    let after : List Record = c.args.records.now in
+    let s : Record = c.at-replaced.result.now in
+    let k : ℕ = c.position_in-from.result in
+    let m : IsReplaced order rs after c.at.result.now s c.args.at k = replaced-from c.self.inside.order c.self.inside.records c.args.self.now.records c.args.records.now c.at.result.now c.value.result.now c.at-replaced.result.now c.args.at c.position_in-from.result
+    c.self.invariant.in_order (ap (λ (d : Contents). d.records) c.self.view_is) c.requires.there c.at.ensures c.value.ensures c.position_in-from.ensures c.requires.one c.at-replaced.ensures c.requires.place in
+    m.listed.within
+
+pub with_replaced-requires-2 : goal.with_replaced-requires-2
+with_replaced-requires-2 c =
+    let order : List Record = c.self.inside.order in
+    let rs : List Record = c.self.inside.records in
+    let after : List Record = c.args.records.now in
+    let s : Record = c.at-replaced.result.now in
+    let k : ℕ = c.position_in-from.result in
+    let m : IsReplaced order rs after c.at.result.now s c.args.at k = replaced-from c.self.inside.order c.self.inside.records c.args.self.now.records c.args.records.now c.at.result.now c.value.result.now c.at-replaced.result.now c.args.at c.position_in-from.result
+    c.self.invariant.in_order (ap (λ (d : Contents). d.records) c.self.view_is) c.requires.there c.at.ensures c.value.ensures c.position_in-from.ensures c.requires.one c.at-replaced.ensures c.requires.place in
+    subst (λ n. k < n) (sym c.self.invariant.bounded.long) m.listed.within
+
+pub raised-requires-clause-in_order : goal.raised-requires-clause-in_order
+raised-requires-clause-in_order c =
+    let order : List Record = c.self.inside.order in
+    let rs : List Record = c.self.inside.records in
+    let after : List Record = c.args.records.now in
+    let s : Record = c.at-replaced.result.now in
+    let k : ℕ = c.position_in-from.result in
+    let m : IsReplaced order rs after c.at.result.now s c.args.at k = replaced-from c.self.inside.order c.self.inside.records c.args.self.now.records c.args.records.now c.at.result.now c.value.result.now c.at-replaced.result.now c.args.at c.position_in-from.result
+    c.self.invariant.in_order (ap (λ (d : Contents). d.records) c.self.view_is) c.requires.there c.at.ensures c.value.ensures c.position_in-from.ensures c.requires.one c.at-replaced.ensures c.requires.place in
+    let made : c.in_ok-order.order ≡ set order k s = c.in_ok-order.ensures ∙ ap (set order k) c.in_ok-share.ensures in
+    let placed : IsInPlaceOrder c.in_ok-order.order after = replaced-in_order order rs after c.in_ok-order.order c.at.result.now s c.args.at k c.self.invariant.well_formed.rising c.self.invariant.in_order m made in
+    placed
+
+pub raised-requires-clause-at : goal.raised-requires-clause-at
+raised-requires-clause-at c =
+    let order : List Record = c.self.inside.order in
+    let rs : List Record = c.self.inside.records in
+    let after : List Record = c.args.records.now in
+    let s : Record = c.at-replaced.result.now in
+    let k : ℕ = c.position_in-from.result in
+    let m : IsReplaced order rs after c.at.result.now s c.args.at k = replaced-from c.self.inside.order c.self.inside.records c.args.self.now.records c.args.records.now c.at.result.now c.value.result.now c.at-replaced.result.now c.args.at c.position_in-from.result
+    c.self.invariant.in_order (ap (λ (d : Contents). d.records) c.self.view_is) c.requires.there c.at.ensures c.value.ensures c.position_in-from.ensures c.requires.one c.at-replaced.ensures c.requires.place in
+    let there : k < length order = m.listed.within in
+    omega (arith, ap length c.in_ok-order.ensures, length-set order k c.in_ok-share.field-0)
+
+pub raised-requires-clause-but : goal.raised-requires-clause-but
+raised-requires-clause-but c =
+    let order : List Record = c.self.inside.order in
+    let rs : List Record = c.self.inside.records in
+    let after : List Record = c.args.records.now in
+    let s : Record = c.at-replaced.result.now in
+    let k : ℕ = c.position_in-from.result in
+    let m : IsReplaced order rs after c.at.result.now s c.args.at k = replaced-from c.self.inside.order c.self.inside.records c.args.self.now.records c.args.records.now c.at.result.now c.value.result.now c.at-replaced.result.now c.args.at c.position_in-from.result
+    c.self.invariant.in_order (ap (λ (d : Contents). d.records) c.self.view_is) c.requires.there c.at.ensures c.value.ensures c.position_in-from.ensures c.requires.one c.at-replaced.ensures c.requires.place in
+    let made : c.in_ok-order.order ≡ set order k s = c.in_ok-order.ensures ∙ ap (set order k) c.in_ok-share.ensures in
+    let bounds : List Bounds = c.self.inside.bounds in
+    let b : Bounds = c.bounds_for-own.result in
+    let suits : Suits order bounds s b = subst (λ (x : Record). Suits order bounds x b) c.value-2.ensures (record { own = c.bounds_for-own.ensures.own; below = c.bounds_for-own.ensures.below }) in
+    subst (λ l. AreBoundsBut k l c.in_ok-bounds.bounds) (sym made)
+    (subst (AreBoundsBut k (set order k s)) (sym c.in_ok-bounds.ensures)
+    (rebounded.changed order bounds k s b c.self.invariant.bounded m.listed.within suits))
+
+pub raised-requires-clause-reaches : goal.raised-requires-clause-reaches
+raised-requires-clause-reaches c =
+    let order : List Record = c.self.inside.order in
+    let rs : List Record = c.self.inside.records in
+    let after : List Record = c.args.records.now in
+    let s : Record = c.at-replaced.result.now in
+    let k : ℕ = c.position_in-from.result in
+    let m : IsReplaced order rs after c.at.result.now s c.args.at k = replaced-from c.self.inside.order c.self.inside.records c.args.self.now.records c.args.records.now c.at.result.now c.value.result.now c.at-replaced.result.now c.args.at c.position_in-from.result
+    c.self.invariant.in_order (ap (λ (d : Contents). d.records) c.self.view_is) c.requires.there c.at.ensures c.value.ensures c.position_in-from.ensures c.requires.one c.at-replaced.ensures c.requires.place in
+    let made : c.in_ok-order.order ≡ set order k s = c.in_ok-order.ensures ∙ ap (set order k) c.in_ok-share.ensures in
+    let placed : IsInPlaceOrder c.in_ok-order.order after = replaced-in_order order rs after c.in_ok-order.order c.at.result.now s c.args.at k c.self.invariant.well_formed.rising c.self.invariant.in_order m made in
+    λ q e. leads-up c.in_ok-order.order after k q placed c.requires.well_formed.grounded e
+
+pub returns-clause-order : goal.returns-clause-order
+returns-clause-order c =
+    let order : List Record = c.self.inside.order in
+    let rs : List Record = c.self.inside.records in
+    let after : List Record = c.args.records.now in
+    let s : Record = c.at-replaced.result.now in
+    let k : ℕ = c.position_in-from.result in
+    let m : IsReplaced order rs after c.at.result.now s c.args.at k = replaced-from c.self.inside.order c.self.inside.records c.args.self.now.records c.args.records.now c.at.result.now c.value.result.now c.at-replaced.result.now c.args.at c.position_in-from.result
+    c.self.invariant.in_order (ap (λ (d : Contents). d.records) c.self.view_is) c.requires.there c.at.ensures c.value.ensures c.position_in-from.ensures c.requires.one c.at-replaced.ensures c.requires.place in
+    let made : c.in_ok-order.order ≡ set order k s = c.in_ok-order.ensures ∙ ap (set order k) c.in_ok-share.ensures in
+    let placed : IsInPlaceOrder c.in_ok-order.order after = replaced-in_order order rs after c.in_ok-order.order c.at.result.now s c.args.at k c.self.invariant.well_formed.rising c.self.invariant.in_order m made in
+    placed
+
+pub returns-clause-bounds : goal.returns-clause-bounds
+returns-clause-bounds c = c.in_ok-bounds-2.ensures

@@ -1,0 +1,36 @@
+use Rattle.std.proofs.Common.{◌≡◌, ◌≤◌, ◌∙◌, ℕ, List, IfOk, None, ap, arith, length, map, set, subst, take}
+use Rattle.std.specs.Option.{unwrap_or}
+use Rattle.std.proofs.lemmas.List.{length-map, take_all}
+use Rattle.canvas_doc.specs.declared.records.Record.{Record}
+use Rattle.canvas_doc.specs.Contents.{record_of, StandsAt}
+use Rattle.canvas_doc.proofs.Respacing.{none-put, nothing-put, one-put}
+use Rattle.canvas_doc.proofs.effects.with_each.Goals as goal
+use Rattle.canvas_doc.proofs.effects.with_each.Goals.{in-Some+in_ok-all-2, in_default}
+
+pub loop-other-init : goal.loop-other-init
+loop-other-init c = c.in_ok-all.ensures.all ∙ nothing-put c.args.records.now c.args.others.now
+
+pub loop-other-preserved : goal.loop-other-preserved
+loop-other-preserved c =
+    let rs : List Record = c.args.records.now in
+    let others : List Record = c.args.others.now in
+    let k : ℕ = c.loop-other.other-index in
+    let o : Record = c.other-item.result in
+    elim c.match-position_of.branch [
+      | in-Some+in_ok-all-2 w ↦
+          ap (λ l. l.items) w.all-is
+          ∙ ap (set c.loop-other.all.items w.in-Some.at) w.in_ok-all-2.ensures
+          ∙ ap (λ (l : List Record). set l w.in-Some.at o) c.loop-other.invariant
+          ∙ one-put rs others k w.in-Some.at o c.requires.rising c.requires.once c.loop-other-test.true c.other-item.is (subst (λ (x : Record). StandsAt rs x.id w.in-Some.at) c.value.ensures w.in-Some.ensures)
+      | in_default w ↦ ap (λ l. l.items) w.all-is ∙ c.loop-other.invariant ∙ none-put rs others k o c.requires.once c.loop-other-test.true c.other-item.is (subst (λ (x : Record). record_of x.id rs ≡ None) c.value.ensures w.in_default.ensures)
+    ]
+
+pub from_vec-requires : goal.from_vec-requires
+from_vec-requires c =
+    let few : length c.args.records.now ≤ 4096 = c.requires.few in
+    omega (arith, ap length c.loop-other.invariant, length-map c.args.records.now (λ r. unwrap_or (record_of r.id (take c.loop-other.other-index c.args.others.now)) r))
+
+pub returns : goal.returns
+returns c =
+    let whole : take c.loop-other.other-index c.args.others.now ≡ c.args.others.now = take_all c.loop-other.other-index c.args.others.now c.loop-other-test.false in
+    subst (λ (l : List Record). IfOk c.from_vec.result (λ list. list ≡ l)) (c.loop-other.invariant ∙ ap (λ (l : List Record). map (λ (r : Record). unwrap_or (record_of r.id l) r) c.args.records.now) whole) c.from_vec.ensures

@@ -1,0 +1,193 @@
+//! The upkeep of bounds: those of each record of a document, in its position in the order by place.
+
+ghost use Rattle.std.specs.Prelude.{◌≡◌, ◌<◌, ℕ, All, IfOk, MatchOption, false, length, true};
+ghost use Rattle.std.specs.List.{slice_get};
+ghost use Rattle.std.specs.List.Sorted.{IsStrictlySortedBy};
+ghost use Rattle.std.specs.Option.{option_copied};
+ghost use Rattle.canvas_shape.specs.declared.Kind.TheVariants.{Group};
+ghost use Rattle.canvas_doc.specs.declared.bounds.Bounds.{Bounds};
+ghost use Rattle.canvas_doc.specs.declared.records.Parent.TheVariants.{Shape};
+ghost use Rattle.canvas_doc.specs.declared.records.Record.{Record};
+ghost use Rattle.canvas_doc.specs.Bounds.{is_empty, is_group, AreBounds, AreBoundsBut, AreWithin, HoldChildren, HoldChildrenBut, HoldsOwn, IsCarriedWithin, IsGroupAt, IsWithinBounds};
+ghost use Rattle.canvas_doc.specs.Children.{is_child};
+ghost use Rattle.canvas_doc.specs.Contents.{reaches_page, AreRising};
+ghost use Rattle.canvas_doc.specs.PlaceOrder.{comes_first, IsInPlaceOrder};
+ghost use Rattle.canvas_doc.specs.Tree.{IsInLimits};
+
+use crate::ancestry::STEPS;
+use crate::bounds::Bounds;
+use crate::lookup::find;
+use crate::place_order::{children_range, position_in};
+use crate::records::{Parent, Record, Records};
+use canvas_code::OutOfMemory;
+use canvas_list::{Share, SharedList};
+use canvas_shape::Kind;
+use std::alloc::Global;
+use std::ops::Range;
+
+/// Bounds that documents share, seen as the list of them.
+pub(crate) type BoundsList = SharedList<Bounds>;
+
+impl Share for Bounds {
+    #[inline(always)]
+    fn share(&self) -> Result<Bounds, OutOfMemory> {
+        Ok(*self)
+    }
+}
+
+// The bounds of a shape that has its place in the order, or is to have one there.
+pub(crate) fn bounds_for(order: &Records, bounds: &BoundsList, shape: &Record) -> Bounds
+    requires rising { IsStrictlySortedBy comes_first order.now }
+    requires long { length bounds.now ≡ length order.now }
+    requires limits { IsInLimits shape.now }
+    ensures own { shape.now.hidden ≡ false → HoldsOwn shape.now.kind shape.now.pose result }
+    ensures below { (j : ℕ) (s : Record) (c : Bounds) → slice_get order.now j ≡ Some s → slice_get bounds.now j ≡ Some c → is_child (Shape shape.now.id) s ≡ true → shape.now.hidden ≡ false → shape.now.kind ≡ Group → IsCarriedWithin shape.now.pose c result }
+{
+    if is_group(&shape.kind) && !shape.hidden {
+        children_hull(order, bounds, shape.id).carried(&shape.pose)
+    } else {
+        own_bounds(shape)
+    }
+}
+
+// A box that holds what the bounds of a shape's children do.
+fn children_hull(order: &Records, bounds: &BoundsList, id: u32) -> Bounds
+    requires rising { IsStrictlySortedBy comes_first order.now }
+    requires long { length bounds.now ≡ length order.now }
+    ensures { (j : ℕ) (s : Record) (c : Bounds) → slice_get order.now j ≡ Some s → slice_get bounds.now j ≡ Some c → is_child (Shape id) s ≡ true → IsWithinBounds c result }
+{
+    let Range { start, end } = children_range(order, Parent::Shape(id));
+    let mut hull = Bounds::nowhere();
+    for part in bounds.iter_range(start, end) {
+        hull = hull.hull(part);
+    }
+    hull
+}
+
+// The bounds, those of the groups above a record made wide enough to hold the record's.
+pub(crate) fn raised(
+    alloc: Global,
+    records: &Records,
+    order: &Records,
+    bounds: BoundsList,
+    at: usize,
+    steps: u32,
+) -> Result<BoundsList, OutOfMemory>
+    requires in_order { IsInPlaceOrder order.now records.now }
+    requires rising { AreRising records.now }
+    requires limits { All IsInLimits records.now }
+    requires at { at < length order.now }
+    requires but { AreBoundsBut at order.now bounds }
+    requires reaches { (r : Record) → slice_get order.now at ≡ Some r → reaches_page steps records.now r.place.parent ≡ true }
+    ensures { IfOk result (AreBounds order.now) }
+{
+    let Some(group) = shown_group(records, order.at(at).value().place.parent) else {
+        return Ok(bounds);
+    };
+    if steps == 0 {
+        return Ok(bounds);
+    }
+    let up = position_in(order, &group.place);
+    let carried = bounds.at(at).carried(&group.pose);
+    let held = bounds.at(up);
+    if held.contains(&carried) {
+        return Ok(bounds);
+    }
+    let wider = bounds.with_replaced(alloc, up, held.hull(&carried))?;
+    raised(alloc, records, order, wider, up, steps - 1)
+}
+
+// The bounds of all records of an order.
+pub(crate) fn made_bounds(
+    alloc: Global,
+    records: &Records,
+    order: &Records,
+) -> Result<BoundsList, OutOfMemory>
+    requires in_order { IsInPlaceOrder order.now records.now }
+    requires rising { AreRising records.now }
+    requires limits { All IsInLimits records.now }
+    requires grounded { All (λ r. reaches_page 31 records.now r.place.parent ≡ true) records.now }
+    ensures { IfOk result (AreBounds order.now) }
+{
+    let mut bounds = vec![in alloc; Bounds::nowhere(); order.len()]?;
+    raise_all(records, order, &mut bounds);
+    BoundsList::from_vec(alloc, bounds)
+}
+
+// Makes bounds that hold nothing wide enough for their records, and for those below them.
+fn raise_all(records: &Records, order: &Records, bounds: &mut [Bounds])
+    requires in_order { IsInPlaceOrder order.now records.now }
+    requires rising { AreRising records.now }
+    requires limits { All IsInLimits records.now }
+    requires grounded { All (λ r. reaches_page 31 records.now r.place.parent ≡ true) records.now }
+    requires long { length bounds.old ≡ length order.now }
+    requires nowhere { All (λ b. is_empty b ≡ true) bounds.old }
+    ensures { AreBounds order.now bounds.new }
+{
+    for at in 0..order.len() {
+        let own = own_bounds(order.at(at).value());
+        bounds[at] = bounds[at].hull(&own);
+        raise(records, order, bounds, at, STEPS);
+    }
+}
+
+// What a shape shows of its own.
+fn own_bounds(shape: &Record) -> Bounds
+    requires { IsInLimits shape.now }
+    ensures { shape.now.hidden ≡ false → HoldsOwn shape.now.kind shape.now.pose result }
+{
+    if shape.hidden {
+        Bounds::nowhere()
+    } else {
+        Bounds::of_shape(&shape.kind, &shape.pose)
+    }
+}
+
+// Makes the bounds of the groups above a record wide enough to hold the record's.
+fn raise(records: &Records, order: &Records, bounds: &mut [Bounds], at: usize, steps: u32)
+    requires in_order { IsInPlaceOrder order.now records.now }
+    requires rising { AreRising records.now }
+    requires limits { All IsInLimits records.now }
+    requires at { at < length order.now }
+    requires but { HoldChildrenBut at order.now bounds.old }
+    requires reaches { (r : Record) → slice_get order.now at ≡ Some r → reaches_page steps records.now r.place.parent ≡ true }
+    ensures children { HoldChildren order.now bounds.new }
+    ensures wider { AreWithin bounds.old bounds.new }
+{
+    let Some(group) = shown_group(records, order.at(at).value().place.parent) else {
+        return;
+    };
+    if steps == 0 {
+        return;
+    }
+    let up = position_in(order, &group.place);
+    let carried = bounds[at].carried(&group.pose);
+    let held = bounds[up];
+    if held.contains(&carried) {
+        return;
+    }
+    bounds[up] = held.hull(&carried);
+    raise(records, order, bounds, up, steps - 1);
+}
+
+// The group that a parent is, where it is shown.
+fn shown_group(records: &Records, parent: Parent) -> Option<&Record>
+    requires { AreRising records.now }
+    ensures { MatchOption (option_copied result) ((g : Record) → ¬ IsGroupAt parent records.now g) (IsGroupAt parent records.now) }
+{
+    let Parent::Shape(id) = parent else {
+        return None;
+    };
+    let shape = find(records, id)?;
+    if is_group(&shape.kind) && !shape.hidden {
+        Some(shape)
+    } else {
+        None
+    }
+}
+
+fn is_group(kind: &Kind) -> bool
+    ensures { result ≡ is_group kind.now }
+{
+    matches!(kind, Kind::Group)
+}

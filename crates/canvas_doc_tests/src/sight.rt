@@ -1,0 +1,207 @@
+//! Children that may show in a box of the page: those that are left out show nothing there, they nor
+//! what lies below them.
+
+use crate::dice::Dice;
+use crate::plain::Plain;
+use crate::random::{edit, id, nested, parent, pose};
+use crate::shapes::restored;
+use crate::viewed::{Pixel, shows};
+use canvas_code::OutOfMemory;
+use canvas_doc::{Document, Edit, Parent, Record};
+use canvas_key::Key;
+use canvas_plane::{PageBox, Pose};
+use std::alloc::Global;
+use std::process::Abort;
+use std::test::Fail;
+
+// How wide and high the boxes are.
+const SIDE: u64 = 12;
+
+// How far a pose moves at most, of which two are put together.
+const FAR: u64 = 33_554_432;
+
+// This pose and then the next, where both are near.
+fn then(pose: &Pose, next: &Pose) -> Option<Pose> {
+    if pose.quarter > 3 || next.quarter > 3 {
+        return None;
+    }
+    if pose.reach() > FAR || next.reach() > FAR {
+        return None;
+    }
+    Some(pose.then(next))
+}
+
+// What carries the points of a parent, from which a path leads to the page.
+fn pose_of(plain: &Plain, path: &[u32]) -> Option<Pose> {
+    let mut out = Pose::STILL;
+    for id in path {
+        if let Some(shape) = plain.find(*id) {
+            out = then(&out, &shape.pose)?;
+        }
+    }
+    Some(out)
+}
+
+fn clip(dice: &mut Dice) -> PageBox {
+    let left = dice.near();
+    let top = dice.near();
+    PageBox {
+        left,
+        top,
+        right: left.saturating_add(SIDE as i64),
+        bottom: top.saturating_add(SIDE as i64),
+    }
+}
+
+fn pixel_in(dice: &mut Dice, clip: &PageBox) -> Pixel {
+    Pixel {
+        x: clip.left.saturating_add(dice.below(SIDE) as i64),
+        y: clip.top.saturating_add(dice.below(SIDE) as i64),
+    }
+}
+
+// The children that may show in a box; none where the pose is refused.
+fn meeting<'a>(
+    alloc: Global,
+    document: &'a Document,
+    parent: Parent,
+    out: &Pose,
+    clip: &PageBox,
+) -> Result<Vec<&'a Record>, OutOfMemory> {
+    if out.quarter > 3 || out.reach() > FAR {
+        return Ok(Vec::new(alloc));
+    }
+    document.children_meeting(alloc, parent, out, clip)
+}
+
+// Whether records are children of a parent, each behind the one before it.
+fn are_in_order(plain: &Plain, parent: Parent, records: &[&Record]) -> bool {
+    let mut last: Option<&Key> = None;
+    for shape in records {
+        let is_behind = match last {
+            Some(key) => shape.place.index.is_before(key),
+            None => true,
+        };
+        let is_child = shape.place.parent == parent && plain.find(shape.id) == Some(*shape);
+        if !is_behind || !is_child {
+            return false;
+        }
+        last = Some(&shape.place.index);
+    }
+    true
+}
+
+fn has_id(records: &[&Record], id: u32) -> bool {
+    for shape in records {
+        if shape.id == id {
+            return true;
+        }
+    }
+    false
+}
+
+// The children of a parent that are not among the records.
+fn left_out(
+    alloc: Global,
+    plain: &Plain,
+    parent: Parent,
+    records: &[&Record],
+) -> Result<Vec<u32>, OutOfMemory> {
+    let mut ids = Vec::new(alloc);
+    for shape in &plain.records {
+        if shape.place.parent == parent && !has_id(records, shape.id) {
+            ids.push(shape.id)?;
+        }
+    }
+    Ok(ids)
+}
+
+fn show_nothing(alloc: Global, plain: &Plain, ids: &[u32], at: Pixel) -> Result<bool, OutOfMemory> {
+    for id in ids {
+        if shows(alloc, plain, *id, at)? {
+            return Ok(false);
+        }
+    }
+    Ok(true)
+}
+
+// Looks at a box from some parent, and counts the children that were left out.
+fn look(
+    rt: &impl Abort,
+    alloc: Global,
+    dice: &mut Dice,
+    document: &Document,
+    plain: &Plain,
+) -> Result<usize, Fail> {
+    let parent = parent(dice, plain);
+    let path = plain.path(alloc, parent)?;
+    let Some(out) = pose_of(plain, &path) else {
+        return Ok(0);
+    };
+    let clip = clip(dice);
+    let kept = meeting(alloc, document, parent, &out, &clip)?;
+    assert!(rt; are_in_order(plain, parent, &kept));
+    let others = left_out(alloc, plain, parent, &kept)?;
+    for _ in 0..8u32 {
+        let at = pixel_in(dice, &clip);
+        assert!(rt;
+            show_nothing(alloc, plain, &others, at)?,
+            "{parent:?}, {clip:?}"
+        );
+    }
+    Ok(others.len())
+}
+
+// An edit, every other one a turn of what is there.
+fn some_edit(
+    alloc: Global,
+    dice: &mut Dice,
+    plain: &Plain,
+    number: u32,
+) -> Result<Edit, OutOfMemory> {
+    if number % 2 == 0 {
+        return edit(alloc, dice, plain);
+    }
+    Ok(Edit::Pose {
+        id: id(dice, plain),
+        pose: pose(dice),
+    })
+}
+
+// Edits at random, after each of which some boxes are looked at.
+fn looks_agree(
+    rt: &impl Abort,
+    alloc: Global,
+    dice: &mut Dice,
+    levels: u32,
+) -> Result<usize, Fail> {
+    let next = levels.saturating_add(1);
+    let mut plain = Plain {
+        records: nested(alloc, levels)?,
+        next,
+    };
+    let mut document = restored(alloc, nested(alloc, levels)?, next)?;
+    let mut left_out: usize = 0;
+    for number in 0..60u32 {
+        let asked = some_edit(alloc, dice, &plain, number)?;
+        if let Ok(change) = &document.decide(alloc, &asked) {
+            let after = document.with(alloc, change)?;
+            document = after;
+            plain.make(alloc, change)?;
+        }
+        left_out = left_out.saturating_add(look(rt, alloc, dice, &document, &plain)?);
+    }
+    Ok(left_out)
+}
+
+#[test]
+fn what_is_left_out_shows_nothing(rt: HostRuntime) -> Result<(), Fail> {
+    let mut dice = Dice { state: 3 };
+    let mut left_out: usize = 0;
+    for levels in 0..20u32 {
+        let more = looks_agree(&rt, rt.alloc(), &mut dice, levels)?;
+        left_out = left_out.saturating_add(more);
+    }
+    assert!(rt; left_out > 500, "only {left_out} left out");
+    Ok(())
+}
