@@ -1,5 +1,5 @@
 -- The nodes of a tree against the document's records.
-use Rattle.std.proofs.Common.{◌≡◌, ℕ, List, [], ◌∷◌, ◌++◌, Bool, true, false, ◌&&◌, ◌||◌, Option, Some, None, ℤ, map, refl, sym, ap, ◌∙◌, reverse, IfSome, append_assoc, append-nil, arith, Result, Ok, Err, OnOk}
+use Rattle.std.proofs.Common.{◌≡◌, ℕ, List, [], ◌∷◌, ◌++◌, Bool, true, false, ◌&&◌, ◌||◌, Option, Some, None, ℤ, map, refl, sym, ap, ◌∙◌, reverse, IfSome, append_assoc, append-nil, arith, Result, Ok, Err, OnOk, inl, inr}
 use Rattle.std.specs.Prelude.{not}
 use Rattle.std.specs.Ordering.{int_eq}
 use Rattle.std.proofs.lemmas.Int.{ints}
@@ -14,7 +14,7 @@ use Rattle.canvas_shape.specs.declared.Kind.TheVariants.{Frame}
 use Rattle.canvas_doc.specs.declared.records.Parent.{Parent}
 use Rattle.canvas_doc.specs.declared.records.Parent.TheVariants.{Shape}
 use Rattle.canvas_doc.specs.declared.records.Record.{Record}
-use Rattle.canvas_doc.specs.Children.{children}
+use Rattle.canvas_doc.specs.Children.{IsPartOf, children}
 use Rattle.canvas_doc.specs.Contents.{is_container}
 use Rattle.canvas_scene.specs.declared.item.Item.{Item}
 use Rattle.canvas_scene.specs.declared.nodes.Node.{Node}
@@ -31,6 +31,12 @@ first-holds false q e = cc
 second-holds : (p q : Bool) → q ≡ true → (p || q) ≡ true
 second-holds true q e = refl
 second-holds false q e = e
+
+or-more : (p b d c e : Bool) → (b ≡ true → d ≡ true) → (c ≡ true → e ≡ true) → ((p && b) || c) ≡ true → ((p && d) || e) ≡ true
+or-more p b d true e f g h = second-holds (p && d) e (g refl)
+or-more true true d false e f g h = first-holds d e (f refl)
+or-more true false d false e f g h = cc
+or-more false b d false e f g h = cc
 
 none-not : (p : Bool) → p ≡ false → not p ≡ true
 none-not true e = cc
@@ -68,9 +74,25 @@ taken out clip n ns r rs s h g =
 abbrev pub AreSoFar : List Record → (Point → Point) → PageBox → List Record → List Record → List Node → Type 0
 AreSoFar rs out clip all left nodes = (more : List Test) → are_in_order out clip more left ≡ true → are_in_order out clip (map (is_node_of rs) nodes ++ more) all ≡ true
 
-pub so-far-none : (rs : List Record) (out : Point → Point) (clip : PageBox) (all left : List Record) (nodes : List Node) → nodes ≡ [] → left ≡ all → AreSoFar rs out clip all left nodes
-so-far-none rs out clip all left nodes e f = λ more h.
-    ap (λ l. are_in_order out clip (map (is_node_of rs) l ++ more) all) e ∙ ap (are_in_order out clip more) (sym f) ∙ h
+-- the first record of the part is that of the whole
+among-taken : (out : Point → Point) (clip : PageBox) (n : Test) (ns : List Test) (r s : Record) (part whole : List Record) → r ≡ s → (are_in_order out clip ns part ≡ true → are_in_order out clip ns whole ≡ true) → (are_in_order out clip (n ∷ ns) part ≡ true → are_in_order out clip (n ∷ ns) whole ≡ true) → are_in_order out clip (n ∷ ns) (r ∷ part) ≡ true → are_in_order out clip (n ∷ ns) (s ∷ whole) ≡ true
+among-taken out clip n ns r s part whole e rest later h =
+    ap (λ t. are_in_order out clip (n ∷ ns) (t ∷ whole)) (sym e)
+    ∙ or-more (not r.hidden && n r (λ q. out (carry r.pose q)) clip) (are_in_order out clip ns part) (are_in_order out clip ns whole) (are_in_order out clip (n ∷ ns) part) (are_in_order out clip (n ∷ ns) whole) rest later h
+
+-- the nodes of some of the records are those of all, more left out
+pub among-part : (out : Point → Point) (clip : PageBox) (ns : List Test) (part whole : List Record) → IsPartOf part whole → are_in_order out clip ns part ≡ true → are_in_order out clip ns whole ≡ true
+among-part out clip [] part whole p h = refl
+among-part out clip (n ∷ ns) [] whole p h = cc
+among-part out clip (n ∷ ns) (r ∷ part) [] p h = absurd p
+among-part out clip (n ∷ ns) (r ∷ part) (s ∷ whole) p h = elim p [
+  | inl w ↦ among-taken out clip n ns r s part whole w.0 (among-part out clip ns part whole w.1) (among-part out clip (n ∷ ns) part whole w.1) h
+  | inr w ↦ left-out out clip (n ∷ ns) s whole (among-part out clip (n ∷ ns) (r ∷ part) whole w h)
+]
+
+pub so-far-none : (rs : List Record) (out : Point → Point) (clip : PageBox) (all part left : List Record) (nodes : List Node) → nodes ≡ [] → left ≡ part → IsPartOf part all → AreSoFar rs out clip all left nodes
+so-far-none rs out clip all part left nodes e f p = λ more h.
+    ap (λ l. are_in_order out clip (map (is_node_of rs) l ++ more) all) e ∙ among-part out clip more part all p (ap (are_in_order out clip more) (sym f) ∙ h)
 
 pub so-far-left_out : (rs : List Record) (out : Point → Point) (clip : PageBox) (all left rest : List Record) (r : Record) (nodes : List Node) → left ≡ r ∷ rest → AreSoFar rs out clip all left nodes → AreSoFar rs out clip all rest nodes
 so-far-left_out rs out clip all left rest r nodes e f = λ more h.

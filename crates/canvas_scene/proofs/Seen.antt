@@ -28,6 +28,11 @@ pub seen-none : (b : Bool) → None ≡ seen b None
 seen-none true = refl
 seen-none false = refl
 
+-- what is the same within the clip is seen through it as the same
+pub seen-same : (b : Bool) (o p : Option Colour) → (b ≡ true → o ≡ p) → seen b o ≡ seen b p
+seen-same true o p h = h refl
+seen-same false o p h = refl
+
 -- ---- leaves
 
 pub swap-seen : (held clip : Bool) (o : Option Colour) → cond (held && clip) o None ≡ seen clip (seen held o)

@@ -78,7 +78,7 @@ fn nodes_among<'a>(
     if levels == 0 {
         return Ok(into_bump_slice(nodes));
     }
-    let children = document.children(bump, parent)?;
+    let children = document.children_meeting(bump, parent, out, clip)?;
     for child in &children {
         let page = child.pose.then(out);
         if is_out_of_sight(child, &page, clip, shown) {

@@ -1,4 +1,4 @@
-use Rattle.std.proofs.Common.{◌∙◌, refl, sym, ap, arith, cond, rules, ◌+◌, ◌-◌, reverse, None, All, List, subst}
+use Rattle.std.proofs.Common.{◌∙◌, refl, sym, ap, arith, cond, rules, ◌+◌, ◌-◌, reverse, None, All, List, map, subst}
 use Rattle.canvas_plane.specs.Motion.{carry}
 use Rattle.canvas_plane.specs.Page.{is_in, meet_of}
 use Rattle.canvas_doc.specs.declared.records.Parent.TheVariants.{Shape}
@@ -11,11 +11,11 @@ use Rattle.canvas_scene.specs.Clips.{IsClipped}
 use Rattle.canvas_scene.specs.Covers.{first_fill}
 use Rattle.canvas_scene.specs.Nodes.{items_along, seen, shown_of}
 use Rattle.canvas_scene.specs.Trees.{AreNodesOf, clip_of, is_back_of}
-use Rattle.canvas_scene.proofs.Children.{child-answered, child-unseen, left-more, left-none, left_from}
+use Rattle.canvas_scene.proofs.Children.{child-answered, child-unseen, left-more, left-none, left_from, record_of}
 use Rattle.canvas_scene.proofs.Clipping.{all-more, all-reversed, branch-clipped, meet-within}
 use Rattle.canvas_scene.proofs.Covering.{added-child, added-frame, hidden-box}
 use Rattle.canvas_scene.proofs.Ordered.{frame-back, is-branch, leaf-added, nodes-none, so-far-all, so-far-left_out, so-far-more, so-far-none}
-use Rattle.canvas_scene.proofs.Seen.{list-none, or_else-none, seen-none}
+use Rattle.canvas_scene.proofs.Seen.{list-none, or_else-none, seen-none, seen-same}
 use Rattle.canvas_scene.proofs.walk.+walk.Goals.{nodes_among-then-loop-child-test+else-is_out_of_sight+in_ok-add_node+then-hides_by_last, nodes_among-else-loop-child-test}
 use Rattle.canvas_scene.proofs.walk.+walk.Goals as goal
 
@@ -26,12 +26,22 @@ nodes_among-returns-then-levels-eq0-clause-fills t c = λ x y.
     ∙ ap (seen (is_in c.args.clip.now x y)) (answer-none c.args.levels c.args.document.now.records c.args.parent (carry c.args.out.now) x y (omega arith)))
 
 pub nodes_among-loop-child-init : goal.nodes_among-loop-child-init
-nodes_among-loop-child-init t c = record {
-  left = λ x y. ap (λ o. or_else (first_fill c.args.shown.now x y) (seen (is_in c.args.clip.now x y) o)) (sym (answer-children c.args.levels c.args.document.now.records c.args.parent (carry c.args.out.now) x y (omega arith) ∙ ap (first_answer (answer_of (c.args.levels - 1) c.args.document.now.records (carry c.args.out.now) x y)) (sym (ap (left_from 0) c.deref-child-items.ensures.value ∙ c.in_ok-children.ensures.children))));
-  list = list-none c.args.shown.now (items_along (reverse c.new-nodes.result.items)) (ap (λ l. items_along (reverse l)) c.new-nodes.ensures.items);
-  clips = search rules;
-  tree = so-far-none c.args.document.now.records (carry c.args.out.now) c.args.clip.now (children c.args.parent c.args.document.now.records) _ _ c.new-nodes.ensures.items (ap (left_from 0) c.deref-child-items.ensures.value ∙ c.in_ok-children.ensures.children);
-}
+nodes_among-loop-child-init t c =
+    let rs = c.args.document.now.records in
+    let out = carry c.args.out.now in
+    let kept = map record_of c.in_ok-children.children.items in
+    let all = children c.args.parent rs in
+    record {
+      left = λ x y.
+          let inside = is_in c.args.clip.now x y in
+          let answer = answer_of (c.args.levels - 1) rs out x y in
+          ap (or_else (first_fill c.args.shown.now x y)) (ap (λ l. seen inside (first_answer answer l)) (ap (left_from 0) c.deref-child-items.ensures.value)
+          ∙ seen-same inside (first_answer answer kept) (first_answer answer all) (c.in_ok-children.ensures.answers (c.args.levels - 1) x y)
+          ∙ ap (seen inside) (sym (answer-children c.args.levels rs c.args.parent out x y (omega arith))));
+      list = list-none c.args.shown.now (items_along (reverse c.new-nodes.result.items)) (ap (λ l. items_along (reverse l)) c.new-nodes.ensures.items);
+      clips = search rules;
+      tree = so-far-none rs out c.args.clip.now all kept _ _ c.new-nodes.ensures.items (ap (left_from 0) c.deref-child-items.ensures.value) c.in_ok-children.ensures.part;
+    }
 
 pub nodes_among-loop-child-preserved-then-is_out_of_sight : goal.nodes_among-loop-child-preserved-then-is_out_of_sight
 nodes_among-loop-child-preserved-then-is_out_of_sight t c = record {
