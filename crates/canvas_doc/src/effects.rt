@@ -113,8 +113,8 @@ impl Document {
         })
     }
 
-    // The order of records that are the document's but for the one at a position, which has another
-    // place.
+    // The order and the bounds of records that are the document's but for the one at a position,
+    // which has another place and nothing else.
     fn moved(&self, alloc: Global, records: &Records, at: usize) -> Result<Placed, OutOfMemory>
         requires there { at < length self.now.records }
         requires one { (r : Record) → records.now ≡ slice_set self.now.records at (slice_index_or records.now at r) }
@@ -135,8 +135,8 @@ impl Document {
         Ok(Placed { order, bounds })
     }
 
-    // The order of records that are the document's but for the one at a position, which has the same
-    // place.
+    // The order and the bounds of records that are the document's but for the one at a position,
+    // which has the same place.
     fn replaced(&self, alloc: Global, records: &Records, at: usize) -> Result<Placed, OutOfMemory>
         requires there { at < length self.now.records }
         requires one { (r : Record) → records.now ≡ slice_set self.now.records at (slice_index_or records.now at r) }
@@ -365,7 +365,7 @@ fn without_marked(
     Ok(left)
 }
 
-// The order without those that are not among the records that are left.
+// The order and the bounds without those that are not among the records that are left.
 fn placed_among(
     alloc: Global,
     order: &Records,
