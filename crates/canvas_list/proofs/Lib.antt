@@ -2,5 +2,6 @@ pub mod Between
 pub mod Blocks
 pub mod Joined
 pub mod Parted
+pub mod Runs
 pub mod Spliced
 pub mod Visited

@@ -1,5 +1,5 @@
 -- A list in chunks.
-use Rattle.std.specs.Prelude.{ℕ, ◌≡◌, ◌<◌, ◌≤◌, ◌+◌, ◌^◌, List, [], ◌∷◌, ◌++◌, length, slice_index, Bool, false}
+use Rattle.std.specs.Prelude.{ℕ, ◌≡◌, ◌<◌, ◌≤◌, ◌+◌, ◌^◌, List, [], ◌∷◌, ◌++◌, length, slice_index, slice_index_or, Bool, false}
 use Rattle.std.specs.List.{All}
 use Rattle.canvas_list.specs.declared.sizes.TheConstants.{CHUNK}
 
@@ -36,3 +36,8 @@ pub record IsLastBefore (starts : List ℕ) (at chunk start : ℕ) : Type 0 wher
 abbrev pub first_passes : {X : Type 0} → (X → Bool) → List X → Bool
 first_passes p [] = false
 first_passes p (item ∷ items) = p item
+
+-- items that stand side by side in a list, the first of them at a position
+pub record IsRun {X : Type 0} (xs items : List X) (start : ℕ) : Type 0 where
+  pub within : start + length items ≤ length xs
+  pub same : (i : ℕ) (x : X) → i < length items → slice_index_or items i x ≡ slice_index_or xs (start + i) x

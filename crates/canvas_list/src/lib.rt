@@ -8,6 +8,7 @@ mod chunk_items;
 mod chunks;
 mod items;
 mod made;
+mod reader;
 mod search;
 mod share;
 mod sizes;
@@ -15,5 +16,6 @@ mod splice;
 mod table;
 
 pub use items::Items;
+pub use reader::Reader;
 pub use share::{Share, Shared};
 pub use table::SharedList;

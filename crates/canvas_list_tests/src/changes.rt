@@ -4,6 +4,7 @@ ghost use Rattle.std.specs.Prelude.{◌<◌, ◌≤◌, ◌+◌, ◌^◌, length
 
 use crate::dice::Dice;
 use crate::numbers::{Numbers, has, shared_number};
+use crate::reader::reads_about;
 use canvas_code::OutOfMemory;
 use canvas_list::SharedList;
 use std::alloc::Global;
@@ -133,6 +134,7 @@ fn changes_beside_a_plain_list(rt: HostRuntime) -> Result<(), Fail> {
         }
     }
     assert!(rt; has(&both.list, &both.plain));
+    assert!(rt; reads_about(&both.list, &both.plain, &mut dice));
     Ok(())
 }
 

@@ -11,3 +11,5 @@ mod made;
 mod memory;
 #[cfg(test)]
 mod numbers;
+#[cfg(test)]
+mod reader;

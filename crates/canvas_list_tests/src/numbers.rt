@@ -3,6 +3,7 @@
 ghost use Rattle.std.specs.Prelude.{◌≡◌, ◌≤◌, IfOk, vec_len};
 ghost use Rattle.std.specs.List.Sorted.{IsNonDecreasingBy};
 
+use crate::reader::reads_on;
 use canvas_code::OutOfMemory;
 use canvas_list::{Items, Shared, SharedList};
 use std::alloc::Global;
@@ -53,6 +54,7 @@ pub(crate) fn has(list: &Numbers, plain: &[u32]) -> bool {
     list.len() == plain.len()
         && list.is_empty() == plain.is_empty()
         && reads(list, plain)
+        && reads_on(list, plain)
         && gives(list.iter(), plain)
         && gives_back(list.iter(), plain)
         && gives(list.iter_from(third), plain.get(third..).unwrap_or(&[]))

@@ -1,0 +1,97 @@
+//! Reading a list at positions that often stand side by side.
+
+ghost use Rattle.std.specs.Prelude.{◌≡◌, ◌<◌, ◌≤◌, ◌+◌, length, slice_index_or};
+ghost use Rattle.canvas_list.specs.Chunks.{IsRun};
+
+use crate::chunks::{Chunks, spot_of};
+use crate::table::SharedList;
+use std::marker::Model;
+
+/// A reader of a list, seen as that list. It holds the chunk of the item that it gave last, of which
+/// it gives another without a search.
+#[derive(Drop)]
+pub struct Reader<'a, T> {
+    list: &'a SharedList<T>,
+    items: &'a [T],
+    // Where the items that it holds start.
+    start: usize,
+}
+
+impl<'a, T> Model for Reader<'a, T> {
+    ghost use Rattle.std.specs.Prelude.{List};
+    ghost use Rattle.canvas_list.specs.Chunks.{IsRun};
+
+    ghost Value = { List T };
+
+    ghost view = { λ reader. reader.list.now };
+
+    ghost invariant = { λ reader. IsRun reader.list.now reader.items.now reader.start };
+}
+
+impl<'a, T: Drop> Reader<'a, T> {
+    /// The item at a position.
+    #[inline(always)]
+    pub fn at(&mut self, at: usize) -> &'a T
+        requires { at < length self.old }
+        ensures item { result.now ≡ slice_index_or self.old at result.now }
+        ensures same { self.new ≡ self.old }
+    {
+        if at < self.start || at - self.start >= self.items.len() {
+            let run = self.list.run_at(at);
+            self.items = run.items;
+            self.start = run.start;
+        }
+        &self.items[at - self.start]
+    }
+}
+
+/// Items that stand side by side in a list, and where they start.
+#[derive(Drop)]
+pub(crate) struct Run<'a, T> {
+    items: &'a [T],
+    start: usize,
+}
+
+impl<T: Drop> SharedList<T> {
+    /// A reader of the list.
+    pub fn reader(&self) -> Reader<'_, T>
+        ensures { result ≡ self.now }
+    {
+        Reader {
+            list: self,
+            items: &[],
+            start: 0,
+        }
+    }
+
+    // The items of the chunk of a position.
+    fn run_at(&self, at: usize) -> Run<'_, T>
+        requires { at < length self.now }
+        ensures run { IsRun self.now result.items.now result.start }
+        ensures from { result.start ≤ at }
+        ensures upto { at < result.start + length result.items.now }
+    {
+        let spot = spot_of(&self.starts, at);
+        let run = self.blocks[spot.chunk].chunks().run_at(at - spot.start);
+        Run {
+            items: run.items,
+            start: spot.start + run.start,
+        }
+    }
+}
+
+impl<T: Drop> Chunks<T> {
+    // The items of the chunk of a position.
+    fn run_at(&self, at: usize) -> Run<'_, T>
+        requires { at < length self.now }
+        ensures run { IsRun self.now result.items.now result.start }
+        ensures from { result.start ≤ at }
+        ensures upto { at < result.start + length result.items.now }
+    {
+        let spot = spot_of(&self.starts, at);
+        Run {
+            items: self.chunks[spot.chunk].items(),
+            start: spot.start,
+        }
+    }
+}
