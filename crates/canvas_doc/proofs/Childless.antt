@@ -73,7 +73,7 @@ lost-head : (t : Record → Bool) (r : Record) (xs ys : List Record) → t r ≡
 lost-head t r xs ys h e = rw h e
 
 -- tests that agree on the records
-filter-same : (t u : Record → Bool) (rs : List Record) → All (λ (r : Record). t r ≡ u r) rs → filter t rs ≡ filter u rs
+pub filter-same : (t u : Record → Bool) (rs : List Record) → All (λ (r : Record). t r ≡ u r) rs → filter t rs ≡ filter u rs
 filter-same t u [] a = refl
 filter-same t u (r ∷ rs) a =
     let here : t r ≡ u r = All-head (λ (s : Record). t s ≡ u s) r rs a in
@@ -91,7 +91,7 @@ others-kept id (r ∷ rs) a =
     kept-head (λ r. not (r.id == id)) r rs rs (ap not (other-id r.id id (λ e. omega arith))) (others-kept id rs a.1)
 
 -- all but the record of one id
-one-removed : (id at : ℕ) (rs : List Record) (d : Record) → AreRising rs → at < length rs → (get_or rs at d).id ≡ id → filter (λ r. not (r.id == id)) rs ≡ remove rs at
+pub one-removed : (id at : ℕ) (rs : List Record) (d : Record) → AreRising rs → at < length rs → (get_or rs at d).id ≡ id → filter (λ r. not (r.id == id)) rs ≡ remove rs at
 one-removed id at [] d w l e = absurd (omega arith)
 one-removed id zero (r ∷ rs) d w l e =
     lost-head (λ s. not (s.id == id)) r rs rs (ap not (eq-eqb r.id id e))

@@ -24,7 +24,7 @@ above-filter : (n : ℕ) (t : Record → Bool) (rs : List Record) → AllByRecur
 above-filter n t [] a = tt
 above-filter n t (r ∷ rs) a = elim (cases_Bool (t r)) [ inl e ↦ rw e (a.0, above-filter n t rs a.1) | inr e ↦ rw e (above-filter n t rs a.1) ]
 
-rising-filter : (t : Record → Bool) (rs : List Record) → AreRising rs → AreRising (filter t rs)
+pub rising-filter : (t : Record → Bool) (rs : List Record) → AreRising rs → AreRising (filter t rs)
 rising-filter t [] a = tt
 rising-filter t (r ∷ rs) a = elim (cases_Bool (t r)) [ inl e ↦ rw e (above-filter r.id t rs a.0, rising-filter t rs a.1) | inr e ↦ rw e (rising-filter t rs a.1) ]
 

@@ -2,7 +2,7 @@
 use Rattle.std.proofs.Common.{◌≡◌, ℕ, suc, min, ◌+◌, ◌-◌, ◌<◌, ◌≤◌, List, [], ◌∷◌, ◌++◌, true, All, length, get_or, drop, take, ℤ, pos, ◌+ℤ◌, ◌&&◌, int_le, int_lt, Some, None, refl, sym, subst, ap, ◌∙◌, inl, inr, arith}
 use Rattle.std.specs.List.{Contains, slice_get}
 use Rattle.std.proofs.lemmas.Int.{ints}
-use Rattle.std.proofs.lemmas.List.{drop_more, length-drop, length-take}
+use Rattle.std.proofs.lemmas.List.{drop-drop, drop-take, drop_more, length-drop, length-take}
 use Rattle.std.proofs.lemmas.List.Elements.{All-cons, All-contains, All-head, All-nil, All-tail}
 use Rattle.std.proofs.lemmas.Option.{get_or_from_slice_get, slice_get_read, slice_get_within}
 use Rattle.canvas_plane.specs.declared.PageBox.{PageBox}
@@ -142,6 +142,15 @@ stands-next order bounds left rest start at end b long from e f =
       },
     )
 
+-- a walk from one position up to another, at a later one
+pub walk-later : (bounds : List Bounds) (start at end : ℕ) → start ≤ at → at ≤ end → drop (at - start) (take (end - start) (drop start bounds)) ≡ take (end - at) (drop at bounds)
+walk-later bounds start at end h k =
+    let many : at - start + (end - at) ≡ end - start = omega arith in
+    let place : start + (at - start) ≡ at = omega arith in
+    ap (λ n. drop (at - start) (take n (drop start bounds))) (sym many)
+    ∙ drop-take (at - start) (end - at) (drop start bounds)
+    ∙ ap (take (end - at)) (drop-drop (at - start) start bounds ∙ ap (λ n. drop n bounds) place)
+
 -- a walk that has come to its end has gone over all children
 pub children-in_sight : (d now : Contents) (order : List Record) (bounds left : List Bounds) → IsKeptInOrder d order bounds → d ≡ now → (p : Parent) (out : Pose) (clip : PageBox) (seen : List Record) (start at end : ℕ)
     → AreChildrenWithin p order start end → at ≤ end → left ≡ take (end - at) (drop at bounds) → left ≡ [] → AreInSight d.records out clip seen (take (at - start) (drop start order)) → AreInSight now.records out clip seen (children p now.records)
@@ -152,6 +161,15 @@ children-in_sight d now order bounds left kept view p out clip seen start at end
     let P : Contents → Type 0 = λ c. AreInSight c.records out clip seen (children p c.records) in
     let Q : List Record → Type 0 = λ l. AreInSight d.records out clip seen l in
     subst P view (subst Q all h)
+
+-- the same of a walk over what was taken from the lists before it
+pub walked-in_sight : (d now : Contents) (order shapes : List Record) (bounds whole left : List Bounds) → IsKeptInOrder d order bounds → d ≡ now → shapes ≡ order → (p : Parent) (out : Pose) (clip : PageBox) (seen : List Record) (start at end : ℕ)
+    → AreChildrenWithin p order start end → start ≤ at → at ≤ end → whole ≡ take (end - start) (drop start bounds) → left ≡ drop (at - start) whole → left ≡ [] → AreInSight now.records out clip seen (take (at - start) (drop start shapes)) → AreInSight now.records out clip seen (children p now.records)
+walked-in_sight d now order shapes bounds whole left kept view same p out clip seen start at end w h l is e none sight =
+    let P : Contents → Type 0 = λ c. AreInSight c.records out clip seen (take (at - start) (drop start shapes)) in
+    let Q : List Record → Type 0 = λ l. AreInSight d.records out clip seen (take (at - start) (drop start l)) in
+    children-in_sight d now order bounds left kept view p out clip seen start at end w l (e ∙ ap (drop (at - start)) is ∙ walk-later bounds start at end h l) none
+    (subst Q same (subst P (sym view) sight))
 
 -- ---- one pixel
 

@@ -50,3 +50,12 @@ pub mod Childless
 pub mod Spaced
 pub mod Respacing
 pub mod Rebounded
+pub mod Untouched
+pub mod Besides
+pub mod Damaged
+pub mod AfterChange
+pub mod Extents
+pub mod BothExtents
+pub mod Heights
+pub mod Freed
+pub mod HeldBelow

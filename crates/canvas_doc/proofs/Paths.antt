@@ -1,7 +1,6 @@
 -- Paths from a parent up, step by step.
-use Rattle.std.proofs.Common.{◌≡◌, ℕ, zero, suc, ◌+◌, ◌-◌, ◌<◌, ◌==◌, List, [], ◌∷◌, Bool, true, false, cond, not, ◌&&◌, Option, Some, None, refl, sym, ap, ◌∙◌, arith, inl, inr, take, length, get_or, max, ◌++◌}
-use Rattle.std.proofs.lemmas.List.{take_more}
-use Rattle.canvas_doc.specs.Depth.{depth_of, depth_from, levels_to, levels_from, greatest}
+use Rattle.std.proofs.Common.{◌≡◌, ℕ, zero, suc, ◌-◌, ◌<◌, ◌==◌, List, [], ◌∷◌, Bool, true, false, cond, not, ◌&&◌, Option, Some, None, refl, sym, ap, ◌∙◌, arith, inl, inr, length, get_or}
+use Rattle.canvas_doc.specs.Depth.{depth_of, depth_from, levels_to, levels_from}
 use Rattle.std.proofs.lemmas.Bool.{cases_Bool}
 use Rattle.std.specs.List.{list_all}
 use Rattle.std.proofs.lemmas.List.Folds.{list_all_at}
@@ -118,27 +117,12 @@ pub levels-page : (n id : ℕ) (rs : List Record) → levels_to n id rs Page ≡
 unfolding levels_to
 levels-page n id rs = elim n as (λ m. levels_to m id rs Page ≡ 0) [ zero ↦ refl | suc m ↦ refl ]
 
-pub levels-zero : (n id p : ℕ) (rs : List Record) → n ≡ 0 → levels_to n id rs (Shape p) ≡ 0
-unfolding levels_to
-levels-zero n id p rs h = rw h refl
-
 pub levels-step : (n id p : ℕ) (rs : List Record) (o : Option Record) → 0 < n → o ≡ record_of p rs → levels_to n id rs (Shape p) ≡ levels_from id (λ q. levels_to (n - 1) id rs q) o
 unfolding levels_to
 levels-step zero id p rs o h e = absurd (omega arith)
 levels-step (suc n) id p rs o h e = let m : suc n - 1 ≡ n = omega arith in rw (m, e) refl
 
-max-front : (f : Record → ℕ) (xs : List Record) (r : Record) → greatest f (xs ++ r ∷ []) ≡ max (greatest f xs) (f r)
-max-front f [] r = grind arith
-max-front f (x ∷ xs) r = let ih : greatest f (xs ++ r ∷ []) ≡ max (greatest f xs) (f r) = max-front f xs r in rw ih (grind arith)
-
--- a step of the greatest so far
-pub greatest-more : (f : Record → ℕ) (rs : List Record) (i : ℕ) (r : Record) (old now : ℕ) → i < length rs → r ≡ get_or rs i r → now ≡ f r → old ≡ greatest f (take i rs) → max old now ≡ greatest f (take (i + 1) rs)
-greatest-more f rs i r old now h e n o =
-    ap (λ x. max x now) o ∙ ap (max (greatest f (take i rs))) n ∙ sym (ap (greatest f) (take_more rs i r h) ∙ ap (λ x. greatest f (take i rs ++ x ∷ [])) (sym e) ∙ max-front f (take i rs) r)
-
 pub ruleset depth_rules = (depth-page, depth-none, depth-step)
-
-pub ruleset level_rules = (levels-page, levels-zero, levels-step)
 
 pub ruleset below_rules = (below-page, below-none, below-step)
 

@@ -1,11 +1,11 @@
 -- Bounds of records after an edit of the order in which they stand.
-use Rattle.std.proofs.Common.{◌≡◌, ◌≢◌, ℕ, zero, suc, ◌+◌, ◌-◌, ◌<◌, ◌≤◌, ◌==◌, nat_lt, ◌&&◌, List, [], ◌∷◌, ◌++◌, Bool, true, false, cond, Option, Some, None, refl, sym, ap, subst, ◌∙◌, arith, inl, inr, All, length, get_or, set, take, map, filter}
+use Rattle.std.proofs.Common.{◌≡◌, ◌≢◌, ℕ, zero, suc, ◌+◌, ◌-◌, ◌<◌, ◌≤◌, ◌==◌, nat_lt, ◌&&◌, List, [], ◌∷◌, ◌++◌, Bool, true, false, cond, Option, Some, None, refl, sym, ap, subst, ◌∙◌, arith, inl, inr, All, length, get_or, set, map}
 use Rattle.std.specs.List.{Contains, insert, remove, slice_get}
 use Rattle.std.specs.Option.{option_map}
 use Rattle.std.proofs.Math.ListN.{length-set}
 use Rattle.std.proofs.lemmas.Bool.{cases_Bool, eq-eqb, eqb-true, true≢false}
 use Rattle.std.proofs.lemmas.Bool.Decides.{nat_tests}
-use Rattle.std.proofs.lemmas.List.{append-nil, get_or_append_left, get_or_at, length-append, length-map, take_all}
+use Rattle.std.proofs.lemmas.List.{get_or_append_left, get_or_at, length-append, length-map}
 use Rattle.std.proofs.lemmas.List.Edits.{length-insert, length-remove}
 use Rattle.std.proofs.lemmas.List.Elements.{All-contains}
 use Rattle.std.proofs.lemmas.Option.{get_or_from_slice_get, same_Some, slice_get-map, slice_get_within}
@@ -172,7 +172,7 @@ pub record ComesFrom (order : List Record) (bounds : List Bounds) (s : Record) (
   pub parent : s.place.parent ≡ old.place.parent
 
 -- one that stands there itself
-comes-itself : (order : List Record) (bounds : List Bounds) (s : Record) (c : Bounds) (at : ℕ) → slice_get order at ≡ Some s → slice_get bounds at ≡ Some c → ComesFrom order bounds s c
+pub comes-itself : (order : List Record) (bounds : List Bounds) (s : Record) (c : Bounds) (at : ℕ) → slice_get order at ≡ Some s → slice_get bounds at ≡ Some c → ComesFrom order bounds s c
 comes-itself order bounds s c at e f = record {
   at = at;
   old = s;
@@ -182,7 +182,7 @@ comes-itself order bounds s c at e f = record {
   parent = refl;
 }
 
-all-come : (order now : List Record) (bounds then : List Bounds) → AreBounds order bounds → length then ≡ length now → ((k : ℕ) (s : Record) (c : Bounds) → slice_get now k ≡ Some s → slice_get then k ≡ Some c → ComesFrom order bounds s c) → AreBounds now then
+pub all-come : (order now : List Record) (bounds then : List Bounds) → AreBounds order bounds → length then ≡ length now → ((k : ℕ) (s : Record) (c : Bounds) → slice_get now k ≡ Some s → slice_get then k ≡ Some c → ComesFrom order bounds s c) → AreBounds now then
 all-come order now bounds then kept long from = record {
   long = long;
   own = λ k s c e f h.
@@ -255,74 +255,6 @@ respaced-keeps p rs = record {
 
 pub respaced-bounds : (order : List Record) (bounds : List Bounds) (p : Parent) (rs : List Record) → AreBounds order bounds → AreBounds (map (respaced p rs) order) bounds
 respaced-bounds order bounds p rs kept = mapped order bounds (respaced p rs) (respaced-keeps p rs) kept
-
--- ---- records that pass a test
-
--- the bounds in the positions of the records that pass
-abbrev pub kept_with : (Record → Bool) → List Record → List Bounds → List Bounds
-kept_with t [] bs = []
-kept_with t (r ∷ rs) [] = []
-kept_with t (r ∷ rs) (b ∷ bs) = cond (t r) (b ∷ kept_with t rs bs) (kept_with t rs bs)
-
-long-head : (pass : Bool) (r : Record) (b : Bounds) (rs : List Record) (bs : List Bounds) → length bs ≡ length rs → length (cond pass (b ∷ bs) bs) ≡ length (cond pass (r ∷ rs) rs)
-long-head true r b rs bs e = ap suc e
-long-head false r b rs bs e = e
-
-kept-long : (t : Record → Bool) (order : List Record) (bounds : List Bounds) → length bounds ≡ length order → length (kept_with t order bounds) ≡ length (filter t order)
-kept-long t [] bounds e = refl
-kept-long t (r ∷ rs) [] e = absurd (omega arith)
-kept-long t (r ∷ rs) (b ∷ bs) e = long-head (t r) r b (filter t rs) (kept_with t rs bs) (kept-long t rs bs (omega arith))
-
--- where a record and its bounds stand
-abbrev StandBeside : List Record → List Bounds → Record → Bounds → Type 0
-StandBeside order bounds s c = (j : ℕ) × (slice_get order j ≡ Some s) × (slice_get bounds j ≡ Some c)
-
-from-head : (pass : Bool) (r s : Record) (b c : Bounds) (rs passed : List Record) (bs kept : List Bounds) (k : ℕ) → slice_get (cond pass (r ∷ passed) passed) k ≡ Some s → slice_get (cond pass (b ∷ kept) kept) k ≡ Some c → ((i : ℕ) → slice_get passed i ≡ Some s → slice_get kept i ≡ Some c → StandBeside rs bs s c) → StandBeside (r ∷ rs) (b ∷ bs) s c
-from-head true r s b c rs passed bs kept zero e f next = (zero, e, f)
-from-head true r s b c rs passed bs kept (suc k) e f next = let o = next k e f in (suc o.0, o.1, o.2)
-from-head false r s b c rs passed bs kept k e f next = let o = next k e f in (suc o.0, o.1, o.2)
-
-kept-from : (t : Record → Bool) (order : List Record) (bounds : List Bounds) (k : ℕ) (s : Record) (c : Bounds) → slice_get (filter t order) k ≡ Some s → slice_get (kept_with t order bounds) k ≡ Some c → StandBeside order bounds s c
-kept-from t [] bounds k s c e f = cc
-kept-from t (r ∷ rs) [] k s c e f = cc
-kept-from t (r ∷ rs) (b ∷ bs) k s c e f = from-head (t r) r s b c rs (filter t rs) bs (kept_with t rs bs) k e f (λ i g h. kept-from t rs bs i s c g h)
-
-pub kept : (t : Record → Bool) (order : List Record) (bounds : List Bounds) → AreBounds order bounds → AreBounds (filter t order) (kept_with t order bounds)
-kept t order bounds a = all-come order (filter t order) bounds (kept_with t order bounds) a (kept-long t order bounds a.long)
-    (λ k s c e f. (let o = kept-from t order bounds k s c e f in comes-itself order bounds s c o.0 o.1 o.2))
-
-append-head : (pass : Bool) (b : Bounds) (xs ys zs : List Bounds) → zs ≡ xs ++ ys → cond pass (b ∷ zs) zs ≡ cond pass (b ∷ xs) xs ++ ys
-append-head true b xs ys zs e = ap (λ l. b ∷ l) e
-append-head false b xs ys zs e = e
-
-kept-more : (t : Record → Bool) (order : List Record) (bounds : List Bounds) (k : ℕ) (d : Record) (e : Bounds) → k < length order → k < length bounds → kept_with t (take (suc k) order) (take (suc k) bounds) ≡ kept_with t (take k order) (take k bounds) ++ cond (t (get_or order k d)) (get_or bounds k e ∷ []) []
-kept-more t [] bounds k d e l m = absurd (omega arith)
-kept-more t (r ∷ rs) [] k d e l m = absurd (omega arith)
-kept-more t (r ∷ rs) (b ∷ bs) zero d e l m = refl
-kept-more t (r ∷ rs) (b ∷ bs) (suc k) d e l m =
-    append-head (t r) b (kept_with t (take k rs) (take k bs)) (cond (t (get_or rs k d)) (get_or bs k e ∷ []) []) (kept_with t (take (suc k) rs) (take (suc k) bs)) (kept-more t rs bs k d e (omega arith) (omega arith))
-
--- a loop's step, at a record r with bounds b
-module _ (t : Record → Bool) (order : List Record) (bounds : List Bounds) (k : ℕ) (r : Record) (b : Bounds) (long : length bounds ≡ length order) (within : k < length order) (is : r ≡ get_or order k r) (with : b ≡ get_or bounds k b) where
-  kept-next : kept_with t (take (k + 1) order) (take (k + 1) bounds) ≡ kept_with t (take k order) (take k bounds) ++ cond (t r) (b ∷ []) []
-  kept-next =
-      let next : k + 1 ≡ suc k = omega arith in
-      let front : List Bounds = kept_with t (take k order) (take k bounds) in
-      ap (λ n. kept_with t (take n order) (take n bounds)) next ∙ kept-more t order bounds k r b within (omega arith)
-      ∙ ap (λ x. front ++ cond (t x) (get_or bounds k b ∷ []) []) (sym is) ∙ ap (λ c. front ++ cond (t r) (c ∷ []) []) (sym with)
-
-  -- which passes
-  pub kept-one : t r ≡ true → kept_with t (take (k + 1) order) (take (k + 1) bounds) ≡ kept_with t (take k order) (take k bounds) ++ b ∷ []
-  kept-one h = kept-next ∙ ap (λ pass. kept_with t (take k order) (take k bounds) ++ cond pass (b ∷ []) []) h
-
-  -- which does not
-  pub kept-none : t r ≡ false → kept_with t (take (k + 1) order) (take (k + 1) bounds) ≡ kept_with t (take k order) (take k bounds)
-  kept-none h = kept-next ∙ ap (λ pass. kept_with t (take k order) (take k bounds) ++ cond pass (b ∷ []) []) h ∙ append-nil (kept_with t (take k order) (take k bounds))
-
--- the loop's end
-pub kept-all : (t : Record → Bool) (order : List Record) (bounds : List Bounds) (n : ℕ) → length bounds ≡ length order → length order ≤ n → kept_with t (take n order) (take n bounds) ≡ kept_with t order bounds
-kept-all t order bounds n long l =
-    ap (λ rs. kept_with t rs (take n bounds)) (take_all n order l) ∙ ap (kept_with t order) (take_all n bounds (omega arith))
 
 -- ---- shapes that have no child, or not themselves
 

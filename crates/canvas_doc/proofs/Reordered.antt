@@ -1,7 +1,6 @@
 -- The order by place after a record was added, taken out, or replaced.
-use Rattle.std.proofs.Common.{◌≡◌, ◌≢◌, ℕ, ◌<◌, ◌≤◌, ◌+◌, ◌-◌, ◌==◌, List, [], ◌∷◌, ◌++◌, zero, suc, true, false, cond, nat_lt, refl, sym, ap, subst, ◌∙◌, arith, inl, inr, ◌⊎◌, All, length, filter, get_or, set, take, drop, Option, Some, None, Bool, Result, Ok, Err, IfOk}
+use Rattle.std.proofs.Common.{◌≡◌, ◌≢◌, ℕ, ◌<◌, ◌≤◌, ◌+◌, ◌-◌, ◌==◌, List, [], ◌∷◌, ◌++◌, zero, suc, true, false, cond, nat_lt, refl, sym, ap, subst, ◌∙◌, arith, inl, inr, ◌⊎◌, All, length, filter, get_or, set, take, drop, Some, Bool, Result, Ok, Err, IfOk}
 use Rattle.std.specs.List.{Contains, insert, remove, slice_get}
-use Rattle.std.specs.Option.{is_some}
 use Rattle.std.specs.List.Sorted.{IsStrictlySortedBy}
 use Rattle.std.specs.declared.cmp.Ordering.{Ordering}
 use Rattle.std.specs.declared.cmp.Ordering.TheVariants.{Less, Equal, Greater}
@@ -11,10 +10,9 @@ use Rattle.std.proofs.Math.ListN.{length-set}
 use Rattle.std.proofs.lemmas.Bool.{and_parts, cases_Bool, eq-eqb, eqb-true, true≢false}
 use Rattle.std.proofs.lemmas.Bool.Decides.{nat_tests}
 use Rattle.std.proofs.lemmas.Cmp.{tied_itself}
-use Rattle.std.proofs.lemmas.List.{append-nil, get_or_append_left, get_or_at, get_or_default, get_or-drop, get_or-set_other, get_or-set_same, get_or-take, length-append, length-drop, length-take-le, take_more}
+use Rattle.std.proofs.lemmas.List.{get_or_append_left, get_or_at, get_or_default, get_or-drop, get_or-set_other, get_or-set_same, get_or-take, length-append, length-drop, length-take-le}
 use Rattle.std.proofs.lemmas.List.Edits.{get_or-insert_above, get_or-insert_at, get_or-insert_below, get_or-remove_above, get_or-remove_below, length-insert, length-remove}
-use Rattle.std.proofs.lemmas.List.Elements.{All-contains, All-contains_itself, All-filter, All-from_recursion, Contains-append_left, Contains-get_or, Contains-push, Contains-push_cases, filter-append, filter_passes}
-use Rattle.std.proofs.lemmas.List.Kept.{IsStrictlySortedBy-filter}
+use Rattle.std.proofs.lemmas.List.Elements.{All-contains, All-contains_itself, All-filter, All-from_recursion, Contains-append_left, Contains-get_or, Contains-push, Contains-push_cases}
 use Rattle.std.proofs.lemmas.Map.Keys.{Less-from_sorted}
 use Rattle.std.proofs.lemmas.Option.{get_or_from_slice_get, slice_get_read, slice_get_within}
 use Rattle.std.proofs.lemmas.Map.Lookups.{exact_bytes}
@@ -25,14 +23,12 @@ use Rattle.canvas_doc.specs.Contents.{record_of, reaches_page, AreRising}
 use Rattle.canvas_doc.specs.PlaceOrder.{by_parent, by_place, comes_first, IsInPlaceOrder, IsPlaceOf}
 use Rattle.canvas_doc.specs.Tree.{HavePlaces, IsElsewhere}
 use Rattle.canvas_doc.proofs.ByPlace.{comes_first-total, less-from_lt, sorted-from}
-use Rattle.canvas_doc.proofs.ChildrenInOrder.{passing-has}
-use Rattle.canvas_doc.proofs.FitMore.{found-has}
 use Rattle.canvas_doc.proofs.Found.{found-here, rising-at}
-use Rattle.canvas_doc.proofs.OneChanged.{absent-id, id-only-here}
+use Rattle.canvas_doc.proofs.OneChanged.{id-only-here}
 use Rattle.canvas_doc.proofs.Respaced.{IsIn}
 use Rattle.canvas_doc.proofs.Placed.{holder-eq, then-eq}
 use Rattle.canvas_doc.proofs.RestoredWell.{same-parent-sym}
-use Rattle.canvas_doc.proofs.Members.{EachOnce, apart, as-many, insert-cases, insert-has, insert-new, remove-cases, remove-has, set-cases, set-has, set-new}
+use Rattle.canvas_doc.proofs.Members.{EachOnce, apart, insert-cases, insert-has, insert-new, remove-cases, remove-has, set-cases, set-has, set-new}
 
 -- records with rising ids, and those with rising places, stand once each
 pub ids-once : (rs : List Record) → AreRising rs → EachOnce rs
@@ -363,60 +359,15 @@ same-record rs r s up c d e = elim (cases_Bool (c.0 == d.0)) [
       absurd (true≢false (sym (eq-eqb s.id r.id (sym e)) ∙ no)))
 ]
 
--- one more record, where it passes
-pub filter-more : (t : Record → Bool) (xs : List Record) (k : ℕ) (r : Record) → k < length xs → r ≡ get_or xs k r → filter t (take (k + 1) xs) ≡ cond (t r) (filter t (take k xs) ++ r ∷ []) (filter t (take k xs))
-filter-more t xs k r b e =
-    ap (filter t) (take_more xs k r b ∙ ap (λ x. take k xs ++ x ∷ []) (sym e))
-    ∙ filter-append t (take k xs) (r ∷ [])
-    ∙ elim (cases_Bool (t r)) [
-      | inl y ↦ ap (λ c. filter t (take k xs) ++ cond c (r ∷ []) []) y ∙ ap (λ c. cond c (filter t (take k xs) ++ r ∷ []) (filter t (take k xs))) (sym y)
-      | inr f ↦ ap (λ c. filter t (take k xs) ++ cond c (r ∷ []) []) f ∙ append-nil (filter t (take k xs)) ∙ ap (λ c. cond c (filter t (take k xs) ++ r ∷ []) (filter t (take k xs))) (sym f)
-    ]
-
 pub passed-in : (t : Record → Bool) (xs : List Record) (x : Record) → Contains (filter t xs) x → Contains xs x
 passed-in t xs x c = All-contains (Contains xs) (filter t xs) x (All-filter t (Contains xs) xs (All-contains_itself xs)) c
 
-has-id : (left : List Record) (r : Record) → Contains left r → is_some (record_of r.id left) ≡ true
-has-id left r c = elim (record_of r.id left) as (λ o. record_of r.id left ≡ o → is_some o ≡ true) [
-  | None ↦ λ e. absurd (true≢false (sym (eq-eqb r.id r.id refl) ∙ absent-id r.id left r e (listed-in left r c)))
-  | Some s ↦ λ e. refl
-] refl
-
-found-some : (o : Option Record) → is_some o ≡ true → (s : Record) × (o ≡ Some s)
-found-some None h = cc
-found-some (Some s) h = (s, refl)
-
-found-in : (xs : List Record) (id : ℕ) (s : Record) → record_of id xs ≡ Some s → Contains xs s
+pub found-in : (xs : List Record) (id : ℕ) (s : Record) → record_of id xs ≡ Some s → Contains xs s
 found-in [] id s e = cc
 found-in (x ∷ xs) id s e = elim (cases_Bool (x.id == id)) [
   | inl t ↦ (let same : Some x ≡ Some s = ap (λ b. cond b (Some x) (record_of id xs)) (sym t) ∙ e in let is : x ≡ s = cc in (0, omega arith, is))
   | inr f ↦ (let c = found-in xs id s (ap (λ b. cond b (Some x) (record_of id xs)) (sym f) ∙ e) in (suc c.0, (let b : c.0 < length xs = c.1 in omega arith), c.2))
 ]
-
--- the order without those that are not among the records that are left
-pub left-order : (t : Record → Bool) (order rs : List Record) → AreRising rs → AreRising (filter t rs) → IsInPlaceOrder order rs → IsInPlaceOrder (filter (λ r. is_some (record_of r.id (filter t rs))) order) (filter t rs)
-left-order t order rs up left o =
-    let rest : List Record = filter t rs in
-    let v : Record → Bool = λ r. is_some (record_of r.id rest) in
-    let after : List Record = filter v order in
-    let sorted : IsStrictlySortedBy comes_first after = IsStrictlySortedBy-filter comes_first v order o.rising in
-    let listed : (x : Record) → Contains after x → Contains rest x = λ x c.
-    (let in-rs : Contains rs x = All-contains (Contains rs) order x o.listed (passed-in v order x c) in
-    let passes : v x ≡ true = All-contains (λ r. v r ≡ true) after x (filter_passes v order) c in
-    let s = found-some (record_of x.id rest) passes in
-    let there : Contains rest s.0 = found-in rest x.id s.0 s.1 in
-    let id : s.0.id ≡ x.id = eqb-true s.0.id x.id (found-has x.id rest s.0 s.1) in
-    subst (Contains rest) (same-record rs s.0 x up (passed-in t rs s.0 there) in-rs id) there) in
-    let complete : (x : Record) → Contains rest x → Contains after x = λ x c.
-    (let d = All-contains (Contains order) rs x o.complete (passed-in t rs x c) in passing-has v order d.0 x d.1 d.2 (has-id rest x c)) in
-    let more : length after ≤ length rest = as-many after rest (places-once after sorted) listed in
-    let less : length rest ≤ length after = as-many rest after (ids-once rest left) complete in
-    record {
-      long = omega arith;
-      listed = λ k d b. listed (get_or after k d) (Contains-get_or after k d b);
-      complete = λ k d b. complete (get_or rest k d) (Contains-get_or rest k d b);
-      rising = sorted;
-    }
 
 -- a record of which the document has another version, and where that version goes
 pub record IsMoved (order rs after : List Record) (r s : Record) (at k to : ℕ) : Type 0 where

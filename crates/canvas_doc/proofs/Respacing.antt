@@ -166,7 +166,7 @@ each-respaced p order rs up places o =
     ∙ sym (get_or-map (respaced p rs) rs q d d within))
 
 -- all of them are
-all-kept : (p : Parent) (xs : List Record) → All (λ s. is_child p s ≡ true) xs → filter (is_child p) xs ≡ xs
+pub all-kept : (p : Parent) (xs : List Record) → All (λ s. is_child p s ≡ true) xs → filter (is_child p) xs ≡ xs
 all-kept p [] h = refl
 all-kept p (x ∷ xs) h = ap (λ b. cond b (x ∷ filter (is_child p) xs) (filter (is_child p) xs)) (All-head (λ s. is_child p s ≡ true) x xs h) ∙ ap (λ l. x ∷ l) (all-kept p xs (All-tail (λ s. is_child p s ≡ true) x xs h))
 

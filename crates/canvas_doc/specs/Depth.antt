@@ -1,5 +1,5 @@
 -- Depth and height, as numbers.
-use Rattle.std.specs.Prelude.{ℕ, zero, suc, ◌≡◌, ◌<◌, length, slice_index_or, ◌+◌, ◌==◌, nat_lt, max, List, [], ◌∷◌, cond, Option, Some, None, Bool}
+use Rattle.std.specs.Prelude.{ℕ, zero, suc, ◌+◌, ◌==◌, nat_lt, max, List, [], ◌∷◌, cond, Option, Some, None, Bool}
 use Rattle.canvas_doc.specs.declared.records.Parent.{Parent}
 use Rattle.canvas_doc.specs.declared.records.Parent.TheVariants.{Page, Shape}
 use Rattle.canvas_doc.specs.declared.records.Record.{Record}
@@ -45,13 +45,3 @@ height_of id rs = greatest (levels_of id rs) rs
 -- the depth of the new parent and the height of the moved subtree together are above 32
 abbrev pub is_above_32 : List Record → ℕ → Parent → Bool
 is_above_32 rs id p = nat_lt 32 (depth_of 32 rs p + height_of id rs)
-
--- a mark says nothing yet, or one more than a number of levels
-abbrev pub IsMark : ℕ → ℕ → Type 0
-IsMark zero level = Unit {0}
-IsMark (suc mark) level = mark ≡ level
-
--- marks of all records, by position
-pub record AreMarks (id : ℕ) (rs : List Record) (marks : List ℕ) : Type 0 where
-  pub long : length marks ≡ length rs
-  pub each : (k : ℕ) (r : Record) → k < length rs → r ≡ slice_index_or rs k r → IsMark (slice_index_or marks k 0) (levels_of id rs r)

@@ -65,7 +65,7 @@ fn decision(alloc: Global, document: &Document, edit: &Edit) -> Result<Change, R
                 },
             })
         }
-        Edit::Move { id, parent, spot } => decide_move(alloc, document, *id, *parent, spot),
+        Edit::Move { id, parent, spot } => decide_move(document, *id, *parent, spot),
         Edit::Pose { id, pose } => decide_pose(records, *id, *pose),
         Edit::Reshape { id, kind } => decide_reshape(alloc, records, *id, kind),
         Edit::Show { id, hidden } => decide_show(records, *id, *hidden),
@@ -114,17 +114,11 @@ fn create_index(
 }
 
 // Another place, or why it is refused.
-fn decide_move(
-    alloc: Global,
-    document: &Document,
-    id: u32,
-    parent: Parent,
-    spot: &Spot,
-) -> Result<Change, Refusal>
+fn decide_move(document: &Document, id: u32, parent: Parent, spot: &Spot) -> Result<Change, Refusal>
     ensures value { result ≡ move_decision id parent spot.now document.now.records }
     ensures key { IfOk result HasKey }
 {
-    let index = move_index(alloc, document, id, parent, spot)?;
+    let index = move_index(document, id, parent, spot)?;
     Ok(Change::Move {
         id,
         place: Place { parent, index },
@@ -132,13 +126,7 @@ fn decide_move(
 }
 
 // The index of a moved shape, or why the move is refused.
-fn move_index(
-    alloc: Global,
-    document: &Document,
-    id: u32,
-    parent: Parent,
-    spot: &Spot,
-) -> Result<Key, Refusal>
+fn move_index(document: &Document, id: u32, parent: Parent, spot: &Spot) -> Result<Key, Refusal>
     ensures value { result ≡ move_index id parent spot.now document.now.records }
     ensures key { IfOk result IsKey }
 {
@@ -155,7 +143,7 @@ fn move_index(
     if is_below(records, STEPS + 1, id, parent) {
         return Err(Refusal::Cycle);
     }
-    if is_above_32(alloc, document, id, parent) {
+    if is_above_32(document, id, parent) {
         return Err(Refusal::TooDeep);
     }
     index_at(document, id, parent, spot)

@@ -1,22 +1,21 @@
 //! The document after a change.
 
-ghost use Rattle.std.specs.Prelude.{◌≡◌, ◌+◌, ◌≤◌, ◌<◌, ◌++◌, ◌∷◌, [], not, map, filter, length, ◌==◌, All, IfOk, MatchOption, None, false, true, slice_index_or, slice_set};
+ghost use Rattle.std.specs.Prelude.{◌≡◌, ◌+◌, ◌≤◌, ◌<◌, ◌++◌, ◌∷◌, [], map, filter, length, ◌==◌, IfOk, MatchOption, None, false, true, slice_index_or, slice_set};
 ghost use Rattle.std.specs.List.{remove};
 ghost use Rattle.std.specs.List.Sorted.{IsStrictlySortedBy};
 ghost use Rattle.std.specs.Option.{unwrap_or};
 ghost use Rattle.canvas_key.specs.Rank.{fresh_key};
 ghost use Rattle.canvas_doc.specs.Bounds.{AreBounds, HaveOneShape};
 ghost use Rattle.canvas_doc.specs.Children.{is_child};
-ghost use Rattle.canvas_doc.specs.Contents.{record_of, HaveIds, AreRising, IsWellFormed, reaches_page};
-ghost use Rattle.canvas_doc.specs.Decision.{has_shape};
+ghost use Rattle.canvas_doc.specs.Contents.{record_of, HaveIds, AreRising, IsWellFormed};
 ghost use Rattle.canvas_doc.specs.declared.records.Record.{Record};
-ghost use Rattle.canvas_doc.specs.Depth.{AreMarks};
-ghost use Rattle.canvas_doc.specs.Effect.{changed_by, respaced, is_in_subtree, ReplacesAt};
+ghost use Rattle.canvas_doc.specs.Effect.{changed_by, respaced, ReplacesAt};
 ghost use Rattle.canvas_doc.specs.PlaceOrder.{comes_first, AreChildrenWithin, IsInPlaceOrder};
 ghost use Rattle.canvas_doc.specs.Tree.{HavePlaces};
 
 use crate::Document;
-use crate::ancestry::{STEPS, has_shape, level_at, no_marks};
+use crate::ancestry::STEPS;
+use crate::deletion::{Lists, without_below, without_shape};
 use crate::edits::Change;
 use crate::kept_bounds::{BoundsList, bounds_for, raised};
 use crate::lookup::position_of;
@@ -181,17 +180,22 @@ impl Document {
         })
     }
 
-    // The document without a shape and all below it, made of the records that are left.
+    // The document without a shape and all below it.
     fn without_subtree(&self, alloc: Global, id: u32) -> Result<Document, OutOfMemory>
         requires { Fits (Delete id) self.now }
         ensures { IfOk result (λ after. after ≡ effect_of (Delete id) self.now) }
     {
-        let records = without(alloc, &self.records, id)?;
-        let placed = placed_among(alloc, &self.order, &self.bounds, &records)?;
+        let all = Lists {
+            records: self.records.try_clone(alloc)?,
+            order: self.order.try_clone(alloc)?,
+            bounds: self.bounds.try_clone(alloc)?,
+        };
+        let above = without_below(alloc, &self.order, STEPS + 1, &[id], all)?;
+        let left = without_shape(alloc, id, above)?;
         Ok(Document {
-            records,
-            order: placed.order,
-            bounds: placed.bounds,
+            records: left.records,
+            order: left.order,
+            bounds: left.bounds,
             next: self.next,
         })
     }
@@ -331,66 +335,6 @@ fn changed_id(change: &Change) -> Option<u32>
         Change::Delete { .. } => None,
         Change::Respace { .. } => None,
     }
-}
-
-// The records without a shape and all below it.
-fn without(alloc: Global, records: &Records, id: u32) -> Result<Records, OutOfMemory>
-    requires few { length records.now ≤ 4096 }
-    requires rising { AreRising records.now }
-    requires grounded { All (λ r. reaches_page 31 records.now r.place.parent ≡ true) records.now }
-    ensures { IfOk result (λ all. all ≡ filter (λ r. not (is_in_subtree id records.now r)) records.now) }
-{
-    let mut marks = no_marks(alloc, records, id)?;
-    let left = without_marked(alloc, records, &mut marks, id)?;
-    Records::from_vec(alloc, left)
-}
-
-fn without_marked(
-    alloc: Global,
-    records: &Records,
-    marks: &mut [u8],
-    id: u32,
-) -> Result<Vec<Shared<Record>>, OutOfMemory>
-    requires rising { AreRising records.now }
-    requires grounded { All (λ r. reaches_page 31 records.now r.place.parent ≡ true) records.now }
-    requires marks { AreMarks id records.now marks.old }
-    ensures { IfOk result (λ left. left.items ≡ filter (λ r. not (is_in_subtree id records.now r)) records.now) }
-{
-    let mut left = Vec::with_capacity(alloc, records.len())?;
-    for at in 0..records.len() {
-        if level_at(records, marks, STEPS, id, at) == 0 {
-            left.push(records.at(at).share()?)?;
-        }
-    }
-    Ok(left)
-}
-
-// The order and the bounds without those that are not among the records that are left.
-fn placed_among(
-    alloc: Global,
-    order: &Records,
-    bounds: &BoundsList,
-    left: &Records,
-) -> Result<Placed, OutOfMemory>
-    requires few { length order.now ≤ 4096 }
-    requires bounds { AreBounds order.now bounds.now }
-    requires rising { AreRising left.now }
-    ensures order { IfOk result (λ placed. placed.order ≡ filter (λ r. has_shape left.now r.id) order.now) }
-    ensures bounds { IfOk result (λ placed. AreBounds placed.order placed.bounds) }
-{
-    let mut kept = Vec::with_capacity(alloc, left.len())?;
-    let mut kept_bounds = Vec::with_capacity(alloc, left.len())?;
-    for at in 0..order.len() {
-        let shape = order.at(at);
-        if has_shape(left, shape.value().id) {
-            kept.push(shape.share()?)?;
-            kept_bounds.push(*bounds.at(at))?;
-        }
-    }
-    Ok(Placed {
-        order: Records::from_vec(alloc, kept)?,
-        bounds: BoundsList::from_vec(alloc, kept_bounds)?,
-    })
 }
 
 // The children of a parent, which stand from one position up to another, each with the index that

@@ -10,7 +10,9 @@ mod bounds;
 mod colour;
 mod copies;
 mod corners;
+mod damage;
 mod decisions;
+mod deletion;
 mod edits;
 mod effects;
 mod fits;
@@ -57,7 +59,7 @@ impl Model for Document {
 }
 
 impl Document {
-    ghost use Rattle.canvas_doc.specs.Contents.{record_of};
+    ghost use Rattle.canvas_doc.specs.Contents.{record_of, IsWellFormed};
 
     /// A document with no record and next id 1.
     pub fn empty(alloc: Global) -> Document
@@ -83,6 +85,14 @@ impl Document {
         ensures { result ≡ length self.now.records }
     {
         self.records.len()
+    }
+
+    /// A law, for callers' proofs: a document is always well formed. The call does nothing.
+    #[inline(always)]
+    pub fn well_formed_law(&self)
+        ensures { IsWellFormed self.now }
+    {
+        let _bounds = &self.bounds;
     }
 
     /// The record of an id, if there is one.

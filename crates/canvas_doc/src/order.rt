@@ -49,11 +49,12 @@ impl Document {
     {
         let Range { start, end } = children_range(&self.order, parent);
         let area = Bounds::of_clip(out, clip);
+        let mut shapes = self.order.reader();
         let mut seen = Vec::new(alloc);
         let mut at = start;
         for bounds in self.bounds.iter_range(start, end) {
             if bounds.meets(&area) {
-                seen.push(self.order.at(at).value())?;
+                seen.push(shapes.at(at).value())?;
             }
             at += 1;
         }
@@ -71,9 +72,10 @@ fn children<'a, A: Allocator>(
     ensures { IfOk result (λ list. map (λ shape. shape.now) list.items ≡ filter (is_child parent) order.now) }
 {
     let Range { start, end } = children_range(order, parent);
+    let mut shapes = order.reader();
     let mut list = Vec::with_capacity(alloc, end - start)?;
     for at in start..end {
-        list.push(order.at(at).value())?;
+        list.push(shapes.at(at).value())?;
     }
     Ok(list)
 }

@@ -123,8 +123,8 @@ fn holds(plain: &Plain, shape: &Record, path: &[u32], from: usize, at: Pixel) ->
     }
 }
 
-// A point carried to the page by the poses of a path from a position on.
-fn carried(plain: &Plain, path: &[u32], from: usize, point: Point) -> Point {
+/// A point carried to the page by the poses of a path from a position on.
+pub(crate) fn carried(plain: &Plain, path: &[u32], from: usize, point: Point) -> Point {
     let mut place = point;
     for id in path.iter().skip(from) {
         if let Some(shape) = plain.find(*id) {
@@ -151,8 +151,8 @@ fn posed(pose: &Pose, point: Point) -> Point {
     }
 }
 
-// The corners of a carried box with the least and the greatest coordinates.
-fn corners(plain: &Plain, path: &[u32], from: usize, w: u32, h: u32) -> (Point, Point) {
+/// The corners of a carried box with the least and the greatest coordinates.
+pub(crate) fn corners(plain: &Plain, path: &[u32], from: usize, w: u32, h: u32) -> (Point, Point) {
     let a = carried(plain, path, from, Point { x: 0, y: 0 });
     let b = carried(
         plain,

@@ -1,19 +1,27 @@
-use Rattle.std.proofs.Common.{◌∙◌, cond, sym, ap}
-use Rattle.canvas_doc.specs.Contents.{Contents}
-use Rattle.canvas_doc.specs.Depth.{height_of}
-use Rattle.canvas_doc.proofs.Childless.{IsChildless, childless-from_range, height-childless}
+use Rattle.std.proofs.Common.{◌≡◌, ◌∙◌, ◌+◌, List, None, Some, ap, subst, suc, sym, arith}
+use Rattle.canvas_doc.specs.declared.records.Parent.TheVariants.{Shape}
+use Rattle.canvas_doc.specs.declared.records.Record.{Record}
+use Rattle.canvas_doc.specs.Contents.{Contents, IsWellFormed, record_of}
+use Rattle.canvas_doc.specs.Heights.{tallest}
+use Rattle.canvas_doc.proofs.Heights.{found-own, height-found, height-none}
 use Rattle.canvas_doc.proofs.ancestry.height_of.Goals as goal
 
-pub returns-then-has_shape-clause-value : goal.returns-then-has_shape-clause-value
-returns-then-has_shape-clause-value c =
-    let d = c.document.inside in
-    let none : IsChildless c.args.id d.records = childless-from_range c.args.id d.order d.records c.children_range-below.result.start c.children_range-below.result.end c.document.invariant.in_order c.children_range-below.ensures c.if-below.false in
-    sym (height-childless c.args.id d.records none ∙ ap (λ b. cond b 1 0) (sym c.has_shape.ensures ∙ c.if-has_shape.true))
-    ∙ ap (λ (e : Contents). height_of c.args.id e.records) c.document.view_is
+pub levels_below-requires : goal.levels_below-requires
+levels_below-requires c =
+    let found : record_of c.args.id c.args.document.now.records ≡ Some c.in-Some.shape.now = sym (ap (λ (e : Contents). record_of c.args.id e.records) c.document.view_is) ∙ sym c.in-Some.ensures in
+    found-own c.args.id c.args.document.now.records c.in-Some.shape.now found
 
-pub returns-else-has_shape-clause-value : goal.returns-else-has_shape-clause-value
-returns-else-has_shape-clause-value c =
-    let d = c.document.inside in
-    let none : IsChildless c.args.id d.records = childless-from_range c.args.id d.order d.records c.children_range-below.result.start c.children_range-below.result.end c.document.invariant.in_order c.children_range-below.ensures c.if-below.false in
-    sym (height-childless c.args.id d.records none ∙ ap (λ b. cond b 1 0) (sym c.has_shape.ensures ∙ c.if-has_shape.false))
-    ∙ ap (λ (e : Contents). height_of c.args.id e.records) c.document.view_is
+pub returns-in-Some-clause-value : goal.returns-in-Some-clause-value
+returns-in-Some-clause-value c =
+    let rs : List Record = c.args.document.now.records in
+    let formed : IsWellFormed c.args.document.now = subst IsWellFormed c.document.view_is c.document.invariant.well_formed in
+    let found : record_of c.args.id rs ≡ Some c.in-Some.shape.now = sym (ap (λ (e : Contents). record_of c.args.id e.records) c.document.view_is) ∙ sym c.in-Some.ensures in
+    let one : c.levels_below.result + 1 ≡ suc (tallest 31 rs (Shape c.in-Some.shape.now.id)) = omega (arith, c.levels_below.ensures.value) in
+    one ∙ height-found c.args.id rs c.in-Some.shape.now formed.rising formed.grounded found
+
+pub returns-in-None-clause-value : goal.returns-in-None-clause-value
+returns-in-None-clause-value c =
+    let rs : List Record = c.args.document.now.records in
+    let formed : IsWellFormed c.args.document.now = subst IsWellFormed c.document.view_is c.document.invariant.well_formed in
+    let none : record_of c.args.id rs ≡ None = sym (ap (λ (e : Contents). record_of c.args.id e.records) c.document.view_is) ∙ sym c.in-None.ensures in
+    sym (height-none c.args.id rs formed.grounded none)

@@ -2,4 +2,7 @@ use Rattle.std.proofs.Common.{◌≡◌, ◌-◌, drop, map, take}
 use Rattle.canvas_doc.proofs.order.children.Given as goal
 
 abbrev pub invariant-loop-at : goal.invariant-loop-at
-invariant-loop-at g l = map (λ shape. shape.now) l.list.items ≡ take (l.at - l.start) (drop l.start l.order)
+invariant-loop-at g l = record {
+  shapes : l.shapes ≡ l.order;
+  list : map (λ shape. shape.now) l.list.items ≡ take (l.at - l.start) (drop l.start l.order);
+}

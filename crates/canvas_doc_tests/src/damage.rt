@@ -1,0 +1,343 @@
+//! Damage of changes: worked boxes, and random changes beside the boxes that looking at every record gives.
+
+use crate::dice::Dice;
+use crate::plain::{Plain, position_in};
+use crate::random::{edit, id, nested, pose};
+use crate::shapes::{RED, create, edited_by_all, frame, moved, polygon, rectangle, restored};
+use crate::viewed::{carried, corners};
+use canvas_code::OutOfMemory;
+use canvas_doc::{Change, Document, Edit, Parent, Record, Refusal, Spot};
+use canvas_plane::{PageBox, Point, Pose};
+use canvas_shape::Kind;
+use std::alloc::Global;
+use std::process::Abort;
+use std::test::Fail;
+
+const NOTHING: PageBox = PageBox::EMPTY;
+
+fn area(left: i64, top: i64, right: i64, bottom: i64) -> PageBox {
+    PageBox {
+        left,
+        top,
+        right,
+        bottom,
+    }
+}
+
+// The damage of an edit that is allowed.
+fn damage(alloc: Global, document: &Document, edit: &Edit) -> Result<PageBox, Refusal> {
+    let change = document.decide(alloc, edit)?;
+    Ok(document.damage(&change))
+}
+
+fn posed(kind: Kind, pose: Pose, hidden: bool, parent: Parent) -> Edit {
+    Edit::Create {
+        kind,
+        pose,
+        hidden,
+        parent,
+        spot: Spot::Front,
+    }
+}
+
+// A frame 1 with a rectangle 2 that it clips and a hidden ellipse 3 beside it; a turned and flipped group 4 with a
+// triangle 5; an empty group 6; a hidden rectangle 7.
+fn drawing(alloc: Global) -> Result<Document, Refusal> {
+    let turned = Pose {
+        dx: 100,
+        dy: 0,
+        quarter: 1,
+        flip: true,
+    };
+    let round = Kind::Ellipse {
+        w: 3,
+        h: 3,
+        fill: RED,
+    };
+    let triangle = polygon(alloc, &[(0, 0), (4, 0), (0, 6)])?;
+    let edits = [
+        posed(frame(4, 4), moved(10, 20), false, Parent::Page),
+        posed(rectangle(6, 2, RED), moved(2, 0), false, Parent::Shape(1)),
+        posed(round, moved(-5, 1), true, Parent::Shape(1)),
+        posed(Kind::Group, turned, false, Parent::Page),
+        posed(triangle, moved(0, 2), false, Parent::Shape(4)),
+        posed(Kind::Group, moved(7, 7), false, Parent::Page),
+        posed(rectangle(2, 2, RED), moved(-9, 0), true, Parent::Page),
+    ];
+    edited_by_all(alloc, Document::empty(alloc), &edits)
+}
+
+fn to_front(id: u32, parent: Parent) -> Edit {
+    Edit::Move {
+        id,
+        parent,
+        spot: Spot::Front,
+    }
+}
+
+fn show(id: u32, hidden: bool) -> Edit {
+    Edit::Show { id, hidden }
+}
+
+fn turn(id: u32, pose: Pose) -> Edit {
+    Edit::Pose { id, pose }
+}
+
+// Whether each edit of the drawing has its damage.
+fn have_damage(
+    rt: &impl Abort,
+    alloc: Global,
+    document: &Document,
+    rows: &[(Edit, PageBox)],
+) -> Result<(), Fail> {
+    let mut row: usize = 0;
+    for (edit, wanted) in rows {
+        assert_eq!(rt; damage(alloc, document, edit)?, *wanted, "row {row}");
+        row = row.saturating_add(1);
+    }
+    Ok(())
+}
+
+#[test]
+fn a_rectangle_moves(rt: HostRuntime) -> Result<(), Fail> {
+    let alloc = rt.alloc();
+    let red = create(rectangle(10, 10, RED), Parent::Page, Spot::Front);
+    let document = edited_by_all(alloc, Document::empty(alloc), &[red])?;
+    let away = turn(1, moved(100, 0));
+    assert_eq!(rt; damage(alloc, &document, &away)?, area(0, 0, 110, 10));
+    Ok(())
+}
+
+#[test]
+fn groups_alone_and_indexes_damage_nothing(rt: HostRuntime) -> Result<(), Fail> {
+    let alloc = rt.alloc();
+    let document = drawing(alloc)?;
+    let rows = [
+        (create(Kind::Group, Parent::Page, Spot::Back), NOTHING),
+        (create(Kind::Group, Parent::Shape(4), Spot::Back), NOTHING),
+        (Edit::Delete { id: 6 }, NOTHING),
+        (show(6, true), NOTHING),
+        (turn(6, moved(50, 50)), NOTHING),
+        (to_front(6, Parent::Shape(1)), NOTHING),
+        (
+            Edit::Respace {
+                parent: Parent::Page,
+            },
+            NOTHING,
+        ),
+        (
+            Edit::Respace {
+                parent: Parent::Shape(1),
+            },
+            NOTHING,
+        ),
+    ];
+    have_damage(&rt, alloc, &document, &rows)
+}
+
+#[test]
+fn hidden_and_clipped_shapes_count(rt: HostRuntime) -> Result<(), Fail> {
+    let alloc = rt.alloc();
+    let document = drawing(alloc)?;
+    let rows = [
+        (show(7, false), area(-9, 0, -7, 2)),
+        (show(3, true), area(5, 21, 8, 24)),
+        (show(1, true), area(5, 20, 18, 24)),
+        (Edit::Delete { id: 1 }, area(5, 20, 18, 24)),
+        (to_front(2, Parent::Shape(1)), area(12, 20, 18, 22)),
+        (to_front(3, Parent::Shape(4)), area(5, 2, 99, 24)),
+        (
+            Edit::Reshape {
+                id: 1,
+                kind: frame(20, 1),
+            },
+            area(5, 20, 30, 24),
+        ),
+        (
+            Edit::Reshape {
+                id: 2,
+                kind: rectangle(1, 3, RED),
+            },
+            area(12, 20, 18, 23),
+        ),
+    ];
+    have_damage(&rt, alloc, &document, &rows)
+}
+
+#[test]
+fn a_turned_and_flipped_group_carries_its_shapes(rt: HostRuntime) -> Result<(), Fail> {
+    let alloc = rt.alloc();
+    let document = drawing(alloc)?;
+    let kind = polygon(alloc, &[(1, 1), (2, 1), (2, 3), (1, 3)])?;
+    let rows = [
+        (show(5, true), area(92, -4, 98, 0)),
+        (Edit::Delete { id: 4 }, area(92, -4, 98, 0)),
+        (turn(5, Pose::STILL), area(92, -4, 100, 0)),
+        (turn(4, Pose::STILL), area(0, -4, 98, 8)),
+        (to_front(5, Parent::Page), area(0, -4, 98, 8)),
+        (Edit::Reshape { id: 5, kind }, area(92, -4, 98, 0)),
+        (
+            create(rectangle(1, 2, RED), Parent::Shape(4), Spot::Back),
+            area(98, -1, 100, 0),
+        ),
+    ];
+    have_damage(&rt, alloc, &document, &rows)
+}
+
+// The least box round the points that a path carries to the page.
+fn round_points(plain: &Plain, path: &[u32], points: &[Point]) -> PageBox {
+    let mut area: Option<PageBox> = None;
+    for point in points {
+        let at = carried(plain, path, 0, *point);
+        let (left, top, right, bottom) = match area {
+            Some(old) => (old.left, old.top, old.right, old.bottom),
+            None => (at.x, at.y, at.x, at.y),
+        };
+        area = Some(PageBox {
+            left: left.min(at.x),
+            top: top.min(at.y),
+            right: right.max(at.x),
+            bottom: bottom.max(at.y),
+        });
+    }
+    area.unwrap_or(NOTHING)
+}
+
+// The carried box of a leaf or a frame; a group has none.
+fn own_box(plain: &Plain, shape: &Record, path: &[u32]) -> PageBox {
+    match &shape.kind {
+        Kind::Group => NOTHING,
+        Kind::Frame { w, h, .. } | Kind::Rect { w, h, .. } | Kind::Ellipse { w, h, .. } => {
+            let (first, last) = corners(plain, path, 0, *w, *h);
+            area(first.x, first.y, last.x, last.y)
+        }
+        Kind::Polygon { points, .. } => round_points(plain, path, points.as_slice()),
+    }
+}
+
+// The least box round the boxes of a shape and of all that has it on the path to the page.
+fn extent(alloc: Global, plain: &Plain, id: u32) -> Result<PageBox, OutOfMemory> {
+    let mut area = NOTHING;
+    for shape in &plain.records {
+        let path = plain.path(alloc, Parent::Shape(shape.id))?;
+        if position_in(&path, id).is_some() {
+            area = area.hull(&own_box(plain, shape, &path));
+        }
+    }
+    Ok(area)
+}
+
+fn changed_shape(change: &Change) -> Option<u32> {
+    match change {
+        Change::Create { id, .. } | Change::Move { id, .. } | Change::Pose { id, .. } => Some(*id),
+        Change::Reshape { id, .. } | Change::Show { id, .. } | Change::Delete { id } => Some(*id),
+        Change::Respace { .. } => None,
+    }
+}
+
+// Makes a change in the plain model, and gives its damage.
+fn plain_damage(alloc: Global, plain: &mut Plain, change: &Change) -> Result<PageBox, OutOfMemory> {
+    let Some(id) = changed_shape(change) else {
+        plain.make(alloc, change)?;
+        return Ok(NOTHING);
+    };
+    let before = extent(alloc, plain, id)?;
+    plain.make(alloc, change)?;
+    let after = extent(alloc, plain, id)?;
+    Ok(before.hull(&after))
+}
+
+// Some position from one edge to another, or the first.
+fn between(dice: &mut Dice, from: i64, to: i64) -> i64 {
+    let step = dice.below(1000) as i64;
+    let wide = to.saturating_sub(from);
+    if wide > 0 && step < wide {
+        return from.saturating_add(step);
+    }
+    from
+}
+
+// Pixels just outside each edge of a box, and some anywhere.
+fn pixels_beside(dice: &mut Dice, area: &PageBox) -> [(i64, i64); 8] {
+    let left = (
+        area.left.saturating_sub(1),
+        between(dice, area.top, area.bottom),
+    );
+    let right = (area.right, between(dice, area.top, area.bottom));
+    let over = (
+        between(dice, area.left, area.right),
+        area.top.saturating_sub(1),
+    );
+    let under = (between(dice, area.left, area.right), area.bottom);
+    let near = [
+        (dice.near(), dice.near()),
+        (dice.near(), dice.near()),
+        (dice.near(), dice.near()),
+        (dice.near(), dice.near()),
+    ];
+    [left, right, over, under, near[0], near[1], near[2], near[3]]
+}
+
+fn is_same_colour(before: &Document, after: &Document, x: i64, y: i64) -> bool {
+    match (i32::try_from(x), i32::try_from(y)) {
+        (Ok(x), Ok(y)) => before.colour_at(x, y) == after.colour_at(x, y),
+        _ => true,
+    }
+}
+
+// Whether pixels outside a box have the colours that they had.
+fn keeps_colours(dice: &mut Dice, area: &PageBox, before: &Document, after: &Document) -> bool {
+    for (x, y) in pixels_beside(dice, area) {
+        if !area.holds(x, y) && !is_same_colour(before, after, x, y) {
+            return false;
+        }
+    }
+    true
+}
+
+// An edit, every third one a turn of what is there.
+fn some_edit(
+    alloc: Global,
+    dice: &mut Dice,
+    plain: &Plain,
+    number: u32,
+) -> Result<Edit, OutOfMemory> {
+    if number % 3 > 0 {
+        return edit(alloc, dice, plain);
+    }
+    Ok(turn(id(dice, plain), pose(dice)))
+}
+
+// Edits at random, the damage of each beside that of the plain model.
+fn damages_agree(rt: &impl Abort, alloc: Global, dice: &mut Dice, levels: u32) -> Result<(), Fail> {
+    let next = levels.saturating_add(1);
+    let mut plain = Plain {
+        records: nested(alloc, levels)?,
+        next,
+    };
+    let mut document = restored(alloc, nested(alloc, levels)?, next)?;
+    for number in 0..60u32 {
+        let asked = some_edit(alloc, dice, &plain, number)?;
+        if let Ok(change) = &document.decide(alloc, &asked) {
+            let area = document.damage(change);
+            let wanted = plain_damage(alloc, &mut plain, change)?;
+            assert_eq!(rt; area, wanted, "{levels} levels, edit {number}");
+            let after = document.with(alloc, change)?;
+            assert!(rt;
+                keeps_colours(dice, &area, &document, &after),
+                "{levels} levels, edit {number}"
+            );
+            document = after;
+        }
+    }
+    Ok(())
+}
+
+#[test]
+fn damage_of_random_edits(rt: HostRuntime) -> Result<(), Fail> {
+    let mut dice = Dice { state: 4 };
+    for levels in 0..31u32 {
+        damages_agree(&rt, rt.alloc(), &mut dice, levels)?;
+    }
+    Ok(())
+}
