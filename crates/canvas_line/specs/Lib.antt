@@ -1,5 +1,6 @@
 pub mod Trails
 pub mod Books
+pub mod Recent
 pub mod Standing
 pub mod Lines
 pub mod Rule

@@ -3,6 +3,7 @@ use Rattle.std.specs.Prelude.{ℕ, ◌≡◌, ◌+◌, ◌<◌, ◌≤◌, List,
 use Rattle.canvas_doc.specs.declared.edits.Change.{Change}
 use Rattle.canvas_doc.specs.declared.edits.Edit.{Edit}
 use Rattle.canvas_doc.specs.Contents.{Contents}
+use Rattle.canvas_doc.specs.Damage.{damage_of}
 use Rattle.canvas_doc.specs.Decision.{decision_of}
 use Rattle.canvas_doc.specs.Effect.{effect_of, Fits, new_id}
 use Rattle.canvas_doc.specs.History.{replay_of}
@@ -10,6 +11,7 @@ use Rattle.canvas_line.specs.declared.version.Version.{Version}
 use Rattle.canvas_line.specs.declared.fault.Edited.{Edited}
 use Rattle.canvas_line.specs.declared.fault.LineFault.{LineFault}
 use Rattle.canvas_line.specs.declared.fault.LineFault.TheVariants as fault
+use Rattle.canvas_line.specs.Recent.{last_64}
 use Rattle.canvas_line.specs.Standing.{Shown}
 use Rattle.canvas_line.specs.Trails.{Facts}
 
@@ -44,6 +46,7 @@ abbrev pub Follows : Version → ℕ → Edit → Change → Version → Type 0
 Follows v limit e c w =
     (decision_of e v.document ≡ Ok c) × Fits c v.document × (v.number < limit)
     × (w.number ≡ v.number + 1) × (w.change ≡ Some c) × (w.document ≡ effect_of c v.document)
+    × (w.recent.items ≡ last_64 (v.recent.items ++ record { number = v.number + 1; area = damage_of c v.document } ∷ []))
 
 -- what is decided of an edit at a document: a change that fits, or a refusal; memory is wanted only in place of a change
 abbrev pub Decides : Contents → Edit → Result Change LineFault → Type 0

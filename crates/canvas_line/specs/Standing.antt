@@ -4,6 +4,7 @@ use Rattle.canvas_doc.specs.declared.edits.Change.{Change}
 use Rattle.canvas_doc.specs.Contents.{Contents}
 use Rattle.canvas_doc.specs.History.{replay_of, AllFit, last_change}
 use Rattle.canvas_line.specs.declared.version.Version.{Version}
+use Rattle.canvas_line.specs.Recent.{recent_of}
 use Rattle.canvas_line.specs.Trails.{Facts}
 
 -- what is published: the line's facts, its history, and the version at its end
@@ -19,3 +20,4 @@ pub record IsVersionOf (opening : Contents) (limit : ℕ) (changes : List Change
   pub document : v.document ≡ replay_of opening changes
   pub fits : AllFit opening changes
   pub within : length changes ≤ limit
+  pub recent : v.recent.items ≡ recent_of opening changes

@@ -18,4 +18,4 @@ pub use fault::{Edited, LineFault};
 pub use front::{Lines, Opened};
 pub use line::Line;
 pub use seat::Seat;
-pub use version::Version;
+pub use version::{Damage, MOST_RECENT, Version};

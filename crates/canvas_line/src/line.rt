@@ -86,6 +86,7 @@ fn first_writer<R: Wait>(
         number: 0,
         change: None,
         document,
+        recent: Vec::new(alloc),
     };
     let Ok(version) = Arc::new(alloc, version) else {
         return Err(OutOfMemory);

@@ -1,5 +1,18 @@
 //! What a look answers.
 use canvas_doc::{Change, Document};
+use canvas_plane::PageBox;
+
+/// How many of the last changes a version tells the damage of.
+pub const MOST_RECENT: usize = 64;
+
+/// A change that was accepted, by the version that it made, and the box of the page outside of which it changed no colour.
+#[derive(Clone, Copy, Debug, PartialEq, Eq)]
+pub struct Damage {
+    /// The version that the change made, from 1.
+    pub number: u64,
+    /// The box, 0, 0, 0, 0 where the change changed no colour at all.
+    pub area: PageBox,
+}
 
 /// The document after so many accepted changes.
 #[derive(Drop)]
@@ -10,4 +23,6 @@ pub struct Version {
     pub change: Option<Change>,
     /// The document after them.
     pub document: Document,
+    /// The damage of the last 64 changes at most, oldest first.
+    pub recent: Vec<Damage>,
 }

@@ -8,6 +8,8 @@ mod lines;
 #[cfg(test)]
 mod memory;
 #[cfg(test)]
+mod recent;
+#[cfg(test)]
 mod refused;
 #[cfg(test)]
 mod replayed;

@@ -11,7 +11,7 @@ invariant_of-next c =
     let limit = c.now.inside.limit in
     let change = c.in_ok-after.after.change.value in
     let h : Follows (arc_value c.now.inside.version) limit c.args.edit.now change w = subst (λ (v : Version). Follows v limit c.args.edit.now change w) c.deref.ensures c.in_ok-after.ensures.follows.0 in
-    let is = version_more (arc_value c.now.inside.opening).document limit c.now.inside.trace.changes change (arc_value c.now.inside.version) w c.now.invariant h.1 h.2 h.3 h.4 h.5 in
+    let is = version_more (arc_value c.now.inside.opening).document limit c.now.inside.trace.changes change (arc_value c.now.inside.version) w c.now.invariant h.1 h.2 h.3 h.4 h.5 h.6 in
     let changes : c.add.new.self.changes ≡ c.now.inside.trace.changes ++ change ∷ [] =
     ap (λ t. t.changes) c.if-not-add.ensures ∙ ap (λ t. t.changes ++ change ∷ []) c.again-trace.ensures in
     rw (c.in_ok-opening.ensures, changes) is

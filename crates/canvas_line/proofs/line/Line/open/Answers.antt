@@ -1,0 +1,13 @@
+use Rattle.std.proofs.Common.{◌≡◌, ap, sym, ◌∙◌, subst}
+use Rattle.left_right.specs.Sides.{view as seat_view}
+use Rattle.logbook.specs.Pages.{Book}
+use Rattle.canvas_line.specs.Rule.{Knows}
+use Rattle.canvas_line.specs.Trails.{Facts, Trail}
+use Rattle.canvas_line.proofs.line.Line.open.Goals as goal
+
+-- the writer's view knows the facts of the line's name
+pub new-desk-requires-clause-view : goal.new-desk-requires-clause-view
+new-desk-requires-clause-view g c =
+    let facts : Book → Facts = λ book. record { book = book; opening = c.args.document; limit = c.args.limit } in
+    let same : facts c.args.opened.trace.book ≡ g.B.Lines.line c.args.name = ap (λ (t : Trail). facts t.book) c.args.opened.empty ∙ sym c.requires in
+    subst (λ (f : Facts). Knows (seat_view c.in-Ok.writer.desk.place) f) same c.in-Ok.ensures.view
