@@ -5,3 +5,4 @@ pub mod Fault
 pub mod Alone
 pub mod Shared
 pub mod Past
+pub mod Kept

@@ -1,5 +1,6 @@
 -- What each call of a board may answer, and what it leaves.
 use Rattle.std.specs.Prelude.{◌≡◌, ◌≢◌, ℕ, ℤ, ◌<◌, ◌≤◌, true, false, length, Result, Ok, Err}
+use Rattle.std.specs.Arc.{arc_value}
 use Rattle.canvas_doc.specs.declared.edits.Change.{Change}
 use Rattle.canvas_doc.specs.declared.edits.Edit.{Edit}
 use Rattle.canvas_doc.specs.Decision.{decision_of}
@@ -52,7 +53,7 @@ Edits s edit (Err BadSetting) t = ⊥
 -- what a picture may answer, and what it leaves
 abbrev pub Paints : Seen → Window → ℕ → Result Picture BoardFault → Seen → Type 0
 Paints s window workers (Ok picture) t =
-    Grows s t × (are_workers workers ≡ true) × (picture.version ≡ length t.front) × (picture.bytes.items ≡ file_of (document_of t) window)
+    Grows s t × (are_workers workers ≡ true) × (picture.version ≡ length t.front) × ((arc_value picture.bytes).items ≡ file_of (document_of t) window)
 Paints s window workers (Err BadWorkers) t = (t ≡ s) × (are_workers workers ≡ false)
 Paints s window workers (Err NoView) t = (t ≡ s) × (are_workers workers ≡ true) × (s.alone ≡ false)
 Paints s window workers (Err OutOfMemory) t = (t ≡ s) × (are_workers workers ≡ true)

@@ -101,8 +101,8 @@ impl Board for Alone {
         // Nothing borrows the arena any more, so a reset can't fail.
         let _ = self.arena.reset();
         match file {
-            Ok(bytes) if bytes.len() <= MOST_BYTES => Ok(Picture { version, bytes }),
-            _ => Err(BoardFault::OutOfMemory),
+            Ok(bytes) => Ok(Picture { version, bytes }),
+            Err(_) => Err(BoardFault::OutOfMemory),
         }
     }
 

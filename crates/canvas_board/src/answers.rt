@@ -1,6 +1,9 @@
 ghost use Rattle.std.specs.Prelude.{◌≤◌, ◌^◌, vec_len};
+ghost use Rattle.std.specs.Arc.{arc_value};
 
 use canvas_shape::Colour;
+use std::alloc::Global;
+use std::sync::Arc;
 
 /// The most bytes of an answer, 2^40, so that the bytes of a session can be counted in 64 bits.
 pub const MOST_BYTES: usize = 1 << 40;
@@ -10,9 +13,9 @@ pub const MOST_BYTES: usize = 1 << 40;
 pub struct Picture {
     /// The version that is shown.
     pub version: u64,
-    /// The P6 file of the window.
-    pub bytes: Vec<u8>,
-    pub ghost small: { vec_len bytes ≤ 2 ^ 40 },
+    /// The P6 file of the window. A board that keeps the picture shares it.
+    pub bytes: Arc<Vec<u8>, Global>,
+    pub ghost small: { vec_len (arc_value bytes) ≤ 2 ^ 40 },
 }
 
 /// The colour of one pixel.

@@ -6,6 +6,7 @@ mod answers;
 mod board;
 mod fault;
 mod history;
+mod kept;
 mod picture;
 mod shared;
 

@@ -1,16 +1,19 @@
-ghost use Rattle.std.specs.Prelude.{◌≡◌, IfOk, true};
+ghost use Rattle.std.specs.Prelude.{◌≡◌, ◌≤◌, ◌^◌, IfOk, true, vec_len};
+ghost use Rattle.std.specs.Arc.{arc_value};
 ghost use Rattle.canvas_board.specs.Raster.{file_of};
 ghost use Rattle.canvas_paint.specs.Workers.{are_workers};
 
+use crate::answers::MOST_BYTES;
 use bumpalo::Bump;
 use canvas_code::OutOfMemory;
 use canvas_doc::Document;
 use canvas_paint::append_picture;
 use canvas_plane::Window;
 use std::alloc::Global;
+use std::sync::Arc;
 use std::thread::Threads;
 
-/// The P6 file of a window of a document, painted by 1 to 16 workers. The arena holds the scene until its next reset.
+/// The P6 file of a window of a document, painted by 1 to 16 workers, ready to be shared. The arena holds the scene until its next reset.
 #[tactic(auto, unfolding(crate::specs::Raster::file_of))]
 pub fn file_of<R: Threads + Sync>(
     rt: &R,
@@ -19,11 +22,15 @@ pub fn file_of<R: Threads + Sync>(
     document: &Document,
     window: &Window,
     workers: u32,
-) -> Result<Vec<u8>, OutOfMemory>
+) -> Result<Arc<Vec<u8>, Global>, OutOfMemory>
     requires { are_workers workers ≡ true }
-    ensures { IfOk result (λ bytes. bytes.items ≡ file_of document.now window.now) }
+    ensures file { IfOk result (λ bytes. (arc_value bytes).items ≡ file_of document.now window.now) }
+    ensures small { IfOk result (λ bytes. vec_len (arc_value bytes) ≤ 2 ^ 40) }
 {
     let mut bytes = canvas_ppm::start(alloc, window.w(), window.h())?;
     append_picture(rt, alloc, arena, document, window, workers, &mut bytes)?;
-    Ok(bytes)
+    if bytes.len() > MOST_BYTES {
+        return Err(OutOfMemory);
+    }
+    Ok(Arc::new(alloc, bytes)?)
 }

@@ -1,13 +1,19 @@
-ghost use Rattle.std.specs.Prelude.{◌≡◌};
+ghost use Rattle.std.specs.Prelude.{◌≡◌, IfOk, true};
+ghost use Rattle.canvas_line.specs.Lines.{Sight};
+ghost use Rattle.canvas_line.specs.Seats.{Looks};
+ghost use Rattle.canvas_paint.specs.Workers.{are_workers};
+ghost use Rattle.canvas_board.specs.Kept.{entries_of, AreRight, ShowsAt};
 ghost use Rattle.canvas_board.specs.Shared.{OpensAt, known_after};
 
 use crate::answers::{Dot, MOST_BYTES, Picture, Saved};
 use crate::board::Board;
 use crate::fault::BoardFault;
+use crate::kept::KeptPictures;
 use crate::picture::file_of;
 use bumpalo::Bump;
+use canvas_code::OutOfMemory;
 use canvas_doc::Edit;
-use canvas_line::{Edited, LineFault, Lines, Seat};
+use canvas_line::{Edited, LineFault, Lines, Seat, Version};
 use canvas_plane::Window;
 use canvas_store::export;
 use std::alloc::Global;
@@ -28,23 +34,27 @@ pub struct Shared<B: Lines> {
     seat: Seat<B>,
     // How many changes the front has.
     known: u64,
+    kept: KeptPictures,
+    // How many pictures were answered from the kept ones.
+    hits: u64,
 }
 
 impl<B: Lines> Model for Shared<B> {
     ghost use Rattle.std.specs.Prelude.{◌≤◌, length};
     ghost use Rattle.canvas_board.specs.Seen.{Seen};
     ghost use Rattle.canvas_board.specs.Shared.{board_at};
+    ghost use Rattle.canvas_board.specs.Kept.{entries_of, AreRight};
 
     ghost Value = { Seen };
 
     ghost view = { λ board. board_at board.seat board.known };
 
-    ghost invariant = { λ board. board.known ≤ length board.seat.front };
+    ghost invariant = { λ board. (board.known ≤ length board.seat.front) × AreRight board.seat (entries_of board.kept.cache) };
 }
 
 impl<B: Lines> Shared<B> {
     /// A board over a seat, which may keep up to `keep` pictures, 0 to 256; else `BadSetting`. Where it can't be made the
-    /// seat comes back. For now it keeps none.
+    /// seat comes back.
     pub fn new(alloc: Global, seat: Seat<B>, keep: u32) -> Result<Shared<B>, (BoardFault, Seat<B>)>
         ensures { OpensAt seat keep result }
     {
@@ -52,7 +62,18 @@ impl<B: Lines> Shared<B> {
             return Err((BoardFault::BadSetting, seat));
         }
         let known = seat.number();
-        Ok(Shared { alloc, seat, known })
+        Ok(Shared {
+            alloc,
+            seat,
+            known,
+            kept: KeptPictures::new(keep as usize),
+            hits: 0,
+        })
+    }
+
+    /// How many pictures were answered from those that are kept; at 2^64 - 1 it stays.
+    pub fn hits(&self) -> u64 {
+        self.hits
     }
 
     /// Gives the seat up. The last seat of a line gives up the line's memory too.
@@ -86,14 +107,13 @@ impl<B: Lines> Board for Shared<B> {
         let Ok(version) = self.seat.look() else {
             return Err(BoardFault::NoView);
         };
-        let arena = Bump::new(self.alloc);
-        match file_of(rt, self.alloc, &arena, &version.document, window, workers) {
-            Ok(bytes) if bytes.len() <= MOST_BYTES => {
-                let version = version.number;
-                self.known = version;
-                Ok(Picture { version, bytes })
+        match picture_at(rt, self.alloc, &mut self.kept, &version, window, workers) {
+            Ok(answer) => {
+                self.known = version.number;
+                self.hits = self.hits.saturating_add(u64::from(answer.was_kept));
+                Ok(answer.picture)
             }
-            _ => Err(BoardFault::OutOfMemory),
+            Err(_) => Err(BoardFault::OutOfMemory),
         }
     }
 
@@ -120,6 +140,60 @@ impl<B: Lines> Board for Shared<B> {
             _ => Err(BoardFault::OutOfMemory),
         }
     }
+}
+
+// A picture that is answered.
+#[derive(Drop)]
+struct Answered {
+    picture: Picture,
+    was_kept: bool,
+}
+
+// The picture of a window at a version: the one that is kept, where it is still right; else it is painted, and kept.
+fn picture_at<R: Threads + Sync>(
+    rt: &R,
+    alloc: Global,
+    kept: &mut KeptPictures,
+    version: &Version,
+    window: &Window,
+    workers: u32,
+) -> Result<Answered, OutOfMemory>
+    requires { are_workers workers ≡ true }
+    ensures shows { (s t : Sight) → Looks s t version.now → AreRight t (entries_of kept.old.cache) → IfOk result (λ answer. ShowsAt version.now window.now answer.picture) }
+    ensures right { (s t : Sight) → Looks s t version.now → AreRight t (entries_of kept.old.cache) → AreRight t (entries_of kept.new.cache) }
+{
+    if let Some(picture) = kept.answer(window, version.number, &version.recent) {
+        return Ok(Answered {
+            picture,
+            was_kept: true,
+        });
+    }
+    let picture = painted(rt, alloc, version, window, workers)?;
+    version.document.well_formed_law();
+    kept.keep(alloc, window, &picture);
+    Ok(Answered {
+        picture,
+        was_kept: false,
+    })
+}
+
+// The picture of a window at a version, painted.
+fn painted<R: Threads + Sync>(
+    rt: &R,
+    alloc: Global,
+    version: &Version,
+    window: &Window,
+    workers: u32,
+) -> Result<Picture, OutOfMemory>
+    requires { are_workers workers ≡ true }
+    ensures { IfOk result (ShowsAt version.now window.now) }
+{
+    let arena = Bump::new(alloc);
+    let bytes = file_of(rt, alloc, &arena, &version.document, window, workers)?;
+    Ok(Picture {
+        version: version.number,
+        bytes,
+    })
 }
 
 // How many changes the front has after an edit: all that the seat has seen, where the answer tells of them.

@@ -1,6 +1,7 @@
 pub mod Line
 pub mod Next
 pub mod Pending
+pub mod Tail
 pub mod Response
 pub mod Transcript
 pub mod Cause

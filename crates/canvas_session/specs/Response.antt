@@ -1,6 +1,7 @@
 -- What is answered to a request: a reply, and the bytes that follow its line.
 use Rattle.std.specs.Prelude.{ℕ, List, [], ◌++◌, length, Option, Some, None, Result, Ok, Err}
 use Rattle.std.specs.List.{flat_map}
+use Rattle.std.specs.Arc.{arc_value}
 use Rattle.canvas_wire.specs.Replies.{Said, created, edited, body, point, refused, behind, line_of}
 use Rattle.canvas_line.specs.declared.fault.Edited.{Edited}
 use Rattle.canvas_board.specs.declared.answers.Picture.{Picture}
@@ -39,7 +40,7 @@ edit_response (Ok answer) = bare (made answer.id answer.number)
 edit_response (Err fault) = fault_response fault
 
 abbrev pub picture_response : Result Picture BoardFault → Response
-picture_response (Ok picture) = record { reply = body (length picture.bytes.items) picture.version; follows = picture.bytes.items }
+picture_response (Ok picture) = record { reply = body (length (arc_value picture.bytes).items) picture.version; follows = (arc_value picture.bytes).items }
 picture_response (Err fault) = fault_response fault
 
 abbrev pub point_response : Result Dot BoardFault → Response

@@ -1,37 +1,59 @@
 ghost use Rattle.std.specs.Prelude.{◌≡◌, ◌≤◌, ◌^◌, length, vec_len};
+ghost use Rattle.std.specs.Arc.{arc_value};
 ghost use Rattle.canvas_wire.specs.Replies.{IsNamed, line_of, said};
 ghost use Rattle.canvas_session.specs.Response.{bare};
+ghost use Rattle.canvas_session.specs.Tail.{tail_bytes};
 
 use canvas_wire::{Reply, ReplyLine, write_reply};
 use std::alloc::Global;
 use std::marker::Model;
+use std::sync::Arc;
+
+// The bytes that follow a line: the answer's own, or shared with the board that keeps them.
+#[derive(Drop)]
+enum Tail {
+    Own(Vec<u8>),
+    Shared(Arc<Vec<u8>, Global>),
+}
 
 /// What is answered to one line: a reply, and the bytes that follow its line.
 #[derive(Drop)]
 pub struct Answer {
     reply: Reply,
-    body: Vec<u8>,
+    body: Tail,
 }
 
 impl Model for Answer {
     ghost use Rattle.std.specs.Prelude.{◌≤◌, ◌^◌, length};
     ghost use Rattle.canvas_wire.specs.Replies.{IsNamed, said};
     ghost use Rattle.canvas_session.specs.Response.{Response};
+    ghost use Rattle.canvas_session.specs.Tail.{tail_bytes};
 
     ghost Value = { Response };
 
-    ghost view = { λ a. record { reply = said a.reply; follows = a.body.items } };
+    ghost view = { λ a. record { reply = said a.reply; follows = tail_bytes a.body } };
 
-    ghost invariant = { λ a. IsNamed a.reply × (length a.body.items ≤ 2 ^ 40) };
+    ghost invariant = { λ a. IsNamed a.reply × (length (tail_bytes a.body) ≤ 2 ^ 40) };
 }
 
 impl Answer {
-    /// An answer whose body follows its line.
-    pub(crate) fn new(reply: Reply, body: Vec<u8>) -> Answer
+    /// An answer whose line is followed by bytes of its own.
+    pub(crate) fn new(reply: Reply, bytes: Vec<u8>) -> Answer
         requires named { IsNamed reply }
-        requires small { vec_len body ≤ 2 ^ 40 }
-        ensures { result ≡ record { reply = said reply; follows = body.items } }
+        requires small { vec_len bytes ≤ 2 ^ 40 }
+        ensures { result ≡ record { reply = said reply; follows = bytes.items } }
     {
+        let body = Tail::Own(bytes);
+        Answer { reply, body }
+    }
+
+    /// An answer whose line is followed by bytes that others may hold too.
+    pub(crate) fn sharing(reply: Reply, bytes: Arc<Vec<u8>, Global>) -> Answer
+        requires named { IsNamed reply }
+        requires small { vec_len (arc_value bytes) ≤ 2 ^ 40 }
+        ensures { result ≡ record { reply = said reply; follows = (arc_value bytes).items } }
+    {
+        let body = Tail::Shared(bytes);
         Answer { reply, body }
     }
 
@@ -42,7 +64,7 @@ impl Answer {
     {
         Answer {
             reply,
-            body: Vec::new(alloc),
+            body: Tail::Own(Vec::new(alloc)),
         }
     }
 
@@ -58,6 +80,16 @@ impl Answer {
         ensures bytes { result.now ≡ self.now.follows }
         ensures small { length result.now ≤ 2 ^ 40 }
     {
-        self.body.as_slice()
+        bytes_of(&self.body)
+    }
+}
+
+// The bytes that follow a line.
+fn bytes_of(tail: &Tail) -> &[u8]
+    ensures { result.now ≡ tail_bytes tail.now }
+{
+    match tail {
+        Tail::Own(bytes) => bytes.as_slice(),
+        Tail::Shared(bytes) => bytes.as_slice(),
     }
 }

@@ -131,7 +131,7 @@ fn picture_answer(alloc: Global, outcome: Result<Picture, BoardFault>) -> Answer
                 bytes: picture.bytes.len() as u64,
                 version: picture.version,
             };
-            Answer::new(reply, picture.bytes)
+            Answer::sharing(reply, picture.bytes)
         }
         Err(fault) => Answer::bare(alloc, fault_reply(&fault)),
     }

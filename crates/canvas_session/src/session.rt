@@ -57,6 +57,7 @@ pub fn serve<B: Board, R: Read, W: Write, H: Threads + Wait + Sync>(
                 let answer = answer_line(rt, alloc, board, workers, line);
                 pending.drop_front(n + 1);
                 let (sent, whole) = write_answer(writer, &answer);
+                drop(answer);
                 written += sent as u64;
                 if whole {
                     requests += 1;

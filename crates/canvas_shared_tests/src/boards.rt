@@ -15,12 +15,12 @@ use std::sync::Wait;
 use std::test::Fail;
 use std::thread::Threads;
 
-const RED: Colour = Colour([255, 0, 0]);
+pub(crate) const RED: Colour = Colour([255, 0, 0]);
 
-const WHITE: Colour = Colour([255, 255, 255]);
+pub(crate) const WHITE: Colour = Colour([255, 255, 255]);
 
 /// A red square in front of all others on the page.
-fn square(side: u32, dx: i64) -> Edit {
+pub(crate) fn square(side: u32, dx: i64) -> Edit {
     Edit::Create {
         kind: Kind::Rect {
             w: side,
@@ -34,7 +34,8 @@ fn square(side: u32, dx: i64) -> Edit {
     }
 }
 
-fn at(dx: i64) -> Pose {
+/// A pose that moves to the right.
+pub(crate) fn at(dx: i64) -> Pose {
     Pose {
         dx,
         dy: 0,
@@ -56,29 +57,34 @@ pub(crate) fn boards<B: Lines, H: Wait>(
     let Ok(mut seats) = Line::open::<B, H>(rt, alloc, opened, 1, document, 2, limit) else {
         return Err(Fail::from("no line"));
     };
-    let first = board(alloc, seats.pop())?;
-    let second = board(alloc, seats.pop())?;
+    let first = board(alloc, seats.pop(), 4)?;
+    let second = board(alloc, seats.pop(), 4)?;
     Ok((first, second))
 }
 
-fn board<B: Lines>(alloc: Global, seat: Option<Seat<B>>) -> Result<Shared<B>, Fail> {
+/// The board of a seat, which keeps so many pictures.
+pub(crate) fn board<B: Lines>(
+    alloc: Global,
+    seat: Option<Seat<B>>,
+    keep: u32,
+) -> Result<Shared<B>, Fail> {
     let Some(seat) = seat else {
         return Err(Fail::from("no seat"));
     };
-    match Shared::new(alloc, seat, 4) {
+    match Shared::new(alloc, seat, keep) {
         Ok(board) => Ok(board),
         Err(_) => Err(Fail::from("no board")),
     }
 }
 
 /// Whether an edit was accepted as such a version, and made such a shape.
-fn is_edited(answer: Result<Edited, BoardFault>, number: u64, id: Option<u32>) -> bool {
+pub(crate) fn is_edited(answer: Result<Edited, BoardFault>, number: u64, id: Option<u32>) -> bool {
     answer == Ok(Edited { number, id })
 }
 
 /// Whether a picture of 16 by 16 names such a version and has such a colour at the left of its first row, and white elsewhere
 /// from the eleventh row on.
-fn is_painted(answer: &Result<Picture, BoardFault>, version: u64, left: Colour) -> bool {
+pub(crate) fn is_painted(answer: &Result<Picture, BoardFault>, version: u64, left: Colour) -> bool {
     let Ok(picture) = answer else {
         return false;
     };

@@ -4,4 +4,12 @@
 #[cfg(test)]
 mod boards;
 #[cfg(test)]
+mod dice;
+#[cfg(test)]
+mod kept;
+#[cfg(test)]
 mod sessions;
+#[cfg(test)]
+mod table;
+#[cfg(test)]
+mod viewers;

@@ -1,0 +1,98 @@
+-- What changes leave as it is: a window that the damage of each misses shows the same picture after them.
+use Rattle.std.proofs.Common.{◌≡◌, ℕ, zero, suc, ◌+◌, ◌-◌, ◌<◌, ◌≤◌, Bool, true, false, ◌&&◌, List, [], ◌∷◌, ◌++◌, length, take, drop, All, refl, sym, ap, ◌∙◌, subst, arith}
+use Rattle.std.specs.Prelude.{ℤ, ◌+ℤ◌, pos}
+use Rattle.std.proofs.lemmas.List.{drop-append-le, take-append-drop, get_or-append-add, length-append}
+use Rattle.canvas_plane.specs.declared.PageBox.{PageBox}
+use Rattle.canvas_plane.specs.declared.windows.Window.{Window}
+use Rattle.canvas_plane.specs.Page.{is_in, meet_of}
+use Rattle.canvas_plane.specs.Window.{box_of_window}
+use Rattle.canvas_plane.proofs.Boxes.{empty-none, meet-exact}
+use Rattle.canvas_doc.specs.declared.edits.Change.{Change}
+use Rattle.canvas_doc.specs.Contents.{Contents, IsWellFormed}
+use Rattle.canvas_doc.specs.Damage.{damage_of}
+use Rattle.canvas_doc.specs.Effect.{effect_of, Fits}
+use Rattle.canvas_doc.specs.History.{replay_of, AllFit}
+use Rattle.canvas_doc.specs.Picture.{colour}
+use Rattle.canvas_doc.proofs.Histories.{all_fit-front, replay-append}
+use Rattle.canvas_ppm.specs.P6.{p6_of}
+use Rattle.canvas_scene.specs.Pictures.{raster_of}
+use Rattle.canvas_paint.proofs.Joined.{joined-picture}
+use Rattle.canvas_line.proofs.Prefixes.{length_take_within}
+use Rattle.canvas_board.specs.Raster.{file_of}
+use Rattle.canvas_line.specs.declared.version.Damage.{Damage}
+use Rattle.canvas_board.specs.declared.kept.WindowKey.{WindowKey}
+use Rattle.canvas_line.specs.Recent.{damages_from, recent_of}
+use Rattle.canvas_board.specs.Kept.{key_of, misses, IsStillRight}
+use Rattle.canvas_line.proofs.Recently.{damages-append, length-damages}
+
+-- outside the damage of a change each colour is as it was
+abbrev pub DamageKeeps : Type 0
+DamageKeeps = (c : Change) (d : Contents) → IsWellFormed d → Fits c d → (x y : ℤ) → is_in (damage_of c d) x y ≡ false → colour (effect_of c d).records x y ≡ colour d.records x y
+
+not-first : (p q : Bool) → (p && q) ≡ false → q ≡ true → p ≡ false
+not-first false q h t = refl
+not-first true q h t = absurd (cc (h, t))
+
+-- a box that misses a window has no pixel of it
+pub missed-pixel : (window : Window) (area : PageBox) (x y : ℤ) → misses window area ≡ true → is_in (box_of_window window) x y ≡ true → is_in area x y ≡ false
+missed-pixel window area x y m h =
+    let none : is_in (meet_of area (box_of_window window)) x y ≡ false = (empty-none (meet_of area (box_of_window window))).0 m x y in
+    not-first (is_in area x y) (is_in (box_of_window window) x y) (sym (meet-exact area (box_of_window window) x y) ∙ none) h
+
+-- colours that agree in a window make one file
+pub same-file : (d e : Contents) (window : Window) → ((x y : ℤ) → is_in (box_of_window window) x y ≡ true → colour e.records x y ≡ colour d.records x y) → file_of e window ≡ file_of d window
+unfolding file_of
+same-file d e window h = ap (p6_of window.w window.h) (joined-picture (colour e.records) (colour d.records) window h)
+
+-- a document after changes is well formed
+pub well-after : (d : Contents) (k : ℕ) (cs : List Change) → IsWellFormed d → AllFit d cs → IsWellFormed (replay_of d (take k cs))
+well-after d zero cs w fit = w
+well-after d (suc k) [] w fit = w
+well-after d (suc k) (c ∷ cs) w fit = well-after (effect_of c d) k cs fit.0.left fit.1
+
+-- colours in a window stay over changes whose damage misses it
+pub same-after : DamageKeeps → (window : Window) (k n : ℕ) → k ≤ n → (d : Contents) (cs : List Change) → IsWellFormed d → AllFit d cs → All (λ (e : Damage). k < e.number → misses window e.area ≡ true) (damages_from n d cs)
+    → (x y : ℤ) → is_in (box_of_window window) x y ≡ true → colour (replay_of d cs).records x y ≡ colour d.records x y
+same-after keeps window k n le d [] w fit all x y h = refl
+same-after keeps window k n le d (c ∷ cs) w fit all x y h =
+    let first : misses window (damage_of c d) ≡ true = all 0 (record { number = n + 1; area = damage_of c d }) (omega arith) (omega arith) in
+    same-after keeps window k (n + 1) (omega arith) (effect_of c d) cs fit.0.left fit.1 (λ j e lt. all (suc j) e (omega (arith, lt))) x y h
+    ∙ keeps c d w fit.0 x y (missed-pixel window (damage_of c d) x y first h)
+
+all-end : (P : Damage → Type 0) (a b : List Damage) → All P (a ++ b) → All P b
+all-end P a b all = λ j d lt. subst P (get_or-append-add a b j d) (all (length a + j) d (omega (arith, lt, length-append a b)))
+
+-- what holds of the last damages holds of those after the k-th, if these are 64 at most
+pub all-later : (P : Damage → Type 0) (opening : Contents) (changes : List Change) (k : ℕ) → k ≤ length changes → length changes ≤ k + 64 → All P (recent_of opening changes)
+    → All P (damages_from k (replay_of opening (take k changes)) (drop k changes))
+all-later P opening changes k within near all =
+    let before : List Damage = damages_from 0 opening (take k changes) in
+    let after : List Damage = damages_from k (replay_of opening (take k changes)) (drop k changes) in
+    let taken : length (take k changes) ≡ k = length_take_within k changes within in
+    let count : length before ≡ k = length-damages 0 opening (take k changes) ∙ taken in
+    let number : 0 + length (take k changes) ≡ k = omega (arith, taken) in
+    let whole : damages_from 0 opening changes ≡ before ++ after =
+    ap (damages_from 0 opening) (sym (take-append-drop k changes)) ∙ damages-append 0 opening (take k changes) (drop k changes)
+    ∙ ap (λ (n : ℕ). before ++ damages_from n (replay_of opening (take k changes)) (drop k changes)) number in
+    let total : length (damages_from 0 opening changes) ≡ length changes = length-damages 0 opening changes in
+    let past : ℕ = length (damages_from 0 opening changes) - 64 in
+    let few : past ≤ length before = omega (arith, total, count, near) in
+    let split : recent_of opening changes ≡ drop past before ++ after = ap (drop past) whole ∙ drop-append-le past before after few in
+    all-end P (drop past before) after (subst (All P) split all)
+
+-- a picture that is still right shows the document after all changes
+pub still-shows : DamageKeeps → (opening : Contents) (changes : List Change) (k : ℕ) (window : Window) → IsWellFormed (replay_of opening (take k changes)) → AllFit opening changes → k ≤ length changes
+    → IsStillRight (recent_of opening changes) k (length changes) window → file_of (replay_of opening changes) window ≡ file_of (replay_of opening (take k changes)) window
+still-shows keeps opening changes k window w fit within right =
+    let d : Contents = replay_of opening (take k changes) in
+    let parts : take k changes ++ drop k changes ≡ changes = take-append-drop k changes in
+    let fits : AllFit d (drop k changes) = (all_fit-front opening (take k changes) (drop k changes) (subst (AllFit opening) (sym parts) fit)).1 in
+    let same : replay_of d (drop k changes) ≡ replay_of opening changes = sym (replay-append opening (take k changes) (drop k changes)) ∙ ap (replay_of opening) parts in
+    let missed : All (λ (e : Damage). k < e.number → misses window e.area ≡ true) (damages_from k d (drop k changes)) =
+    all-later (λ (e : Damage). k < e.number → misses window e.area ≡ true) opening changes k within right.near right.missed in
+    ap (λ (e : Contents). file_of e window) (sym same) ∙ same-file d (replay_of d (drop k changes)) window (same-after keeps window k k (omega arith) d (drop k changes) w fits missed)
+
+-- the file of a window goes by its numbers
+pub file-key : (d : Contents) (a b : Window) → key_of a ≡ key_of b → file_of d a ≡ file_of d b
+unfolding file_of
+file-key d a b e = ap (λ (k : WindowKey). p6_of k.w k.h (raster_of (λ i j. (colour d.records (k.x +ℤ pos i) (k.y +ℤ pos j)).0) k.w 0 (k.h - 0))) e

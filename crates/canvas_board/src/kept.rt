@@ -1,0 +1,161 @@
+//! The pictures that a board keeps.
+ghost use Rattle.std.specs.Prelude.{◌≡◌, ◌<◌, ◌↔◌, true, [], IsTrue, IfSome};
+ghost use Rattle.canvas_plane.specs.Page.{is_empty_box, meet_of};
+ghost use Rattle.canvas_board.specs.Kept.{entries_of, key_of, BringsIn, IsCopyOf, IsStillRight, TellsOfKept};
+
+use crate::answers::Picture;
+use canvas_line::{Damage, MOST_RECENT};
+use canvas_plane::{PageBox, Window};
+use lru::LruCache;
+use std::alloc::Global;
+use std::num::NonZeroUsize;
+use std::sync::Arc;
+
+/// A window as the key of its picture.
+#[derive(Clone, Copy, PartialEq, Eq, Hash)]
+pub(crate) struct WindowKey {
+    x: i32,
+    y: i32,
+    w: u32,
+    h: u32,
+}
+
+/// Up to `most` pictures, by window. Where there is no room for one more, the one that was last asked for longest ago goes.
+#[derive(Drop)]
+pub(crate) struct KeptPictures {
+    most: usize,
+    // There once a picture was kept.
+    cache: Option<LruCache<WindowKey, Picture>>,
+}
+
+impl KeptPictures {
+    /// No picture yet.
+    pub(crate) fn new(most: usize) -> KeptPictures
+        ensures { entries_of result.cache ≡ [] }
+    {
+        KeptPictures { most, cache: None }
+    }
+
+    /// The picture of a window at version `number`, where the one that is kept is still right. It then counts as kept at that
+    /// version.
+    pub(crate) fn answer(
+        &mut self,
+        window: &Window,
+        number: u64,
+        recent: &[Damage],
+    ) -> Option<Picture>
+        ensures answered { IfSome result (TellsOfKept (entries_of self.old.cache) window.now number recent.now) }
+        ensures kept { BringsIn (entries_of self.old.cache) window.now (TellsOfKept (entries_of self.old.cache) window.now number recent.now) (entries_of self.new.cache) }
+    {
+        match &mut self.cache {
+            Some(cache) => answered(cache, window, number, recent),
+            None => None,
+        }
+    }
+
+    /// Keeps the picture of a window, unless memory for it can't be had.
+    pub(crate) fn keep(&mut self, alloc: Global, window: &Window, picture: &Picture)
+        ensures { BringsIn (entries_of self.old.cache) window.now (IsCopyOf picture.now) (entries_of self.new.cache) }
+    {
+        make_room(&mut self.cache, alloc, self.most);
+        if let Some(cache) = &mut self.cache {
+            keep_in(cache, window, picture);
+        }
+    }
+}
+
+// Makes room for pictures where there is none yet.
+fn make_room(cache: &mut Option<LruCache<WindowKey, Picture>>, alloc: Global, most: usize)
+    ensures { entries_of cache.new ≡ entries_of cache.old }
+{
+    match cache {
+        Some(_) => {}
+        None => *cache = opened(alloc, most),
+    }
+}
+
+// Room for so many pictures, unless there are to be none or memory can't be had.
+fn opened(alloc: Global, most: usize) -> Option<LruCache<WindowKey, Picture>>
+    ensures { entries_of result ≡ [] }
+{
+    match NonZeroUsize::new(most) {
+        Some(most) => LruCache::new(alloc, most).ok(),
+        None => None,
+    }
+}
+
+fn answered(
+    cache: &mut LruCache<WindowKey, Picture>,
+    window: &Window,
+    number: u64,
+    recent: &[Damage],
+) -> Option<Picture>
+    ensures answered { IfSome result (TellsOfKept cache.old.entries window.now number recent.now) }
+    ensures kept { BringsIn cache.old.entries window.now (TellsOfKept cache.old.entries window.now number recent.now) cache.new.entries }
+{
+    let bytes = match cache.peek(&key_of(window)) {
+        Some(kept) if still_right(recent, kept.version, number, window) => Arc::try_clone(
+            &kept.bytes,
+        ),
+        _ => return None,
+    };
+    let Ok(bytes) = bytes else {
+        return None;
+    };
+    // The window is there, so this takes no memory.
+    match cache.put(
+        key_of(window),
+        Picture {
+            version: number,
+            bytes,
+        },
+    ) {
+        Ok(Some(Picture { bytes, .. })) => Some(Picture {
+            version: number,
+            bytes,
+        }),
+        _ => None,
+    }
+}
+
+fn keep_in(cache: &mut LruCache<WindowKey, Picture>, window: &Window, picture: &Picture)
+    ensures { BringsIn cache.old.entries window.now (IsCopyOf picture.now) cache.new.entries }
+{
+    let Ok(bytes) = Arc::try_clone(&picture.bytes) else {
+        return;
+    };
+    let copy = Picture {
+        version: picture.version,
+        bytes,
+    };
+    // For want of memory it is not kept.
+    let _ = cache.put(key_of(window), copy);
+}
+
+fn key_of(window: &Window) -> WindowKey
+    ensures { result ≡ key_of window.now }
+{
+    WindowKey {
+        x: window.x(),
+        y: window.y(),
+        w: window.w(),
+        h: window.h(),
+    }
+}
+
+// Whether the picture of a window at one version is that at a later one, as the damage of the changes in between tells.
+fn still_right(recent: &[Damage], kept_at: u64, number: u64, window: &Window) -> bool
+    ensures { IsTrue result → IsStillRight recent.now kept_at number window.now }
+{
+    if number.saturating_sub(kept_at) > MOST_RECENT as u64 {
+        return false;
+    }
+    let shown = window.page_box();
+    recent.iter().all(|damage| damage.number <= kept_at || misses(&damage.area, &shown))
+}
+
+fn misses(area: &PageBox, shown: &PageBox) -> bool
+    ensures { result ≡ is_empty_box (meet_of area.now shown.now) }
+{
+    area.meet(shown).is_empty()
+}

@@ -1,0 +1,299 @@
+//! Kept pictures: which are answered again, and that each is the picture of the version that it names.
+
+ghost use denote.Param.Send.{IsSync};
+
+use crate::boards::{RED, at, square};
+use crate::table::{Play, Table, play_at};
+use canvas_board::Board;
+use canvas_doc::{Document, Edit, Parent, Spot};
+use canvas_line::Lines;
+use canvas_plane::{Pose, Window};
+use canvas_shape::Kind;
+use std::alloc::Global;
+use std::process::Abort;
+use std::sync::Wait;
+use std::test::Fail;
+use std::thread::Threads;
+
+/// An edit before a picture of 16 by 16 at the page's origin, one that is made so often between it and the next picture of
+/// the same window, and how many of the two are answered as kept.
+#[derive(Drop)]
+struct Row {
+    before: Edit,
+    between: Edit,
+    times: u32,
+    hits: u64,
+}
+
+fn row_of(before: Edit, between: Edit, times: u32, hits: u64) -> Row {
+    Row {
+        before,
+        between,
+        times,
+        hits,
+    }
+}
+
+/// Two pictures with edits of one board between them.
+#[derive(Clone, Copy)]
+struct Twice<'a> {
+    row: &'a Row,
+    by_viewer: bool,
+}
+
+impl Play for Twice<'_> {
+    fn play<B: Lines, H: Threads + Wait + Abort + Sync>(
+        &self,
+        rt: &H,
+        table: &mut Table<B>,
+    ) -> Result<(), Fail> {
+        let window = window_at(0, 0)?;
+        assert!(rt; table.edits(rt, self.by_viewer, &self.row.before));
+        assert!(rt;
+            table
+                .picture(rt, &window)
+                .is_some_and(|seen| seen.version == 1)
+        );
+        let mut version: u64 = 1;
+        for _ in 0..self.row.times {
+            if table.edits(rt, self.by_viewer, &self.row.between) {
+                version = version.saturating_add(1);
+            }
+        }
+        assert!(rt;
+            table
+                .picture(rt, &window)
+                .is_some_and(|seen| seen.version == version)
+        );
+        assert_eq!(rt; table.viewer.hits(), self.row.hits);
+        Ok(())
+    }
+}
+
+// Plays rows, of which the viewer and then the editor makes the edits.
+fn play_rows<H: Threads + Wait + Abort + Sync>(
+    rt: &H,
+    alloc: Global,
+    keep: u32,
+    rows: &[Row],
+) -> Result<(), Fail>
+    requires { IsSync H.row }
+{
+    for row in rows {
+        for by_viewer in [true, false] {
+            let play = Twice { row, by_viewer };
+            play_at(rt, alloc, Document::empty(alloc), keep, &play)?;
+        }
+    }
+    Ok(())
+}
+
+// A window of 16 by 16.
+fn window_at(x: i32, y: i32) -> Result<Window, Fail> {
+    match Window::new(x, y, 16, 16) {
+        Ok(window) => Ok(window),
+        Err(_) => Err(Fail::from("no window")),
+    }
+}
+
+fn moved(dx: i64) -> Edit {
+    Edit::Pose {
+        id: 1,
+        pose: at(dx),
+    }
+}
+
+fn group() -> Edit {
+    Edit::Create {
+        kind: Kind::Group,
+        pose: Pose::STILL,
+        hidden: false,
+        parent: Parent::Page,
+        spot: Spot::Front,
+    }
+}
+
+fn hidden_square() -> Edit {
+    Edit::Create {
+        kind: Kind::Rect {
+            w: 10,
+            h: 10,
+            fill: RED,
+        },
+        pose: Pose::STILL,
+        hidden: true,
+        parent: Parent::Page,
+        spot: Spot::Front,
+    }
+}
+
+#[test]
+fn a_picture_is_answered_again_where_no_change_meets_it(rt: HostRuntime) -> Result<(), Fail> {
+    let rows = [
+        row_of(square(10, 0), square(1, 500), 1, 1),
+        row_of(square(10, 0), square(1, 500), 64, 1),
+        row_of(square(10, 0), square(10, 16), 1, 1),
+        row_of(square(10, 0), square(10, -10), 1, 1),
+        row_of(square(10, 500), moved(600), 1, 1),
+        row_of(square(10, 500), Edit::Delete { id: 1 }, 1, 1),
+        row_of(square(10, 0), group(), 3, 1),
+        row_of(
+            square(10, 0),
+            Edit::Respace {
+                parent: Parent::Page,
+            },
+            2,
+            1,
+        ),
+        // refused
+        row_of(square(10, 0), Edit::Delete { id: 9 }, 70, 1),
+        row_of(square(10, 0), group(), 0, 1),
+    ];
+    play_rows(&rt, rt.alloc(), 4, &rows)
+}
+
+#[test]
+fn a_picture_that_a_change_meets_is_painted_anew(rt: HostRuntime) -> Result<(), Fail> {
+    let rows = [
+        row_of(square(10, 0), square(2, 3), 1, 0),
+        row_of(square(10, 0), square(10, 15), 1, 0),
+        row_of(square(10, 0), square(10, -9), 1, 0),
+        row_of(square(10, 0), moved(100), 1, 0),
+        row_of(square(10, 100), moved(0), 1, 0),
+        row_of(square(10, 0), Edit::Delete { id: 1 }, 1, 0),
+        row_of(
+            hidden_square(),
+            Edit::Show {
+                id: 1,
+                hidden: false,
+            },
+            1,
+            0,
+        ),
+        row_of(
+            square(10, 0),
+            Edit::Show {
+                id: 1,
+                hidden: true,
+            },
+            1,
+            0,
+        ),
+        row_of(square(10, 0), square(1, 500), 65, 0),
+        row_of(square(10, 0), group(), 65, 0),
+    ];
+    play_rows(&rt, rt.alloc(), 4, &rows)
+}
+
+#[test]
+fn a_board_that_keeps_none_paints_each_picture(rt: HostRuntime) -> Result<(), Fail> {
+    let rows = [
+        row_of(square(10, 0), square(1, 500), 1, 0),
+        row_of(square(10, 0), group(), 0, 0),
+    ];
+    play_rows(&rt, rt.alloc(), 0, &rows)
+}
+
+/// So many windows asked in turn, three times over, and how many pictures are answered as kept.
+#[derive(Clone, Copy)]
+struct InTurn {
+    windows: i32,
+    hits: u64,
+}
+
+impl Play for InTurn {
+    fn play<B: Lines, H: Threads + Wait + Abort + Sync>(
+        &self,
+        rt: &H,
+        table: &mut Table<B>,
+    ) -> Result<(), Fail> {
+        assert!(rt; table.edits(rt, false, &square(10, 4)));
+        for _ in 0..3u32 {
+            for number in 0..self.windows {
+                let window = window_at(number, 0)?;
+                assert!(rt; table.picture(rt, &window).is_some());
+            }
+        }
+        assert_eq!(rt; table.viewer.hits(), self.hits);
+        Ok(())
+    }
+}
+
+#[test]
+fn as_many_windows_as_are_kept(rt: HostRuntime) -> Result<(), Fail> {
+    let alloc = rt.alloc();
+    for (keep, windows, hits) in [
+        (0, 1, 0),
+        (1, 1, 2),
+        (1, 2, 0),
+        (2, 2, 4),
+        (4, 5, 0),
+        (256, 9, 18),
+    ] {
+        let play = InTurn { windows, hits };
+        play_at(&rt, alloc, Document::empty(alloc), keep, &play)?;
+    }
+    Ok(())
+}
+
+/// Pictures asked after some changes elsewhere each: what is answered again counts as kept then.
+#[derive(Clone, Copy)]
+struct KeptOn;
+
+impl Play for KeptOn {
+    fn play<B: Lines, H: Threads + Wait + Abort + Sync>(
+        &self,
+        rt: &H,
+        table: &mut Table<B>,
+    ) -> Result<(), Fail> {
+        let window = window_at(0, 0)?;
+        let mut hits: u64 = 0;
+        for changes in [1, 64, 64, 40, 64, 65, 64] {
+            for _ in 0..changes {
+                assert!(rt; table.edits(rt, false, &square(1, 500)));
+            }
+            assert!(rt; table.picture(rt, &window).is_some());
+            let painted = changes == 1 || changes == 65;
+            hits = hits.saturating_add(if painted { 0 } else { 1 });
+            assert_eq!(rt; table.viewer.hits(), hits, "after {changes} changes");
+        }
+        Ok(())
+    }
+}
+
+#[test]
+fn what_is_answered_again_counts_as_kept_then(rt: HostRuntime) -> Result<(), Fail> {
+    let alloc = rt.alloc();
+    play_at(&rt, alloc, Document::empty(alloc), 1, &KeptOn)
+}
+
+/// A picture by too many workers is refused and changes nothing.
+#[derive(Clone, Copy)]
+struct Workers;
+
+impl Play for Workers {
+    fn play<B: Lines, H: Threads + Wait + Abort + Sync>(
+        &self,
+        rt: &H,
+        table: &mut Table<B>,
+    ) -> Result<(), Fail> {
+        let window = window_at(0, 0)?;
+        assert!(rt; table.edits(rt, true, &square(10, 0)));
+        for (workers, hits) in [(1, 0), (17, 0), (16, 1), (0, 1), (2, 2), (17, 2)] {
+            let answer = table.viewer.picture(rt, &window, workers);
+            let is_refused = match &answer {
+                Ok(_) => false,
+                Err(fault) => fault.code() == 31,
+            };
+            assert!(rt; is_refused == (workers == 0 || workers == 17));
+            assert_eq!(rt; table.viewer.hits(), hits, "{workers} workers");
+        }
+        Ok(())
+    }
+}
+
+#[test]
+fn workers_are_judged_first(rt: HostRuntime) -> Result<(), Fail> {
+    let alloc = rt.alloc();
+    play_at(&rt, alloc, Document::empty(alloc), 4, &Workers)
+}

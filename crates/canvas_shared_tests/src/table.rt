@@ -1,0 +1,102 @@
+//! Boards at one document, of which one keeps pictures.
+
+ghost use Rattle.std.specs.Prelude.{◌≡◌};
+ghost use denote.Param.Send.{IsSync};
+
+use crate::boards::board;
+use canvas_board::{Board, Picture, Shared};
+use canvas_doc::{Document, Edit};
+use canvas_line::{Line, Lines, Opened};
+use canvas_plane::Window;
+use std::alloc::Global;
+use std::marker::Brand;
+use std::process::Abort;
+use std::sync::Wait;
+use std::test::Fail;
+use std::thread::Threads;
+
+/// How many changes a document may accept.
+const LIMIT: u64 = 4000;
+
+/// Boards at one document: a viewer that keeps pictures, an editor, and a witness that keeps none.
+#[derive(Drop)]
+pub(crate) struct Table<B: Lines> {
+    pub(crate) viewer: Shared<B>,
+    pub(crate) editor: Shared<B>,
+    pub(crate) witness: Shared<B>,
+}
+
+impl<B: Lines> Table<B> {
+    /// The viewer's picture of a window, if it is the one that the witness has painted.
+    pub(crate) fn picture<H: Threads + Wait + Sync>(
+        &mut self,
+        rt: &H,
+        window: &Window,
+    ) -> Option<Picture>
+        requires { IsSync H.row }
+    {
+        let seen = self.viewer.picture(rt, window, 1).ok()?;
+        let painted = self.witness.picture(rt, window, 1).ok()?;
+        if seen.version == painted.version && seen.bytes.as_slice() == painted.bytes.as_slice() {
+            Some(seen)
+        } else {
+            None
+        }
+    }
+
+    /// Whether the editor, or the viewer in its place, makes an edit.
+    pub(crate) fn edits<H: Wait>(&mut self, rt: &H, by_viewer: bool, edit: &Edit) -> bool {
+        let answer = if by_viewer {
+            self.viewer.edit(rt, edit)
+        } else {
+            self.editor.edit(rt, edit)
+        };
+        answer.is_ok()
+    }
+}
+
+/// What is done at a table.
+pub(crate) trait Play {
+    /// Plays it at a document that nobody has looked at.
+    fn play<B: Lines, H: Threads + Wait + Abort + Sync>(
+        &self,
+        rt: &H,
+        table: &mut Table<B>,
+    ) -> Result<(), Fail>
+        requires { IsSync H.row };
+}
+
+/// Plays at a document, whose viewer keeps so many pictures.
+pub(crate) fn play_at<P: Play, H: Threads + Wait + Abort + Sync>(
+    rt: &H,
+    alloc: Global,
+    document: Document,
+    keep: u32,
+    play: &P,
+) -> Result<(), Fail>
+    requires { IsSync H.row }
+{
+    opened::<Brand, P, H>(rt, alloc, Opened::new(), document, keep, play)
+}
+
+fn opened<B: Lines, P: Play, H: Threads + Wait + Abort + Sync>(
+    rt: &H,
+    alloc: Global,
+    opened: Opened,
+    document: Document,
+    keep: u32,
+    play: &P,
+) -> Result<(), Fail>
+    requires sync { IsSync H.row }
+    requires line { B.line 1 ≡ record { book = opened.head.word.book; opening = document; limit = 4000 } }
+{
+    let Ok(mut seats) = Line::open::<B, H>(rt, alloc, opened, 1, document, 3, LIMIT) else {
+        return Err(Fail::from("no line"));
+    };
+    let mut table = Table {
+        viewer: board(alloc, seats.pop(), keep)?,
+        editor: board(alloc, seats.pop(), 0)?,
+        witness: board(alloc, seats.pop(), 0)?,
+    };
+    play.play(rt, &mut table)
+}
