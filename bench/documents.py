@@ -3,7 +3,7 @@
 
 usage: bench/documents.py
 
-The built program makes the document, a mixture of all kinds in a tree, and exports it; crates/bench_store opens and saves that
+The built program makes the document, a mixture of all kinds in a tree, and exports it; crates/bench opens and saves that
 text some times and prints the least time of each.
 """
 
@@ -48,8 +48,7 @@ def main():
     _, many = run(program, creates + 31 * exports)
     text = out[out.rindex(b"}\n{") + 2:]
     print(f"{RECORDS} records, {len(text)} bytes; an export as a request: {(many - few) / 30 * 1000:.1f} ms")
-    subprocess.run(["rt", "run"], cwd=TOP / "crates" / "bench_store", stdin=subprocess.DEVNULL, stdout=subprocess.DEVNULL, check=True)
-    out, _ = run([str(TOP / "crates" / "bench_store" / "out" / "bench_store")], text)
+    out, _ = run([str(TOP / "bench" / "time.sh"), "saving"], text)
     print(f"the calls alone: {out.decode().strip()}")
 
 

@@ -4,8 +4,10 @@
 usage: bench/serve.py [seconds of each run, 3 where it is left out]
 
 Clients in C (bench/serve_client.c) each send a request when they have the last reply: points, small edits (poses) and tiles over a
-hundred records, by 1, 8 and 60 clients. The echo server in the same run has a thread for each connection and answers as many bytes;
-it is the limit of the loopback. Then 60 viewers ask for 20 tiles a second each, and last the memory of the program is printed.
+hundred records, by 1, 8 and 60 clients. The tiles are windows of a tile's size that are each asked once in 2,048, so that they are
+painted anew. The echo server in the same run has a thread for each connection and answers as many bytes; it is the limit of the
+loopback. Then 8 and 60 clients ask for the same 64 tiles again and again, eight for each client, in turn with tiles that are
+painted anew. Last 60 viewers ask for 20 tiles a second each. Each line of the first ones has the memory of the program.
 """
 
 import re
@@ -23,7 +25,8 @@ from check_server import free_port  # noqa: E402
 from plain_model import Model  # noqa: E402
 
 WORKERS = "1"
-BODIES = {"points": 0, "edits": 0, "tiles": 196_623}
+TILE = 196_623
+BODIES = {"points": 0, "edits": 0, "tiles": TILE}
 
 
 def started(words):
@@ -64,6 +67,24 @@ def measure(client, server, port, seconds):
                   f"memory {memory_of(server)} KiB", flush=True)
         echo.kill()
         echo.wait()
+
+
+def measure_kept(client, server, port, seconds):
+    """The same 64 tiles, which a seat may keep, beside tiles that are painted anew."""
+    echo_port = free_port()
+    echo = started([client, "echo", str(echo_port), str(TILE)])
+    for clients in (8, 60):
+        anew, anew_half, anew_most = asked(client, port, "tiles", clients, seconds)
+        rate, half, most = asked(client, port, "same", clients, seconds)
+        fixed, _, _ = asked(client, echo_port, "same", clients, seconds)
+        print(f"the same 64 tiles, {clients} clients: {rate:,.0f} requests/s, p50 {half:.0f}, p99 {most:.0f} microseconds; "
+              f"painted anew {anew:,.0f} requests/s, {anew_half:.0f}, {anew_most:.0f}; ratio {rate / anew:.2f}; "
+              f"share of fixed bytes {rate / fixed:.2f}, anew {anew / fixed:.2f}; memory {memory_of(server)} KiB", flush=True)
+    echo.kill()
+    echo.wait()
+
+
+def measure_viewers(client, port, seconds):
     rate, half, most = asked(client, port, "tiles", 60, max(seconds, 5), [20])
     print(f"60 viewers with 20 tiles a second each: {rate:,.0f} tiles/s, p50 {half:.0f}, p99 {most:.0f} microseconds")
 
@@ -78,6 +99,8 @@ def main():
         server = started([str(PROGRAM), "serve", f"127.0.0.1:{port}", str(file), WORKERS])
         try:
             measure(client, server, port, seconds)
+            measure_kept(client, server, port, seconds)
+            measure_viewers(client, port, seconds)
         finally:
             server.kill()
             server.wait()

@@ -1,8 +1,11 @@
 // Clients of a server in a closed loop, and a server that answers fixed bytes to compare with.
 //
-//   serve_client ask PORT points|edits|tiles CLIENTS SECONDS [A_SECOND]   clients that each send a request when they have the last reply;
-//                                                                        with A_SECOND each sends so many a second
-//   serve_client echo PORT BYTES                                         a thread for each connection: answers each line with BYTES bytes
+//   serve_client ask PORT WHAT CLIENTS SECONDS [A_SECOND]   clients that each send a request when they have the last reply;
+//                                                          with A_SECOND each sends so many a second
+//   serve_client echo PORT BYTES                           a thread for each connection: answers each line with BYTES bytes
+//
+// WHAT is points, edits (poses), tiles, same or beside. Pictures are as large as a tile: `tiles` are 2,048 windows about the page's origin in
+// turn; of `same` there are 64 in all, of which each client asks for eight in turn; `beside` is the same away from the page's first tiles.
 //
 // `ask` prints a line: requests a second, and the times that half and 99 of 100 requests do not exceed, in microseconds.
 #define _GNU_SOURCE
@@ -78,9 +81,16 @@ static void read_reply(int fd, char *room) {
     }
 }
 
+// A window with the sides of a tile.
+static int window_at(char *line, long x, long y) {
+    return sprintf(line, "{\"verb\":\"patch\",\"x\":%ld,\"y\":%ld,\"w\":256,\"h\":256}\n", x, y);
+}
+
 static int request_of(const Client *client, size_t n, char *line) {
     if (strcmp(client->what, "points") == 0) return sprintf(line, "{\"verb\":\"point\",\"x\":%zu,\"y\":%zu}\n", n % 211, n % 199);
-    if (strcmp(client->what, "tiles") == 0) return sprintf(line, "{\"verb\":\"tile\",\"col\":%zu,\"row\":0}\n", n % 2);
+    if (strcmp(client->what, "tiles") == 0) return window_at(line, n % 2 * 256 - n / 2 % 32, -(n / 64 % 32));
+    if (strcmp(client->what, "same") == 0) return window_at(line, n % 2 * 256 - n / 2 % 4, -(client->number % 8));
+    if (strcmp(client->what, "beside") == 0) return window_at(line, 256 + n % 8 * 256, 256 + client->number % 8 * 256);
     return sprintf(line, "{\"verb\":\"pose\",\"id\":%d,\"pose\":{\"dx\":%zu}}\n", 1 + client->number % 10, n % 200);
 }
 
@@ -177,6 +187,6 @@ int main(int count, char **words) {
         echo(atoi(words[2]), strtoul(words[3], NULL, 10));
         return 1;
     }
-    fputs("usage: serve_client ask PORT points|edits|tiles CLIENTS SECONDS [A_SECOND] | echo PORT BYTES\n", stderr);
+    fputs("usage: serve_client ask PORT points|edits|tiles|same|beside CLIENTS SECONDS [A_SECOND] | echo PORT BYTES\n", stderr);
     return 2;
 }

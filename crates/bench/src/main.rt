@@ -1,0 +1,74 @@
+//! Times parts of the product: `bench SUBJECT`, with the word for one of them. Without a word it prints how it is
+//! called and ends.
+#![tactic(auto)]
+
+mod edits;
+mod lists;
+mod painting;
+mod saving;
+mod scenes;
+mod seats;
+mod spans;
+mod times;
+
+use std::{env, io};
+
+/// What can be timed.
+#[derive(Clone, Copy)]
+enum Subject {
+    /// The row spans of leaves.
+    Spans,
+    /// Lists that share their items.
+    Lists,
+    /// Edits of documents, and their restoring.
+    Edits,
+    /// Scenes of tiles, and their painting.
+    Scenes,
+    /// Pictures by workers.
+    Painting,
+    /// The opening and the saving of a document.
+    Saving,
+    /// Edits and looks through seats.
+    Seats,
+}
+
+impl Subject {
+    // The subject of a word.
+    fn named(word: &str) -> Option<Subject> {
+        match word {
+            "spans" => Some(Subject::Spans),
+            "lists" => Some(Subject::Lists),
+            "edits" => Some(Subject::Edits),
+            "scenes" => Some(Subject::Scenes),
+            "painting" => Some(Subject::Painting),
+            "saving" => Some(Subject::Saving),
+            "seats" => Some(Subject::Seats),
+            _ => None,
+        }
+    }
+}
+
+fn main(rt: HostRuntime) -> anyhow::Result<()> {
+    let Some(subject) = asked(&rt)? else {
+        println!(rt; "usage: bench spans|lists|edits|scenes|painting|saving|seats")?;
+        return Ok(());
+    };
+    match subject {
+        Subject::Spans => Ok(spans::time_all(&rt)?),
+        Subject::Lists => lists::time_all(&rt, rt.alloc()),
+        Subject::Edits => edits::time_all(&rt, rt.alloc()),
+        Subject::Scenes => scenes::time_all(&rt),
+        Subject::Painting => painting::time_all(&rt, rt.alloc()),
+        Subject::Saving => Ok(saving::time_all(&rt)?),
+        Subject::Seats => seats::time_all(&rt, rt.alloc()),
+    }
+}
+
+// The subject that the first word names.
+fn asked(rt: &HostRuntime) -> io::Result<Option<Subject>> {
+    let mut words = env::args(rt)?.skip(1);
+    Ok(match words.next() {
+        Some(word) => Subject::named(word.as_str()),
+        None => None,
+    })
+}

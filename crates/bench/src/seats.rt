@@ -1,0 +1,117 @@
+//! Times edits and looks through the seats of a line.
+
+ghost use Rattle.std.specs.Prelude.{◌≡◌};
+
+mod edits;
+mod looks;
+
+use canvas_doc::{Document, Edit, Parent, Spot};
+use canvas_line::{Line, Lines, Opened, Seat};
+use canvas_plane::Pose;
+use canvas_shape::{Colour, Kind};
+use std::alloc::Global;
+use std::marker::Brand;
+use std::sync::Wait;
+use std::thread::Threads;
+use std::time::Clock;
+
+/// What is timed at a line.
+#[derive(Clone, Copy)]
+enum Work {
+    /// Edits through one seat.
+    Edits,
+    /// Looks that find nothing new, by one seat after another.
+    LooksInTurn,
+    /// Such looks by each seat on a thread of its own.
+    Looks,
+    /// The same while the first seat edits.
+    LooksBesideEdits,
+}
+
+/// Times each kind of work.
+pub fn time_all<R: Clock + Print + Threads + Wait + Sync>(
+    rt: &R,
+    alloc: Global,
+) -> anyhow::Result<()> {
+    for records in [100, 4096] {
+        edits::time_alone(rt, alloc, document(alloc, records)?)?;
+        time(rt, alloc, document(alloc, records)?, 1, Work::Edits)?;
+    }
+    for work in [Work::LooksInTurn, Work::Looks] {
+        for seats in [1, 4, 16] {
+            time(rt, alloc, document(alloc, 100)?, seats, work)?;
+        }
+    }
+    for seats in [2, 4] {
+        time(
+            rt,
+            alloc,
+            document(alloc, 100)?,
+            seats,
+            Work::LooksBesideEdits,
+        )?;
+    }
+    Ok(())
+}
+
+/// A document of so many rectangles on the page.
+fn document(alloc: Global, records: u32) -> anyhow::Result<Document> {
+    let mut document = Document::empty(alloc);
+    for _ in 0..records {
+        let edit = Edit::Create {
+            kind: Kind::Rect {
+                w: 2,
+                h: 2,
+                fill: Colour([255, 0, 0]),
+            },
+            pose: Pose::STILL,
+            hidden: false,
+            parent: Parent::Page,
+            spot: Spot::Front,
+        };
+        let change = document.decide(alloc, &edit)?;
+        document = document.with(alloc, &change)?;
+    }
+    Ok(document)
+}
+
+/// Opens a line and times one kind of work there.
+fn time<R: Clock + Print + Threads + Wait + Sync>(
+    rt: &R,
+    alloc: Global,
+    document: Document,
+    seats: u32,
+    work: Work,
+) -> anyhow::Result<()> {
+    time_at::<Brand, R>(rt, alloc, Opened::new(), document, seats, work)
+}
+
+fn time_at<B: Lines + Send + Sync, R: Clock + Print + Threads + Wait + Sync>(
+    rt: &R,
+    alloc: Global,
+    opened: Opened,
+    document: Document,
+    seats: u32,
+    work: Work,
+) -> anyhow::Result<()>
+    requires { B.line 1 ≡ record { book = opened.head.word.book; opening = document; limit = 1000000 } }
+{
+    let records = document.count();
+    let seats = Line::open::<B, R>(rt, alloc, opened, 1, document, seats, 1_000_000)?;
+    run(rt, alloc, seats, records, work)
+}
+
+fn run<B: Lines + Send + Sync, R: Clock + Print + Threads + Wait + Sync>(
+    rt: &R,
+    alloc: Global,
+    seats: Vec<Seat<B>>,
+    records: usize,
+    work: Work,
+) -> anyhow::Result<()> {
+    match work {
+        Work::Edits => edits::time_through_seats(rt, alloc, seats, records),
+        Work::LooksInTurn => looks::time_in_turn(rt, seats),
+        Work::Looks => looks::time_looks(rt, alloc, seats, false),
+        Work::LooksBesideEdits => looks::time_looks(rt, alloc, seats, true),
+    }
+}
