@@ -10,6 +10,7 @@ the document after exactly the version that its reply names. Everything is bound
 Prints each case that fails, and a last line 'N passed, M failed'; the status is 1 where something failed.
 """
 
+import hashlib
 import json
 import multiprocessing
 import os
@@ -474,6 +475,125 @@ def history(folder, count, seconds, seed, most):
         yield f"refusals by {code}, {count} clients", None if found.refusals.get(code) else "none came"
 
 
+# -- pictures that a seat may keep -------------------------------------------------------------------------------------
+
+WINDOWS = [
+    {"verb": "tile", "col": 0, "row": 0},
+    {"verb": "tile", "col": 1, "row": 0},
+    {"verb": "patch", "x": 245, "y": 3, "w": 20, "h": 9},
+]
+"""What the viewers look at, again and again."""
+PLACES = [0, 600, 246, 247, 256, 600, -10, -9, 255, 9000]
+"""Where a shape goes in turn: in these windows, between them and beside them."""
+MOST_MOVES = 20_000
+
+
+class Looker(threading.Thread):
+    """A session that asks for the same windows again and again, and keeps the version and a digest of each picture."""
+
+    def __init__(self, server, end):
+        super().__init__()
+        self.looks = []
+        self.fault = None
+        self._server, self._end = server, end
+
+    def run(self):
+        try:
+            with self._server.connect() as canvas:
+                while time.monotonic() < self._end:
+                    for window in range(len(WINDOWS)):
+                        reply, body = canvas.ask(**WINDOWS[window])
+                        self.looks.append((reply["version"], window, digest(body)))
+        except (OSError, EOFError, ValueError, Refused) as fault:
+            self.fault = repr(fault)
+
+
+def digest(body):
+    return hashlib.blake2b(body, digest_size=16).digest()
+
+
+def move_about(server, seed, end):
+    """The edits of an editor that moves a shape in and out of the windows, and another one far away, most often."""
+    chance, edits = random.Random(seed), [
+        {"verb": "create", "shape": {"kind": "ellipse", "w": 12, "h": 9, "fill": "ff0000"}},
+        {"verb": "create", "shape": {"kind": "rect", "w": 10, "h": 10, "fill": "00ff00"}, "pose": {"dx": 9000}},
+        {"verb": "create", "shape": {"kind": "rect", "w": 300, "h": 40, "fill": "0000ff"}, "pose": {"dx": 90, "dy": 5}, "spot": "back"},
+    ]
+    with server.connect() as editor:
+        for request in edits:
+            editor.ask(**request)
+        while time.monotonic() < end and len(edits) < MOST_MOVES:
+            what = chance.random()
+            if what < 0.1:
+                request = {"verb": "pose", "id": 1, "pose": {"dx": chance.choice(PLACES)}}
+            elif what < 0.15:
+                request = {"verb": "show", "id": 1, "hidden": chance.random() < 0.5}
+            else:
+                request = {"verb": "pose", "id": 2, "pose": {"dx": 9000 + len(edits) % 50}}
+            for _ in range(chance.choice([1, 1, 1, 70])):
+                editor.ask(**request)
+                edits.append(request)
+            time.sleep(chance.choice([0, 0.001, 0.01]))
+    return edits
+
+
+class Album:
+    """The pictures of a model's windows, painted once for all documents that show the same there."""
+
+    def __init__(self, model):
+        self.painted = {}
+        self._model = model
+
+    def picture(self, window):
+        x, y, w, h = sides_of(WINDOWS[window])
+        near = str(list(self._model.leaves_near(x, y, w, h)))
+        if (window, near) not in self.painted:
+            self.painted[window, near] = digest(self._model.image(x, y, w, h))
+        return self.painted[window, near]
+
+
+def sides_of(request):
+    if request["verb"] == "tile":
+        return 256 * request["col"], 256 * request["row"], 256, 256
+    return request["x"], request["y"], request["w"], request["h"]
+
+
+def wrong_looks(edits, looks):
+    """What is wrong with looks: each is to be the picture of the document after as many edits as its version says."""
+    model, made = Model(), 0
+    album = Album(model)
+    for version, window, seen in sorted(looks):
+        if version > len(edits):
+            yield f"version {version} was shown, and there are {len(edits)}"
+            return
+        while made < version:
+            model.edit(edits[made])
+            made += 1
+        if seen != album.picture(window):
+            yield f"{WINDOWS[window]} at version {version} is another picture"
+    if len(album.painted) < 12:
+        yield f"only {len(album.painted)} pictures were seen"
+
+
+def kept_pictures(folder, seconds, seed):
+    """Viewers that ask for the same windows again and again, while a shape moves in and out of them."""
+    with Server(folder) as server:
+        end = time.monotonic() + seconds
+        viewers = [Looker(server, end) for _ in range(2)]
+        for viewer in viewers:
+            viewer.start()
+        edits = move_about(server, seed, end)
+        for viewer in viewers:
+            viewer.join()
+    looks = [look for viewer in viewers for look in viewer.looks]
+    faults = [viewer.fault for viewer in viewers if viewer.fault] + list(wrong_looks(edits, looks))
+    print(f"the same windows again and again: {len(looks)} pictures, {len(edits)} edits, {len(faults)} wrong")
+    yield "windows that are looked at again", faults[0] if faults else None
+    for viewer in viewers:
+        versions = [look[0] for look in viewer.looks]
+        yield "versions of windows that are looked at again", difference(versions, sorted(versions))
+
+
 # -- connections that come and go --------------------------------------------------------------------------------------
 
 def come_and_go(server, chance):
@@ -653,6 +773,7 @@ def main():
             comings_and_goings(folder, seed),
             history(folder, 8, seconds, seed, 24_000),
             history(folder, 60, seconds, seed, 24_000),
+            kept_pictures(folder, min(seconds, 10), seed),
             bad_neighbours(folder),
         ]
         for stage in stages:

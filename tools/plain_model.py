@@ -271,7 +271,7 @@ class Model:
             self._leaves = [(leaf, box_of(leaf[1]) if leaf[0] is in_polygon else leaf[1]) for leaf in leaves]
         return self._leaves
 
-    def _leaves_near(self, x, y, w, h):
+    def leaves_near(self, x, y, w, h):
         """The leaves, from front to back, without those that lie wholly beside a window."""
         for leaf, (left, top, right, bottom) in self.leaves():
             if left <= x + w and x <= right and top <= y + h and y <= bottom:
@@ -279,11 +279,11 @@ class Model:
 
     def colour(self, x, y):
         """The colour of a pixel: that of the first leaf that holds it, walked from front to back."""
-        return first_colour(self._leaves_near(x, y, 1, 1), x, y)
+        return first_colour(self.leaves_near(x, y, 1, 1), x, y)
 
     def image(self, x, y, w, h):
         """The P6 file of a window."""
-        near = list(self._leaves_near(x, y, w, h))
+        near = list(self.leaves_near(x, y, w, h))
         raster = bytes.fromhex("".join(first_colour(near, x + i, y + j) for j in range(h) for i in range(w)) if near else WHITE * (w * h))
         return b"P6\n%d %d\n255\n" % (w, h) + raster
 

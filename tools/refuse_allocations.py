@@ -9,6 +9,8 @@ end by itself in one of these ways:
 - status 5 with `canvas: 1 OutOfMemory` on standard error, and nothing written;
 - status 0, each line answered by its reply or by the reply for want of memory.
 
+Of the shortest session all that may be written is listed: nothing, its two replies, or one of them with the other refused.
+
 An edit that was accepted is never answered by want of memory: each version in a reply is the number of edits that were
 answered as accepted before it.
 
@@ -16,6 +18,9 @@ A run of `canvas serve` must end with status 5 and that message before it answer
 in turns. One request of it may be answered by want of memory, or one connection be closed before its first reply and made anew; all
 else is answered as plain_session.py says for the edits that were accepted, by both sessions. Afterwards the saved document has exactly
 these edits, and all seats are free.
+
+Another conversation asks for one window again and again, whose pictures a seat may keep: it is answered by the picture of the
+version that it names, whether that was kept or not.
 
 With `long` the conversation is longer, is painted by two workers too, and several allocations are refused in a row.
 
@@ -43,6 +48,14 @@ MOST_RUNS = 20_000
 FIRST_PATH = [
     {"verb": "create", "shape": {"kind": "rect", "w": 2, "h": 1, "fill": "ff0000"}},
     {"verb": "patch", "x": 0, "y": 0, "w": 3, "h": 1},
+]
+CREATED = b'{"body":0,"id":1,"ok":true,"version":1}\n'
+WANT_LINE = b'{"body":0,"code":1,"name":"OutOfMemory","ok":false}\n'
+# All that a run of the first path may write: nothing refused, the picture, or the edit.
+FIRST_ENDS = [
+    CREATED + b'{"body":20,"ok":true,"version":1}\nP6\n3 1\n255\n' + b"\xff\0\0\xff\0\0\xff\xff\xff",
+    CREATED + WANT_LINE,
+    WANT_LINE + b'{"body":20,"ok":true,"version":0}\nP6\n3 1\n255\n' + 9 * b"\xff",
 ]
 EVERY_VERB = [
     {"verb": "create", "shape": {"kind": "frame", "w": 9, "h": 7, "fill": "00ff00"}, "pose": {"dx": 1, "quarter": 1}},
@@ -77,6 +90,24 @@ CONVERSATION = [
     (1, {"verb": "delete", "id": 2}),
     (0, {"verb": "point", "x": 0, "y": 0}),
 ]
+WINDOW = {"verb": "patch", "x": 0, "y": 0, "w": 16, "h": 16}
+# One asks for the same window again and again, while the other changes what is elsewhere, then moves a shape out of the window and into it.
+SAME_WINDOW = [
+    (0, {"verb": "create", "shape": {"kind": "rect", "w": 10, "h": 10, "fill": "ff0000"}}),
+    (1, WINDOW),
+    (1, WINDOW),
+    (0, {"verb": "create", "shape": {"kind": "rect", "w": 9, "h": 9, "fill": "00ff00"}, "pose": {"dx": 500}}),
+    (1, WINDOW),
+    (0, {"verb": "pose", "id": 1, "pose": {"dx": 100}}),
+    (1, WINDOW),
+    (0, WINDOW),
+    (1, WINDOW),
+    (1, {"verb": "pose", "id": 2, "pose": {"dx": 12, "dy": 3}}),
+    (0, WINDOW),
+    (1, WINDOW),
+    (1, {**WINDOW, "x": 1}),
+    (1, WINDOW),
+]
 LONG_CONVERSATION = CONVERSATION + [(k % 2, request) for k, request in enumerate(EVERY_VERB * 2)]
 EDITS = {"create", "move", "pose", "reshape", "show", "delete", "respace"}
 
@@ -92,6 +123,13 @@ def run(shim, number, given):
     environment = {**os.environ, "LD_PRELOAD": str(shim), "REFUSE_AT": str(number), "REFUSED_FILE": str(refused)}
     done = subprocess.run([str(BUILT), "script", "1"], input=given, capture_output=True, env=environment, timeout=60)
     return (done.stdout, done.stderr, done.returncode), refused.exists()
+
+
+def first_fault(out, errors, status):
+    """What is wrong with a run of the first path, or None."""
+    if (out, errors, status) == (b"", b"canvas: 1 OutOfMemory\n", 5):
+        return None
+    return None if (errors, status) == (b"", 0) and out in FIRST_ENDS else f"ends with {(out, errors, status)}"
 
 
 def fault(requests, wanted, out, errors, status):
@@ -131,7 +169,7 @@ def sweep(shim, name, requests):
         if not is_refused:
             print(f"{name}: {number} runs", flush=True)
             return passed, failed
-        found = fault(requests, wanted, *end)
+        found = first_fault(*end) if requests is FIRST_PATH else fault(requests, wanted, *end)
         if found:
             failed += 1
             print(f"{name}, allocation {number} refused: {found}")
@@ -251,7 +289,6 @@ def converse(server, text, requests, most):
     return model
 
 
-WANT_LINE = json.dumps(WANT_OF_MEMORY, separators=(",", ":")).encode() + b"\n"
 EXPORT = {"verb": "export"}
 
 
@@ -310,10 +347,12 @@ def sweeps(shim, folder, is_long):
     file = folder / "document.json"
     file.write_bytes(b'{"format":1,"next":1,"shapes":[]}')
     yield sweep_server(shim, "two clients", file, CONVERSATION)
+    yield sweep_server(shim, "two clients and one window", file, SAME_WINDOW)
     if is_long:
         yield sweep_server(shim, "two clients, all verbs", file, LONG_CONVERSATION)
         yield sweep_server(shim, "two clients and two workers", file, LONG_CONVERSATION, workers=2)
         yield sweep_server(shim, "two clients, three refused", file, LONG_CONVERSATION, count=3)
+        yield sweep_server(shim, "two clients and one window, three refused", file, SAME_WINDOW * 2, count=3)
         file.write_bytes((TOP / "examples" / "poster.json").read_bytes())
         looks_and_edit = [(0, EXPORT), (1, {"verb": "tile", "col": 0, "row": 0}), (0, EVERY_VERB[4])]
         yield sweep_server(shim, "two clients and a poster", file, looks_and_edit)

@@ -46,8 +46,12 @@ fn told(alloc: Global, entry: &Entry) -> Result<String, AllocError> {
     }
 }
 
-// The transcript of a list of events over an empty document, in words.
-fn transcript(alloc: Global, seats: u32, events: &[Event]) -> Result<String, OutOfMemory> {
+/// The transcript of a list of events over an empty document, in words.
+pub(crate) fn transcript(
+    alloc: Global,
+    seats: u32,
+    events: &[Event],
+) -> Result<String, OutOfMemory> {
     let transcript = run(alloc, &Document::empty(alloc), seats, events)?;
     let mut text = String::new(alloc);
     for entry in transcript.entries() {
@@ -58,10 +62,8 @@ fn transcript(alloc: Global, seats: u32, events: &[Event]) -> Result<String, Out
     Ok(text)
 }
 
-#[test]
-fn a_tile_shows_the_version_of_its_look(rt: HostRuntime) -> Result<(), Fail> {
-    let alloc = rt.alloc();
-    let window = Window::new(0, 0, 1, 2)?;
+/// A look, an edit between its two strips, and two answers: the events and their transcript.
+pub(crate) fn a_tile(window: Window) -> ([Event; 6], &'static str) {
     let events = [
         Event::Look { seat: 0, window },
         Event::Strip {
@@ -81,10 +83,16 @@ fn a_tile_shows_the_version_of_its_look(rt: HostRuntime) -> Result<(), Fail> {
         Event::Answer { seat: 0 },
         Event::Answer { seat: 0 },
     ];
-    assert_eq!(rt;
-        transcript(alloc, 1, &events)?.as_str(),
-        "looked 0; painted; edited 1 1; painted; tile 0 1 2 [255, 255, 255, 255, 255, 255]; skipped; "
-    );
+    (
+        events,
+        "looked 0; painted; edited 1 1; painted; tile 0 1 2 [255, 255, 255, 255, 255, 255]; skipped; ",
+    )
+}
+
+#[test]
+fn a_tile_shows_the_version_of_its_look(rt: HostRuntime) -> Result<(), Fail> {
+    let (events, wanted) = a_tile(Window::new(0, 0, 1, 2)?);
+    assert_eq!(rt; transcript(rt.alloc(), 1, &events)?.as_str(), wanted);
     Ok(())
 }
 

@@ -127,19 +127,20 @@ fn turned_frame_cuts_its_child(rt: HostRuntime) -> Result<(), Fail> {
     Ok(())
 }
 
-#[test]
-fn frames_in_frames_cut_by_both(rt: HostRuntime) -> Result<(), Fail> {
-    let alloc = rt.alloc();
-    let document = Document::empty(alloc);
-    let document = after(
-        alloc,
-        document,
-        &create(frame(4, 4), Pose::STILL, Parent::Page),
-    )?;
+/// A frame of 4 by 4, in it one of 8 by 2, and in that a green rectangle of 6 by 2.
+pub(crate) fn nested(alloc: Global) -> Result<Document, OutOfMemory> {
+    let outer = create(frame(4, 4), Pose::STILL, Parent::Page);
+    let document = after(alloc, Document::empty(alloc), &outer)?;
     let inner = create(frame(8, 2), Pose::STILL, Parent::Shape(1));
     let document = after(alloc, document, &inner)?;
     let leaf = create(rect(6, 2, GREEN), Pose::STILL, Parent::Shape(2));
-    let document = after(alloc, document, &leaf)?;
+    after(alloc, document, &leaf)
+}
+
+#[test]
+fn frames_in_frames_cut_by_both(rt: HostRuntime) -> Result<(), Fail> {
+    let alloc = rt.alloc();
+    let document = nested(alloc)?;
     let window = Window::new(0, 0, 6, 2)?;
     let bytes = picture(&rt, alloc, &document, &window, 1)?;
     let mut want = Vec::new(alloc);
@@ -157,8 +158,8 @@ fn frames_in_frames_cut_by_both(rt: HostRuntime) -> Result<(), Fail> {
     Ok(())
 }
 
-// A red rectangle of 2 by 1 at the origin.
-fn red_rectangle(alloc: Global) -> Result<Document, OutOfMemory> {
+/// A red rectangle of 2 by 1 at the origin.
+pub(crate) fn red_rectangle(alloc: Global) -> Result<Document, OutOfMemory> {
     let edit = create(rect(2, 1, RED), Pose::STILL, Parent::Page);
     after(alloc, Document::empty(alloc), &edit)
 }
@@ -269,7 +270,7 @@ fn two_workers_work_at_once(rt: HostRuntime) -> Result<(), Fail> {
     Ok(())
 }
 
-fn span(from: i32, to: i32) -> Span {
+pub(crate) fn span(from: i32, to: i32) -> Span {
     Span { from, to }
 }
 
