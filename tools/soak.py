@@ -6,9 +6,9 @@ usage: tools/soak.py [minutes, 1 where it is left out] [clients, 60 where it is 
 The clients are editors, viewers, clients that send hundreds of requests before they read, clients that break off inside a request or
 inside a body, clients that send garbage or lines without end, silent and slow ones, and crowds that find no seat. Each makes one session
 after another. They all stop each minute: then the server must be back at one thread and at the open files that it began with, and its
-resident memory may not be more than 8 MiB above what it was after a first short round. That round brings what the C library keeps for
-threads, and what it keeps goes up and down by some four MiB after it. What a server loses for each connection adds up: in the 35,000
-connections of one minute, 8 MiB are 240 bytes for each.
+resident memory may not be more than 8 MiB and the pictures that its seats may keep (63 seats, 8 tiles each) above what it was after a first
+short round. That round brings what the C library keeps for threads, and what it keeps goes up and down by some four MiB after it. What a
+server loses for each connection adds up: in the 35,000 connections of one minute, 8 MiB are 240 bytes for each.
 
 The document keeps its size, and the edits stay below the million that a server takes. Replies are checked: each is a whole line with its
 body, and versions of one session never go back. At the end all seats must be free, and the document must be saved and opened again.
@@ -30,7 +30,8 @@ from canvas_client import line_of, replies
 from check_server import NO_SEATS, SEATS, Server, seats_left, wait_for
 
 WARM_UP = 10
-MOST_GROWTH = 8 * 1024
+KEPT_PICTURES = 63 * 8 * 196_623 // 1024
+MOST_GROWTH = 8 * 1024 + KEPT_PICTURES
 MOST_EDITS = 900_000
 FIRST_SHAPES = 200
 CODES_OF_GARBAGE = {50, 51, 52, 53, 54}
