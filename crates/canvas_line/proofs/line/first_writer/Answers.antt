@@ -18,5 +18,5 @@ returns-clause-view g c =
     let document : (arc_value c.in_ok-try_clone.field-0).document ≡ c.args.document = ap (λ (v : Version). v.document) (c.in_ok-try_clone.ensures ∙ c.in-Ok.ensures.ok) in
     let facts : Book → Contents → Facts = λ book opening. record { book = book; opening = opening; limit = c.args.limit } in
     let same : next.facts ≡ facts c.args.trace.now.book c.args.document = ap (λ (s : Shown). s.facts) c.in_ok-third.ensures
-        ∙ (ap (λ b. facts b (arc_value c.in_ok-try_clone.field-0).document) (ap (λ t. t.book) c.again.ensures) ∙ ap (facts c.args.trace.now.book) document) in
+    ∙ (ap (λ b. facts b (arc_value c.in_ok-try_clone.field-0).document) (ap (λ t. t.book) c.again.ensures) ∙ ap (facts c.args.trace.now.book) document) in
     subst (λ (f : Facts). Knows w f) same known
