@@ -1,5 +1,7 @@
 //! Times changes and reads of lists that share their items.
 
+ghost use Rattle.std.specs.Prelude.{◌<◌, ◌≤◌, length};
+
 mod reads;
 mod records;
 
@@ -66,32 +68,84 @@ fn time_changes<R: Clock + Print, T: Share>(
     if len == 0 || len > MOST {
         return Ok(());
     }
-    let mut replaced = Times::new(alloc);
-    let mut inserted = Times::new(alloc);
-    let mut removed = Times::new(alloc);
-    let mut spliced = Times::new(alloc);
+    print_times(rt, names, "replace", replaced(rt, alloc, list)?)?;
+    print_times(rt, names, "insert", inserted(rt, alloc, list)?)?;
+    print_times(rt, names, "remove", removed(rt, alloc, list)?)?;
+    print_times(rt, names, "splice", spliced(rt, alloc, list)?)
+}
+
+/// Where the change of a round is made, of a list of so many items.
+fn place(round: u32, len: usize) -> usize
+    requires { 0 < len }
+    ensures { result < len }
+{
+    round as usize * 7919 % len
+}
+
+fn replaced<R: Clock, T: Share>(
+    rt: &R,
+    alloc: Global,
+    list: &SharedList<T>,
+) -> anyhow::Result<Times>
+    requires { 0 < length list.now }
+{
+    let mut times = Times::new(alloc);
     for round in 0..ROUNDS {
-        let at = round as usize * 7919 % len;
+        let at = place(round, list.len());
         let item = list.at(at).share()?;
         let start = Instant::now(rt)?;
-        replaced.add(rt, start, list.with_replaced(alloc, at, item)?)?;
+        times.add(rt, start, list.with_replaced(alloc, at, item)?)?;
+    }
+    Ok(times)
+}
+
+fn inserted<R: Clock, T: Share>(
+    rt: &R,
+    alloc: Global,
+    list: &SharedList<T>,
+) -> anyhow::Result<Times>
+    requires some { 0 < length list.now }
+    requires few { length list.now ≤ 1048576 }
+{
+    let mut times = Times::new(alloc);
+    for round in 0..ROUNDS {
+        let at = place(round, list.len());
         let item = list.at(at).share()?;
         let start = Instant::now(rt)?;
-        inserted.add(rt, start, list.with_inserted(alloc, at, item)?)?;
+        times.add(rt, start, list.with_inserted(alloc, at, item)?)?;
+    }
+    Ok(times)
+}
+
+fn removed<R: Clock, T: Share>(rt: &R, alloc: Global, list: &SharedList<T>) -> anyhow::Result<Times>
+    requires { 0 < length list.now }
+{
+    let mut times = Times::new(alloc);
+    for round in 0..ROUNDS {
+        let at = place(round, list.len());
         let start = Instant::now(rt)?;
-        removed.add(rt, start, list.without(alloc, at)?)?;
+        times.add(rt, start, list.without(alloc, at)?)?;
+    }
+    Ok(times)
+}
+
+fn spliced<R: Clock, T: Share>(rt: &R, alloc: Global, list: &SharedList<T>) -> anyhow::Result<Times>
+    requires some { 0 < length list.now }
+    requires few { length list.now ≤ 1048576 }
+{
+    let len = list.len();
+    let mut times = Times::new(alloc);
+    for round in 0..ROUNDS {
+        let at = place(round, len);
         let end = at + (len - at) / 2;
         let start = Instant::now(rt)?;
-        spliced.add(
+        times.add(
             rt,
             start,
             list.with_spliced(alloc, at, end, Vec::new(alloc))?,
         )?;
     }
-    print_times(rt, names, "replace", replaced)?;
-    print_times(rt, names, "insert", inserted)?;
-    print_times(rt, names, "remove", removed)?;
-    print_times(rt, names, "splice", spliced)
+    Ok(times)
 }
 
 fn time_copies<R: Clock + Print, T: Share>(
