@@ -10,7 +10,7 @@ pub const MOST_RECENT: usize = 64;
 pub struct Damage {
     /// The version that the change made, from 1.
     pub number: u64,
-    /// The box, 0, 0, 0, 0 where the change changed no colour at all.
+    /// The box, as `Document::damage` found it: 0, 0, 0, 0 for new indexes alone, and where the change touched no leaf and no frame.
     pub area: PageBox,
 }
 
