@@ -33,6 +33,7 @@ table =
     (31, codes "BadWorkers") ∷
     (32, codes "BadSetting") ∷
     (33, codes "NoView") ∷
+    (34, codes "BadLevel") ∷
     (40, codes "NotP6") ∷
     (41, codes "BadHeader") ∷
     (42, codes "Truncated") ∷

@@ -44,6 +44,7 @@ pub fn name_of(code: u16) -> &'static str
         31 => "BadWorkers",
         32 => "BadSetting",
         33 => "NoView",
+        34 => "BadLevel",
         40 => "NotP6",
         41 => "BadHeader",
         42 => "Truncated",
