@@ -57,6 +57,11 @@ export class Picture extends EventTarget {
     this.#settle();
   }
 
+  /** The names of the refusals of tiles that are shown. */
+  get refused() {
+    return [...this.#tiles.values()].map((tile) => tile.refused).filter(Boolean);
+  }
+
   /** Whether all that is wanted is shown, and of the newest version. */
   get isSettled() {
     return !this.#isBusy && this.#wanted.every((tile) => this.#tiles.get(keyOf(tile))?.version === this.#newest) &&
