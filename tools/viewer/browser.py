@@ -106,7 +106,7 @@ class Browser:
 
     async def open(self, address):
         """Opens a tab."""
-        target = (await self.command("Target.createTarget", url="about:blank"))["targetId"]
+        target = (await self.command("Target.createTarget", url="about:blank", newWindow=True))["targetId"]
         session = (await self.command("Target.attachToTarget", targetId=target, flatten=True))["sessionId"]
         tab = Tab(self, target, session)
         self._tabs[session] = tab

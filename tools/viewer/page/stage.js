@@ -31,8 +31,8 @@ export class Stage {
     element.addEventListener("pointercancel", () => this.drop());
     element.addEventListener("wheel", (event) => this.#turnWheel(event), { passive: false });
     element.addEventListener("contextmenu", (event) => event.preventDefault());
-    element.addEventListener("keydown", (event) => this.#key(event));
-    element.addEventListener("keyup", (event) => this.#keyUp(event));
+    document.addEventListener("keydown", (event) => this.#key(event));
+    document.addEventListener("keyup", (event) => this.#keyUp(event));
     new ResizeObserver(() => this.#resize()).observe(element);
     this.#resize();
   }
@@ -145,14 +145,15 @@ export class Stage {
 
   // -- the keys -------------------------------------------------------------------------------------------------------
 
+  // Keys that go to nothing else on the page are for the stage too.
   #key(event) {
-    if (event.ctrlKey || event.altKey || event.metaKey) return;
+    const isHere = event.target === this.#element || event.target === document.body;
+    if (!isHere || event.ctrlKey || event.altKey || event.metaKey) return;
     if (ARROWS[event.key]) this.#arrow(ARROWS[event.key], event.shiftKey);
     else if (event.key === "Enter") this.#enter(event.shiftKey);
     else if (event.key === " ") this.#isSpace = true;
     else return;
     event.preventDefault();
-    event.stopPropagation();
     this.draw();
   }
 
