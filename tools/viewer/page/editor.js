@@ -28,9 +28,11 @@ export class Editor extends EventTarget {
     return this.selected === null ? undefined : this.#picture.tree?.record(this.selected);
   }
 
+  /** Selects a shape, which is there from a version on. New shapes get its colour. */
   select(id, version = 0) {
     this.#since = version;
     this.selected = id;
+    this.fill = this.record?.shape.fill ?? this.fill;
     this.dispatchEvent(new Event("selected"));
   }
 

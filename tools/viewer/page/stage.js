@@ -95,6 +95,7 @@ export class Stage {
 
   #down(event) {
     if (event.button > 1) return;
+    this.#element.classList.add("by-pointer");
     this.focus();
     this.#element.setPointerCapture(event.pointerId);
     this.#cross = null;
@@ -147,6 +148,7 @@ export class Stage {
 
   // Keys that go to nothing else on the page are for the stage too.
   #key(event) {
+    this.#element.classList.remove("by-pointer");
     const isHere = event.target === this.#element || event.target === document.body;
     if (!isHere || event.ctrlKey || event.altKey || event.metaKey) return;
     if (ARROWS[event.key]) this.#arrow(ARROWS[event.key], event.shiftKey);
