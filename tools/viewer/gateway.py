@@ -177,9 +177,12 @@ class Tab:
             if self._session is not None:
                 self._session.close()
 
-    async def _say(self, **what):
+    async def _send(self, text):
         if not self._socket.closed:
-            await self._socket.send_str(json.dumps(what, separators=(",", ":")))
+            await self._socket.send_str(text)
+
+    async def _say(self, **what):
+        await self._send(json.dumps(what, separators=(",", ":")))
 
     async def _watch(self):
         """Keeps a session with the server, and tells the tab of each version that it did not see."""
@@ -219,30 +222,35 @@ class Tab:
         replies = None
         if session is not None and requests:
             try:
-                replies = [await self._without_body(*it) for it in await session.ask(requests)]
+                replies = [await self._for_tab(*it) for it in await session.ask(requests)]
             except Away:
                 pass  # the watch tells the tab
-        await self._say(batch=number, replies=replies)
+        told = "null" if replies is None else f"[{','.join(replies)}]"
+        await self._send(f'{{"batch":{json.dumps(number)},"replies":{told}}}')
 
-    async def _without_body(self, reply, body):
-        """A reply for the tab: a picture as its hash, a document as it is."""
+    async def _for_tab(self, reply, body):
+        """The JSON of a reply for the tab: a picture as its hash, a document as it is."""
         del reply["body"]
         if body.startswith(b"P6"):
             reply["picture"] = await self._pictures.add(body)
-        elif body:
-            reply["document"] = json.loads(body)
-        return reply
+        text = json.dumps(reply, separators=(",", ":"))
+        return f'{text[:-1]},"document":{body.decode()}}}' if body.startswith(b"{") else text
 
 
 # -- the web server ----------------------------------------------------------------------------------------------------
 
-def application(host, port):
+def is_own(request, listen):
+    """Whether a request is of the gateway's own page: browsers tell which site a page comes from, and by which name it was found."""
+    origin, name = request.headers.get("Origin"), urlsplit(f"//{request.host}").hostname or ""
+    is_known = name in ("localhost", listen) or name.replace(".", "").isdigit() or ":" in name
+    return is_known and (origin is None or urlsplit(origin).netloc == request.host)
+
+
+def application(host, port, listen):
     pictures = Pictures()
 
     async def tab(request):
-        # A page of another site may not open a session: browsers tell where a page comes from.
-        origin = request.headers.get("Origin")
-        if origin is not None and urlsplit(origin).netloc != request.host:
+        if not is_own(request, listen):
             raise web.HTTPForbidden
         found = web.WebSocketResponse(compress=False, heartbeat=20)
         await found.prepare(request)
@@ -283,7 +291,7 @@ def main():
     host, port = given.listen
     say = lambda _: print(f"http://{host}:{port}/", flush=True)
     try:
-        web.run_app(application(*given.server), host=host, port=port, print=say, access_log=None)
+        web.run_app(application(*given.server, host), host=host, port=port, print=say, access_log=None)
     except OSError as fault:
         sys.exit(f"gateway: {fault.strerror}")
 
