@@ -11,4 +11,5 @@ pub mod Lines
 pub mod Names
 pub mod Points
 pub mod Spans
+pub mod StubWindow
 pub mod Words

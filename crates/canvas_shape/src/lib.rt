@@ -5,6 +5,7 @@
 mod edge_flags;
 mod ellipse;
 mod flag_words;
+mod grid;
 mod hex_text;
 mod kinds;
 mod leaves;
@@ -13,6 +14,7 @@ mod parts;
 mod polygon;
 mod spans;
 mod strip;
+pub mod stub;
 mod vertex_list;
 
 use canvas_plane::Point;
