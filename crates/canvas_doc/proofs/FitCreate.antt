@@ -17,7 +17,7 @@ use Rattle.canvas_doc.specs.declared.edits.Change.TheVariants as change
 use Rattle.canvas_doc.specs.declared.refusals.Refusal.{Refusal}
 use Rattle.canvas_doc.specs.declared.refusals.Refusal.TheVariants.{NoSuchParent, NotAContainer, TooDeep, TooMany, BadSize, BadPose, BadPolygon, IdsSpent}
 use Rattle.canvas_doc.specs.Children.{same_parent}
-use Rattle.canvas_doc.specs.Contents.{Contents, IsWellFormed, record_of, is_container, reaches_from, reaches_page, AreRising}
+use Rattle.canvas_doc.specs.Contents.{Contents, IsWellFormed, record_of, is_container, reaches_from, reaches_page, AreRising, most_records}
 use Rattle.canvas_doc.specs.Tree.{HavePlaces, IsElsewhere, IsInLimits}
 use Rattle.canvas_doc.specs.Effect.{effect_of, Fits, HasKey}
 use Rattle.canvas_doc.specs.Siblings.{refused_if, siblings, index_at}
@@ -83,11 +83,11 @@ reaches-push (suc n) rs r (Shape p) h =
 next-more : (n : ℕ) → (n == 4294967295) ≡ false → n < 2 ^ 32 → n + 1 < 2 ^ 32
 next-more n h k = elim (cases_Bool (nat_lt n 4294967295)) [ inl t ↦ grind (arith, nat_tests) | inr f ↦ grind (arith, nat_tests) ]
 
-few-more : (n m : ℕ) → nat_le 4096 n ≡ false → m ≡ n + 1 → m ≤ 4096
+few-more : (n m : ℕ) → nat_le most_records n ≡ false → m ≡ n + 1 → m ≤ most_records
 few-more n m h e = grind (arith, nat_tests)
 
 -- the document with a new shape
-pub created-well : (d : Contents) → IsWellFormed d → (kind : Kind) (pose : Pose) (hidden : Bool) (pl : Place) → nat_le 4096 (length d.records) ≡ false → (d.next == 4294967295) ≡ false → has_sides kind ≡ true → has_vertices kind ≡ true → is_pose pose ≡ true → reaches_page 31 d.records pl.parent ≡ true → AllByRecursion (IsFree d.next pl.parent pl.index) d.records → IsKey pl.index → IsWellFormed (effect_of (change.Create d.next kind pose hidden pl) d)
+pub created-well : (d : Contents) → IsWellFormed d → (kind : Kind) (pose : Pose) (hidden : Bool) (pl : Place) → nat_le most_records (length d.records) ≡ false → (d.next == 4294967295) ≡ false → has_sides kind ≡ true → has_vertices kind ≡ true → is_pose pose ≡ true → reaches_page 31 d.records pl.parent ≡ true → AllByRecursion (IsFree d.next pl.parent pl.index) d.records → IsKey pl.index → IsWellFormed (effect_of (change.Create d.next kind pose hidden pl) d)
 created-well d w kind pose hidden pl room unspent sides edges posed reached free key =
     let rs = d.records in
     let r : Record = record { id = d.next; kind = kind; place = pl; pose = pose; hidden = hidden } in
@@ -119,13 +119,13 @@ create-fits d w kind pose hidden p spot c keyed h =
     let turned : Result (List ℕ) Refusal = refused_if (not (is_pose pose)) BadPose edges in
     let sized : Result (List ℕ) Refusal = refused_if (not (has_sides kind)) BadSize turned in
     let spent : Result (List ℕ) Refusal = refused_if (d.next == 4294967295) IdsSpent sized in
-    let many : Result (List ℕ) Refusal = refused_if (nat_le 4096 (length rs)) TooMany spent in
+    let many : Result (List ℕ) Refusal = refused_if (nat_le most_records (length rs)) TooMany spent in
     let deep : Result (List ℕ) Refusal = refused_if (not (reaches_page 31 rs p)) TooDeep many in
     let leaf : Result (List ℕ) Refusal = refused_if (not (can_have_children rs p)) NotAContainer deep in
     let a = refused-ok (not (has_parent rs p)) NoSuchParent leaf k.0 k.1 in
     let b = refused-ok (not (can_have_children rs p)) NotAContainer deep k.0 a.1 in
     let e = refused-ok (not (reaches_page 31 rs p)) TooDeep many k.0 b.1 in
-    let f = refused-ok (nat_le 4096 (length rs)) TooMany spent k.0 e.1 in
+    let f = refused-ok (nat_le most_records (length rs)) TooMany spent k.0 e.1 in
     let g = refused-ok (d.next == 4294967295) IdsSpent sized k.0 f.1 in
     let i = refused-ok (not (has_sides kind)) BadSize turned k.0 g.1 in
     let j = refused-ok (not (is_pose pose)) BadPose edges k.0 i.1 in

@@ -9,7 +9,7 @@ use Rattle.canvas_doc.specs.declared.edits.Change.{Change}
 use Rattle.canvas_doc.specs.declared.edits.Change.TheVariants as change
 use Rattle.canvas_doc.specs.declared.refusals.Refusal.{Refusal}
 use Rattle.canvas_doc.specs.declared.refusals.Refusal.TheVariants.{NoSuchShape}
-use Rattle.canvas_doc.specs.Contents.{Contents, IsWellFormed, record_of, is_container, reaches_from, reaches_page, AreRising}
+use Rattle.canvas_doc.specs.Contents.{Contents, IsWellFormed, record_of, is_container, reaches_from, reaches_page, AreRising, most_records}
 use Rattle.canvas_doc.specs.Tree.{HavePlaces, IsElsewhere, IsInLimits}
 use Rattle.canvas_doc.specs.Effect.{effect_of, Fits}
 use Rattle.canvas_doc.specs.Siblings.{refused_if}
@@ -103,7 +103,7 @@ pub deleted-well : (d : Contents) → IsWellFormed d → (id : ℕ) → IsWellFo
 deleted-well d w id =
     let rs = d.records in
     let t : Record → Bool = λ r. not (is_in_subtree id rs r) in
-    let few : length rs ≤ 4096 = w.few in
+    let few : length rs ≤ most_records = w.few in
     let less : length (filter t rs) ≤ length rs = fewer t rs in
     record {
       next_above = w.next_above;

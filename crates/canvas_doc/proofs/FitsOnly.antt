@@ -14,7 +14,7 @@ use Rattle.canvas_doc.specs.declared.records.Place.{Place}
 use Rattle.canvas_doc.specs.declared.edits.Change.{Change}
 use Rattle.canvas_doc.specs.declared.edits.Change.TheVariants as change
 use Rattle.canvas_doc.specs.Children.{same_parent}
-use Rattle.canvas_doc.specs.Contents.{Contents, IsWellFormed, record_of, is_container, reaches_from, reaches_page}
+use Rattle.canvas_doc.specs.Contents.{Contents, IsWellFormed, record_of, is_container, reaches_from, reaches_page, most_records}
 use Rattle.canvas_doc.specs.Tree.{HavePlaces, IsElsewhere, IsInLimits}
 use Rattle.canvas_doc.specs.Effect.{at_id, Fits, HasKey}
 use Rattle.canvas_doc.specs.Siblings.{is_sibling, siblings, is_taken}
@@ -258,8 +258,8 @@ parent-test (Shape id) rs h = is-there (record_of id rs) h
 next-test : (n : ℕ) → n + 1 < 2 ^ 32 → not (n == 4294967295) ≡ true
 next-test n h = let e : (n == 4294967295) ≡ false = grind (arith, nat_tests) in ap not e
 
-few-test : (n m : ℕ) → m ≡ n + 1 → m ≤ 4096 → not (nat_le 4096 n) ≡ true
-few-test n m e h = let f : nat_le 4096 n ≡ false = grind (arith, nat_tests) in ap not f
+few-test : (n m : ℕ) → m ≡ n + 1 → m ≤ most_records → not (nat_le most_records n) ≡ true
+few-test n m e h = let f : nat_le most_records n ≡ false = grind (arith, nat_tests) in ap not f
 
 pub fits-complete : (c : Change) (d : Contents) → IsWellFormed d → Fits c d → fits_test c d ≡ true
 fits-complete (change.Create id kind pose hidden pl) d w f =

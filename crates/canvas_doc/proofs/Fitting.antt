@@ -11,7 +11,7 @@ use Rattle.canvas_doc.specs.declared.records.Place.{Place}
 use Rattle.canvas_doc.specs.declared.edits.Change.{Change}
 use Rattle.canvas_doc.specs.declared.edits.Change.TheVariants as change
 use Rattle.canvas_doc.specs.Children.{same_parent}
-use Rattle.canvas_doc.specs.Contents.{Contents, IsWellFormed, record_of, is_container, reaches_from, reaches_page}
+use Rattle.canvas_doc.specs.Contents.{Contents, IsWellFormed, record_of, is_container, reaches_from, reaches_page, most_records}
 use Rattle.canvas_doc.specs.Effect.{at_id, Fits, HasKey}
 use Rattle.canvas_doc.specs.Siblings.{siblings, is_taken}
 use Rattle.canvas_doc.specs.Decision.{has_shape}
@@ -90,9 +90,9 @@ pub fits-sound : (c : Change) (d : Contents) → IsWellFormed d → HasKey c →
 fits-sound (change.Create id kind pose hidden pl) d w keyed h =
     let taken = is_taken pl.index (siblings d.next pl.parent d.records) in
     let reached = reaches_page 31 d.records pl.parent in
-    let a = and_parts (id == d.next) (not (d.next == 4294967295) && (not (nat_le 4096 (length d.records)) && (has_sides kind && (has_vertices kind && (is_pose pose && (reached && not taken)))))) h in
-    let b = and_parts (not (d.next == 4294967295)) (not (nat_le 4096 (length d.records)) && (has_sides kind && (has_vertices kind && (is_pose pose && (reached && not taken))))) a.1 in
-    let e = and_parts (not (nat_le 4096 (length d.records))) (has_sides kind && (has_vertices kind && (is_pose pose && (reached && not taken)))) b.1 in
+    let a = and_parts (id == d.next) (not (d.next == 4294967295) && (not (nat_le most_records (length d.records)) && (has_sides kind && (has_vertices kind && (is_pose pose && (reached && not taken)))))) h in
+    let b = and_parts (not (d.next == 4294967295)) (not (nat_le most_records (length d.records)) && (has_sides kind && (has_vertices kind && (is_pose pose && (reached && not taken))))) a.1 in
+    let e = and_parts (not (nat_le most_records (length d.records))) (has_sides kind && (has_vertices kind && (is_pose pose && (reached && not taken)))) b.1 in
     let f = and_parts (has_sides kind) (has_vertices kind && (is_pose pose && (reached && not taken))) e.1 in
     let m = and_parts (has_vertices kind) (is_pose pose && (reached && not taken)) f.1 in
     let g = and_parts (is_pose pose) (reached && not taken) m.1 in
@@ -101,7 +101,7 @@ fits-sound (change.Create id kind pose hidden pl) d w keyed h =
     subst (λ n. Fits (change.Create n kind pose hidden pl) d) (sym same)
     (record {
       named = refl;
-      left = created-well d w kind pose hidden pl (not-true (nat_le 4096 (length d.records)) e.0) (not-true (d.next == 4294967295) b.0) f.0 m.0 g.0 i.0 (taken-free d.next pl.parent pl.index d.records (not-true taken i.1)) keyed;
+      left = created-well d w kind pose hidden pl (not-true (nat_le most_records (length d.records)) e.0) (not-true (d.next == 4294967295) b.0) f.0 m.0 g.0 i.0 (taken-free d.next pl.parent pl.index d.records (not-true taken i.1)) keyed;
     })
 fits-sound (change.Move id pl) d w keyed h =
     let a = and_parts (has_shape d.records id) (not (lies_too_deep d.records id pl.parent) && not (is_taken pl.index (siblings id pl.parent d.records))) h in

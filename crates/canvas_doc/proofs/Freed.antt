@@ -14,7 +14,7 @@ use Rattle.canvas_doc.specs.declared.records.Parent.TheVariants.{Shape}
 use Rattle.canvas_doc.specs.declared.records.Record.{Record}
 use Rattle.canvas_doc.specs.Bounds.{AreBounds}
 use Rattle.canvas_doc.specs.Children.{is_child}
-use Rattle.canvas_doc.specs.Contents.{record_of, is_container, AreRising, StandsAt}
+use Rattle.canvas_doc.specs.Contents.{record_of, is_container, AreRising, StandsAt, most_records}
 use Rattle.canvas_doc.specs.Deletion.{container_ids, containers_under, has_id_of, holders_below, is_held, AreLists}
 use Rattle.canvas_doc.specs.PlaceOrder.{comes_first, AreChildrenWithin, IsInPlaceOrder}
 use Rattle.canvas_doc.proofs.Childless.{filter-same, one-removed}
@@ -200,7 +200,7 @@ spliced-bounds order bounds low high kept a b =
 pub lists-spliced : (h : ℕ) (rs order : List Record) (bounds : List Bounds) (low high : ℕ) → AreLists rs order bounds → AreChildrenWithin (Shape h) order low high → AreLists (filter (λ r. not (is_child (Shape h) r)) rs) (take low order ++ drop high order) (take low bounds ++ drop high bounds)
 lists-spliced h rs order bounds low high w within =
     let t : Record → Bool = λ r. not (is_child (Shape h) r) in
-    let few : length order ≤ 4096 = w.few in
+    let few : length order ≤ most_records = w.few in
     let from : low ≤ high = within.from in
     let bound : high ≤ length order = within.bound in
     record {
@@ -213,7 +213,7 @@ lists-spliced h rs order bounds low high w within =
 -- without one record
 pub lists-taken : (rs order : List Record) (bounds : List Bounds) (r : Record) (at k : ℕ) → AreLists rs order bounds → IsListedAt order rs r at k → AreRising (remove rs at) → AreLists (remove rs at) (remove order k) (remove bounds k)
 lists-taken rs order bounds r at k w l up = record {
-  few = (let few : length order ≤ 4096 = w.few in let within : k < length order = l.within in let long : length (remove order k) + 1 ≡ length order = length-remove order k within in omega arith);
+  few = (let few : length order ≤ most_records = w.few in let within : k < length order = l.within in let long : length (remove order k) + 1 ≡ length order = length-remove order k within in omega arith);
   rising = up;
   in_order = reordered.taken order rs r at k w.rising w.in_order l.there l.here l.within l.is;
   bounded = rebounded.taken order bounds k w.bounded l.within;

@@ -18,7 +18,7 @@ use Rattle.canvas_doc.specs.declared.edits.Change.TheVariants as change
 use Rattle.canvas_doc.specs.declared.refusals.Refusal.{Refusal}
 use Rattle.canvas_doc.specs.declared.refusals.Refusal.TheVariants.{OutOfMemory, NoSuchShape, NoSuchParent, NotAContainer, Cycle, TooDeep, TooMany, BadSize, BadPose, BadPolygon, WrongKind, IdsSpent, IndexTaken}
 use Rattle.canvas_doc.specs.Siblings.{refused_if, siblings, with_room, index_over, index_at, least_above, greatest_index, is_taken}
-use Rattle.canvas_doc.specs.Contents.{Contents, record_of, reaches_page}
+use Rattle.canvas_doc.specs.Contents.{Contents, record_of, reaches_page, most_records}
 use Rattle.canvas_doc.specs.Decision.{has_shape, has_parent, can_have_children, makes_cycle, is_another_kind, placed, create_index, move_index, reshape_judgement, allowed, decision_of, IsAnswer}
 use Rattle.canvas_doc.specs.Depth.{is_above_32}
 
@@ -60,7 +60,7 @@ other-create kind pose p spot d =
     other-if (not (has_parent d.records p)) NoSuchParent _ (λ h. cc)
     (other-if (not (can_have_children d.records p)) NotAContainer _ (λ h. cc)
     (other-if (not (reaches_page 31 d.records p)) TooDeep _ (λ h. cc)
-    (other-if (nat_le 4096 (length d.records)) TooMany _ (λ h. cc)
+    (other-if (nat_le most_records (length d.records)) TooMany _ (λ h. cc)
     (other-if (d.next == 4294967295) IdsSpent _ (λ h. cc)
     (other-if (not (has_sides kind)) BadSize _ (λ h. cc)
     (other-if (not (is_pose pose)) BadPose _ (λ h. cc)

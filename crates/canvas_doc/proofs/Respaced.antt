@@ -12,7 +12,7 @@ use Rattle.canvas_doc.specs.declared.edits.Change.TheVariants as change
 use Rattle.canvas_doc.specs.declared.refusals.Refusal.{Refusal}
 use Rattle.canvas_doc.specs.declared.refusals.Refusal.TheVariants.{NoSuchParent, NotAContainer}
 use Rattle.canvas_doc.specs.Children.{same_parent}
-use Rattle.canvas_doc.specs.Contents.{Contents, IsWellFormed, record_of, is_container}
+use Rattle.canvas_doc.specs.Contents.{Contents, IsWellFormed, record_of, is_container, most_records}
 use Rattle.canvas_doc.specs.Tree.{HavePlaces, IsElsewhere, IsInLimits}
 use Rattle.canvas_doc.specs.Effect.{effect_of, Fits}
 use Rattle.canvas_doc.specs.Siblings.{refused_if}
@@ -96,12 +96,12 @@ rank-less rs r s m e h =
     let b : length (filter q rs) ≡ rank_of rs r = length-filter q rs in
     omega arith
 
-rank-few : (rs : List Record) (r : Record) → length rs ≤ 4096 → rank_of rs r < 2 ^ 32
+rank-few : (rs : List Record) (r : Record) → length rs ≤ most_records → rank_of rs r < 2 ^ 32
 rank-few rs r h =
     let le : rank_of rs r ≤ length rs = count_by-le-length (λ s. is_child r.place.parent s && is_in_front r s) rs in
     omega arith
 
-fresh-front : (rs : List Record) (r s : Record) → length rs ≤ 4096 → IsIn s rs → s.place.parent ≡ r.place.parent → is_in_front r s ≡ true → is_before (fresh_key (rank_of rs s)) (fresh_key (rank_of rs r)) ≡ true
+fresh-front : (rs : List Record) (r s : Record) → length rs ≤ most_records → IsIn s rs → s.place.parent ≡ r.place.parent → is_in_front r s ≡ true → is_before (fresh_key (rank_of rs s)) (fresh_key (rank_of rs r)) ≡ true
 fresh-front rs r s few m e h = ap is_lt (fresh-rises (rank_of rs s) (rank_of rs r) (rank-less rs r s m e h) (rank-few rs r few))
 
 pub respaced-keeps : (p : Parent) (rs : List Record) → KeepsPaths (respaced p rs)
@@ -121,13 +121,13 @@ before-differs : (a b : List ℕ) → is_before a b ≡ true → a ≢ b
 before-differs a b h e = true≢false (sym h ∙ ap (λ x. is_before x b) e ∙ before-itself b)
 
 -- two children of one parent with different indexes have different new ones
-fresh-differs : (rs : List Record) (r s : Record) → length rs ≤ 4096 → IsIn r rs → IsIn s rs → s.place.parent ≡ r.place.parent → s.place.index ≢ r.place.index → fresh_key (rank_of rs s) ≢ fresh_key (rank_of rs r)
+fresh-differs : (rs : List Record) (r s : Record) → length rs ≤ most_records → IsIn r rs → IsIn s rs → s.place.parent ≡ r.place.parent → s.place.index ≢ r.place.index → fresh_key (rank_of rs s) ≢ fresh_key (rank_of rs r)
 fresh-differs rs r s few m n e d = elim (cases_Bool (is_in_front r s)) [
   | inl t ↦ before-differs (fresh_key (rank_of rs s)) (fresh_key (rank_of rs r)) (fresh-front rs r s few n e t)
   | inr f ↦ (λ k. before-differs (fresh_key (rank_of rs r)) (fresh_key (rank_of rs s)) (fresh-front rs s r few m (sym e) (before-or-same s.place.index r.place.index f d)) (sym k))
 ]
 
-elsewhere-respaced : (p : Parent) (rs : List Record) (r s : Record) → length rs ≤ 4096 → IsIn r rs → IsIn s rs → IsElsewhere r s → IsElsewhere (respaced p rs r) (respaced p rs s)
+elsewhere-respaced : (p : Parent) (rs : List Record) (r s : Record) → length rs ≤ most_records → IsIn r rs → IsIn s rs → IsElsewhere r s → IsElsewhere (respaced p rs r) (respaced p rs s)
 elsewhere-respaced p rs r s few m n d k =
     let keeps = respaced-keeps p rs in
     let parent : s.place.parent ≡ r.place.parent = sym (keeps.parents s) ∙ same-parents (respaced p rs s).place.parent (respaced p rs r).place.parent k ∙ keeps.parents r in
@@ -137,11 +137,11 @@ elsewhere-respaced p rs r s few m n d k =
       | inr f ↦ (λ i. differs (sym (index-other p rs s (ap (λ x. same_parent x p) parent ∙ f)) ∙ i ∙ index-other p rs r f))
     ]
 
-elsewhere-all : (p : Parent) (rs : List Record) (r : Record) (xs : List Record) → length rs ≤ 4096 → IsIn r rs → AllByRecursion (λ x. IsIn x rs) xs → AllByRecursion (IsElsewhere r) xs → AllByRecursion (IsElsewhere (respaced p rs r)) (map (respaced p rs) xs)
+elsewhere-all : (p : Parent) (rs : List Record) (r : Record) (xs : List Record) → length rs ≤ most_records → IsIn r rs → AllByRecursion (λ x. IsIn x rs) xs → AllByRecursion (IsElsewhere r) xs → AllByRecursion (IsElsewhere (respaced p rs r)) (map (respaced p rs) xs)
 elsewhere-all p rs r [] few m a d = tt
 elsewhere-all p rs r (s ∷ xs) few m a d = (elsewhere-respaced p rs r s few m a.0 d.0, elsewhere-all p rs r xs few m a.1 d.1)
 
-places-all : (p : Parent) (rs xs : List Record) → length rs ≤ 4096 → AllByRecursion (λ x. IsIn x rs) xs → HavePlaces xs → HavePlaces (map (respaced p rs) xs)
+places-all : (p : Parent) (rs xs : List Record) → length rs ≤ most_records → AllByRecursion (λ x. IsIn x rs) xs → HavePlaces xs → HavePlaces (map (respaced p rs) xs)
 places-all p rs [] few a h = tt
 places-all p rs (r ∷ xs) few a h = (elsewhere-all p rs r xs few a.0 a.1 h.0, places-all p rs xs few a.1 h.1)
 
@@ -193,7 +193,7 @@ order-same a b h k = exact_bytes a b (not_before (slice_cmp nat_cmp a b) h (sym 
 place-same : (a b : Place) → a.parent ≡ b.parent → a.index ≡ b.index → a ≡ b
 place-same a b e f = ap (λ p. record { parent = p; index = a.index }) e ∙ ap (λ i. record { parent = b.parent; index = i }) f
 
-front-fresh : (rs : List Record) (r s : Record) → length rs ≤ 4096 → IsIn r rs → IsIn s rs → s.place.parent ≡ r.place.parent → is_before (fresh_key (rank_of rs r)) (fresh_key (rank_of rs s)) ≡ is_in_front s r
+front-fresh : (rs : List Record) (r s : Record) → length rs ≤ most_records → IsIn r rs → IsIn s rs → s.place.parent ≡ r.place.parent → is_before (fresh_key (rank_of rs r)) (fresh_key (rank_of rs s)) ≡ is_in_front s r
 front-fresh rs r s few m n e = elim (cases_Bool (is_in_front s r)) [
   | inl t ↦ fresh-front rs s r few m (sym e) t ∙ sym t
   | inr f ↦ (elim (cases_Bool (is_in_front r s)) [
@@ -206,7 +206,7 @@ front-fresh rs r s few m n e = elim (cases_Bool (is_in_front s r)) [
   ])
 ]
 
-pub in_front-respaced : (p q : Parent) (rs : List Record) (r s : Record) → length rs ≤ 4096 → IsIn r rs × (is_child q r ≡ true) → IsIn s rs × (is_child q s ≡ true) → is_in_front (respaced p rs s) (respaced p rs r) ≡ is_in_front s r
+pub in_front-respaced : (p q : Parent) (rs : List Record) (r s : Record) → length rs ≤ most_records → IsIn r rs × (is_child q r ≡ true) → IsIn s rs × (is_child q s ≡ true) → is_in_front (respaced p rs s) (respaced p rs r) ≡ is_in_front s r
 in_front-respaced p q rs r s few m n =
     let parent : s.place.parent ≡ r.place.parent = same-parents s.place.parent r.place.parent (same_parent-both s.place.parent r.place.parent q n.1 m.1) in
     elim (cases_Bool (is_child p r)) [
@@ -251,7 +251,7 @@ in-children : (q : Parent) (rs xs : List Record) → AllByRecursion (λ x. IsIn 
 in-children q rs [] a = tt
 in-children q rs (r ∷ xs) a = elim (cases_Bool (is_child q r)) [ inl t ↦ rw t ((a.0, t), in-children q rs xs a.1) | inr f ↦ rw f (in-children q rs xs a.1) ]
 
-pub children-respaced : (p q : Parent) (rs : List Record) → length rs ≤ 4096 → children q (map (respaced p rs) rs) ≡ map (respaced p rs) (children q rs)
+pub children-respaced : (p q : Parent) (rs : List Record) → length rs ≤ most_records → children q (map (respaced p rs) rs) ≡ map (respaced p rs) (children q rs)
 children-respaced p q rs few =
     ap front_first (child-map (respaced p rs) q (λ r. (respaced-keeps p rs).parents r) rs)
     ∙ front-map (respaced p rs) (λ x. IsIn x rs × (is_child q x ≡ true)) (λ r s m n. in_front-respaced p q rs r s few m n) (filter (is_child q) rs) (in-children q rs rs (all-in rs))
@@ -263,7 +263,7 @@ first-map g f h k (r ∷ rs) = ap (λ o. or_else o (first_answer f (map g rs))) 
 with-respaced : (p : Parent) (rs : List Record) (among : Parent → (Point → Point) → Option Colour) (out : Point → Point) (x y : ℤ) (r : Record) → answer_with among out x y (respaced p rs r) ≡ answer_with among out x y r
 with-respaced p rs among out x y r = elim (is_child p r) as (λ b. answer_with among out x y (cond b (record r { place = record r.place { index = fresh_key (rank_of rs r) } }) r) ≡ answer_with among out x y r) [ true ↦ refl | false ↦ refl ]
 
-answers-respaced : (n : ℕ) (p : Parent) (rs : List Record) → length rs ≤ 4096 → (q : Parent) (out : Point → Point) (x y : ℤ) → answer_among n (map (respaced p rs) rs) q out x y ≡ answer_among n rs q out x y
+answers-respaced : (n : ℕ) (p : Parent) (rs : List Record) → length rs ≤ most_records → (q : Parent) (out : Point → Point) (x y : ℤ) → answer_among n (map (respaced p rs) rs) q out x y ≡ answer_among n rs q out x y
 unfolding answer_among
 answers-respaced zero p rs few q out x y = refl
 answers-respaced (suc n) p rs few q out x y =
@@ -276,5 +276,5 @@ answers-respaced (suc n) p rs few q out x y =
     (children q rs)
 
 -- no pixel changes its colour
-pub colour-respaced : (p : Parent) (rs : List Record) → length rs ≤ 4096 → (x y : ℤ) → colour (map (respaced p rs) rs) x y ≡ colour rs x y
+pub colour-respaced : (p : Parent) (rs : List Record) → length rs ≤ most_records → (x y : ℤ) → colour (map (respaced p rs) rs) x y ≡ colour rs x y
 colour-respaced p rs few x y = ap or_white (answers-respaced 32 p rs few Page (λ q. q) x y)

@@ -17,7 +17,7 @@ use Rattle.std.proofs.lemmas.Map.Keys.{Less-from_sorted}
 use Rattle.canvas_doc.specs.declared.records.Parent.{Parent}
 use Rattle.canvas_doc.specs.declared.records.Record.{Record}
 use Rattle.canvas_doc.specs.Children.{is_child, same_parent}
-use Rattle.canvas_doc.specs.Contents.{record_of, AreRising, HaveIds, StandsAt}
+use Rattle.canvas_doc.specs.Contents.{record_of, AreRising, HaveIds, StandsAt, most_records}
 use Rattle.canvas_doc.specs.Effect.{respaced}
 use Rattle.canvas_doc.specs.PlaceOrder.{by_parent, comes_first, AreChildrenWithin, IsInPlaceOrder}
 use Rattle.canvas_doc.specs.Tree.{HavePlaces}
@@ -206,7 +206,7 @@ order-respaced p order rs low high places o w =
     ∙ ap (map f) (sym parts)
 
 -- it is the order of the records with theirs
-respaced-cases : (p : Parent) (rs : List Record) (r s : Record) (o : Ordering) → length rs ≤ 4096 → IsIn r rs → IsIn s rs → by_parent r.place.parent s.place.parent ≡ o → ordering_then o (slice_cmp nat_cmp s.place.index r.place.index) ≡ Less → ordering_then o (slice_cmp nat_cmp (respaced p rs s).place.index (respaced p rs r).place.index) ≡ Less
+respaced-cases : (p : Parent) (rs : List Record) (r s : Record) (o : Ordering) → length rs ≤ most_records → IsIn r rs → IsIn s rs → by_parent r.place.parent s.place.parent ≡ o → ordering_then o (slice_cmp nat_cmp s.place.index r.place.index) ≡ Less → ordering_then o (slice_cmp nat_cmp (respaced p rs s).place.index (respaced p rs r).place.index) ≡ Less
 respaced-cases p rs r s Less few m n e l = refl
 respaced-cases p rs r s Equal few m n e l =
     let alike : same_parent r.place.parent s.place.parent ≡ true = sym (holder-eq r.place.parent s.place.parent) ∙ ap is_eq e in
@@ -214,7 +214,7 @@ respaced-cases p rs r s Equal few m n e l =
     (in_front-respaced p s.place.parent rs s r few (n, same-itself s.place.parent) (m, alike) ∙ ap is_lt l)
 respaced-cases p rs r s Greater few m n e l = cc
 
-respaced-first : (p : Parent) (rs : List Record) (r s : Record) → length rs ≤ 4096 → IsIn r rs → IsIn s rs → comes_first r s ≡ Less → comes_first (respaced p rs r) (respaced p rs s) ≡ Less
+respaced-first : (p : Parent) (rs : List Record) (r s : Record) → length rs ≤ most_records → IsIn r rs → IsIn s rs → comes_first r s ≡ Less → comes_first (respaced p rs r) (respaced p rs s) ≡ Less
 respaced-first p rs r s few m n l =
     let keeps = respaced-keeps p rs in
     let parents : by_parent (respaced p rs r).place.parent (respaced p rs s).place.parent ≡ by_parent r.place.parent s.place.parent =
@@ -225,7 +225,7 @@ respaced-first p rs r s few m n l =
 map-has : (f : Record → Record) (rs : List Record) (r : Record) → Contains rs r → Contains (map f rs) (f r)
 map-has f rs r c = (c.0, (let n : length (map f rs) ≡ length rs = length-map rs f in let b : c.0 < length rs = c.1 in omega arith), get_or-map f rs c.0 r (f r) c.1 ∙ ap f c.2)
 
-pub respaced-order : (p : Parent) (order rs : List Record) → length rs ≤ 4096 → IsInPlaceOrder order rs → IsInPlaceOrder (map (respaced p rs) order) (map (respaced p rs) rs)
+pub respaced-order : (p : Parent) (order rs : List Record) → length rs ≤ most_records → IsInPlaceOrder order rs → IsInPlaceOrder (map (respaced p rs) order) (map (respaced p rs) rs)
 respaced-order p order rs few o =
     let f : Record → Record = respaced p rs in
     let n : length (map f order) ≡ length order = length-map order f in

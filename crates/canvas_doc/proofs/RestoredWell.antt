@@ -13,7 +13,7 @@ use Rattle.canvas_doc.specs.declared.records.Parent.{Parent}
 use Rattle.canvas_doc.specs.declared.records.Parent.TheVariants.{Page, Shape}
 use Rattle.canvas_doc.specs.declared.records.Record.{Record}
 use Rattle.canvas_doc.specs.Children.{same_parent}
-use Rattle.canvas_doc.specs.Contents.{IsWellFormed, AreRising, record_of, is_container, reaches_page}
+use Rattle.canvas_doc.specs.Contents.{IsWellFormed, AreRising, record_of, is_container, reaches_page, most_records}
 use Rattle.canvas_key.specs.Text.{IsKey, is_same}
 use Rattle.canvas_plane.specs.Limits.{is_pose}
 use Rattle.canvas_shape.specs.Limits.{has_sides, has_vertices}
@@ -226,7 +226,7 @@ grounded-all all [] ids holds can leads = tt
 grounded-all all (r ∷ rs) ids holds can leads =
     (reaches-by_id 31 all r.place.parent ids ∙ reaches-from_leads 31 all r.place.parent holds can.0 leads.0, grounded-all all rs ids holds can.1 leads.1)
 
-pub restores-well : (rs : List Record) (next : ℕ) → 1 ≤ next → next < 2 ^ 32 → length rs ≤ 4096 → All (λ (r : Record). IsKey r.place.index) rs → record_fault next rs ≡ None → tree_fault rs ≡ None → IsWellFormed (restored_of rs next)
+pub restores-well : (rs : List Record) (next : ℕ) → 1 ≤ next → next < 2 ^ 32 → length rs ≤ most_records → All (λ (r : Record). IsKey r.place.index) rs → record_fault next rs ≡ None → tree_fault rs ≡ None → IsWellFormed (restored_of rs next)
 restores-well rs next above below few keys records tree =
     let p = placed rs [] rs tree in
     let ids = have-ids rs (apart (λ s r. s.id == r.id) [] rs p.ids) in

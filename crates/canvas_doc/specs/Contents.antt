@@ -49,11 +49,15 @@ AreRising (r ∷ rs) = AllByRecursion (λ s. r.id < s.id) rs × AreRising rs
 abbrev pub HaveIds : List Record → Type 0
 HaveIds rs = (i j : ℕ) (d : Record) → i < j → j < length rs → (slice_index_or rs i d).id ≢ (slice_index_or rs j d).id
 
+-- the most records of a document
+abbrev pub most_records : ℕ
+most_records = 16384
+
 -- a page tree within the product's limits
 pub record IsWellFormed (d : Contents) : Type 0 where
   pub next_above : 1 ≤ d.next
   pub next_below : d.next < 2 ^ 32
-  pub few : length d.records ≤ 4096
+  pub few : length d.records ≤ most_records
   pub rising : AreRising d.records
   pub ids : All (λ r. (1 ≤ r.id) × (r.id < d.next)) d.records
   pub limits : All IsInLimits d.records

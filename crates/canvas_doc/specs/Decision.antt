@@ -18,7 +18,7 @@ use Rattle.canvas_doc.specs.declared.edits.Change.TheVariants as change
 use Rattle.canvas_doc.specs.declared.refusals.Refusal.{Refusal}
 use Rattle.canvas_doc.specs.declared.refusals.Refusal.TheVariants.{OutOfMemory, NoSuchShape, NoSuchParent, NotAContainer, Cycle, TooDeep, TooMany, BadSize, BadPose, BadPolygon, WrongKind, IdsSpent}
 use Rattle.canvas_doc.specs.Siblings.{refused_if, siblings, index_at}
-use Rattle.canvas_doc.specs.Contents.{Contents, record_of, is_container, reaches_page}
+use Rattle.canvas_doc.specs.Contents.{Contents, record_of, is_container, reaches_page, most_records}
 use Rattle.canvas_doc.specs.Effect.{at_id, is_below}
 use Rattle.canvas_doc.specs.Depth.{is_above_32}
 
@@ -81,7 +81,7 @@ create_index kind pose p spot d =
     refused_if (not (has_parent d.records p)) NoSuchParent
     (refused_if (not (can_have_children d.records p)) NotAContainer
     (refused_if (not (reaches_page 31 d.records p)) TooDeep
-    (refused_if (nat_le 4096 (length d.records)) TooMany
+    (refused_if (nat_le most_records (length d.records)) TooMany
     (refused_if (d.next == 4294967295) IdsSpent
     (refused_if (not (has_sides kind)) BadSize
     (refused_if (not (is_pose pose)) BadPose

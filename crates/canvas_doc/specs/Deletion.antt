@@ -6,7 +6,7 @@ use Rattle.canvas_doc.specs.declared.records.Parent.TheVariants.{Shape}
 use Rattle.canvas_doc.specs.declared.records.Record.{Record}
 use Rattle.canvas_doc.specs.Bounds.{AreBounds}
 use Rattle.canvas_doc.specs.Children.{is_child}
-use Rattle.canvas_doc.specs.Contents.{is_container, AreRising}
+use Rattle.canvas_doc.specs.Contents.{is_container, AreRising, most_records}
 use Rattle.canvas_doc.specs.PlaceOrder.{IsInPlaceOrder}
 
 -- one of the shapes is the record's parent
@@ -33,7 +33,7 @@ holders_below (suc levels) rs level = level ++ holders_below levels rs (containe
 
 -- records in rising id, the same in their order by place, and their bounds in this order
 pub record AreLists (records order : List Record) (bounds : List Bounds) : Type 0 where
-  pub few : length order ≤ 4096
+  pub few : length order ≤ most_records
   pub rising : AreRising records
   pub in_order : IsInPlaceOrder order records
   pub bounded : AreBounds order bounds

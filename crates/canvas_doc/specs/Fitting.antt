@@ -11,7 +11,7 @@ use Rattle.canvas_doc.specs.declared.records.Record.{Record}
 use Rattle.canvas_doc.specs.declared.edits.Change.{Change}
 use Rattle.canvas_doc.specs.declared.edits.Change.TheVariants as change
 use Rattle.canvas_doc.specs.Children.{is_child}
-use Rattle.canvas_doc.specs.Contents.{Contents, is_container, reaches_page}
+use Rattle.canvas_doc.specs.Contents.{Contents, is_container, reaches_page, most_records}
 use Rattle.canvas_doc.specs.Decision.{has_shape, has_parent, lies_too_deep}
 use Rattle.canvas_doc.specs.Siblings.{siblings, is_taken}
 
@@ -20,7 +20,7 @@ has_no_child id rs = list_all (λ r. not (is_child (Shape id) r)) rs
 
 -- a new shape may be put here
 abbrev pub creation_test : Kind → Pose → Place → Contents → Bool
-creation_test kind pose pl d = not (d.next == 4294967295) && (not (nat_le 4096 (length d.records)) && (has_sides kind && (has_vertices kind && (is_pose pose && (reaches_page 31 d.records pl.parent && not (is_taken pl.index (siblings d.next pl.parent d.records)))))))
+creation_test kind pose pl d = not (d.next == 4294967295) && (not (nat_le most_records (length d.records)) && (has_sides kind && (has_vertices kind && (is_pose pose && (reaches_page 31 d.records pl.parent && not (is_taken pl.index (siblings d.next pl.parent d.records)))))))
 
 -- the shape may be moved here
 abbrev pub move_test : ℕ → Place → List Record → Bool

@@ -9,7 +9,6 @@ ghost use Rattle.canvas_doc.specs.Contents.{AreRising, IsWellFormed};
 ghost use Rattle.canvas_doc.specs.Effect.{Fits, HasKey};
 ghost use Rattle.canvas_doc.specs.Decision.{same_variant, is_another_kind, move_index, create_index, move_decision, pose_decision, reshape_judgement, reshape_decision, show_decision, delete_decision, respace_decision, decision_of, asks_memory, IsAnswer};
 
-use crate::Document;
 use crate::ancestry::{
     STEPS, can_have_children, has_parent, has_shape, is_above_32, is_below, reaches_page,
 };
@@ -18,6 +17,7 @@ use crate::lookup::find;
 use crate::records::{Parent, Place, Record, Records};
 use crate::refusals::Refusal;
 use crate::spots::index_at;
+use crate::{Document, MOST_RECORDS};
 use canvas_key::Key;
 use canvas_plane::Pose;
 use canvas_shape::Kind;
@@ -95,7 +95,7 @@ fn create_index(
     if !reaches_page(records, STEPS, parent) {
         return Err(Refusal::TooDeep);
     }
-    if records.len() >= 4096 {
+    if records.len() >= MOST_RECORDS {
         return Err(Refusal::TooMany);
     }
     if document.next == 4_294_967_295 {

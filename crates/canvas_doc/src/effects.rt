@@ -7,7 +7,7 @@ ghost use Rattle.std.specs.Option.{unwrap_or};
 ghost use Rattle.canvas_key.specs.Rank.{fresh_key};
 ghost use Rattle.canvas_doc.specs.Bounds.{AreBounds, HaveOneShape};
 ghost use Rattle.canvas_doc.specs.Children.{is_child};
-ghost use Rattle.canvas_doc.specs.Contents.{record_of, HaveIds, AreRising, IsWellFormed};
+ghost use Rattle.canvas_doc.specs.Contents.{record_of, HaveIds, AreRising, IsWellFormed, most_records};
 ghost use Rattle.canvas_doc.specs.declared.records.Record.{Record};
 ghost use Rattle.canvas_doc.specs.Effect.{changed_by, respaced, ReplacesAt};
 ghost use Rattle.canvas_doc.specs.PlaceOrder.{comes_first, AreChildrenWithin, IsInPlaceOrder};
@@ -348,7 +348,7 @@ fn respaced_children(
 ) -> Result<Vec<Shared<Record>>, OutOfMemory>
     requires rising { IsStrictlySortedBy comes_first order.now }
     requires children { AreChildrenWithin parent order.now start end }
-    requires few { end ≤ start + 4096 }
+    requires few { end ≤ start + most_records }
     ensures { IfOk result (λ children. children.items ≡ map (respaced parent order.now) (filter (is_child parent) order.now)) }
 {
     let mut children = Vec::with_capacity(alloc, end - start)?;
@@ -362,7 +362,7 @@ fn respaced_children(
 
 // A record with the index that stands for a rank.
 fn respaced(alloc: Global, shape: &Record, rank: u32) -> Result<Record, OutOfMemory>
-    requires { rank < 4096 }
+    requires { rank < most_records }
     ensures { IfOk result (λ after. after ≡ record shape.now { place = record shape.now.place { index = fresh_key rank } }) }
 {
     Ok(Record {
@@ -383,7 +383,7 @@ fn with_each(
     records: &Records,
     others: &[Shared<Record>],
 ) -> Result<Records, OutOfMemory>
-    requires few { length records.now ≤ 4096 }
+    requires few { length records.now ≤ most_records }
     requires rising { AreRising records.now }
     requires once { HaveIds others.now }
     ensures { IfOk result (λ all. all ≡ map (λ r. unwrap_or (record_of r.id others.now) r) records.now) }

@@ -6,13 +6,13 @@ ghost use Rattle.canvas_doc.specs.Contents.{IsWellFormed};
 ghost use Rattle.canvas_doc.specs.Effect.{Fits, HasKey};
 ghost use Rattle.canvas_doc.specs.Fitting.{creation_test, fits_test, has_no_child, kind_test, move_test};
 
-use crate::Document;
 use crate::ancestry::{has_parent, has_shape, is_container, lies_too_deep, reaches_page};
 use crate::decisions::is_pose;
 use crate::edits::Change;
 use crate::place_order::children_range;
 use crate::records::{Parent, Place};
 use crate::spots::is_taken;
+use crate::{Document, MOST_RECORDS};
 use canvas_plane::Pose;
 use canvas_shape::Kind;
 
@@ -63,7 +63,7 @@ fn can_be_created(document: &Document, kind: &Kind, pose: &Pose, place: &Place) 
     if document.next == 4_294_967_295 {
         return false;
     }
-    if document.records.len() >= 4096 {
+    if document.records.len() >= MOST_RECORDS {
         return false;
     }
     if !kind.has_sides() {

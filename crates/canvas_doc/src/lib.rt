@@ -35,6 +35,9 @@ pub use restored::TreeFault;
 use std::alloc::Global;
 use std::marker::Model;
 
+/// The most records that a document has.
+pub const MOST_RECORDS: usize = 16_384;
+
 /// A design document: records in a page tree, and the next id. It is always well formed.
 #[derive(Drop)]
 pub struct Document {
@@ -80,7 +83,7 @@ impl Document {
         self.next
     }
 
-    /// How many records there are, at most 4,096.
+    /// How many records there are, at most `MOST_RECORDS`.
     pub fn count(&self) -> usize
         ensures { result ≡ length self.now.records }
     {

@@ -32,7 +32,7 @@ pub enum Refusal {
     /// 6: a record would lie more than 32 deep.
     #[error("TooDeep")]
     TooDeep,
-    /// 7: 4,096 records are there already.
+    /// 7: 16,384 records are there already.
     #[error("TooMany")]
     TooMany,
     /// 8: a side outside 1 to 65,536.

@@ -6,7 +6,7 @@ ghost use Rattle.std.specs.List.{list_any, slice_get};
 ghost use Rattle.canvas_doc.specs.declared.records.Record.{Record};
 ghost use Rattle.canvas_code.specs.Names.{name_of};
 ghost use Rattle.canvas_key.specs.Text.{IsKey};
-ghost use Rattle.canvas_doc.specs.Contents.{record_of, IsWellFormed};
+ghost use Rattle.canvas_doc.specs.Contents.{record_of, IsWellFormed, most_records};
 ghost use Rattle.canvas_doc.specs.Decision.{can_have_children};
 ghost use Rattle.canvas_doc.specs.Restored.{is_record, record_fault, leads_to_page, same_place, tree_fault, by_id, restoration_of, tree_fault_code};
 ghost use Rattle.canvas_doc.specs.Listed.{GivesFirsts, holder_of, has_place};
@@ -95,7 +95,7 @@ impl Document {
     /// Where an id stands twice, the first record with it counts as the parent.
     pub fn restore(alloc: Global, records: Vec<Record>, next: u32) -> Result<Document, TreeFault>
         requires next { 1 ≤ next }
-        requires few { length records.items ≤ 4096 }
+        requires few { length records.items ≤ most_records }
         ensures restoration { MatchResult result (λ document. restoration_of records.items next ≡ Ok document) (λ fault. (fault ≡ TreeFault.OutOfMemory) ⊎ (restoration_of records.items next ≡ Err fault)) }
         // A record's own fault is named also where there is no memory.
         ensures limits { (position : ℕ) → record_fault next records.items ≡ Some position → IsErrOf result (TreeFault.BadRecord position) }
@@ -145,7 +145,7 @@ fn by_id(mut records: Vec<Record>) -> Result<Vec<Record>, OutOfMemory>
 
 // The records, so that they can be shared.
 fn shared(alloc: Global, records: Vec<Record>) -> Result<Records, OutOfMemory>
-    requires { length records.items ≤ 4096 }
+    requires { length records.items ≤ most_records }
     ensures { IfOk result (λ all. all ≡ records.items) }
 {
     let mut all = Vec::with_capacity(alloc, records.len())?;

@@ -4,7 +4,7 @@ use Rattle.std.specs.List.Sorted.{IsStrictlySortedBy}
 use Rattle.std.proofs.Math.ListN.{length-set}
 use Rattle.std.proofs.lemmas.List.Edits.{length-remove}
 use Rattle.canvas_doc.specs.declared.records.Record.{Record}
-use Rattle.canvas_doc.specs.Contents.{Contents}
+use Rattle.canvas_doc.specs.Contents.{Contents, most_records}
 use Rattle.canvas_doc.specs.PlaceOrder.{comes_first, IsInPlaceOrder}
 use Rattle.canvas_doc.specs.declared.bounds.Bounds.{Bounds}
 use Rattle.canvas_doc.specs.Bounds.{AreBoundsBut, HaveOneShape}
@@ -35,7 +35,7 @@ with_inserted-requires-clause-few c =
     let listed = seen-at c.self.inside.order c.self.inside.records c.args.self.now.records c.at.result.now c.value.result.now c.args.at c.position_in-from.result
     c.self.invariant.in_order (ap (λ (d : Contents). d.records) c.self.view_is) c.requires.there c.at.ensures c.value.ensures c.position_in-from.ensures in
     let long : length c.self.inside.order ≡ length c.self.inside.records = c.self.invariant.in_order.long in
-    let few : length c.self.inside.records ≤ 4096 = c.self.invariant.well_formed.few in
+    let few : length c.self.inside.records ≤ most_records = c.self.invariant.well_formed.few in
     omega (arith, ap length c.in_ok-others.ensures, length-remove c.self.inside.order c.position_in-from.result listed.within)
 
 pub at-own-requires : goal.at-own-requires
@@ -97,7 +97,7 @@ with_inserted-requires-2-clause-few c =
     c.requires.one c.at-moved.ensures c.value-2.ensures c.in_ok-others.ensures c.position_in-to.ensures in
     let long : length c.self.inside.bounds ≡ length order = c.self.invariant.bounded.long in
     let all : length order ≡ length rs = c.self.invariant.in_order.long in
-    let few : length rs ≤ 4096 = c.self.invariant.well_formed.few in
+    let few : length rs ≤ most_records = c.self.invariant.well_formed.few in
     let there : k < length order = m.listed.within in
     omega (arith, ap length c.in_ok-left.ensures, length-remove c.self.inside.bounds k (omega arith))
 

@@ -1,7 +1,7 @@
 use Rattle.std.proofs.Common.{rules, All, ◌≡◌, ◌∙◌, ◌<◌, ◌≤◌, ◌^◌, List, None, length, subst, sym, arith}
 use Rattle.canvas_key.specs.Text.{IsKey}
 use Rattle.canvas_doc.specs.declared.records.Record.{Record}
-use Rattle.canvas_doc.specs.Contents.{IsWellFormed}
+use Rattle.canvas_doc.specs.Contents.{IsWellFormed, most_records}
 use Rattle.canvas_doc.specs.Restored.{record_fault, tree_fault}
 use Rattle.canvas_doc.proofs.Saved.{restoration_of-same}
 use Rattle.canvas_doc.proofs.RestoredWell.{length-by_id, restores-well}
@@ -9,7 +9,7 @@ use Rattle.canvas_doc.proofs.Document.restore.Goals as goal
 
 pub shared-requires : goal.shared-requires
 shared-requires c =
-    subst (λ (rs : List Record). length rs ≤ 4096) (sym c.in_ok-by_id.ensures) (rw length-by_id c.requires.few)
+    subst (λ (rs : List Record). length rs ≤ most_records) (sym c.in_ok-by_id.ensures) (rw length-by_id c.requires.few)
 
 pub of_sorted-requires : goal.of_sorted-requires
 of_sorted-requires c =

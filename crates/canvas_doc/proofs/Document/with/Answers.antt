@@ -3,7 +3,7 @@ use Rattle.std.proofs.lemmas.List.{length-map}
 use Rattle.std.proofs.lemmas.Result.{IfOk-weaker}
 use Rattle.canvas_doc.specs.declared.edits.Change.{Change}
 use Rattle.canvas_doc.specs.declared.edits.Change.TheVariants.{Respace}
-use Rattle.canvas_doc.specs.Contents.{Contents, IsWellFormed}
+use Rattle.canvas_doc.specs.Contents.{Contents, IsWellFormed, most_records}
 use Rattle.canvas_doc.specs.Effect.{effect_of, respaced, SpacesOnly}
 use Rattle.canvas_doc.specs.Picture.{colour}
 use Rattle.canvas_doc.proofs.Respaced.{colour-respaced}
@@ -14,7 +14,7 @@ returns-in-Respace-clause-colours c =
     let before : Contents = c.args.self.now in
     let p = c.in-Respace.parent in
     let well : IsWellFormed (effect_of (Respace p) before) = subst (λ (ch : Change). IsWellFormed (effect_of ch before)) c.in-Respace.is c.requires.left in
-    let few : length before.records ≤ 4096 = subst (λ n. n ≤ 4096) (length-map before.records (respaced p before.records)) well.few in
+    let few : length before.records ≤ most_records = subst (λ n. n ≤ most_records) (length-map before.records (respaced p before.records)) well.few in
     IfOk-weaker c.with_new_indexes.result (λ (after : Contents). after ≡ effect_of (Respace p) before) (λ (after : Contents). SpacesOnly c.args.change.now → (x y : ℤ) → colour after.records x y ≡ colour before.records x y)
     (λ after is _ x y. ap (λ (d : Contents). colour d.records x y) is ∙ colour-respaced p before.records few x y)
     c.with_new_indexes.ensures

@@ -4,7 +4,7 @@ use Rattle.std.proofs.lemmas.List.Edits.{insert_end, length-insert}
 use Rattle.std.proofs.lemmas.List.Elements.{All-contains, Contains-push}
 use Rattle.canvas_doc.specs.declared.bounds.Bounds.{Bounds}
 use Rattle.canvas_doc.specs.declared.records.Record.{Record}
-use Rattle.canvas_doc.specs.Contents.{Contents, IsWellFormed}
+use Rattle.canvas_doc.specs.Contents.{Contents, IsWellFormed, most_records}
 use Rattle.canvas_doc.specs.PlaceOrder.{IsInPlaceOrder}
 use Rattle.canvas_doc.specs.Bounds.{AreBoundsBut}
 use Rattle.canvas_doc.specs.Tree.{HavePlaces, IsInLimits}
@@ -19,14 +19,14 @@ bounds_for-own-requires-clause-limits c = All-contains IsInLimits (c.args.self.n
 pub with_inserted-requires-2-clause-few : goal.with_inserted-requires-2-clause-few
 with_inserted-requires-2-clause-few c =
     let long : length c.self.inside.order ≡ length c.self.inside.records = c.self.invariant.in_order.long in
-    let few : length c.self.inside.records ≤ 4096 = c.self.invariant.well_formed.few in
+    let few : length c.self.inside.records ≤ most_records = c.self.invariant.well_formed.few in
     let bounds : length c.self.inside.bounds ≡ length c.self.inside.order = c.self.invariant.bounded.long in
     omega arith
 
 pub with_inserted-requires-3-clause-within : goal.with_inserted-requires-3-clause-within
 with_inserted-requires-3-clause-within c =
     let long : length c.self.inside.order ≡ length c.self.inside.records = c.self.invariant.in_order.long in
-    let few : length c.self.inside.records ≤ 4096 = c.self.invariant.well_formed.few in
+    let few : length c.self.inside.records ≤ most_records = c.self.invariant.well_formed.few in
     let bounds : length c.self.inside.bounds ≡ length c.self.inside.order = c.self.invariant.bounded.long in
     let bound : c.position_in-at.result ≤ length c.self.inside.order = c.position_in-at.ensures.bound in
     omega arith
@@ -34,7 +34,7 @@ with_inserted-requires-3-clause-within c =
 pub with_inserted-requires-3-clause-few : goal.with_inserted-requires-3-clause-few
 with_inserted-requires-3-clause-few c =
     let long : length c.self.inside.order ≡ length c.self.inside.records = c.self.invariant.in_order.long in
-    let few : length c.self.inside.records ≤ 4096 = c.self.invariant.well_formed.few in
+    let few : length c.self.inside.records ≤ most_records = c.self.invariant.well_formed.few in
     let bounds : length c.self.inside.bounds ≡ length c.self.inside.order = c.self.invariant.bounded.long in
     omega arith
 

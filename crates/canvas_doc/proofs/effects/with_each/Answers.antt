@@ -2,7 +2,7 @@ use Rattle.std.proofs.Common.{◌≡◌, ◌≤◌, ◌∙◌, ℕ, List, IfOk, 
 use Rattle.std.specs.Option.{unwrap_or}
 use Rattle.std.proofs.lemmas.List.{length-map, take_all}
 use Rattle.canvas_doc.specs.declared.records.Record.{Record}
-use Rattle.canvas_doc.specs.Contents.{record_of, StandsAt}
+use Rattle.canvas_doc.specs.Contents.{record_of, StandsAt, most_records}
 use Rattle.canvas_doc.proofs.Respacing.{none-put, nothing-put, one-put}
 use Rattle.canvas_doc.proofs.effects.with_each.Goals as goal
 use Rattle.canvas_doc.proofs.effects.with_each.Goals.{in-Some+in_ok-all-2, in_default}
@@ -27,7 +27,7 @@ loop-other-preserved c =
 
 pub from_vec-requires : goal.from_vec-requires
 from_vec-requires c =
-    let few : length c.args.records.now ≤ 4096 = c.requires.few in
+    let few : length c.args.records.now ≤ most_records = c.requires.few in
     omega (arith, ap length c.loop-other.invariant, length-map c.args.records.now (λ r. unwrap_or (record_of r.id (take c.loop-other.other-index c.args.others.now)) r))
 
 pub returns : goal.returns
