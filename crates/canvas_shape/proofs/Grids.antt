@@ -1,12 +1,13 @@
 -- Columns and rows that a window shows.
-use Rattle.std.proofs.Common.{◌≡◌, ℕ, ◌+◌, ◌*◌, ◌^◌, ◌/◌, ◌-◌, ◌<◌, ◌≤◌, ℤ, pos, ◌+ℤ◌, ◌*ℤ◌, ◌<ℤ◌, ◌≤ℤ◌, sym, ap, ◌∙◌, arith, inl, inr, refl}
+use Rattle.std.proofs.Common.{◌≡◌, ℕ, ◌+◌, ◌*◌, ◌/◌, ◌-◌, ◌<◌, ◌≤◌, ℤ, pos, ◌+ℤ◌, ◌*ℤ◌, ◌<ℤ◌, ◌≤ℤ◌, sym, ap, ◌∙◌, arith, inl, inr}
 use Rattle.std.specs.Prelude.{int_lt, nat_lt, min}
 use Rattle.std.proofs.lemmas.Bool.{cases_lt, lt-ltb, le-ltb}
 use Rattle.std.proofs.lemmas.Int.{ints}
 use Rattle.std.proofs.lemmas.Nat.{div_below, le-div, mul-le, pow_pos}
 use Rattle.std.proofs.Math.Nat.{div-mul-le_self, pow-le-pow_right}
-use Rattle.canvas_shape.specs.StubWindow.{row_shown, scale_of}
-use Rattle.canvas_shape.specs.declared.stub.Window.{Window}
+use Rattle.canvas_plane.specs.Sides.{scale_of}
+use Rattle.canvas_plane.specs.Window.{row_shown}
+use Rattle.canvas_plane.specs.declared.windows.Window.{Window}
 use Rattle.canvas_shape.proofs.Edge.{lt-lt_test, le-lt_test, times-add}
 
 below-of : (edge from : ℤ) (n m : ℕ) → from +ℤ pos n +ℤ pos 1 ≡ edge → edge ≤ℤ (from +ℤ pos m) → n < m

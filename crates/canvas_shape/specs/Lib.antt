@@ -11,5 +11,4 @@ pub mod Lines
 pub mod Names
 pub mod Points
 pub mod Spans
-pub mod StubWindow
 pub mod Words

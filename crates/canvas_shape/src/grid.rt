@@ -1,10 +1,10 @@
 //! The rows of a window that are flagged, and the box that it covers.
 
 ghost use Rattle.std.specs.Prelude.{◌≡◌, ◌≤◌, ◌<◌, ◌+◌, ◌*◌, ℕ, ◌+ℤ◌, ◌≤ℤ◌, ◌<ℤ◌, IsTrue, ◌↔◌, int_lt, nat_lt, pos};
-ghost use Rattle.canvas_shape.specs.StubWindow.{column_shown, covered_by, row_shown, scale_of};
+ghost use Rattle.canvas_plane.specs.Sides.{scale_of};
+ghost use Rattle.canvas_plane.specs.Window.{column_shown, covered_by, row_shown};
 
-use crate::stub::Window;
-use canvas_plane::PageBox;
+use canvas_plane::{PageBox, Window};
 
 /// A window's columns, and its rows from one on.
 #[derive(Clone, Copy)]

@@ -14,7 +14,6 @@ mod parts;
 mod polygon;
 mod spans;
 mod strip;
-pub mod stub;
 mod vertex_list;
 
 use canvas_plane::Point;

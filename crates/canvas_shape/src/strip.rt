@@ -2,7 +2,7 @@
 
 ghost use Rattle.std.specs.Prelude.{◌≡◌, ◌≤◌, ◌<◌, ◌^◌, ◌&&◌, All, ℕ, ◌≤ℤ◌, false, get_or, int_lt, nat_lt, length, IsTrue, ◌+◌, ◌<ℤ◌};
 ghost use Rattle.canvas_plane.specs.Motion.{not_same, size_of};
-ghost use Rattle.canvas_shape.specs.StubWindow.{column_shown, row_shown};
+ghost use Rattle.canvas_plane.specs.Window.{column_shown, row_shown};
 ghost use Rattle.canvas_shape.specs.Edges.{counts, is_in_polygon};
 ghost use Rattle.canvas_shape.specs.Flags.{is_held};
 ghost use Rattle.canvas_shape.specs.declared.edge_flags.EdgeFlags.{EdgeFlags};
@@ -12,8 +12,7 @@ use crate::grid::Grid;
 use crate::line::Line;
 use crate::parts::Vertices;
 use crate::polygon::last;
-use crate::stub::Window;
-use canvas_plane::Point;
+use canvas_plane::{Point, Window};
 
 impl Vertices<'_> {
     /// Puts into each of `rows`, which are the window's rows from the row `first` on, its edge flags for the window's columns:

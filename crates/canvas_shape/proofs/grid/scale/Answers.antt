@@ -1,4 +1,4 @@
-use Rattle.std.proofs.Common.{◌≡◌, ◌≤◌, ◌<◌, ◌^◌, ◌*◌, ◌%◌, ap, ◌∙◌, arith, subst, sym}
+use Rattle.std.proofs.Common.{◌≡◌, ◌≤◌, ◌^◌, ◌*◌, ◌%◌, ap, ◌∙◌, arith, subst, sym}
 use Rattle.std.proofs.lemmas.Nat.{one_shl}
 use Rattle.canvas_shape.proofs.Grids.{scale-most}
 use Rattle.canvas_shape.proofs.grid.scale.Goals as goal

@@ -1,9 +1,8 @@
-use Rattle.std.proofs.Common.{◌≡◌, ◌+◌, ◌^◌, ◌/◌, ap, ◌∙◌, FitsSigned, rules, sym, subst, ◌<◌}
+use Rattle.std.proofs.Common.{◌+◌, ◌^◌, ◌/◌, ap, ◌∙◌}
 use Rattle.std.specs.Prelude.{nat_lt}
-use Rattle.std.specs.Int.{w64}
 use Rattle.std.proofs.lemmas.Int.{to_z-of_z}
-use Rattle.canvas_shape.specs.StubWindow.{scale_of}
-use Rattle.canvas_shape.proofs.Grids.{scale-positive, steps-before, steps-most}
+use Rattle.canvas_plane.specs.Sides.{scale_of}
+use Rattle.canvas_shape.proofs.Grids.{scale-positive, steps-before}
 use Rattle.canvas_shape.proofs.grid.steps_before.Goals as goal
 
 pub returns-clause-before : goal.returns-clause-before

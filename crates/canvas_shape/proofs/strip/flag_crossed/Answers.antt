@@ -1,10 +1,11 @@
-use Rattle.std.proofs.Common.{ℕ, ◌+◌, ◌^◌, ◌&&◌, true, get_or, unsigned_abs, ◌≡◌, ◌<◌, ◌≤◌, FitsSigned, rules, arith, inl, inr, refl, length, subst, pos, ℤ, ◌+ℤ◌, ◌∙◌, ap, sym}
+use Rattle.std.proofs.Common.{ℕ, ◌+◌, ◌^◌, ◌&&◌, true, get_or, unsigned_abs, ◌≡◌, ◌<◌, ◌≤◌, FitsSigned, rules, arith, inl, inr, refl, length, subst, ℤ, ◌∙◌, ap, sym}
 use Rattle.std.specs.Int.{w32, w64}
 use Rattle.std.proofs.lemmas.Int.{to_z-of_z}
 use Rattle.std.proofs.lemmas.Bool.{cases_lt}
 use Rattle.canvas_shape.specs.Flags.{is_held}
 use Rattle.canvas_shape.specs.Lines.{Follows}
-use Rattle.canvas_shape.specs.StubWindow.{column_shown, row_shown, scale_of}
+use Rattle.canvas_plane.specs.Sides.{scale_of}
+use Rattle.canvas_plane.specs.Window.{column_shown, row_shown}
 use Rattle.canvas_shape.proofs.Grids.{row-next}
 use Rattle.canvas_shape.proofs.Strips.{crosses-at, between-ends, row-above, row-below, rows-after, rows-step}
 use Rattle.canvas_shape.specs.Edges.{counts, crosses_row}

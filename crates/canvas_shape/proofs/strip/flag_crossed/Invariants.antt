@@ -3,7 +3,8 @@ use Rattle.std.specs.Prelude.{nat_lt}
 use Rattle.canvas_plane.specs.Motion.{not_same}
 use Rattle.canvas_shape.specs.declared.edge_flags.EdgeFlags.{EdgeFlags}
 use Rattle.canvas_shape.specs.Edges.{counts}
-use Rattle.canvas_shape.specs.StubWindow.{column_shown, row_shown, scale_of}
+use Rattle.canvas_plane.specs.Sides.{scale_of}
+use Rattle.canvas_plane.specs.Window.{column_shown, row_shown}
 use Rattle.canvas_shape.specs.Flags.{is_held}
 use Rattle.canvas_shape.specs.Lines.{Follows}
 use Rattle.canvas_shape.proofs.strip.flag_crossed.Given as goal

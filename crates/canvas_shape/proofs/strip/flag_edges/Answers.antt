@@ -3,7 +3,7 @@ use Rattle.std.specs.Prelude.{nat_lt}
 use Rattle.canvas_plane.specs.Motion.{not_same}
 use Rattle.canvas_shape.specs.Edges.{is_odd_along}
 use Rattle.canvas_shape.specs.Flags.{is_held}
-use Rattle.canvas_shape.specs.StubWindow.{column_shown, row_shown}
+use Rattle.canvas_plane.specs.Window.{column_shown, row_shown}
 use Rattle.canvas_shape.proofs.Odd.{false-same}
 use Rattle.canvas_shape.proofs.Strips.{edge-step, edge-done}
 use Rattle.canvas_shape.proofs.strip.flag_edges.Goals as goal

@@ -4,7 +4,7 @@ use Rattle.canvas_plane.specs.Motion.{not_same, size_of}
 use Rattle.canvas_shape.specs.declared.edge_flags.EdgeFlags.{EdgeFlags}
 use Rattle.canvas_shape.specs.Edges.{is_odd_along}
 use Rattle.canvas_shape.specs.Flags.{is_held}
-use Rattle.canvas_shape.specs.StubWindow.{column_shown, row_shown}
+use Rattle.canvas_plane.specs.Window.{column_shown, row_shown}
 use Rattle.canvas_shape.proofs.strip.flag_edges.Given as goal
 
 abbrev pub invariant-loop-to : goal.invariant-loop-to

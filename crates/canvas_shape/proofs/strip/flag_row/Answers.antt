@@ -2,7 +2,7 @@ use Rattle.std.proofs.Common.{◌+◌, ap, ◌∙◌, arith, FitsSigned, rules}
 use Rattle.std.specs.Int.{w64}
 use Rattle.std.proofs.lemmas.Int.{to_z-of_z}
 use Rattle.canvas_plane.specs.Motion.{not_same}
-use Rattle.canvas_shape.specs.StubWindow.{column_shown}
+use Rattle.canvas_plane.specs.Window.{column_shown}
 use Rattle.canvas_shape.specs.Flags.{is_held}
 use Rattle.canvas_shape.proofs.Strips.{columns-before}
 use Rattle.canvas_shape.proofs.strip.flag_row.Goals as goal

@@ -1,9 +1,8 @@
-use Rattle.std.proofs.Common.{◌≡◌, ◌+◌, ◌*◌, ◌<◌, ◌≤◌, ◌^◌, pos, ◌+ℤ◌, ◌*ℤ◌, ◌≤ℤ◌, ap, ◌∙◌, sym, subst, FitsSigned, rules, arith, refl}
+use Rattle.std.proofs.Common.{◌<◌, ◌≤◌, ◌≤ℤ◌, ap, ◌∙◌, sym, subst, FitsSigned, rules, arith, refl}
 use Rattle.std.specs.Prelude.{int_lt}
 use Rattle.std.specs.Int.{w64}
 use Rattle.std.proofs.lemmas.Int.{to_z-of_z}
 use Rattle.std.proofs.Math.Facts.{Fits-of_lt}
-use Rattle.canvas_shape.specs.StubWindow.{column_shown, scale_of}
 use Rattle.canvas_shape.proofs.Grids.{edge-near, shown-from}
 use Rattle.canvas_shape.proofs.grid.Grid.column_before.Goals as goal
 

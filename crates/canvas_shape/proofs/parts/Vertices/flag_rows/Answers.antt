@@ -1,6 +1,6 @@
 use Rattle.std.proofs.Common.{◌+◌, ap, ◌∙◌, ◌&&◌}
 use Rattle.std.specs.Prelude.{nat_lt}
-use Rattle.canvas_shape.specs.StubWindow.{column_shown, row_shown}
+use Rattle.canvas_plane.specs.Window.{column_shown, row_shown}
 use Rattle.canvas_shape.specs.Edges.{is_in_polygon}
 use Rattle.canvas_shape.proofs.parts.Vertices.flag_rows.Goals as goal
 
