@@ -10,10 +10,9 @@ after it says what the body is; where that is a JSON text it is compared. Prints
 
 import subprocess
 import sys
-from pathlib import Path
 
-TOP = Path(__file__).resolve().parent.parent
-PROGRAM = TOP / "bin" / "canvas"
+from canvas_client import PROGRAM, TOP
+
 PAGE = TOP / "docs" / "PROTOCOL.md"
 
 
@@ -37,7 +36,7 @@ def fault(block):
     if len(sent) != len(wanted):
         return "as many requests as replies must stand in a block"
     given = "".join(line + "\n" for line in sent).encode()
-    done = subprocess.run([PROGRAM, "script"], input=given, capture_output=True, timeout=60)
+    done = subprocess.run([str(PROGRAM), "script"], input=given, capture_output=True, timeout=60)
     rest = done.stdout
     for request, reply in zip(sent, wanted):
         line, _, rest = rest.partition(b"\n")
