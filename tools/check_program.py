@@ -212,7 +212,8 @@ def waiting_client():
 
 def main():
     passed = failed = 0
-    for cases in (usage_faults, sessions, levels, windows, exports, most_records, most_versions, read_fault, waiting_client, readme_command):
+    stages = (usage_faults, sessions, levels, windows, exports, most_records, most_versions, read_fault, waiting_client, readme_command)
+    for cases in stages:
         for name, got, wanted in cases():
             if got == wanted:
                 passed += 1

@@ -4,8 +4,8 @@
 usage: tools/fuzz.py [sessions, 300 where it is left out] [seed, 1 where it is left out]
 
 A session goes to a run of `canvas script`; what the program writes to standard output and standard error and its status must be
-exactly what the model says. For every five sessions a saved text, of format 2 or 1, is opened by `canvas serve`, which must refuse it with the model's
-code and status 3, or serve it: then a session of it is compared, which ends by an export.
+exactly what the model says. For every five sessions a saved text, of format 2 or 1, is opened by `canvas serve`, which must refuse it
+with the model's code and status 3, or serve it: then a session of it is compared, which ends by an export.
 
 Each session has a seed of its own, made of the seed given and its number, and uses as many processor cores as this tool may. What
 differs is cut down to a short input and printed. The last line is 'N passed, M failed'; the status is 1 where something failed.
