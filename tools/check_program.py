@@ -7,12 +7,13 @@ It runs the program that the environment's CANVAS names, or else bin/canvas. Pri
 'N passed, M failed'; the status is 1 where something failed.
 """
 
+import io
 import os
 import re
 import subprocess
 import sys
 
-from canvas_client import PROGRAM, TOP
+from canvas_client import PROGRAM, TOP, replies
 
 SECONDS = 60
 
@@ -192,6 +193,15 @@ def readme_command():
     yield "the first command of README.md", (done.stdout, done.returncode), (lines.encode() + bytes.fromhex(digits), 0)
 
 
+def examples():
+    """The requests of examples/: each is answered, and none refused."""
+    for path in sorted((TOP / "examples").glob("*.jsonl")):
+        given = path.read_bytes()
+        out, said, status = run(["script"], given)
+        found = [reply["ok"] for reply, _ in replies(io.BytesIO(out))]
+        yield path.name, (found, said, status), ([True] * given.count(b"\n"), b"", 0)
+
+
 def waiting_client():
     """A client that sends its next bytes only when it has the reply to the last."""
     child = subprocess.Popen([str(PROGRAM), "script"], stdin=subprocess.PIPE, stdout=subprocess.PIPE, bufsize=0)
@@ -212,7 +222,8 @@ def waiting_client():
 
 def main():
     passed = failed = 0
-    stages = (usage_faults, sessions, levels, windows, exports, most_records, most_versions, read_fault, waiting_client, readme_command)
+    stages = (usage_faults, sessions, levels, windows, exports, most_records, most_versions, read_fault, waiting_client, readme_command,
+              examples)
     for cases in stages:
         for name, got, wanted in cases():
             if got == wanted:
