@@ -145,11 +145,14 @@ KEYS = [
 
 def within(level):
     """A level that there is: the level itself, or 0."""
-    return level if level in range(7) else 0
+    return level if type(level) is int and level in range(7) else 0
 
 
 def with_level(request, level):
     return request if level is None else {**request, "level": level}
+
+
+WRONG_LEVELS = [Raw("null"), True, "1", [1], {}, Raw("1.0"), Raw("-0"), Raw("1e0"), 2**63]
 
 
 class Requests:
@@ -253,8 +256,12 @@ class Requests:
 
     def _level(self):
         """The level of a picture, or None where it is left out."""
-        what = self._chance.random()
-        return None if what < 0.4 else self._chance.choice([7, 8, 32, 255, 256, -1]) if what < 0.46 else self._chance.randrange(7)
+        chance, what = self._chance, self._chance.random()
+        if what < 0.4:
+            return None
+        if what < 0.46:
+            return chance.choice([7, 8, 32, 255, 255, 256, -1])
+        return chance.randrange(7) if what < 0.98 else chance.choice(WRONG_LEVELS)
 
     def _tile(self):
         level = self._level()
@@ -449,8 +456,10 @@ def saved_value(chance):
     elif what < 0.3:
         value["shapes"] = chain(chance, form, chance.choice([31, 32, 33, 34]))
         value["next"] = 99
-    elif what < 0.36:
-        value["format"] = chance.choice([3 - form, 3 - form, 0, 3, -1, 2**32, Raw("2.0"), Raw("1e0"), "2", None, [2]])
+    elif what < 0.4:
+        value["format"] = chance.choice([3 - form, 3 - form, 0, 3, 3, -1, Raw("2.0"), Raw("1e0"), chance.choice(ODD)])
+    elif what < 0.5 and value["shapes"]:
+        spoil_value(chance, chance.choice(value["shapes"]).get("place", {}))
     return value
 
 
