@@ -31,7 +31,7 @@ from canvas_client import PROGRAM, TOP, Canvas  # noqa: E402
 from check_server import difference, free_port  # noqa: E402
 
 SECONDS = 30
-SOON, LATE = 0.5, 2
+SOON, LATE = 0.5, 10
 """Seconds within which others see an edit: most often, and always, also on a machine that is busy."""
 POSTER = TOP / "examples" / "poster.json"
 PAPER = {"kind": "rect", "w": 700, "h": 60, "fill": "102030"}
