@@ -329,6 +329,18 @@ async def in_turned_frame(ann, server):
         inside = [server.ask(verb="point", x=x, y=y)[0]["colour"] for x, y in [(found[0], found[1]), (found[2] - 1, found[3] - 1)]]
         yield f"its pixels, of a {kind}", difference(inside, ["0000ff"] * 2)
         yield f"the picture of a {kind} in a turned frame", await ann.wrong_pixels()
+        shown = [await ann.picture()]
+        for act, wanted in [("o", server.records()[parent]["parent"]), ("i", parent), ("g", parent)]:
+            await ann.tab.value(f"app.editor.select({number})")
+            await ann.press(act)
+            await ann.tab.until("app.editor.selected !== %d" % number if act == "g" else f"app.picture.tree.record({number}).parent === {json.dumps(wanted)}")
+            await ann.settle(server.ask(verb="point", x=0, y=0)[0]["version"])
+            records = server.records()
+            got = records[number]["parent"] if act != "g" else records[records[number]["parent"]]["parent"]
+            yield f"key {act}: the parent of a {kind}", difference(got, wanted)
+            shown.append(await ann.picture())
+        moved = [it for it in shown[1:] if ImageChops.difference(it, shown[0]).getbbox()]
+        yield f"a {kind} that is taken out, put in and grouped stays where it is", None if not moved else "it moved"
         await ann.press("m")
         await ann.drag([found[0] + 5, found[1] + 5], [found[0] + 8, found[1] + 1])
         await ann.tab.until(f"app.picture.tree.boxOf({number}).left === {found[0] + 3} && app.picture.tree.boxOf({number}).top === {found[1] - 4}")
