@@ -289,11 +289,13 @@ def main():
     words.add_argument("--listen", type=parts_of, default=("127.0.0.1", 8080), metavar="HOST:PORT", help="where the page is")
     given = words.parse_args()
     host, port = given.listen
-    say = lambda _: print(f"http://{host}:{port}/", flush=True)
     try:
-        web.run_app(application(*given.server, host), host=host, port=port, print=say, access_log=None)
+        listener = socket.create_server((host, port), family=socket.AF_INET6 if ":" in host else socket.AF_INET)
     except OSError as fault:
-        sys.exit(f"gateway: {fault.strerror}")
+        sys.exit(f"gateway: {host}:{port}: {fault.strerror}")
+    name = f"[{host}]" if ":" in host else host
+    address = f"http://{name}:{listener.getsockname()[1]}/"
+    web.run_app(application(*given.server, host), sock=listener, print=lambda _: print(address, flush=True), access_log=None)
 
 
 if __name__ == "__main__":
