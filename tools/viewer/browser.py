@@ -191,7 +191,8 @@ class Tab:
 
     async def box_of(self, selector):
         """The box of an element: x, y, width, height."""
-        return await self.value(f"(({{x, y, width, height}}) => [x, y, width, height])(document.querySelector({json.dumps(selector)}).getBoundingClientRect())")
+        box = f"document.querySelector({json.dumps(selector)}).getBoundingClientRect()"
+        return await self.value(f"(({{x, y, width, height}}) => [x, y, width, height])({box})")
 
     async def screenshot(self, box=None):
         """The PNG of the tab, or of a box of it."""

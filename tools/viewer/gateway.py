@@ -36,6 +36,8 @@ from PIL import Image
 PAGE = Path(__file__).resolve().parent / "page"
 MOST_PICTURES = 4096
 """How many pictures are kept, by their hashes; a tab fetches each soon after it was named."""
+MOST_IMAGES = 256
+"""How many P6 files are kept."""
 MOST_BATCH = 512
 """How many requests a batch may have."""
 BUFFER = 1 << 20
@@ -59,20 +61,31 @@ def png_of(image):
     return found.getvalue()
 
 
+def keep(kept, name, value, most):
+    """Puts a value at the end of an ordered dict, and drops the first ones where there are too many."""
+    kept[name] = value
+    kept.move_to_end(name)
+    while len(kept) > most:
+        kept.popitem(last=False)
+
+
 class Pictures:
-    """The PNG of each picture that was seen lately, by the hash of its P6 file."""
+    """The PNG of each picture that was seen lately, by the hash of its P6 file; and of some requests the last P6 file, to know it again."""
 
     def __init__(self):
         self._kept = collections.OrderedDict()
+        self._last = collections.OrderedDict()
 
-    async def add(self, image):
-        """Keeps a picture, and gives its hash."""
-        name = hashlib.blake2b(image, digest_size=16).hexdigest()
-        if name not in self._kept:
-            self._kept[name] = await asyncio.to_thread(png_of, image)
-        self._kept.move_to_end(name)
-        while len(self._kept) > MOST_PICTURES:
-            self._kept.popitem(last=False)
+    async def add(self, request, image):
+        """Keeps a picture, which a request was answered by, and gives its hash."""
+        key = tuple(request.values())
+        last, name = self._last.get(key, (b"", ""))
+        # (to compare is forty times as fast as to hash, and many tabs look at the same)
+        if last != image:
+            name = hashlib.blake2b(image, digest_size=16).hexdigest()
+        keep(self._last, key, (image, name), MOST_IMAGES)
+        png = self._kept.get(name) or await asyncio.to_thread(png_of, image)
+        keep(self._kept, name, png, MOST_PICTURES)
         return name
 
     async def answer(self, request):
@@ -222,17 +235,18 @@ class Tab:
         replies = None
         if session is not None and requests:
             try:
-                replies = [await self._for_tab(*it) for it in await session.ask(requests)]
+                answers = await session.ask(requests)
+                replies = await asyncio.gather(*(self._for_tab(request, *answer) for request, answer in zip(requests, answers)))
             except Away:
                 pass  # the watch tells the tab
         told = "null" if replies is None else f"[{','.join(replies)}]"
         await self._send(f'{{"batch":{json.dumps(number)},"replies":{told}}}')
 
-    async def _for_tab(self, reply, body):
+    async def _for_tab(self, request, reply, body):
         """The JSON of a reply for the tab: a picture as its hash, a document as it is."""
         del reply["body"]
         if body.startswith(b"P6"):
-            reply["picture"] = await self._pictures.add(body)
+            reply["picture"] = await self._pictures.add(request, body)
         text = json.dumps(reply, separators=(",", ":"))
         return f'{text[:-1]},"document":{body.decode()}}}' if body.startswith(b"{") else text
 
@@ -289,11 +303,13 @@ def main():
     words.add_argument("--listen", type=parts_of, default=("127.0.0.1", 8080), metavar="HOST:PORT", help="where the page is")
     given = words.parse_args()
     host, port = given.listen
-    say = lambda _: print(f"http://{host}:{port}/", flush=True)
     try:
-        web.run_app(application(*given.server, host), host=host, port=port, print=say, access_log=None)
+        listener = socket.create_server((host, port), family=socket.AF_INET6 if ":" in host else socket.AF_INET)
     except OSError as fault:
         sys.exit(f"gateway: {fault.strerror}")
+    name = f"[{host}]" if ":" in host else host
+    address = f"http://{name}:{listener.getsockname()[1]}/"
+    web.run_app(application(*given.server, host), sock=listener, print=lambda _: print(address, flush=True), access_log=None)
 
 
 if __name__ == "__main__":

@@ -31,7 +31,7 @@ from canvas_client import PROGRAM, TOP, Canvas  # noqa: E402
 from check_server import difference, free_port  # noqa: E402
 
 SECONDS = 30
-SOON, LATE = 0.5, 2
+SOON, LATE = 0.5, 10
 """Seconds within which others see an edit: most often, and always, also on a machine that is busy."""
 POSTER = TOP / "examples" / "poster.json"
 PAPER = {"kind": "rect", "w": 700, "h": 60, "fill": "102030"}
@@ -85,10 +85,9 @@ class Gateway:
     """A run of the gateway."""
 
     def __init__(self, server):
-        address = f"127.0.0.1:{free_port()}"
-        self._process = subprocess.Popen([str(HERE / "gateway.py"), server.address, "--listen", address], stdout=subprocess.PIPE)
+        self._process = subprocess.Popen([str(HERE / "gateway.py"), server.address, "--listen", "127.0.0.1:0"], stdout=subprocess.PIPE)
         self.page = self._process.stdout.readline().decode().strip()
-        if self.page != f"http://{address}/":
+        if not self.page.startswith("http://127.0.0.1:"):
             raise RuntimeError(f"the gateway says {self.page!r}")
 
     def close(self):
@@ -152,7 +151,8 @@ class Desk:
 
     async def picture(self):
         """What the canvas shows, with no marks above it; two frames after the last change."""
-        await self.tab.value("app.choose('select'), app.editor.select(null), document.activeElement.blur(), new Promise((done) => requestAnimationFrame(() => requestAnimationFrame(done)))")
+        await self.tab.value("app.choose('select'), app.editor.select(null), document.activeElement.blur()")
+        await self.tab.value("new Promise((done) => requestAnimationFrame(() => requestAnimationFrame(done)))")
         return Image.open(io.BytesIO(await self.tab.screenshot(await self.tab.box_of("#stage")))).convert("RGB")
 
     async def wrong_pixels(self):
@@ -301,6 +301,85 @@ async def changed(ann, ben, server):
     yield "nothing is selected", difference(await ann.text("shape-head"), "Nothing is selected")
 
 
+BOX = "(({left, top, right, bottom}) => [left, top, right, bottom])(app.picture.tree.boxOf(%d))"
+FIRST, SECOND = ([420, 240], [460, 290]), ([425, 180], [470, 220])
+"""Two boxes of the page, inside the turned frame; the second one begins inside its group."""
+
+
+async def in_turned_frame(ann, server):
+    """Drawing in a frame that is turned and flipped, and in a group inside it: on the page all goes where the pointer is."""
+    with server.connect() as canvas:
+        pose = {"dx": 500, "dy": 300, "quarter": 1, "flip": True}
+        frame = canvas.ask(verb="create", shape={"kind": "frame", "w": 200, "h": 100, "fill": "eeeeee"}, pose=pose)[0]["id"]
+        group = canvas.ask(verb="create", shape={"kind": "group"}, pose={"dx": 7, "quarter": 3}, parent=frame)[0]["id"]
+        inner = {"shape": {"kind": "rect", "w": 30, "h": 20, "fill": "00aa00"}, "pose": {"dx": -60, "dy": 100, "flip": True}}
+        made, _ = canvas.ask(verb="create", parent=group, **inner)
+    await ann.look_at(0, (400, 200))
+    await ann.settle(made["version"])
+    for kind, key, parent, (begin, end) in [("rectangle", "r", frame, FIRST), ("polygon", "p", group, SECOND)]:
+        await ann.tab.value(f"app.editor.select({parent}), app.editor.fill = '0000ff'")
+        await ann.press(key)
+        if kind == "rectangle":
+            await ann.drag(begin, end)
+        else:
+            for point in (begin, [end[0], begin[1]], end, [begin[0], end[1]], begin):
+                await ann.click(point)
+        number = await ann.made(parent)
+        yield f"the parent of a {kind} there", difference(server.records()[number]["parent"], parent)
+        yield f"the box of a {kind} there", difference(await ann.tab.value(BOX % number), [*begin, *end])
+        pixels = [server.ask(verb="point", x=x, y=y)[0]["colour"] for x, y in [begin, (end[0] - 1, end[1] - 1)]]
+        yield f"the pixels of a {kind} there", difference(pixels, ["0000ff"] * 2)
+        yield f"the picture of a {kind} there", await ann.wrong_pixels()
+        async for case in carried(ann, server, kind, number):
+            yield case
+    gone, _ = server.ask(verb="delete", id=frame)
+    await ann.settle(gone["version"])
+    yield "nothing of the frame is there", difference({frame, group} & set(server.records()), set())
+
+
+async def carried(ann, server, kind, number):
+    """A shape that is taken out, put in again, put into a group, and then moved."""
+    parent = server.records()[number]["parent"]
+    outer = server.records()[parent]["parent"]
+    before = await ann.picture()
+    for key, wanted in [("o", outer), ("i", parent), ("g", None)]:
+        await ann.tab.value(f"app.editor.select({number})")
+        version = server.ask(verb="point", x=0, y=0)[0]["version"]
+        await ann.press(key)
+        await ann.settle(version + 2)
+        found = server.records()[number]["parent"]
+        if key == "g":
+            yield f"a {kind} in a group", difference(server.records()[found]["parent"], parent)
+        else:
+            yield f"key {key}: the parent of a {kind}", difference(found, wanted)
+        yield f"key {key}: a {kind} stays where it is", difference(ImageChops.difference(before, await ann.picture()).getbbox(), None)
+    left, top, *_ = await ann.tab.value(BOX % number)
+    await ann.press("m")
+    await ann.drag([left + 5, top + 5], [left + 8, top + 1])
+    await ann.tab.until(f"app.picture.tree.boxOf({number}).left === {left + 3} && app.picture.tree.boxOf({number}).top === {top - 4}")
+    yield f"the picture of a {kind} that was moved there", await ann.wrong_pixels()
+
+
+def other_format(saved):
+    """A saved document in the other format: with or without a place in each record."""
+    def turned(record):
+        rest = {name: value for name, value in record.items() if name not in ("place", "parent", "index")}
+        if "place" in record:
+            return {**rest, **record["place"]}
+        return {**rest, "place": {"index": record["index"], "parent": record["parent"]}}
+    return {**saved, "format": 3 - saved["format"], "shapes": [turned(record) for record in saved["shapes"]]}
+
+
+async def both_formats(ann, server):
+    """The page reads the same tree of either format of saved documents."""
+    saved = json.loads(server.ask(verb="export")[1])
+    rows = "new Tree(%s, 0).rows(new Set()).map(({record, depth}) => [record.id, record.parent, depth])"
+    script = f"import('/page/tree.js').then(({{Tree}}) => [{rows % json.dumps(saved)}, {rows % json.dumps(other_format(saved))}])"
+    one, other = await ann.tab.value(script)
+    yield "both formats", difference(one, other)
+    yield "all records of both", difference(len(other), len(saved["shapes"]))
+
+
 async def zoomed(ann, server):
     """All seven levels by the wheel, out and in, and by keys; the picture of each."""
     x, y, width, height = await ann.tab.box_of("#stage")
@@ -417,7 +496,7 @@ async def readable(ann):
     yield "contrast", difference(await ann.tab.value(FAINT), [])
 
 
-async def sent_once(ann, ben, server, gateway):
+async def sent_once(ann, server, gateway):
     """A picture that the browser has is not sent again."""
     await ann.look_at(0, (128, 128))
     before = len(ann.tab.fetched)
@@ -468,7 +547,7 @@ async def one_version(ann, server, seconds=4):
     single = [(versions[0], colours) for versions, colours in looks if len(versions) == 1]
     wrong = [look for look in single if look[1] != [fills.get(look[0])] * 3]
     yield "what is shown is one version", f"{len(wrong)} of {len(single)}, as {wrong[0]}, not {fills.get(wrong[0][0])}" if wrong else None
-    yield "it is shown again and again", None if len(looks) >= 2 * seconds else f"{len(looks)} times"
+    yield "it is shown again and again", None if len(looks) >= seconds else f"{len(looks)} times"
     mixed = [[fills.get(version) for version in versions] for versions, _ in looks if len(versions) > 1]
     listed = all(set(colours) <= {fills.get(version) for version in versions} for versions, colours in looks)
     yield "what is mixed is said", None if listed else f"{len(mixed)} mixed"
@@ -551,10 +630,10 @@ async def stages(folder):
         async with Browser() as browser:
             ann = await Desk.open(browser, gateway, server)
             ben = await Desk.open(browser, gateway, server)
-            for stage in (first_view(ann, ben, server), drawn(ann, ben, server), changed(ann, ben, server), zoomed(ann, server),
-                          panned(ann, server), refused(ann, server), without_a_mouse(ann, server), readable(ann),
-                          sent_once(ann, ben, server, gateway), one_version(ann, server), away(ann, ben, server),
-                          no_seat(browser, gateway, server)):
+            for stage in (first_view(ann, ben, server), drawn(ann, ben, server), changed(ann, ben, server),
+                          in_turned_frame(ann, server), both_formats(ann, server), zoomed(ann, server), panned(ann, server),
+                          refused(ann, server), without_a_mouse(ann, server), readable(ann), sent_once(ann, server, gateway),
+                          one_version(ann, server), away(ann, ben, server), no_seat(browser, gateway, server)):
                 begin = time.monotonic()
                 try:
                     async for case in stage:

@@ -6,5 +6,7 @@ pub mod Opens
 pub mod Plain
 pub mod ReadBack
 pub mod Names
+pub mod RoundTrip
+pub mod OlderText
 pub mod Texts
 pub mod Vertices

@@ -5,7 +5,7 @@ use Rattle.serde_json.specs.Read.{read}
 use Rattle.std.specs.List.{AllByRecursion}
 use Rattle.std.proofs.lemmas.Bool.{lt-ltb, le-leb, and_from}
 use Rattle.std.proofs.lemmas.List.Elements.{recursion_from_All, All-nil, All-cons, All-head, All-tail, All-weaker, All-same, All-map, All-more}
-use Rattle.serde_json.specs.Data.{Data}
+use Rattle.serde_json.specs.Data.{Data, number, unsigned}
 use Rattle.serde_json.specs.Events.{items_len}
 use Rattle.serde_json.specs.View.{items_of}
 use Rattle.canvas_plane.specs.Limits.{is_pose}
@@ -17,13 +17,20 @@ use Rattle.canvas_doc.specs.Contents.{Contents, IsWellFormed}
 use Rattle.canvas_doc.specs.Restored.{is_record}
 use Rattle.canvas_doc.specs.Tree.{IsInLimits}
 use Rattle.canvas_doc.proofs.Saved.{restoration_of-same}
+use Rattle.canvas_store.specs.declared.formats.Format.{Format}
+use Rattle.canvas_store.specs.declared.formats.Format.TheVariants.{One, Two}
+use Rattle.canvas_store.specs.declared.formats.Head.{Head}
+use Rattle.canvas_store.specs.Formats.{number_of, most_of}
 use Rattle.canvas_store.specs.Json.{has_others}
 use Rattle.canvas_store.specs.Kept.{IsKept}
-use Rattle.canvas_store.specs.Opened.{next_of, shapes_of, records_from, opened_data, opened}
+use Rattle.canvas_store.specs.Opened.{format_of, head_of, shapes_of, records_from, opened_data, opened}
 use Rattle.canvas_store.specs.Records.{element_of}
-use Rattle.canvas_store.specs.Saved.{record_data, data_of}
+use Rattle.canvas_store.specs.Saved.{record_data, data_in, text_in}
 use Rattle.canvas_store.proofs.Json.{json_some}
+use Rattle.canvas_store.proofs.OlderText.{data-written}
+use Rattle.canvas_store.proofs.Plain.{data-shallow}
 use Rattle.canvas_store.proofs.ReadBack.{u32-back}
+use Rattle.canvas_store.proofs.RoundTrip.{text-reads}
 
 items-length : (f : Record → Data) (rs : List Record) → items_len (items_of (map f rs)) ≡ length rs
 items-length f [] = refl
@@ -37,31 +44,36 @@ within next r ids limits =
     (and_from (nat_le r.pose.quarter 3) (nat_le (reach_of r.pose) (2 ^ 20)) (le-leb r.pose.quarter 3 limits.quarter) (le-leb (reach_of r.pose) (2 ^ 20) limits.reach))
     (and_from (has_sides r.kind) (has_vertices r.kind) (sound-sides r.kind limits.kind) (sound-vertices r.kind limits.kind)))
 
-element-back : (next : ℕ) (r : Record) → IsKept r → is_record next r ≡ true → element_of next (record_data r) ≡ Some r
+element-back : (head : Head) (r : Record) → IsKept r → is_record head.next r ≡ true → element_of head (record_data head.format r) ≡ Some r
 unfolding element_of
-element-back next r kept is = rw (kept, is) refl
+element-back head r kept is = rw (kept.reads head.format, is) refl
 
-records-back : (next at : ℕ) (rs : List Record) → AllByRecursion IsKept rs → AllByRecursion (λ r. (1 ≤ r.id) × (r.id < next)) rs → AllByRecursion IsInLimits rs
-    → records_from next at (items_of (map record_data rs)) ≡ Ok rs
-records-back next at [] kept ids limits = refl
-records-back next at (r ∷ rs) kept ids limits =
-    rw (element-back next r kept.0 (within next r ids.0 limits.0), records-back next (at + 1) rs kept.1 ids.1 limits.1) refl
+records-back : (head : Head) (at : ℕ) (rs : List Record) → AllByRecursion IsKept rs → AllByRecursion (λ r. (1 ≤ r.id) × (r.id < head.next)) rs → AllByRecursion IsInLimits rs
+    → records_from head at (items_of (map (record_data head.format) rs)) ≡ Ok rs
+records-back head at [] kept ids limits = refl
+records-back head at (r ∷ rs) kept ids limits =
+    rw (element-back head r kept.0 (within head.next r ids.0 limits.0), records-back head (at + 1) rs kept.1 ids.1 limits.1) refl
 
-next-back : (d : Contents) → 1 ≤ d.next → d.next < 2 ^ 32 → next_of (data_of d) ≡ Some d.next
-unfolding next_of has_others
-next-back d least most = rw (u32-back 1 (omega arith), u32-back d.next most, le-leb 1 d.next least) refl
+format-back : (format : Format) → format_of (number (unsigned (number_of format))) ≡ Some format
+unfolding format_of
+format-back One = rw (u32-back 1 (omega arith)) refl
+format-back Two = rw (u32-back 2 (omega arith)) refl
 
-shapes-back : (d : Contents) → length d.records ≤ 4096 → shapes_of (data_of d) ≡ Some (items_of (map record_data d.records))
+head-back : (format : Format) (d : Contents) → 1 ≤ d.next → d.next < 2 ^ 32 → head_of (data_in format d) ≡ Some (record { format = format; next = d.next })
+unfolding head_of has_others
+head-back format d least most = rw (format-back format, u32-back d.next most, le-leb 1 d.next least) refl
+
+shapes-back : (format : Format) (d : Contents) → length d.records ≤ most_of format → shapes_of format (data_in format d) ≡ Some (items_of (map (record_data format) d.records))
 unfolding shapes_of
-shapes-back d few = rw (items-length record_data d.records, le-leb (length d.records) 4096 few) refl
+shapes-back format d few = rw (items-length (record_data format) d.records, le-leb (length d.records) (most_of format) few) refl
 
-pub opens-back : (d : Contents) → IsWellFormed d → All IsKept d.records → opened_data (data_of d) ≡ Ok d
+pub opens-back : (d : Contents) → IsWellFormed d → All IsKept d.records → (format : Format) → length d.records ≤ most_of format → opened_data (data_in format d) ≡ Ok d
 unfolding opened_data
-opens-back d well kept =
+opens-back d well kept format few =
     rw (
-      next-back d well.next_above well.next_below,
-      shapes-back d well.few,
-      records-back d.next 0 d.records (recursion_from_All IsKept d.records kept) (recursion_from_All _ d.records well.ids) (recursion_from_All _ d.records well.limits),
+      head-back format d well.next_above well.next_below,
+      shapes-back format d few,
+      records-back (record { format = format; next = d.next }) 0 d.records (recursion_from_All IsKept d.records kept) (recursion_from_All _ d.records well.ids) (recursion_from_All _ d.records well.limits),
       restoration_of-same d well,
     ) refl
 
@@ -79,9 +91,9 @@ IfOk-any (Ok x) P h = h
 IfOk-any (Err y) P h = tt
 
 -- the text that is written opens as the document
-pub text-opens : (d : Contents) (text : List ℕ) → IsUtf8 text → read text ≡ Some (data_of d) → opened_data (data_of d) ≡ Ok d → opened text ≡ Ok d
+pub text-opens : (d : Contents) (v : Data) (text : List ℕ) → IsUtf8 text → read text ≡ Some v → opened_data v ≡ Ok d → opened text ≡ Ok d
 unfolding opened
-text-opens d text utf8 e opens = rw (json_some text (data_of d) utf8 e) opens
+text-opens d v text utf8 e opens = rw (json_some text v utf8 e) opens
 
 -- references to a document's records, in order
 pub ids-held : (d : Contents) (rs : List (Bor Record)) → map (λ r. r.now) rs ≡ d.records → IsWellFormed d → All (λ r. r.now.id < 2 ^ 32) rs
@@ -90,8 +102,14 @@ ids-held d rs e well = All-under (λ r. r.id < 2 ^ 32) (λ r. r.now) rs (All-sam
 pub limits-held : (d : Contents) (rs : List (Bor Record)) → map (λ r. r.now) rs ≡ d.records → IsWellFormed d → All (λ r. IsInLimits r.now) rs
 limits-held d rs e well = All-under IsInLimits (λ r. r.now) rs (All-same IsInLimits _ d.records e well.limits)
 
-pub opens-held : (d : Contents) (rs : List (Bor Record)) → map (λ r. r.now) rs ≡ d.records → IsWellFormed d → All (λ r. IsKept r.now) rs → opened_data (data_of d) ≡ Ok d
-opens-held d rs e well kept = opens-back d well (All-same IsKept d.records (map (λ r. r.now) rs) (sym e) (All-map IsKept (λ r. r.now) rs kept))
+pub kept-held : (d : Contents) (rs : List (Bor Record)) → map (λ r. r.now) rs ≡ d.records → All (λ r. IsKept r.now) rs → All IsKept d.records
+kept-held d rs e kept = All-same IsKept d.records (map (λ r. r.now) rs) (sym e) (All-map IsKept (λ r. r.now) rs kept)
+
+-- what format 1 wrote of a document that it had room for opens as the document
+pub older-opens : (d : Contents) → IsWellFormed d → All IsKept d.records → length d.records ≤ most_of One → opened (text_in One d) ≡ Ok d
+older-opens d well kept few =
+    let written = data-written d well kept in
+    text-opens d (data_in One d) (text_in One d) written.text (text-reads (data_in One d) written (data-shallow One d)) (opens-back d well kept One few)
 
 -- one more record that is kept
 pub kept-more : (rs : List (Bor Record)) (i : ℕ) (x : Bor Record) → i < length rs → x ≡ get_or rs i x → All (λ r. IsKept r.now) (take i rs) → IsKept x.now

@@ -12,7 +12,9 @@ use Rattle.canvas_doc.specs.declared.records.Parent.{Parent}
 use Rattle.canvas_doc.specs.declared.records.Parent.TheVariants.{Page, Shape}
 use Rattle.canvas_doc.specs.declared.records.Record.{Record}
 use Rattle.canvas_doc.specs.Contents.{Contents}
-use Rattle.canvas_store.specs.Saved.{fill_data, point_data, shape_data, parent_data, record_data, data_of}
+use Rattle.canvas_store.specs.declared.formats.Format.{Format}
+use Rattle.canvas_store.specs.declared.formats.Format.TheVariants.{One, Two}
+use Rattle.canvas_store.specs.Saved.{fill_data, point_data, shape_data, parent_data, record_data, data_in}
 
 integer-whole : (z : ℤ) → is_float (of_integer z) ≡ false
 integer-whole (pos n) = refl
@@ -37,11 +39,11 @@ parent-whole : (parent : Parent) → has_float (parent_data parent) ≡ false
 parent-whole Page = refl
 parent-whole (Shape id) = refl
 
-records-whole : (rs : List Record) → items_have_float (items_of (map record_data rs)) ≡ false
+records-whole : (rs : List Record) → items_have_float (items_of (map (record_data Two) rs)) ≡ false
 records-whole [] = refl
 records-whole (r ∷ rs) = rw (parent-whole r.place.parent, integer-whole r.pose.dx, integer-whole r.pose.dy, shape-whole r.kind, records-whole rs) refl
 
-pub data-whole : (d : Contents) → has_float (data_of d) ≡ false
+pub data-whole : (d : Contents) → has_float (data_in Two d) ≡ false
 data-whole d = rw (records-whole d.records) refl
 
 points-shallow : (ps : List Point) → items_depth (items_of (map point_data ps)) ≤ 1
@@ -63,12 +65,16 @@ parent-shallow : (parent : Parent) → depth (parent_data parent) ≤ 0
 parent-shallow Page = omega arith
 parent-shallow (Shape id) = omega arith
 
-records-shallow : (rs : List Record) → items_depth (items_of (map record_data rs)) ≤ 4
-records-shallow [] = omega arith
-records-shallow (r ∷ rs) = omega (arith, parent-shallow r.place.parent, shape-shallow r.kind, records-shallow rs)
+record-shallow : (format : Format) (r : Record) → depth (record_data format r) ≤ 4
+record-shallow One r = omega (arith, parent-shallow r.place.parent, shape-shallow r.kind)
+record-shallow Two r = omega (arith, parent-shallow r.place.parent, shape-shallow r.kind)
 
-pub data-shallow : (d : Contents) → depth (data_of d) ≤ 127
-data-shallow d = omega (arith, records-shallow d.records)
+records-shallow : (format : Format) (rs : List Record) → items_depth (items_of (map (record_data format) rs)) ≤ 4
+records-shallow format [] = omega arith
+records-shallow format (r ∷ rs) = omega (arith, record-shallow format r, records-shallow format rs)
 
-pub shallow-at : (v : Data) (d : Contents) → v ≡ data_of d → depth v ≤ 127
-shallow-at v d e = rw e (data-shallow d)
+pub data-shallow : (format : Format) (d : Contents) → depth (data_in format d) ≤ 127
+data-shallow format d = omega (arith, records-shallow format d.records)
+
+pub shallow-at : (v : Data) (d : Contents) → v ≡ data_in Two d → depth v ≤ 127
+shallow-at v d e = rw e (data-shallow Two d)

@@ -1,6 +1,6 @@
 -- What is written of a record is read back as that record.
 use Rattle.std.proofs.Common.{◌≡◌, ℕ, ◌^◌, ◌<◌, ◌≤◌, ℤ, pos, negsuc, true, false, List, [], ◌∷◌, map, Option, Some, None, refl, arith}
-use Rattle.std.specs.Prelude.{nat_lt, unsigned_abs}
+use Rattle.std.specs.Prelude.{nat_lt, unsigned_abs, IfSome, IsUtf8}
 use Rattle.std.specs.List.{AllByRecursion}
 use Rattle.std.proofs.lemmas.Bool.{lt-ltb}
 use Rattle.std.proofs.lemmas.List.Elements.{recursion_from_All}
@@ -18,10 +18,14 @@ use Rattle.canvas_shape.specs.declared.Kind.TheVariants.{Group, Frame, Rect, Ell
 use Rattle.canvas_shape.specs.Box.{AreSides}
 use Rattle.canvas_shape.specs.Inside.{IsSound, AreVertices}
 use Rattle.canvas_shape.specs.Names.{colour_named, colour_text}
+use Rattle.canvas_doc.specs.declared.records.Parent.{Parent}
 use Rattle.canvas_doc.specs.declared.records.Parent.TheVariants.{Page, Shape}
 use Rattle.canvas_doc.specs.declared.records.Record.{Record}
+use Rattle.canvas_store.specs.declared.formats.Format.{Format}
+use Rattle.canvas_store.specs.declared.formats.Format.TheVariants.{One, Two}
 use Rattle.canvas_store.specs.Json.{i32_of, u32_of, u8_of, has_others}
-use Rattle.canvas_store.specs.Records.{parent_of, key_named, index_of, pose_of, record_of}
+use Rattle.canvas_store.specs.Kept.{FitsParent, HasText}
+use Rattle.canvas_store.specs.Records.{parent_of, key_named, index_of, place_in, place_of, place_at, pose_of, record_of}
 use Rattle.canvas_store.specs.Saved.{colour_data, fill_data, point_data, shape_data, pose_data, parent_data, record_data}
 use Rattle.canvas_store.specs.Shapes.{colour_of, fill_of, point_of, points_in, points_of, group_of, frame_of, rect_of, ellipse_of, polygon_of, shape_named, shape_of}
 
@@ -59,13 +63,17 @@ pub fill-some : (c : Colour) → colour_named (colour_text c) ≡ Some c → fil
 unfolding fill_of
 fill-some c e = rw (colour-back c e) refl
 
-pub parent-page : parent_of (parent_data Page) ≡ Some Page
+parent-page : parent_of (parent_data Page) ≡ Some Page
 unfolding parent_of
 parent-page = refl
 
-pub parent-shape : (id : ℕ) → id < 2 ^ 32 → parent_of (parent_data (Shape id)) ≡ Some (Shape id)
+parent-shape : (id : ℕ) → id < 2 ^ 32 → parent_of (parent_data (Shape id)) ≡ Some (Shape id)
 unfolding parent_of
 parent-shape id h = rw (u32-back id h) refl
+
+parent-back : (parent : Parent) → FitsParent parent → parent_of (parent_data parent) ≡ Some parent
+parent-back Page h = parent-page
+parent-back (Shape id) h = parent-shape id h
 
 pub index-back : (text : List ℕ) → IsKey text → index_of (string text) ≡ Some text
 unfolding index_of key_named
@@ -113,11 +121,12 @@ pose-back pose q r =
     let y : unsigned_abs pose.dy ≤ 2 ^ 20 = omega arith in
     rw (i32-back pose.dx x, i32-back pose.dy y, u8-back pose.quarter (omega arith)) refl
 
-pub record-back : (r : Record) → r.id < 2 ^ 32 → IsKey r.place.index → parent_of (parent_data r.place.parent) ≡ Some r.place.parent
+pub record-back : (r : Record) → r.id < 2 ^ 32 → IsKey r.place.index → FitsParent r.place.parent
     → pose_of (pose_data r.pose) ≡ Some r.pose → shape_of (shape_data r.kind) ≡ Some r.kind
-    → record_of (record_data r) ≡ Some r
-unfolding record_of has_others
-record-back r id key parent pose kind = rw (kind, u32-back r.id id, index-back r.place.index key, parent, pose) refl
+    → (format : Format) → record_of format (record_data format r) ≡ Some r
+unfolding record_of place_at place_of place_in has_others
+record-back r id key parent pose kind One = rw (kind, u32-back r.id id, index-back r.place.index key, parent-back r.place.parent parent, pose) refl
+record-back r id key parent pose kind Two = rw (kind, u32-back r.id id, index-back r.place.index key, parent-back r.place.parent parent, pose) refl
 
 -- the same of a kind that is known to be of a variant
 pub group-kept : (kind : Kind) → kind ≡ Group → shape_of (shape_data kind) ≡ Some kind
@@ -146,3 +155,19 @@ pub polygon-kept : (kind : Kind) (ps : List Point) (fill : Colour) → kind ≡ 
 polygon-kept kind ps fill e sound reads =
     let vertices : AreVertices ps = rw e at sound in
     rw e (polygon-back ps fill (recursion_from_All (λ p. size_of p ≤ 2 ^ 20) ps vertices.near) reads)
+
+-- what is written of the colours of such a kind
+pub group-text : (kind : Kind) → kind ≡ Group → HasText kind
+group-text kind e = rw e tt
+
+pub frame-text : (kind : Kind) (w h : ℕ) (fill : Option Colour) → kind ≡ Frame w h fill → IfSome fill (λ colour. IsUtf8 (colour_text colour)) → HasText kind
+frame-text kind w h fill e text = rw e text
+
+pub rect-text : (kind : Kind) (w h : ℕ) (fill : Colour) → kind ≡ Rect w h fill → IsUtf8 (colour_text fill) → HasText kind
+rect-text kind w h fill e text = rw e text
+
+pub ellipse-text : (kind : Kind) (w h : ℕ) (fill : Colour) → kind ≡ Ellipse w h fill → IsUtf8 (colour_text fill) → HasText kind
+ellipse-text kind w h fill e text = rw e text
+
+pub polygon-text : (kind : Kind) (points : List Point) (fill : Colour) → kind ≡ Polygon points fill → IsUtf8 (colour_text fill) → HasText kind
+polygon-text kind points fill e text = rw e text

@@ -1,4 +1,5 @@
 pub mod Faults
+pub mod Formats
 pub mod Json
 pub mod Kept
 pub mod Opened

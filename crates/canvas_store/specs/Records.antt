@@ -7,8 +7,12 @@ use Rattle.canvas_key.specs.Text.{key_fault}
 use Rattle.canvas_plane.specs.declared.Pose.{Pose}
 use Rattle.canvas_doc.specs.declared.records.Parent.{Parent}
 use Rattle.canvas_doc.specs.declared.records.Parent.TheVariants.{Page, Shape}
+use Rattle.canvas_doc.specs.declared.records.Place.{Place}
 use Rattle.canvas_doc.specs.declared.records.Record.{Record}
 use Rattle.canvas_doc.specs.Restored.{is_record}
+use Rattle.canvas_store.specs.declared.formats.Format.{Format}
+use Rattle.canvas_store.specs.declared.formats.Format.TheVariants.{One, Two}
+use Rattle.canvas_store.specs.declared.formats.Head.{Head}
 use Rattle.canvas_store.specs.Json.{i32_of, u32_of, u8_of, required, unless_others, ◌>>=◌}
 use Rattle.canvas_store.specs.Shapes.{shape_of}
 
@@ -35,24 +39,46 @@ pose_of d = do
   quarter ← required u8_of (codes "quarter") d
   unless_others pose_members d (record { dx = dx; dy = dy; quarter = quarter; flip = flip })
 
-abbrev pub record_members : List (List ℕ)
-record_members = codes "hidden" ∷ codes "id" ∷ codes "index" ∷ codes "parent" ∷ codes "pose" ∷ codes "shape" ∷ []
+-- the place that an index and a parent make
+unfoldable pub place_in : Data → Option Place
+place_in d = do
+  index ← required index_of (codes "index") d
+  parent ← required parent_of (codes "parent") d
+  Some (record { parent = parent; index = index })
+
+abbrev pub place_members : List (List ℕ)
+place_members = codes "index" ∷ codes "parent" ∷ []
+
+-- the place of an object
+unfoldable pub place_of : Data → Option Place
+place_of d = do
+  place ← place_in d
+  unless_others place_members d place
+
+-- the place of a record: in format 1 two members of the record, in format 2 one
+unfoldable pub place_at : Format → Data → Option Place
+place_at One d = place_in d
+place_at Two d = required place_of (codes "place") d
+
+-- the members of a record
+abbrev pub record_members : Format → List (List ℕ)
+record_members One = codes "hidden" ∷ codes "id" ∷ codes "index" ∷ codes "parent" ∷ codes "pose" ∷ codes "shape" ∷ []
+record_members Two = codes "hidden" ∷ codes "id" ∷ codes "place" ∷ codes "pose" ∷ codes "shape" ∷ []
 
 -- the record of an object
-unfoldable pub record_of : Data → Option Record
-record_of d = do
+unfoldable pub record_of : Format → Data → Option Record
+record_of format d = do
   kind ← required shape_of (codes "shape") d
   hidden ← required as_bool (codes "hidden") d
   id ← required u32_of (codes "id") d
-  index ← required index_of (codes "index") d
-  parent ← required parent_of (codes "parent") d
+  place ← place_at format d
   pose ← required pose_of (codes "pose") d
-  unless_others record_members d (record { id = id; kind = kind; place = record { parent = parent; index = index }; pose = pose; hidden = hidden })
+  unless_others (record_members format) d (record { id = id; kind = kind; place = place; pose = pose; hidden = hidden })
 
 -- the record, if its id is below the next one, and its pose and kind are within their limits
 abbrev pub if_within : ℕ → Record → Option Record
 if_within next r = if is_record next r then Some r else None
 
 -- the record of an element, within the limits of a record
-unfoldable pub element_of : ℕ → Data → Option Record
-element_of next d = option_and_then (if_within next) (record_of d)
+unfoldable pub element_of : Head → Data → Option Record
+element_of head d = option_and_then (if_within head.next) (record_of head.format d)

@@ -12,8 +12,12 @@ use Rattle.canvas_shape.specs.declared.Kind.TheVariants.{Group, Frame, Rect, Ell
 use Rattle.canvas_shape.specs.Names.{colour_text}
 use Rattle.canvas_doc.specs.declared.records.Parent.{Parent}
 use Rattle.canvas_doc.specs.declared.records.Parent.TheVariants.{Page, Shape}
+use Rattle.canvas_doc.specs.declared.records.Place.{Place}
 use Rattle.canvas_doc.specs.declared.records.Record.{Record}
 use Rattle.canvas_doc.specs.Contents.{Contents}
+use Rattle.canvas_store.specs.declared.formats.Format.{Format}
+use Rattle.canvas_store.specs.declared.formats.Format.TheVariants.{One, Two}
+use Rattle.canvas_store.specs.Formats.{number_of}
 
 -- six hexadecimal digits, in lower case
 abbrev pub colour_data : Colour → Data
@@ -61,26 +65,42 @@ abbrev pub parent_data : Parent → Data
 parent_data Page = null
 parent_data (Shape id) = number (unsigned id)
 
-abbrev pub record_data : Record → Data
-record_data r =
+abbrev pub place_data : Place → Data
+place_data place =
+    object (member (codes "index") (string place.index)
+    (member (codes "parent") (parent_data place.parent) no_members))
+
+-- in format 1 the parent and the index stand beside the id, in format 2 they are one member
+abbrev pub record_data : Format → Record → Data
+record_data One r =
     object (member (codes "hidden") (boolean r.hidden)
     (member (codes "id") (number (unsigned r.id))
     (member (codes "index") (string r.place.index)
     (member (codes "parent") (parent_data r.place.parent)
     (member (codes "pose") (pose_data r.pose)
     (member (codes "shape") (shape_data r.kind) no_members))))))
+record_data Two r =
+    object (member (codes "hidden") (boolean r.hidden)
+    (member (codes "id") (number (unsigned r.id))
+    (member (codes "place") (place_data r.place)
+    (member (codes "pose") (pose_data r.pose)
+    (member (codes "shape") (shape_data r.kind) no_members)))))
 
 -- a saved document with these shapes
-abbrev pub document_data : ℕ → Items → Data
-document_data next shapes =
-    object (member (codes "format") (number (unsigned 1))
+abbrev pub document_data : Format → ℕ → Items → Data
+document_data format next shapes =
+    object (member (codes "format") (number (unsigned (number_of format)))
     (member (codes "next") (number (unsigned next))
     (member (codes "shapes") (array shapes) no_members)))
 
--- the document as a JSON value
-abbrev pub data_of : Contents → Data
-data_of d = document_data d.next (items_of (map record_data d.records))
+-- the document as a JSON value of a format
+abbrev pub data_in : Format → Contents → Data
+data_in format d = document_data format d.next (items_of (map (record_data format) d.records))
 
--- the text of the document
+-- the text of the document in a format
+abbrev pub text_in : Format → Contents → List ℕ
+text_in format d = compact_text (data_in format d)
+
+-- the text that the document is saved as, of format 2
 abbrev pub saved_text_of : Contents → List ℕ
-saved_text_of d = compact_text (data_of d)
+saved_text_of d = text_in Two d

@@ -15,7 +15,8 @@ pub enum StoreFault {
     /// The text is not JSON.
     #[error("BadJson")]
     BadJson,
-    /// The text is JSON, but no object of format 1 with a next id and a list of at most 4,096 shapes.
+    /// The text is JSON, but no object of format 1 or 2 with a next id and a list of at most as many
+    /// shapes as the format has: 4,096 or 16,384.
     #[error("BadFormat")]
     BadFormat,
     /// The element at this position, counted from 0, is no record within the limits of one.

@@ -4,6 +4,7 @@
 mod extra;
 mod fault;
 mod field;
+mod formats;
 mod opening;
 mod record;
 mod saving;

@@ -4,20 +4,19 @@ ghost use Rattle.serde_json.specs.Find.{as_array};
 ghost use Rattle.serde_json.specs.View.{view, items_view};
 ghost use Rattle.canvas_store.specs.Faults.{Gives, GivesSeen, or_fault};
 ghost use Rattle.canvas_store.specs.Json.{json_of, required};
-ghost use Rattle.canvas_store.specs.Opened.{next_of, if_few, shapes_of, records_from, opened_data, opened};
+ghost use Rattle.canvas_store.specs.Opened.{format_of, head_of, if_few, shapes_of, records_from, opened_data, opened};
+ghost use Rattle.canvas_doc.specs.Contents.{most_records};
 ghost use Rattle.canvas_store.specs.declared.fault.StoreFault.TheVariants.{BadJson};
 
 use crate::extra::has_others;
 use crate::fault::StoreFault;
-use crate::field::u32_at;
+use crate::field::{u32_at, u32_of};
+use crate::formats::{Format, Head};
 use crate::record::element_of;
 use canvas_code::OutOfMemory;
 use canvas_doc::{Document, Record};
 use serde_json::Value;
 use std::alloc::Global;
-
-/// The most elements that a saved document of format 1 has.
-const MOST_SHAPES: usize = 4096;
 
 // The value that a text is.
 fn value_of(alloc: Global, text: &[u8]) -> Result<Value, StoreFault>
@@ -35,18 +34,33 @@ fn value_of(alloc: Global, text: &[u8]) -> Result<Value, StoreFault>
     }
 }
 
-// The next id of a saved document of format 1.
-#[tactic(auto, unfolding(crate::specs::Opened::next_of))]
-fn next_of(saved: &Value) -> Option<u32>
-    ensures value { result ≡ next_of (view saved.now) }
-    ensures least { IfSome result (λ next. 1 ≤ next) }
+// The format that a number names.
+#[tactic(auto, unfolding(crate::specs::Opened::format_of))]
+fn format_of(value: &Value) -> Option<Format>
+    ensures { result ≡ format_of (view value.now) }
 {
-    let format = u32_at(saved, "format")?;
+    u32_of(value).and_then(Format::numbered)
+}
+
+// The format, which has to be there.
+fn format_at(saved: &Value) -> Option<Format>
+    ensures { result ≡ required format_of (codes "format") (view saved.now) }
+{
+    saved.get("format").and_then(format_of)
+}
+
+// The format and the next id of a saved document.
+#[tactic(auto, unfolding(crate::specs::Opened::head_of))]
+fn head_of(saved: &Value) -> Option<Head>
+    ensures value { result ≡ head_of (view saved.now) }
+    ensures least { IfSome result (λ head. 1 ≤ head.next) }
+{
+    let format = format_at(saved)?;
     let next = u32_at(saved, "next")?;
-    if format != 1 || next < 1 || has_others(&["format", "next", "shapes"], saved) {
+    if next < 1 || has_others(&["format", "next", "shapes"], saved) {
         return None;
     }
-    Some(next)
+    Some(Head { format, next })
 }
 
 // The list of shapes, which has to be there.
@@ -56,26 +70,26 @@ fn shapes_in(saved: &Value) -> Option<&Vec<Value>>
     saved.get("shapes").and_then(Value::as_array)
 }
 
-// The elements of a list, if they are at most 4,096.
-fn few_of(list: &Vec<Value>) -> Option<&[Value]>
-    ensures value { option_map (λ shapes. items_view shapes.now) result ≡ if_few (items_view list.now.items) }
-    ensures few { IfSome result (λ shapes. length shapes.now ≤ 4096) }
+// The elements of a list, if they are at most so many.
+fn few_of(most: usize, list: &Vec<Value>) -> Option<&[Value]>
+    ensures value { option_map (λ shapes. items_view shapes.now) result ≡ if_few most (items_view list.now.items) }
+    ensures few { IfSome result (λ shapes. length shapes.now ≤ most) }
 {
     let shapes = list.as_slice();
-    if shapes.len() <= MOST_SHAPES {
+    if shapes.len() <= most {
         Some(shapes)
     } else {
         None
     }
 }
 
-// The elements of a saved document's list of shapes.
+// The elements of a saved document's list of shapes, at most as many as the format has.
 #[tactic(auto, unfolding(crate::specs::Opened::shapes_of))]
-fn shapes_of(saved: &Value) -> Option<&[Value]>
-    ensures value { option_map (λ shapes. items_view shapes.now) result ≡ shapes_of (view saved.now) }
-    ensures few { IfSome result (λ shapes. length shapes.now ≤ 4096) }
+fn shapes_of(format: Format, saved: &Value) -> Option<&[Value]>
+    ensures value { option_map (λ shapes. items_view shapes.now) result ≡ shapes_of format (view saved.now) }
+    ensures few { IfSome result (λ shapes. length shapes.now ≤ most_records) }
 {
-    shapes_in(saved).and_then(few_of)
+    few_of(format.most_records(), shapes_in(saved)?)
 }
 
 fn push(records: &mut Vec<Record>, shape: Record) -> Result<(), OutOfMemory>
@@ -85,13 +99,13 @@ fn push(records: &mut Vec<Record>, shape: Record) -> Result<(), OutOfMemory>
 }
 
 // The records of the elements.
-fn records_of(alloc: Global, next: u32, shapes: &[Value]) -> Result<Vec<Record>, StoreFault>
-    ensures value { GivesSeen (λ records. records.items) result (records_from next 0 (items_view shapes.now)) }
+fn records_of(alloc: Global, head: Head, shapes: &[Value]) -> Result<Vec<Record>, StoreFault>
+    ensures value { GivesSeen (λ records. records.items) result (records_from head 0 (items_view shapes.now)) }
     ensures count { IfOk result (λ records. length records.items ≡ length shapes.now) }
 {
     let mut records = Vec::with_capacity(alloc, shapes.len())?;
     for (position, element) in shapes.iter().enumerate() {
-        match element_of(alloc, next, element)? {
+        match element_of(alloc, head, element)? {
             Some(shape) => push(&mut records, shape)?,
             None => return Err(StoreFault::BadRecord { position }),
         }
@@ -104,20 +118,20 @@ fn records_of(alloc: Global, next: u32, shapes: &[Value]) -> Result<Vec<Record>,
 fn opened_data(alloc: Global, saved: &Value) -> Result<Document, StoreFault>
     ensures { Gives result (opened_data (view saved.now)) }
 {
-    let next = next_of(saved).ok_or(StoreFault::BadFormat)?;
-    let shapes = shapes_of(saved).ok_or(StoreFault::BadFormat)?;
-    let records = records_of(alloc, next, shapes)?;
-    Ok(Document::restore(alloc, records, next)?)
+    let head = head_of(saved).ok_or(StoreFault::BadFormat)?;
+    let shapes = shapes_of(head.format, saved).ok_or(StoreFault::BadFormat)?;
+    let records = records_of(alloc, head, shapes)?;
+    Ok(Document::restore(alloc, records, head.next)?)
 }
 
-/// The document of a saved text, by serde_json's reading of it.
+/// The document of a saved text of format 1 or 2, by serde_json's reading of it.
 ///
 /// White space and any order of members and records are taken. The first of these faults that
 /// applies is answered: 50 where the text is not JSON; 60 where it is no object of exactly
-/// `format` 1, a `next` of 1 to 4,294,967,295 and a list `shapes` of at most 4,096 elements; 61
-/// with the least position whose element is no record within its limits; 62 with the least
-/// position whose record does not belong to a page tree. 1 is answered only where the allocator
-/// refused memory.
+/// `format` 1 or 2, a `next` of 1 to 4,294,967,295 and a list `shapes` of at most 4,096 elements
+/// in format 1 or 16,384 in format 2; 61 with the least position whose element is no record of
+/// the text's own format within its limits; 62 with the least position whose record does not
+/// belong to a page tree. 1 is answered only where the allocator refused memory.
 #[tactic(auto, unfolding(crate::specs::Opened::opened))]
 pub fn import(alloc: Global, text: &[u8]) -> Result<Document, StoreFault>
     ensures { Gives result (opened text.now) }

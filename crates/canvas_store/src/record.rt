@@ -1,12 +1,13 @@
 //! Records as they are read.
 ghost use Rattle.std.specs.Prelude.{◌≡◌, Some, codes, IfOk};
 ghost use Rattle.serde_json.specs.View.{view};
-ghost use Rattle.canvas_store.specs.Json.{required};
-ghost use Rattle.canvas_store.specs.Records.{parent_of, key_named, index_of, pose_of, record_of, if_within, element_of};
+ghost use Rattle.canvas_store.specs.Json.{has_others, required};
+ghost use Rattle.canvas_store.specs.Records.{parent_of, key_named, index_of, place_in, place_of, place_at, pose_of, record_members, record_of, if_within, element_of};
 ghost use Rattle.canvas_store.specs.Shapes.{shape_of};
 
 use crate::extra::has_others;
 use crate::field::{bool_at, i32_at, u8_at, u32_at, u32_of};
+use crate::formats::{Format, Head};
 use crate::shape::shape_at;
 use canvas_code::OutOfMemory;
 use canvas_doc::{Parent, Place, Record};
@@ -84,26 +85,68 @@ fn pose_at(object: &Value) -> Option<Pose>
     object.get("pose").and_then(pose_of)
 }
 
+// The place that an index and a parent make.
+#[tactic(auto, unfolding(crate::specs::Records::place_in))]
+fn place_in(object: &Value) -> Option<Place>
+    ensures { result ≡ place_in (view object.now) }
+{
+    let index = index_at(object)?;
+    let parent = parent_at(object)?;
+    Some(Place { parent, index })
+}
+
+#[tactic(auto, unfolding(crate::specs::Records::place_of))]
+fn place_of(value: &Value) -> Option<Place>
+    ensures { result ≡ place_of (view value.now) }
+{
+    let place = place_in(value)?;
+    if has_others(&["index", "parent"], value) {
+        return None;
+    }
+    Some(place)
+}
+
+// The place of a record, as the format has it.
+#[tactic(auto, unfolding(crate::specs::Records::place_at))]
+fn place_at(format: Format, object: &Value) -> Option<Place>
+    ensures { result ≡ place_at format (view object.now) }
+{
+    match format {
+        Format::One => place_in(object),
+        Format::Two => object.get("place").and_then(place_of),
+    }
+}
+
+// Whether a record has a member that the format does not have.
+fn has_unknown(format: Format, object: &Value) -> bool
+    ensures { result ≡ has_others (record_members format) (view object.now) }
+{
+    match format {
+        Format::One => has_others(
+            &["hidden", "id", "index", "parent", "pose", "shape"],
+            object,
+        ),
+        Format::Two => has_others(&["hidden", "id", "place", "pose", "shape"], object),
+    }
+}
+
 // The record with this shape.
 #[tactic(auto, unfolding(crate::specs::Records::record_of))]
-fn record_with(kind: Kind, object: &Value) -> Option<Record>
-    ensures { required shape_of (codes "shape") (view object.now) ≡ Some kind → result ≡ record_of (view object.now) }
+fn record_with(format: Format, kind: Kind, object: &Value) -> Option<Record>
+    ensures { required shape_of (codes "shape") (view object.now) ≡ Some kind
+        → result ≡ record_of format (view object.now) }
 {
     let hidden = bool_at(object, "hidden")?;
     let id = u32_at(object, "id")?;
-    let index = index_at(object)?;
-    let parent = parent_at(object)?;
+    let place = place_at(format, object)?;
     let pose = pose_at(object)?;
-    if has_others(
-        &["hidden", "id", "index", "parent", "pose", "shape"],
-        object,
-    ) {
+    if has_unknown(format, object) {
         return None;
     }
     Some(Record {
         id,
         kind,
-        place: Place { parent, index },
+        place,
         pose,
         hidden,
     })
@@ -111,11 +154,11 @@ fn record_with(kind: Kind, object: &Value) -> Option<Record>
 
 // The shape is read first: its points alone want memory.
 #[tactic(auto, unfolding(crate::specs::Records::record_of))]
-fn record_of(alloc: Global, object: &Value) -> Result<Option<Record>, OutOfMemory>
-    ensures { IfOk result (λ shape. shape ≡ record_of (view object.now)) }
+fn record_of(alloc: Global, format: Format, object: &Value) -> Result<Option<Record>, OutOfMemory>
+    ensures { IfOk result (λ shape. shape ≡ record_of format (view object.now)) }
 {
     match shape_at(alloc, object)? {
-        Some(kind) => Ok(record_with(kind, object)),
+        Some(kind) => Ok(record_with(format, kind, object)),
         None => Ok(None),
     }
 }
@@ -135,13 +178,13 @@ fn if_within(next: u32, shape: Record) -> Option<Record>
 #[tactic(auto, unfolding(crate::specs::Records::element_of))]
 pub(crate) fn element_of(
     alloc: Global,
-    next: u32,
+    head: Head,
     element: &Value,
 ) -> Result<Option<Record>, OutOfMemory>
-    ensures { IfOk result (λ shape. shape ≡ element_of next (view element.now)) }
+    ensures { IfOk result (λ shape. shape ≡ element_of head (view element.now)) }
 {
-    match record_of(alloc, element)? {
-        Some(shape) => Ok(if_within(next, shape)),
+    match record_of(alloc, head.format, element)? {
+        Some(shape) => Ok(if_within(head.next, shape)),
         None => Ok(None),
     }
 }

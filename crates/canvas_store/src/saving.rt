@@ -1,15 +1,18 @@
 //! From a document to its text.
-ghost use Rattle.std.specs.Prelude.{◌≡◌, ◌<◌, ◌^◌, Some, Ok, IfOk, All, map};
+ghost use Rattle.std.specs.Prelude.{◌≡◌, ◌<◌, ◌≤◌, ◌^◌, length, Some, Ok, IfOk, All, map};
 ghost use Rattle.serde_json.specs.View.{view, items_view, items_of};
 ghost use Rattle.canvas_shape.specs.Inside.{IsSound};
 ghost use Rattle.canvas_shape.specs.declared.Kind.TheVariants.{Group};
 ghost use Rattle.canvas_doc.specs.Tree.{IsInLimits};
-ghost use Rattle.canvas_store.specs.Kept.{IsKept};
-ghost use Rattle.canvas_store.specs.Opened.{opened_data, opened};
-ghost use Rattle.canvas_store.specs.Saved.{point_data, sided_data, polygon_data, shape_data, record_data, document_data, data_of, saved_text_of};
+ghost use Rattle.canvas_doc.specs.Contents.{IsWellFormed};
+ghost use Rattle.canvas_store.specs.declared.formats.Format.TheVariants.{One, Two};
+ghost use Rattle.canvas_store.specs.Formats.{most_of};
+ghost use Rattle.canvas_store.specs.Kept.{HasText, IsKept};
+ghost use Rattle.canvas_store.specs.Opened.{opened};
+ghost use Rattle.canvas_store.specs.Saved.{point_data, sided_data, polygon_data, shape_data, record_data, document_data, data_in, text_in, saved_text_of};
 ghost use Rattle.canvas_store.specs.Shapes.{shape_of};
 
-use crate::value::{colour_value, fill_value, index_value, parent_value, point_value, pose_value};
+use crate::value::{colour_value, fill_value, place_value, point_value, pose_value};
 use canvas_code::OutOfMemory;
 use canvas_doc::{Document, Record};
 use canvas_plane::Point;
@@ -52,6 +55,7 @@ fn shape_value(alloc: Global, kind: &Kind) -> Result<Value, AllocError>
     requires { IsSound kind.now }
     ensures value { IfOk result (λ value. view value ≡ shape_data kind.now) }
     ensures reads { IfOk result (λ _. shape_of (shape_data kind.now) ≡ Some kind.now) }
+    ensures text { IfOk result (λ _. HasText kind.now) }
 {
     match kind {
         Kind::Group => group_value(alloc),
@@ -73,18 +77,16 @@ fn shape_value(alloc: Global, kind: &Kind) -> Result<Value, AllocError>
 fn record_value(alloc: Global, shape: &Record) -> Result<Value, AllocError>
     requires id { shape.now.id < 2 ^ 32 }
     requires limits { IsInLimits shape.now }
-    ensures value { IfOk result (λ value. view value ≡ record_data shape.now) }
+    ensures value { IfOk result (λ value. view value ≡ record_data Two shape.now) }
     ensures kept { IfOk result (λ _. IsKept shape.now) }
 {
-    let index = index_value(alloc, &shape.place.index)?;
-    let parent = parent_value(shape.place.parent);
+    let place = place_value(alloc, &shape.place)?;
     let pose = pose_value(alloc, &shape.pose)?;
     let kind = shape_value(alloc, &shape.kind)?;
     json!(in alloc; {
         "hidden": shape.hidden,
         "id": shape.id,
-        "index": index,
-        "parent": parent,
+        "place": place,
         "pose": pose,
         "shape": kind
     })
@@ -94,7 +96,7 @@ fn record_values(alloc: Global, records: &[&Record]) -> Result<Vec<Value>, Alloc
     requires ids { All (λ shape. shape.now.id < 2 ^ 32) records.now }
     requires limits { All (λ shape. IsInLimits shape.now) records.now }
     ensures value { IfOk result (λ values. items_view values.items
-        ≡ items_of (map record_data (map (λ shape. shape.now) records.now))) }
+        ≡ items_of (map (record_data Two) (map (λ shape. shape.now) records.now))) }
     ensures kept { IfOk result (λ _. All (λ shape. IsKept shape.now) records.now) }
 {
     let mut values = Vec::with_capacity(alloc, records.len())?;
@@ -105,8 +107,9 @@ fn record_values(alloc: Global, records: &[&Record]) -> Result<Vec<Value>, Alloc
 }
 
 fn document_value(alloc: Global, document: &Document) -> Result<Value, OutOfMemory>
-    ensures value { IfOk result (λ value. view value ≡ data_of document.now) }
-    ensures opens { IfOk result (λ _. opened_data (data_of document.now) ≡ Ok document.now) }
+    ensures value { IfOk result (λ value. view value ≡ data_in Two document.now) }
+    ensures kept { IfOk result (λ _. All IsKept document.now.records) }
+    ensures well_formed { IfOk result (λ _. IsWellFormed document.now) }
 {
     let records = document.records_in_order(alloc)?;
     let shapes = record_values(alloc, &records)?;
@@ -115,16 +118,20 @@ fn document_value(alloc: Global, document: &Document) -> Result<Value, OutOfMemo
 
 // A saved document with these records.
 fn value_with(alloc: Global, next: u32, shapes: Vec<Value>) -> Result<Value, AllocError>
-    ensures { IfOk result (λ value. view value ≡ document_data next (items_view shapes.items)) }
+    ensures { IfOk result (λ value. view value ≡ document_data Two next (items_view shapes.items)) }
 {
-    json!(in alloc; {"format": 1, "next": next, "shapes": shapes})
+    json!(in alloc; {"format": 2, "next": next, "shapes": shapes})
 }
 
-/// The text of a saved document of format 1: compact JSON, members in the order of their names,
+/// The text of a saved document of format 2: compact JSON, members in the order of their names,
 /// records by rising id, colours in lower case, and no line feed at the end.
+///
+/// `older` is a law: what format 1 was for the document, if it had room for it, opens as it too.
 pub fn export(alloc: Global, document: &Document) -> Result<Vec<u8>, OutOfMemory>
     ensures saved { IfOk result (λ text. text.items ≡ saved_text_of document.now) }
     ensures opens { IfOk result (λ text. opened text.items ≡ Ok document.now) }
+    ensures older { IfOk result (λ _. length document.now.records ≤ most_of One
+        → opened (text_in One document.now) ≡ Ok document.now) }
 {
     let saved = document_value(alloc, document)?;
     Ok(saved.to_vec(alloc)?)

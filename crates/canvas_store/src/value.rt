@@ -1,14 +1,14 @@
 //! Parts of a document as JSON values.
-ghost use Rattle.std.specs.Prelude.{◌≡◌, ◌<◌, ◌^◌, Some, IfOk};
+ghost use Rattle.std.specs.Prelude.{◌≡◌, ◌<◌, ◌^◌, Some, IfOk, IfSome, IsUtf8};
 ghost use Rattle.serde_json.specs.Data.{number, string, unsigned};
 ghost use Rattle.serde_json.specs.View.{view};
 ghost use Rattle.canvas_key.specs.Text.{IsKey};
 ghost use Rattle.canvas_shape.specs.Names.{colour_named, colour_text};
-ghost use Rattle.canvas_store.specs.Records.{parent_of};
+ghost use Rattle.canvas_store.specs.Kept.{FitsParent};
 ghost use Rattle.canvas_store.specs.Shapes.{fill_of};
-ghost use Rattle.canvas_store.specs.Saved.{colour_data, fill_data, point_data, parent_data, pose_data};
+ghost use Rattle.canvas_store.specs.Saved.{colour_data, fill_data, point_data, parent_data, place_data, pose_data};
 
-use canvas_doc::Parent;
+use canvas_doc::{Parent, Place};
 use canvas_key::Key;
 use canvas_plane::{Point, Pose};
 use canvas_shape::Colour;
@@ -19,6 +19,7 @@ use std::alloc::{AllocError, Global};
 pub(crate) fn colour_value(alloc: Global, colour: &Colour) -> Result<Value, AllocError>
     ensures value { IfOk result (λ value. view value ≡ colour_data colour.now) }
     ensures reads { colour_named (colour_text colour.now) ≡ Some colour.now }
+    ensures text { IsUtf8 (colour_text colour.now) }
 {
     let digits = colour.text();
     Value::try_from_str(alloc, str::from_utf8(&digits).unwrap())
@@ -28,6 +29,7 @@ pub(crate) fn colour_value(alloc: Global, colour: &Colour) -> Result<Value, Allo
 pub(crate) fn fill_value(alloc: Global, fill: &Option<Colour>) -> Result<Value, AllocError>
     ensures value { IfOk result (λ value. view value ≡ fill_data fill.now) }
     ensures reads { fill_of (fill_data fill.now) ≡ Some fill.now }
+    ensures text { IfSome fill.now (λ colour. IsUtf8 (colour_text colour)) }
 {
     match fill {
         Some(colour) => colour_value(alloc, colour),
@@ -36,7 +38,7 @@ pub(crate) fn fill_value(alloc: Global, fill: &Option<Colour>) -> Result<Value, 
 }
 
 // The text of an index.
-pub(crate) fn index_value(alloc: Global, index: &Key) -> Result<Value, AllocError>
+fn index_value(alloc: Global, index: &Key) -> Result<Value, AllocError>
     ensures value { IfOk result (λ value. view value ≡ string index.now) }
     ensures key { IsKey index.now }
 {
@@ -58,14 +60,24 @@ fn id_value(id: u32) -> Value
 }
 
 // Null for the page, else the shape's id.
-pub(crate) fn parent_value(parent: Parent) -> Value
+fn parent_value(parent: Parent) -> Value
     ensures value { view result ≡ parent_data parent }
-    ensures reads { parent_of (parent_data parent) ≡ Some parent }
+    ensures fits { FitsParent parent }
 {
     match parent {
         Parent::Page => Value::Null,
         Parent::Shape(id) => id_value(id),
     }
+}
+
+// The parent and the index.
+pub(crate) fn place_value(alloc: Global, place: &Place) -> Result<Value, AllocError>
+    ensures value { IfOk result (λ value. view value ≡ place_data place.now) }
+    ensures fits { IfOk result (λ _. FitsParent place.now.parent) }
+{
+    let index = index_value(alloc, &place.index)?;
+    let parent = parent_value(place.parent);
+    json!(in alloc; {"index": index, "parent": parent})
 }
 
 pub(crate) fn pose_value(alloc: Global, pose: &Pose) -> Result<Value, AllocError>

@@ -1,7 +1,7 @@
 // The selection, and the edits that people make of it: each one request to the server, of which a refusal is told in words.
 
 import { Unanswered } from "./link.js";
-import { apply, boxOf, corners, inverse } from "./plane.js";
+import { apply, boxOf, compose, corners, inverse } from "./plane.js";
 
 export class Editor extends EventTarget {
   #link;
@@ -167,6 +167,41 @@ export class Editor extends EventTarget {
 
   toBack() {
     return this.#place("back");
+  }
+
+  /** The frame or group next behind the selected shape, beside it. */
+  get behind() {
+    const { record } = this, { tree } = this.#picture;
+    const beside = record ? tree.children(record.parent) : [];
+    return beside.slice(beside.indexOf(record) + 1).find(({ id }) => tree.isContainer(id));
+  }
+
+  // Gives a shape another parent, and a pose in it by which it stays where it is on the page.
+  async #carry(record, parent, spot) {
+    const { tree } = this.#picture;
+    const pose = compose(inverse(tree.poseOf(parent)), compose(tree.poseOf(record.parent), this.#pose(record)));
+    const reply = await this.send({ verb: "move", id: record.id, parent, spot });
+    return reply && this.#setPose(record, pose);
+  }
+
+  /** Puts the selected shape into the frame or group next behind it. */
+  putIn() {
+    return this.behind && this.#carry(this.record, this.behind.id, "front");
+  }
+
+  /** Takes the selected shape out of what it lies in, and puts it just in front of that. */
+  takeOut() {
+    const { record } = this, outer = record && this.#picture.tree.record(record.parent);
+    return outer && this.#carry(record, outer.parent, { over: outer.id });
+  }
+
+  /** Puts the selected shape into a new group in its place. */
+  async group() {
+    const { record } = this;
+    if (!record) return;
+    const made = await this.send({ verb: "create", shape: { kind: "group" }, parent: record.parent, spot: { over: record.id } });
+    const moved = made && await this.send({ verb: "move", id: record.id, parent: made.id, spot: "front" });
+    if (moved) this.select(made.id, made.version);
   }
 
   hide() {

@@ -102,6 +102,8 @@ class App {
     const { record } = this.editor;
     part("shape-head").textContent = record ? nameOf(record) : "Nothing is selected";
     document.querySelectorAll("#actions button").forEach((button) => { button.disabled = !record; });
+    document.querySelector('[data-act="put"]').disabled = !this.editor.behind;
+    document.querySelector('[data-act="take"]').disabled = !record || record.parent === null;
     document.querySelector('[data-act="hide"]').textContent = record?.hidden ? "Show" : "Hide";
     this.colours.show();
     this.stage.draw();
@@ -172,6 +174,9 @@ class App {
       turn: () => editor.turn(),
       flip: () => editor.flip(),
       delete: () => this.tool.back?.() || editor.delete(),
+      put: () => editor.putIn(),
+      take: () => editor.takeOut(),
+      group: () => editor.group(),
       respace: () => editor.respace(),
       nearer: () => this.zoom(view.level - 1),
       further: () => this.zoom(view.level + 1),

@@ -7,5 +7,5 @@ use Rattle.canvas_store.proofs.opening.records_of.Given as goal
 abbrev pub invariant-loop-position : goal.invariant-loop-position
 invariant-loop-position l = record {
   count : length l.records.items ≡ l.position;
-  rest : after l.records.items (records_from l.next l.position (items_view (drop l.position l.shapes))) ≡ records_from l.next 0 (items_view l.shapes);
+  rest : after l.records.items (records_from l.head l.position (items_view (drop l.position l.shapes))) ≡ records_from l.head 0 (items_view l.shapes);
 }

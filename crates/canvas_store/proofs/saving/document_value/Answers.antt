@@ -1,4 +1,4 @@
-use Rattle.canvas_store.proofs.Opens.{ids-held, limits-held, opens-held}
+use Rattle.canvas_store.proofs.Opens.{ids-held, limits-held, kept-held}
 use Rattle.canvas_store.proofs.saving.document_value.Goals as goal
 
 pub record_values-requires-clause-ids : goal.record_values-requires-clause-ids
@@ -9,6 +9,9 @@ pub record_values-requires-clause-limits : goal.record_values-requires-clause-li
 record_values-requires-clause-limits c =
     limits-held c.args.document.now c.deref.result.now (rw c.deref.ensures.value c.in_ok-records.ensures.records) c.in_ok-records.ensures.well_formed
 
-pub returns-clause-opens : goal.returns-clause-opens
-returns-clause-opens c =
-    opens-held c.args.document.now c.deref.result.now (rw c.deref.ensures.value c.in_ok-records.ensures.records) c.in_ok-records.ensures.well_formed c.in_ok-shapes.ensures.kept
+pub returns-clause-kept : goal.returns-clause-kept
+returns-clause-kept c =
+    kept-held c.args.document.now c.deref.result.now (rw c.deref.ensures.value c.in_ok-records.ensures.records) c.in_ok-shapes.ensures.kept
+
+pub returns-clause-well_formed : goal.returns-clause-well_formed
+returns-clause-well_formed c = c.in_ok-records.ensures.well_formed
