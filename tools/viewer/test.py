@@ -566,7 +566,7 @@ async def away(ann, ben, server):
     await ann.press("r")
     await ann.drag([0, 400], [50, 450])
     await ann.tab.until("!document.getElementById('refusal').hidden")
-    yield "an edit meanwhile", None if "went away" in await ann.text("refusal") else await ann.text("refusal")
+    yield "an edit meanwhile", difference(await ann.text("refusal"), "Not done.The server is away.")
     await asyncio.sleep(1)
     server.file.write_bytes(text)
     server.start()
