@@ -5,8 +5,13 @@
 
 const RETRY = 700;
 
-/** A batch that was not answered, since the server went away. */
-export class Unanswered extends Error {}
+/** A batch that was not answered, since the server went away, or was so already and it was not sent. */
+export class Unanswered extends Error {
+  constructor(wasSent = true) {
+    super("not answered");
+    this.wasSent = wasSent;
+  }
+}
 
 export class Link extends EventTarget {
   #socket = null;
@@ -30,7 +35,7 @@ export class Link extends EventTarget {
 
   /** Sends requests in one piece, and gives their replies in order. */
   ask(requests) {
-    if (!this.isHere) return Promise.reject(new Unanswered());
+    if (!this.isHere) return Promise.reject(new Unanswered(false));
     const batch = this.#number++;
     this.sent += requests.length;
     this.#socket.send(JSON.stringify({ batch, requests }));

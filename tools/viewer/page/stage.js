@@ -33,6 +33,7 @@ export class Stage {
     element.addEventListener("contextmenu", (event) => event.preventDefault());
     document.addEventListener("keydown", (event) => this.#key(event));
     document.addEventListener("keyup", (event) => this.#keyUp(event));
+    window.addEventListener("blur", () => { this.#isSpace = false; });
     new ResizeObserver(() => this.#resize()).observe(element);
     this.#resize();
   }
