@@ -50,15 +50,16 @@ and-both : (p q : Bool) → (p && q) ≡ true → (p ≡ true) × (q ≡ true)
 and-both true q h = (refl, h)
 and-both false q h = absurd (cc h)
 
-key-parts : (a b : WindowKey) → a.x ≡ b.x → a.y ≡ b.y → a.w ≡ b.w → a.h ≡ b.h → a ≡ b
-key-parts a b p q r s = λ k. record { x = p k; y = q k; w = r k; h = s k }
+key-parts : (a b : WindowKey) → a.level ≡ b.level → a.x ≡ b.x → a.y ≡ b.y → a.w ≡ b.w → a.h ≡ b.h → a ≡ b
+key-parts a b l p q r s = λ k. record { level = l k; x = p k; y = q k; w = r k; h = s k }
 
-key-of-parts : (a b : WindowKey) → (int_eq a.x b.x && (int_eq a.y b.y && (nat_eq a.w b.w && nat_eq a.h b.h))) ≡ true → a ≡ b
+key-of-parts : (a b : WindowKey) → (nat_eq a.level b.level && (int_eq a.x b.x && (int_eq a.y b.y && (nat_eq a.w b.w && nat_eq a.h b.h)))) ≡ true → a ≡ b
 key-of-parts a b e =
-    let one = and-both (int_eq a.x b.x) (int_eq a.y b.y && (nat_eq a.w b.w && nat_eq a.h b.h)) e in
+    let zero = and-both (nat_eq a.level b.level) (int_eq a.x b.x && (int_eq a.y b.y && (nat_eq a.w b.w && nat_eq a.h b.h))) e in
+    let one = and-both (int_eq a.x b.x) (int_eq a.y b.y && (nat_eq a.w b.w && nat_eq a.h b.h)) zero.1 in
     let two = and-both (int_eq a.y b.y) (nat_eq a.w b.w && nat_eq a.h b.h) one.1 in
     let three = and-both (nat_eq a.w b.w) (nat_eq a.h b.h) two.1 in
-    key-parts a b ((signed_Decides a.x b.x).0 one.0) ((signed_Decides a.y b.y).0 two.0) (eqb-true a.w b.w three.0) (eqb-true a.h b.h three.1)
+    key-parts a b (eqb-true a.level b.level zero.0) ((signed_Decides a.x b.x).0 one.0) ((signed_Decides a.y b.y).0 two.0) (eqb-true a.w b.w three.0) (eqb-true a.h b.h three.1)
 
 -- the test of keys is exact
 pub exact-key : IsExact key_impl.ghosts.eq

@@ -1,11 +1,12 @@
 -- What changes leave as it is: a window that the damage of each misses shows the same picture after them.
 use Rattle.std.proofs.Common.{◌≡◌, ℕ, zero, suc, ◌+◌, ◌-◌, ◌<◌, ◌≤◌, Bool, true, false, ◌&&◌, List, [], ◌∷◌, ◌++◌, length, take, drop, All, refl, sym, ap, ◌∙◌, subst, arith}
-use Rattle.std.specs.Prelude.{ℤ, ◌+ℤ◌, pos}
+use Rattle.std.specs.Prelude.{ℤ, ◌+ℤ◌, ◌*ℤ◌, pos}
 use Rattle.std.proofs.lemmas.List.{drop-append-le, take-append-drop, get_or-append-add, length-append}
 use Rattle.canvas_plane.specs.declared.PageBox.{PageBox}
 use Rattle.canvas_plane.specs.declared.windows.Window.{Window}
 use Rattle.canvas_plane.specs.Page.{is_in, meet_of}
-use Rattle.canvas_plane.specs.Window.{box_of_window}
+use Rattle.canvas_plane.specs.Sides.{scale_of}
+use Rattle.canvas_plane.specs.Window.{covered_by}
 use Rattle.canvas_plane.proofs.Boxes.{empty-none, meet-exact}
 use Rattle.canvas_doc.specs.declared.edits.Change.{Change}
 use Rattle.canvas_doc.specs.Contents.{Contents, IsWellFormed}
@@ -33,14 +34,14 @@ not-first : (p q : Bool) → (p && q) ≡ false → q ≡ true → p ≡ false
 not-first false q h t = refl
 not-first true q h t = absurd (cc (h, t))
 
--- a box that misses a window has no pixel of it
-pub missed-pixel : (window : Window) (area : PageBox) (x y : ℤ) → misses window area ≡ true → is_in (box_of_window window) x y ≡ true → is_in area x y ≡ false
+-- a box that misses a window has no pixel that the window covers
+pub missed-pixel : (window : Window) (area : PageBox) (x y : ℤ) → misses window area ≡ true → is_in (covered_by window) x y ≡ true → is_in area x y ≡ false
 missed-pixel window area x y m h =
-    let none : is_in (meet_of area (box_of_window window)) x y ≡ false = (empty-none (meet_of area (box_of_window window))).0 m x y in
-    not-first (is_in area x y) (is_in (box_of_window window) x y) (sym (meet-exact area (box_of_window window) x y) ∙ none) h
+    let none : is_in (meet_of area (covered_by window)) x y ≡ false = (empty-none (meet_of area (covered_by window))).0 m x y in
+    not-first (is_in area x y) (is_in (covered_by window) x y) (sym (meet-exact area (covered_by window) x y) ∙ none) h
 
 -- colours that agree in a window make one file
-pub same-file : (d e : Contents) (window : Window) → ((x y : ℤ) → is_in (box_of_window window) x y ≡ true → colour e.records x y ≡ colour d.records x y) → file_of e window ≡ file_of d window
+pub same-file : (d e : Contents) (window : Window) → ((x y : ℤ) → is_in (covered_by window) x y ≡ true → colour e.records x y ≡ colour d.records x y) → file_of e window ≡ file_of d window
 unfolding file_of
 same-file d e window h = ap (p6_of window.w window.h) (joined-picture (colour e.records) (colour d.records) window h)
 
@@ -52,7 +53,7 @@ well-after d (suc k) (c ∷ cs) w fit = well-after (effect_of c d) k cs fit.0.le
 
 -- colours in a window stay over changes whose damage misses it
 pub same-after : DamageKeeps → (window : Window) (k n : ℕ) → k ≤ n → (d : Contents) (cs : List Change) → IsWellFormed d → AllFit d cs → All (λ (e : Damage). k < e.number → misses window e.area ≡ true) (damages_from n d cs)
-    → (x y : ℤ) → is_in (box_of_window window) x y ≡ true → colour (replay_of d cs).records x y ≡ colour d.records x y
+    → (x y : ℤ) → is_in (covered_by window) x y ≡ true → colour (replay_of d cs).records x y ≡ colour d.records x y
 same-after keeps window k n le d [] w fit all x y h = refl
 same-after keeps window k n le d (c ∷ cs) w fit all x y h =
     let first : misses window (damage_of c d) ≡ true = all 0 (record { number = n + 1; area = damage_of c d }) (omega arith) (omega arith) in
@@ -95,4 +96,4 @@ still-shows keeps opening changes k window w fit within right =
 -- the file of a window goes by its numbers
 pub file-key : (d : Contents) (a b : Window) → key_of a ≡ key_of b → file_of d a ≡ file_of d b
 unfolding file_of
-file-key d a b e = ap (λ (k : WindowKey). p6_of k.w k.h (raster_of (λ i j. (colour d.records (k.x +ℤ pos i) (k.y +ℤ pos j)).0) k.w 0 (k.h - 0))) e
+file-key d a b e = ap (λ (k : WindowKey). p6_of k.w k.h (raster_of (λ i j. (colour d.records ((k.x +ℤ pos i) *ℤ pos (scale_of k.level)) ((k.y +ℤ pos j) *ℤ pos (scale_of k.level))).0) k.w 0 (k.h - 0))) e

@@ -5,7 +5,7 @@ use Rattle.lru.specs.LruCache.{LruCache}
 use Rattle.canvas_plane.specs.declared.PageBox.{PageBox}
 use Rattle.canvas_plane.specs.declared.windows.Window.{Window}
 use Rattle.canvas_plane.specs.Page.{is_empty_box, meet_of}
-use Rattle.canvas_plane.specs.Window.{box_of_window}
+use Rattle.canvas_plane.specs.Window.{covered_by}
 use Rattle.canvas_doc.specs.Contents.{IsWellFormed}
 use Rattle.canvas_doc.specs.History.{replay_of}
 use Rattle.canvas_line.specs.Lines.{Sight}
@@ -15,18 +15,18 @@ use Rattle.canvas_board.specs.declared.answers.Picture.{Picture}
 use Rattle.canvas_board.specs.declared.kept.WindowKey.{WindowKey}
 use Rattle.canvas_board.specs.Raster.{file_of}
 
--- the numbers of a window
+-- the level and the numbers of a window
 abbrev pub key_of : Window → WindowKey
-key_of window = record { x = window.x; y = window.y; w = window.w; h = window.h }
+key_of window = record { level = window.level; x = window.x; y = window.y; w = window.w; h = window.h }
 
 -- the pictures that are kept, with their windows, the last used first
 abbrev pub entries_of : Option (LruCache WindowKey Picture) → List (WindowKey × Picture)
 entries_of None = []
 entries_of (Some cache) = cache.entries
 
--- the box has no pixel of the window
+-- the box has no pixel of the page that the window covers
 abbrev pub misses : Window → PageBox → Bool
-misses window area = is_empty_box (meet_of area (box_of_window window))
+misses window area = is_empty_box (meet_of area (covered_by window))
 
 -- A picture of a window that was right at one version is right at another: at most 64 changes lie between them, and the damage
 -- of each misses the window.

@@ -14,6 +14,7 @@ use std::sync::Arc;
 /// A window as the key of its picture.
 #[derive(Clone, Copy, PartialEq, Eq, Hash)]
 pub(crate) struct WindowKey {
+    level: u8,
     x: i32,
     y: i32,
     w: u32,
@@ -136,6 +137,7 @@ fn key_of(window: &Window) -> WindowKey
     ensures { result ≡ key_of window.now }
 {
     WindowKey {
+        level: window.level(),
         x: window.x(),
         y: window.y(),
         w: window.w(),
@@ -150,12 +152,12 @@ fn still_right(recent: &[Damage], kept_at: u64, number: u64, window: &Window) ->
     if number.saturating_sub(kept_at) > MOST_RECENT as u64 {
         return false;
     }
-    let shown = window.page_box();
-    recent.iter().all(|damage| damage.number <= kept_at || misses(&damage.area, &shown))
+    let covered = window.covered();
+    recent.iter().all(|damage| damage.number <= kept_at || misses(&damage.area, &covered))
 }
 
-fn misses(area: &PageBox, shown: &PageBox) -> bool
-    ensures { result ≡ is_empty_box (meet_of area.now shown.now) }
+fn misses(area: &PageBox, covered: &PageBox) -> bool
+    ensures { result ≡ is_empty_box (meet_of area.now covered.now) }
 {
-    area.meet(shown).is_empty()
+    area.meet(covered).is_empty()
 }
