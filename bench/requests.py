@@ -1,11 +1,21 @@
 #!/usr/bin/env python3
-"""Requests a second of the built program, beside a line counter that reads the same bytes in the same run.
+"""Times of requests of the built program: rates beside a line counter, how they grow with the document, and pictures from farther away.
 
-usage: bench/requests.py [hundreds of thousands of requests; 1 where it is left out]
+usage: bench/requests.py [rates|growth|levels ..] [hundreds of thousands of requests for the rates; 1 where it is left out]
 
-Each workload is a file of request lines that the program serves from standard input, its replies going to a file that is then
-removed. Printed for each: requests a second, the ratio to a line counter (wc -l) over the same file, and the greatest size of
-the program in memory at 100,000 requests and at a tenth of them, which shows whether memory grows with the number of requests.
+Without a word it measures all three. The program serves request lines from a file, with one worker. How the figures are got:
+
+- rates: each workload is a file of request lines, the replies go to a file that is then removed. Printed for each: requests a second, the
+  ratio to a line counter (wc -l) over the same file, both the least of three runs, and the greatest size of the program in memory at
+  100,000 requests and at a tenth of them, which shows whether memory grows with the number of requests.
+- growth: documents of 10 to 16,384 squares of 10 by 10, each in a tile of its own, on one page and in groups of 63 (the groups count among
+  the records). A request's time is that of a run that makes the document and then sends the requests, less that of a run that makes the
+  document alone, each the least of three, their replies thrown away: a small edit (a pose of some square), a mixed edit (a pose, a mark,
+  a new shape's values, a move to the front, a deletion and a new square in turn), and a tile of level 0 that one square meets. Ratios are
+  to the document of 10, and of the greatest to that of 4,096.
+- levels: 16,384 small shapes 128 pixels apart, of which a tile at level k meets 4 to the power of k + 1. Beside it stands the same document
+  made 2^k times smaller, of which a tile at level 0 meets as many shapes; of squares it is the same picture byte by byte, which is checked.
+  A tile's time is got as in `growth`, the two in turn in one run; printed are both and their ratio.
 """
 
 import json
@@ -16,7 +26,16 @@ import time
 from pathlib import Path
 
 TOP = Path(__file__).resolve().parent.parent
-PROGRAM = TOP / "crates" / "canvas" / "out" / "canvas"
+sys.path.insert(0, str(TOP / "tools"))
+from canvas_client import PROGRAM, replies  # noqa: E402
+from check_streams import BUILT  # noqa: E402
+
+SIZES = [10, 100, 1000, 4096, 16_384]
+MOST = 16_384
+EDITS = 20_000
+TILES = 1000
+EDGE = 128
+"""How many shapes of the wide documents stand in a row."""
 
 
 def rectangle(place, side):
@@ -103,20 +122,173 @@ def written(lines, folder):
 
 def measure(name, workload, count, folder):
     path = written(workload(count), folder)
-    best, memory = min(run([str(PROGRAM), "script", "1"], path) for _ in range(3))
+    best, memory = min(run([str(BUILT), "script", "1"], path) for _ in range(3))
     counter, _ = min(run(["wc", "-l"], path) for _ in range(3))
     few = written(workload(count // 10), folder)
-    _, memory_of_few = run([str(PROGRAM), "script", "1"], few)
+    _, memory_of_few = run([str(BUILT), "script", "1"], few)
     print(f"{name}: {count / best:,.0f} requests/s, {best / counter:.0f} times the time of a line counter, "
           f"memory {memory} KiB (with a tenth of the requests {memory_of_few} KiB)")
 
 
+# -- how times grow with the document ----------------------------------------------------------------------------------
+
+def is_group(number, in_groups):
+    return in_groups and number % 64 == 1
+
+
+def squares(count, in_groups):
+    """Requests for squares, each in a tile of its own, on the page or in groups of 63."""
+    lines = []
+    for number in range(1, count + 1):
+        parent = number - (number - 1) % 64 if in_groups else None
+        if is_group(number, in_groups):
+            lines.append({"verb": "create", "shape": {"kind": "group"}})
+        else:
+            pose = {"dx": number % EDGE * 256, "dy": number // EDGE * 256}
+            lines.append({**rectangle(number, 10), "pose": pose, "parent": parent})
+    return lines
+
+
+def small_edits(count, in_groups):
+    """Poses of the squares, which stay in their tiles."""
+    leaves = [number for number in range(1, count + 1) if not is_group(number, in_groups)]
+    for n in range(EDITS):
+        number = leaves[n * 7919 % len(leaves)]
+        yield {"verb": "pose", "id": number, "pose": {"dx": number % EDGE * 256 + n % 9, "dy": number // EDGE * 256}}
+
+
+def mixed_edits(count, in_groups):
+    """Edits of squares in turn; each that is deleted is made again, with the next id."""
+    leaves, parents, fresh = [], {}, count + 1
+    for number in range(1, count + 1):
+        if not is_group(number, in_groups):
+            leaves.append(number)
+            parents[number] = number - (number - 1) % 64 if in_groups else None
+    for n in range(EDITS // 6):
+        at = n * 7919 % len(leaves)
+        number = leaves[at]
+        parent = parents.pop(number)
+        yield {"verb": "pose", "id": number, "pose": {"dx": n % 9000, "dy": n % 7}}
+        yield {"verb": "show", "id": number, "hidden": n % 2 == 0}
+        yield {"verb": "reshape", "id": number, "shape": rectangle(n, 10 + n % 5)["shape"]}
+        yield {"verb": "move", "id": number, "parent": parent, "spot": "front"}
+        yield {"verb": "delete", "id": number}
+        yield {**rectangle(n, 10), "pose": {"dx": n % 9000, "dy": 9}, "parent": parent}
+        leaves[at], parents[fresh] = fresh, parent
+        fresh += 1
+
+
+def one_tile_each(count, in_groups):
+    for n in range(TILES):
+        number = n % count + 1
+        yield {"verb": "tile", "col": number % EDGE, "row": number // EDGE}
+
+
+GROWTH = {"small edit": small_edits, "mixed edit": mixed_edits, "tile": one_tile_each}
+
+
+def timed(path):
+    """The least seconds of three runs over a file, the replies thrown away."""
+    found = []
+    for _ in range(3):
+        with open(path, "rb") as source:
+            begin = time.perf_counter()
+            subprocess.run([str(BUILT), "script", "1"], stdin=source, stdout=subprocess.DEVNULL, check=True)
+            found.append(time.perf_counter() - begin)
+    return min(found)
+
+
+def bodies(lines, folder):
+    """The bodies of the replies; ends the program where a request is refused."""
+    with open(written(lines, folder), "rb") as source:
+        child = subprocess.Popen([str(BUILT), "script", "1"], stdin=source, stdout=subprocess.PIPE)
+        found = []
+        for number, (reply, body) in enumerate(replies(child.stdout)):
+            if not reply["ok"]:
+                sys.exit(f"{lines[number]} is refused: {reply}")
+            found.append(body)
+        child.wait()
+    return found
+
+
+def microseconds(making, lines, folder, seconds):
+    """The time of each of some requests after those that make a document, which alone take so many seconds."""
+    lines = list(lines)
+    return (timed(written(making + lines, folder)) - seconds) / len(lines) * 1e6
+
+
+def measure_growth(folder):
+    for in_groups in (False, True):
+        found = {name: [] for name in GROWTH}
+        for count in SIZES:
+            making = squares(count, in_groups)
+            bodies(making + list(mixed_edits(count, in_groups)), folder)
+            seconds = timed(written(making, folder))
+            for name, requests in GROWTH.items():
+                found[name].append(microseconds(making, requests(count, in_groups), folder, seconds))
+        for name, times in found.items():
+            told = ", ".join(f"{count:,}: {it:.1f} ({it / times[0]:.2f})" for count, it in zip(SIZES, times))
+            print(f"{name}, {'in groups of 63' if in_groups else 'on one page'}, microseconds at so many records (ratio to {SIZES[0]}): "
+                  f"{told}; {SIZES[-1]:,} to {SIZES[-2]:,}: {times[-1] / times[-2]:.2f}", flush=True)
+
+
+# -- pictures from farther away ----------------------------------------------------------------------------------------
+
+def square_of(place, side):
+    return {"kind": "rect", "w": side, "h": side}
+
+
+def mixed_of(place, side):
+    """Ellipses and polygons in turn."""
+    if place % 2:
+        return {"kind": "ellipse", "w": side, "h": side}
+    return {"kind": "polygon", "points": [[0, 0], [side, 0], [side, side], [0, side]]}
+
+
+def wide(kind, level):
+    """Requests for small shapes in rows, that many times smaller."""
+    side, apart = 64 >> level, 128 >> level
+    lines = []
+    for place in range(MOST):
+        shape = {**kind(place, side), "fill": f"{place * 4099 % (1 << 24):06x}"}
+        lines.append({"verb": "create", "shape": shape, "pose": {"dx": place % EDGE * apart, "dy": place // EDGE * apart}})
+    return lines
+
+
+def tiles(count, level, shown):
+    """Tiles of a level in the order in which they lie in the document; `shown` is the level that they have."""
+    row = 64 >> level
+    return [{"verb": "tile", "col": n % row, "row": n // row % row, "level": shown} for n in range(count)]
+
+
+def measure_levels(name, kind, folder):
+    far = wide(kind, 0)
+    far_seconds = timed(written(far, folder))
+    for level in range(7):
+        near, count = wide(kind, level), max(40, TILES >> level)
+        is_same = bodies(far + tiles(2, level, level), folder)[-2:] == bodies(near + tiles(2, level, 0), folder)[-2:]
+        if kind is square_of and not is_same:
+            sys.exit(f"a tile at level {level} is not the tile of the smaller document")
+        near_seconds = timed(written(near, folder))
+        at_level = microseconds(far, tiles(count, level, level), folder, far_seconds)
+        at_zero = microseconds(near, tiles(count, level, 0), folder, near_seconds)
+        print(f"{name}, a tile at level {level} over {MOST:,} shapes, {4 ** (level + 1):,} of which meet it: {at_level:.0f} microseconds; "
+              f"at level 0 with as many: {at_zero:.0f}; ratio {at_level / at_zero:.2f}", flush=True)
+
+
 def main():
-    count = 100_000 * int(sys.argv[1]) if len(sys.argv) > 1 else 100_000
-    subprocess.run([str(TOP / "bin" / "canvas"), "script", "1"], stdin=subprocess.DEVNULL, check=True)
+    words = [word for word in sys.argv[1:] if not word.isdigit()] or ["rates", "growth", "levels"]
+    numbers = [int(word) for word in sys.argv[1:] if word.isdigit()]
+    subprocess.run([str(PROGRAM), "script", "1"], stdin=subprocess.DEVNULL, check=True)
     with tempfile.TemporaryDirectory() as folder:
-        for name, workload in WORKLOADS.items():
-            measure(name, workload, count, folder)
+        if "rates" in words:
+            for name, workload in WORKLOADS.items():
+                measure(name, workload, 100_000 * (numbers or [1])[0], folder)
+        if "growth" in words:
+            measure_growth(folder)
+        if "levels" in words:
+            measure_levels("squares", square_of, folder)
+            measure_levels("ellipses and polygons", mixed_of, folder)
 
 
 if __name__ == "__main__":

@@ -4,7 +4,7 @@
 # usage: bench/time.sh spans|lists|edits|scenes|painting|saving|seats
 #
 # crates/bench/README.md tells what each of them times. `saving` reads a saved document from standard input (bench/documents.py
-# gives it one of 4,096 records). Run it a few times on a machine that has other work, and take the least.
+# gives it ones of 4,096 and of 16,384 records). Run it a few times on a machine that has other work, and take the least.
 set -euo pipefail
 subject=${1:?"usage: bench/time.sh spans|lists|edits|scenes|painting|saving|seats"}
 cd "$(dirname "$0")/../crates/bench"

@@ -3,6 +3,7 @@
     with Canvas() as canvas:                              # starts `canvas script`
         canvas.ask(verb="create", shape={"kind": "rect", "w": 2, "h": 1, "fill": "ff0000"})
         reply, image = canvas.ask(verb="tile", col=0, row=0)
+        reply, image = canvas.ask(verb="tile", col=0, row=0, level=3)  # from farther away: each eighth pixel of each eighth row
 
     with Canvas.connect("127.0.0.1:7878") as canvas:      # a session with `canvas serve`
         ...

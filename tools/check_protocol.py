@@ -4,16 +4,17 @@
 usage: tools/check_protocol.py
 
 A block marked `session` is a session of its own: a line `> ..` is sent, a line `< ..` is the reply's line, and a line in brackets
-after it says what the body is; where that is a JSON text it is compared. Prints what differs, and a last line
-'N passed, M failed'; the status is 1 where something failed.
+after it says what the body is: a JSON text, which is compared, or a picture with its sides and the names of its colours, all of whose
+pixels are compared; one colour alone is that of each pixel. It runs the program that the environment's CANVAS names, or else
+bin/canvas. Prints what differs, and a last line 'N passed, M failed'; the status is 1 where something failed.
 """
 
+import re
 import subprocess
 import sys
-from pathlib import Path
 
-TOP = Path(__file__).resolve().parent.parent
-PROGRAM = TOP / "bin" / "canvas"
+from canvas_client import PROGRAM, TOP
+
 PAGE = TOP / "docs" / "PROTOCOL.md"
 
 
@@ -29,6 +30,20 @@ def blocks(text):
             begin = None
 
 
+COLOURS = {"red": b"\xff\0\0", "white": b"\xff\xff\xff"}
+
+
+def named_body(words):
+    """The bytes that the words in brackets name."""
+    if words.startswith("{"):
+        return words.encode()
+    sides = [int(side) for side in re.search(r"of (\d+) by (\d+)", words).groups()]
+    colours = [COLOURS[word] for word in re.findall(r"\w+", words) if word in COLOURS]
+    count = sides[0] * sides[1]
+    raster = b"".join(colours * count if len(colours) == 1 else colours)
+    return b"P6\n%d %d\n255\n" % tuple(sides) + raster
+
+
 def fault(block):
     """What is wrong with a session block, or None."""
     sent = [line[2:] for line in block if line.startswith("> ")]
@@ -37,7 +52,7 @@ def fault(block):
     if len(sent) != len(wanted):
         return "as many requests as replies must stand in a block"
     given = "".join(line + "\n" for line in sent).encode()
-    done = subprocess.run([PROGRAM, "script"], input=given, capture_output=True, timeout=60)
+    done = subprocess.run([str(PROGRAM), "script"], input=given, capture_output=True, timeout=60)
     rest = done.stdout
     for request, reply in zip(sent, wanted):
         line, _, rest = rest.partition(b"\n")
@@ -49,8 +64,8 @@ def fault(block):
             return f"the body of {reply} is not named"
         if length:
             named = bodies.pop(0)
-            if named.startswith("{") and body.decode() != named:
-                return f"the body of {reply} is {body.decode()}"
+            if body != named_body(named):
+                return f"the body of {reply} is {body[:400]}, and not {named}"
     if rest or done.returncode != 0:
         return f"the program ends with status {done.returncode}, and {len(rest)} bytes are left"
     return None

@@ -25,13 +25,16 @@ import threading
 import time
 from pathlib import Path
 
+import key_rows
 from canvas_client import PROGRAM, TOP, Canvas, Refused, line_of
 from plain_model import Model
 from plain_model import Refused as Disallowed
+from plain_session import window_of
 
 SEATS = 63
 SECONDS = 60
-EMPTY = b'{"format":1,"next":1,"shapes":[]}'
+EMPTY = b'{"format":2,"next":1,"shapes":[]}'
+MOST_BYTES = 134_217_728
 NO_SEATS = b'{"body":0,"code":19,"name":"NoSeats","ok":false}\n'
 LONG_LINE = b'{"body":0,"code":70,"name":"LineTooLong","ok":false}\n'
 POINT = b'{"verb":"point","x":0,"y":0}\n'
@@ -103,6 +106,94 @@ def difference(got, wanted):
     return None if got == wanted else f"got {str(got)[:300]}, wanted {str(wanted)[:300]}"
 
 
+# -- saved documents of both formats ------------------------------------------------------------------------------------
+
+PLACES = {1: b'"index":"%s","parent":%s', 2: b'"place":{"index":"%s","parent":%s}'}
+
+
+def record(form, number, index=b"a0", parent=b"null"):
+    """A group as a record of a format."""
+    return (b'{"hidden":false,"id":%d,' % number + PLACES[form] % (index, parent)
+            + b',"pose":{"dx":0,"dy":0,"flip":false,"quarter":0},"shape":{"kind":"group"}}')
+
+
+def document(form, number, *records):
+    return b'{"format":%d,"next":%d,"shapes":[%s]}' % (form, number, b",".join(records))
+
+
+def groups(form, count):
+    """A document of groups on the page."""
+    return document(form, count + 1, *(record(form, k + 1, key_rows.fresh(k).encode()) for k in range(count)))
+
+
+BAD_JSON, BAD_FORMAT, BAD_RECORD, BAD_TREE = b"50 BadJson", b"60 BadFormat", b"61 BadRecord", b"62 BadTree"
+def bad_documents():
+    """Texts that don't open, with what the program says."""
+    yield "an end too early", BAD_JSON, b"{"
+    yield "no members", BAD_FORMAT, b"{}"
+    for form in (b"3", b"0", b"-1", b"2.0", b'"2"', b"null"):
+        yield f"format {form.decode()}", BAD_FORMAT, EMPTY.replace(b"2", form, 1)
+    yield "4,097 records in format 1", BAD_FORMAT, groups(1, 4097)
+    yield "16,385 records in format 2", BAD_FORMAT, groups(2, 16_385)
+    yield "16,385 records in format 2, the first of which is none", BAD_FORMAT, groups(2, 16_385).replace(b'"a0"', b'"a00"', 1)
+    yield "a place in format 1", BAD_RECORD, document(1, 2, record(2, 1))
+    yield "index and parent beside the id in format 2", BAD_RECORD, document(2, 2, record(1, 1))
+    for name, old, new in [
+        ("an index beside the place", b'"pose"', b'"index":"a0","pose"'),
+        ("a parent beside the place", b'"pose"', b'"parent":null,"pose"'),
+        ("a place without index", b'"index":"a0",', b""),
+        ("a place without parent", b',"parent":null', b""),
+        ("a place with one member more", b'"index"', b'"id":1,"index"'),
+        ("a place that is no object", b'{"index":"a0","parent":null}', b'"a0"'),
+    ]:
+        yield name, BAD_RECORD, document(2, 2, record(2, 1).replace(old, new))
+    for form in (1, 2):
+        for what, code, bad in [
+            ("a bad index", BAD_RECORD, record(form, 2, b"a00")),
+            ("a parent that is not there", BAD_TREE, record(form, 2, b"a1", b"9")),
+            ("a place twice", BAD_TREE, record(form, 2)),
+            ("an id twice", BAD_TREE, record(form, 1, b"a1")),
+        ]:
+            yield f"{what} in format {form}", code, document(form, 3, record(form, 1), bad)
+
+
+def opened(folder):
+    """Texts that open, and what is saved of them: always format 2."""
+    red = (b'{"format":%d,"next":2,"shapes":[{"hidden":false,"id":1,%s,"pose":{"dx":0,"dy":0,"flip":false,"quarter":0},'
+           b'"shape":{"fill":"ff0000","h":1,"kind":"rect","w":2}}]}')
+    reds = [red % (form, PLACES[form] % (b"a0", b"null")) for form in (1, 2)]
+    posters = [(TOP / "examples" / name).read_bytes() for name in ("poster-format-1.json", "poster.json")]
+    wide = EMPTY[:-1] + b" " * (MOST_BYTES - len(EMPTY)) + EMPTY[-1:]
+    for name, text, wanted in [
+        ("the empty document of format 1", EMPTY.replace(b"2", b"1", 1), EMPTY),
+        ("a red rectangle of format 1", *reds), ("a red rectangle", reds[1], reds[1]),
+        ("a poster of format 1", *posters), ("a poster", posters[1], posters[1]),
+        ("4,096 records of format 1", groups(1, 4096), groups(2, 4096)),
+        ("4,097 records", groups(2, 4097), groups(2, 4097)), ("16,384 records", groups(2, 16_384), groups(2, 16_384)),
+        ("a document as long as one may be", wide, EMPTY),
+    ]:
+        with Server(folder, text) as server, server.connect() as canvas:
+            yield f"{name}, saved again", difference(canvas.ask(verb="export")[1], wanted)
+
+
+def full_document(folder):
+    """Of a document of format 1 with its most records there may be more: as many as there may be at all."""
+    with Server(folder, groups(1, 4096)) as server, server.connect() as canvas:
+        shape = {"kind": "group"}
+        for _ in range(12):
+            for _ in range(1024):
+                canvas.send(verb="create", shape=shape)
+            ids = [canvas.read()[0]["id"] for _ in range(1024)]
+        yield "the last of 16,384 records", difference(ids[-1], 16_384)
+        try:
+            canvas.ask(verb="create", shape=shape)
+            yield "one record more", "it is made"
+        except Refused as refused:
+            yield "one record more", difference(str(refused), "7 TooMany")
+        canvas.ask(verb="respace", parent=None)
+        yield "16,384 records that were made", difference(canvas.ask(verb="export")[1], groups(2, 16_384))
+
+
 # -- how the program starts --------------------------------------------------------------------------------------------
 
 def run(words):
@@ -124,15 +215,11 @@ def starts(folder):
     good = file("empty.json", EMPTY)
     for words in [["serve"], ["serve", "a"], ["serve", address, good, "0"], ["serve", address, good, "2", "3"]]:
         yield f"usage at {words}", difference(run(words), (b"", usage, 2))
-    shape = b'{"hidden":false,"id":1,"index":"%s","parent":%s,"pose":{"dx":0,"dy":0,"flip":false,"quarter":0},"shape":{"kind":"group"}}'
-    saved = b'{"format":1,"next":2,"shapes":[%s]}'
-    for code, name, text in [(50, b"BadJson", b"{"), (60, b"BadFormat", b"{}"), (61, b"BadRecord", saved % (shape % (b"a00", b"null"))),
-                             (62, b"BadTree", saved % (shape % (b"a0", b"9")))]:
-        refusal = b"canvas: %d %s\n" % (code, name)
-        yield f"a document refused by {code}", difference(run(["serve", address, file("bad.json", text)]), (b"", refusal, 3))
+    for name, code, text in bad_documents():
+        yield f"a document with {name}", difference(run(["serve", address, file("bad.json", text)]), (b"", b"canvas: %s\n" % code, 3))
     large = Path(folder) / "large.json"
     with large.open("wb") as hole:
-        hole.truncate(67_108_865)
+        hole.truncate(MOST_BYTES + 1)
     yield "a document too large", difference(run(["serve", address, str(large)]), (b"", b"canvas: 60 BadFormat\n", 3))
     large.unlink()
     yield "no file", difference(run(["serve", address, str(Path(folder) / "none")]), (b"", io, 4))
@@ -195,6 +282,22 @@ def small_sessions(folder):
             yield "a tile", difference(tile, b"P6\n256 256\n255\n" + b"\xff" * (3 * 256 * 256))
 
 
+def kept_level(folder):
+    """A picture at a level, which the seat keeps: shapes beside the pixels shown change no byte of it."""
+    picture = {"verb": "patch", "x": 0, "y": 0, "w": 2, "h": 2, "level": 3}
+    red = b"P6\n2 2\n255\n" + b"\xff\0\0" * 4
+    with Server(folder) as server, server.connect() as canvas:
+        canvas.ask(verb="create", shape={"kind": "rect", "w": 10, "h": 10, "fill": "ff0000"})
+        looks = [canvas.ask(**picture)]
+        for dx, dy in ((20, 0), (15, 15)):
+            canvas.ask(verb="create", shape={"kind": "rect", "w": 1, "h": 1, "fill": "00ff00"}, pose={"dx": dx, "dy": dy})
+            looks.append(canvas.ask(**picture))
+        found = [(reply["version"], image) for reply, image in looks]
+        yield "a picture at a level, three times", difference(found, [(version, red) for version in (1, 2, 3)])
+        canvas.ask(verb="pose", id=3, pose={"dx": 8, "dy": 8})
+        yield "a shape that moves onto a pixel shown", difference(canvas.ask(**picture)[1], red[:-3] + b"\0\xff\0")
+
+
 def last_replies(server, lines, count):
     """The last lines that a session is answered."""
     with server.socket() as sock:
@@ -227,6 +330,9 @@ BAD_LINES = [
     ({"verb": "delete"}, 53),
     ({"verb": "respace", "parent": None, "extra": 1}, 54),
     ({"verb": "patch", "x": 0, "y": 0, "w": 257, "h": 1}, 30),
+    ({"verb": "patch", "x": 0, "y": 0, "w": 257, "h": 1, "level": 7}, 34),
+    ({"verb": "tile", "col": 128, "row": 0, "level": 6}, 30),
+    ({"verb": "tile", "col": 0, "row": 0, "level": 256}, 53),
 ]
 EDITS = ("create", "move", "pose", "reshape", "show", "delete", "respace")
 
@@ -287,10 +393,13 @@ class Client(threading.Thread):
         if what < 0.75:
             return {"verb": "point", "x": chance.randrange(-10, 300), "y": chance.randrange(-10, 300)}
         if what < 0.95:
-            x, y, w, h = (chance.randrange(*ends) for ends in ((-10, 290), (-10, 290), (1, 13), (1, 9)))
-            return {"verb": "patch", "x": x, "y": y, "w": w, "h": h}
+            level = chance.choice([0, 0, 0, 1, 2, 3, 4, 5, 6])
+            x, y = (chance.randrange(-10, 290) >> level for _ in range(2))
+            w, h = (chance.randrange(*ends) for ends in ((1, 13), (1, 9)))
+            return {"verb": "patch", "x": x, "y": y, "w": w, "h": h, "level": level}
         if what < 0.98:
-            return {"verb": "tile", "col": chance.randrange(-1, 2), "row": chance.randrange(-1, 2)}
+            tile = {"verb": "tile", "col": chance.randrange(-1, 2), "row": chance.randrange(-1, 2)}
+            return {**tile, "level": chance.randrange(7)} if chance.random() < 0.5 else tile
         return chance.choice(BAD_LINES)[0]
 
     def _edit(self):
@@ -442,12 +551,12 @@ class History:
         if request["verb"] == "point":
             got, wanted = reply["colour"], model.colour(request["x"], request["y"])
         elif request["verb"] == "patch":
-            got, wanted = entry.body, model.image(request["x"], request["y"], request["w"], request["h"])
+            got, wanted = entry.body, model.image(*window_of(request))
         else:
-            head, size, pixels = entry.body
-            left, top = 256 * request["col"], 256 * request["row"]
+            left, top, _, _, level = window_of(request)
             got = entry.body
-            wanted = (b"P6\n256 256\n255\n", 15 + 3 * 256 * 256, [(x, y, model.colour(left + x, top + y)) for x, y, _ in pixels])
+            colours = [(x, y, model.colour((left + x) << level, (top + y) << level)) for x, y, _ in entry.body[2]]
+            wanted = (b"P6\n256 256\n255\n", 15 + 3 * 256 * 256, colours)
         if got != wanted:
             self._say(f"{request} was answered {reply} and {got}, and the model has {wanted}")
 
@@ -471,7 +580,7 @@ def history(folder, count, seconds, seed, most):
     for fault in found.faults:
         yield f"history of {count} clients", fault
     yield f"history of {count} clients", None if not found.faults else "see above"
-    for code in (2, 3, 4, 5, 8, 9, 10, 11, 12, 14, 30, 52, 53, 54):
+    for code in (2, 3, 4, 5, 8, 9, 10, 11, 12, 14, 30, 34, 52, 53, 54):
         yield f"refusals by {code}, {count} clients", None if found.refusals.get(code) else "none came"
 
 
@@ -481,9 +590,11 @@ WINDOWS = [
     {"verb": "tile", "col": 0, "row": 0},
     {"verb": "tile", "col": 1, "row": 0},
     {"verb": "patch", "x": 245, "y": 3, "w": 20, "h": 9},
+    {"verb": "tile", "col": 0, "row": 0, "level": 1},
+    {"verb": "patch", "x": -3, "y": 0, "w": 40, "h": 9, "level": 3},
 ]
 """What the viewers look at, again and again."""
-PLACES = [0, 600, 246, 247, 256, 600, -10, -9, 255, 9000]
+SPOTS = [0, 600, 246, 247, 256, 600, -10, -9, 255, 9000]
 """Where a shape goes in turn: in these windows, between them and beside them."""
 MOST_MOVES = 20_000
 
@@ -525,7 +636,7 @@ def move_about(server, seed, end):
         while time.monotonic() < end and len(edits) < MOST_MOVES:
             what = chance.random()
             if what < 0.1:
-                request = {"verb": "pose", "id": 1, "pose": {"dx": chance.choice(PLACES)}}
+                request = {"verb": "pose", "id": 1, "pose": {"dx": chance.choice(SPOTS)}}
             elif what < 0.15:
                 request = {"verb": "show", "id": 1, "hidden": chance.random() < 0.5}
             else:
@@ -545,17 +656,11 @@ class Album:
         self._model = model
 
     def picture(self, window):
-        x, y, w, h = sides_of(WINDOWS[window])
-        near = str(list(self._model.leaves_near(x, y, w, h)))
+        x, y, w, h, level = window_of(WINDOWS[window])
+        near = str(list(self._model.leaves_near(*(it << level for it in (x, y, w, h)))))
         if (window, near) not in self.painted:
-            self.painted[window, near] = digest(self._model.image(x, y, w, h))
+            self.painted[window, near] = digest(self._model.image(x, y, w, h, level))
         return self.painted[window, near]
-
-
-def sides_of(request):
-    if request["verb"] == "tile":
-        return 256 * request["col"], 256 * request["row"], 256, 256
-    return request["x"], request["y"], request["w"], request["h"]
 
 
 def wrong_looks(edits, looks):
@@ -765,8 +870,11 @@ def main():
     with tempfile.TemporaryDirectory() as folder:
         stages = [
             starts(folder),
+            opened(folder),
+            full_document(folder),
             two_editors_and_a_viewer(folder),
             small_sessions(folder),
+            kept_level(folder),
             most_versions(folder),
             examples(folder),
             full_house(folder),

@@ -3,6 +3,10 @@
 
 usage: tools/compare_with_model.py [documents, 40 where it is left out] [seed, 1 where it is left out]
 
+Of each document a random window is painted at each level from 0 to 6. The documents are of all sizes: small ones, which are a pixel or
+none at the high levels, and ones that fill windows of the high levels. Shapes have sides of any length, so their edges fall between the
+pixels that a level shows, and on them.
+
 Prints what differs, and a last line 'N passed, M failed'; the status is 1 where something failed.
 """
 
@@ -11,19 +15,28 @@ import sys
 
 from canvas_client import Canvas, Refused
 from plain_model import Model
+from plain_session import window_of
 
 
 def colour(chance):
     return f"{chance.randrange(1 << 24):06x}"
 
 
-def shape(chance, kind):
-    side = lambda: chance.choice([1, 2, 5, 12, 24, 40])
+LEVELS = range(7)
+
+
+def far(chance, least, end, scale):
+    """A length from `least` to `end`, so many times as great; one in three on a pixel that the scale shows, the others anywhere."""
+    return scale * chance.randrange(least, end) + (0 if chance.random() < 0.3 else chance.randrange(scale))
+
+
+def shape(chance, kind, scale):
+    side = lambda: scale * chance.choice([1, 2, 5, 12, 24, 40]) + chance.randrange(scale)
     if kind == "group":
         return {"kind": "group"}
     if kind == "polygon":
         corners = chance.randrange(3, 9)
-        points = [[chance.randrange(-20, 40), chance.randrange(-20, 40)] for _ in range(corners)]
+        points = [[far(chance, -20, 40, scale), far(chance, -20, 40, scale)] for _ in range(corners)]
         return {"kind": "polygon", "points": points, "fill": colour(chance)}
     made = {"kind": kind, "w": side(), "h": side()}
     if kind != "frame" or chance.random() < 0.5:
@@ -31,12 +44,12 @@ def shape(chance, kind):
     return made
 
 
-def request(chance, containers):
+def request(chance, containers, scale):
     kind = chance.choice(["group", "frame", "rect", "ellipse", "polygon", "polygon"])
-    made = {"verb": "create", "shape": shape(chance, kind), "parent": chance.choice(containers)}
+    made = {"verb": "create", "shape": shape(chance, kind, scale), "parent": chance.choice(containers)}
     made["pose"] = {
-        "dx": chance.randrange(-12, 40),
-        "dy": chance.randrange(-12, 40),
+        "dx": far(chance, -12, 40, scale),
+        "dy": far(chance, -12, 40, scale),
         "quarter": chance.randrange(4),
         "flip": chance.random() < 0.5,
     }
@@ -45,12 +58,20 @@ def request(chance, containers):
     return made
 
 
+def window(chance, model, level):
+    """A window of the level over a corner of a shape that shows, or near the middle of the page."""
+    left, top, right, bottom = chance.choice([box for _, box in model.leaves()] or [(-20, -20, 30, 30)])
+    w, h = (chance.randrange(1, 40) for _ in range(2))
+    x, y = (chance.choice(ends) >> level for ends in ((left, right), (top, bottom)))
+    return {"verb": "patch", "x": x - chance.randrange(w + 1), "y": y - chance.randrange(h + 1), "w": w, "h": h, "level": level}
+
+
 def differs(chance):
     """What differs for one random document, or None."""
-    model, containers = Model(), [None]
+    model, containers, scale = Model(), [None], 1 << chance.choice([0, *LEVELS])
     with Canvas() as canvas:
         for _ in range(chance.randrange(1, 40)):
-            line = request(chance, containers[-8:])
+            line = request(chance, containers[-8:], scale)
             try:
                 reply, _ = canvas.ask(**line)
             except Refused as refused:
@@ -59,10 +80,11 @@ def differs(chance):
                 return f"{line} got the id {reply['id']}"
             if line["shape"]["kind"] in ("group", "frame"):
                 containers.append(reply["id"])
-        x, y, w, h = (chance.randrange(*ends) for ends in ((-20, 30), (-20, 30), (1, 60), (1, 60)))
-        reply, image = canvas.ask(verb="patch", x=x, y=y, w=w, h=h)
-    if image != model.image(x, y, w, h):
-        return f"the patch {x},{y},{w},{h} of {list(model.records.values())}"
+        for level in LEVELS:
+            asked = window(chance, model, level)
+            _, image = canvas.ask(**asked)
+            if image != model.image(*window_of(asked)):
+                return f"{asked} of {list(model.records.values())}"
     return None
 
 

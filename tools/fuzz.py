@@ -4,8 +4,8 @@
 usage: tools/fuzz.py [sessions, 300 where it is left out] [seed, 1 where it is left out]
 
 A session goes to a run of `canvas script`; what the program writes to standard output and standard error and its status must be
-exactly what the model says. For every five sessions a saved text is opened by `canvas serve`, which must refuse it with the model's
-code and status 3, or serve it: then a session of it is compared, which ends by an export.
+exactly what the model says. For every five sessions a saved text, of format 2 or 1, is opened by `canvas serve`, which must refuse it
+with the model's code and status 3, or serve it: then a session of it is compared, which ends by an export.
 
 Each session has a seed of its own, made of the seed given and its number, and uses as many processor cores as this tool may. What
 differs is cut down to a short input and printed. The last line is 'N passed, M failed'; the status is 1 where something failed.
@@ -49,7 +49,7 @@ ODD = [
     Raw("1.7976931348623159e308"), Raw("9" * 309), Raw("9" * 308), Raw("[1,]"), Raw("[,1]"), Raw('{"a":1,}'), Raw('{"a"}'), Raw("[1 2]"),
     Raw(r'"\ud800"'), Raw(r'"\ud83d\ude00"'), Raw(r'"\ude00\ud83d"'), Raw(r'"\uD800x"'), Raw(r'"\u0066ront"'), Raw(r'"\x41"'),
     Raw('"a\tb"'), Raw(r'"\u00"'), Raw('"\x7f"'), Raw('"unended'), Raw("\x00"), Raw("\ufeff1"), Raw("/*c*/1"), Raw('"\u00e9"'),
-    255, 256, 4095, 4096, BIG, BIG + 1, -BIG, -BIG - 1, SIDE, SIDE + 1, 2**31 - 1, 2**31, -(2**31), -(2**31) - 1, 2**32 - 1, 2**32,
+    6, 255, 256, 4095, 4096, BIG, BIG + 1, -BIG, -BIG - 1, SIDE, SIDE + 1, 2**31 - 1, 2**31, -(2**31), -(2**31) - 1, 2**32 - 1, 2**32,
     2**63 - 1, 2**63, -(2**63), -(2**63) - 1, 2**64 - 1, 2**64,
 ]
 
@@ -141,6 +141,18 @@ KEYS = [
     "a0", "a1", "a2", "a5", "az", "a0V", "a0G", "a00V", "a01", "a001", "Zz", "Zy", "Zz1", "b00", "b0z", "bzz", "Y00", "Yzz", "c000", "a0zz",
     "a00", "0", "", "b1", "a-", "a", "b", "Z", "a0 ", "a\u00e9", "aa\n", "@0", "[0", "`0", "{0", "Z0", "ZzV0", *LONG_KEYS,
 ]
+
+
+def within(level):
+    """A level that there is: the level itself, or 0."""
+    return level if type(level) is int and level in range(7) else 0
+
+
+def with_level(request, level):
+    return request if level is None else {**request, "level": level}
+
+
+WRONG_LEVELS = [Raw("null"), True, "1", [1], {}, Raw("1.0"), Raw("-0"), Raw("1e0"), 2**63]
 
 
 class Requests:
@@ -242,29 +254,42 @@ class Requests:
         record = self._session.model.records.get(number)
         return {"id": number, "shape": self._shape(record and self._chance.random() < 0.8 and record["shape"]["kind"])}
 
-    def _tile(self):
-        ends = [8191, 8192, -8192, -8193, 2**31 - 1, 2**31, -(2**31), -(2**31) - 1]
-        place = lambda: self._chance.choice(ends) if self._chance.random() < 0.5 else self._chance.randrange(-3, 4)
-        return {"col": place(), "row": place()}
+    def _level(self):
+        """The level of a picture, or None where it is left out."""
+        chance, what = self._chance, self._chance.random()
+        if what < 0.4:
+            return None
+        if what < 0.46:
+            return chance.choice([7, 8, 32, 255, 255, 256, -1])
+        return chance.randrange(7) if what < 0.98 else chance.choice(WRONG_LEVELS)
 
-    def _pixel(self, edges):
-        """A place near the middle of the page, or on the border of a shape that shows."""
+    def _tile(self):
+        level = self._level()
+        most = 8192 >> within(level)
+        ends = [most - 1, most, -most, -most - 1, 8191, 8192, 2**31 - 1, 2**31, -(2**31), -(2**31) - 1]
+        place = lambda: self._chance.choice(ends) if self._chance.random() < 0.5 else self._chance.randrange(-3, 4)
+        return with_level({"col": place(), "row": place()}, level)
+
+    def _pixel(self, edges, level=0):
+        """A place near the middle of the page, or on the border of a shape that shows, in a window of the level."""
         chance, leaves = self._chance, self._session.model.leaves()
         if not leaves or chance.random() < 0.4:
             return {"x": self._number((-15, 45), edges), "y": self._number((-15, 45), edges)}
         left, top, right, bottom = chance.choice(leaves)[1]
         x, y = chance.choice([left, right, (left + right) // 2, chance.randint(left, right)]), chance.randint(top, bottom)
         x, y = (x, y) if chance.random() < 0.5 else (chance.randint(left, right), chance.choice([top, bottom, (top + bottom) // 2]))
-        return {"x": x - chance.randrange(12), "y": y - chance.randrange(9)}
+        return {"x": (x >> level) - chance.randrange(12), "y": (y >> level) - chance.randrange(9)}
 
     def _patch(self):
-        edges = [2**21, 2**21 - 1, 2**21 - 5, -(2**21), -(2**21) - 1, 2**31 - 1, 2**31, -(2**31), -(2**31) - 1]
+        level = self._level()
+        edge = 2**21 >> within(level)
+        edges = [edge, edge - 1, edge - 5, -edge, -edge - 1, 2**21, 2**31 - 1, 2**31, -(2**31), -(2**31) - 1]
         sides = [0, 257, 2**31, 2**32 - 1, 2**32, -1]
-        made = self._pixel(edges)
+        made = self._pixel(edges, within(level))
         made.update(w=self._number((1, 16), sides), h=self._number((1, 12), sides))
         if self._chance.random() < 0.02:
             made[self._chance.choice("wh")] = 256
-        return made
+        return with_level(made, level)
 
     def _point(self):
         return self._pixel([2**31 - 1, 2**31, -(2**31), -(2**31) - 1, BIG, -BIG, 2**21])
@@ -272,7 +297,7 @@ class Requests:
     def request(self):
         """A request, as a dict."""
         verbs = {"create": 36, "move": 14, "pose": 9, "reshape": 9, "show": 3, "delete": 5, "respace": 3,
-                 "tile": 0.4, "patch": 9, "point": 9, "export": 3}
+                 "tile": 0.8, "patch": 9, "point": 9, "export": 3}
         if self._habit == "pictures":
             verbs["patch"] = 40
         if self._habit == "deep":
@@ -419,45 +444,56 @@ def told_session(pieces):
 # -- saved documents ---------------------------------------------------------------------------------------------------
 
 def saved_value(chance):
-    """A saved document that mostly opens, as a value."""
-    session = Session()
+    """A saved document of either format that mostly opens, as a value."""
+    session, form = Session(), chance.choice([1, 2, 2])
     pieces_of(chance, session, chance.choice([3, 14, 40]))
-    value = json.loads(session.model.saved())
+    value = json.loads(session.model.saved(form))
     what = chance.random()
     if what < 0.1:
         value["next"] = chance.choice([2**32 - 1, 2**32 - 2, 2**32, 0, 1, value["next"] - 1])
     elif what < 0.2:
         chance.shuffle(value["shapes"])
     elif what < 0.3:
-        value["shapes"] = chain(chance.choice([31, 32, 33, 34]), chance)
+        value["shapes"] = chain(chance, form, chance.choice([31, 32, 33, 34]))
         value["next"] = 99
+    elif what < 0.4:
+        value["format"] = chance.choice([3 - form, 3 - form, 0, 3, 3, -1, Raw("2.0"), Raw("1e0"), chance.choice(ODD)])
+    elif what < 0.5 and value["shapes"]:
+        spoil_value(chance, chance.choice(value["shapes"]).get("place", {}))
     return value
 
 
 QUIET = {"dx": 0, "dy": 0, "flip": False, "quarter": 0}
 
 
-def group(number, index, parent):
-    return {"hidden": False, "id": number, "index": index, "parent": parent, "pose": dict(QUIET), "shape": {"kind": "group"}}
+def group(form, number, index, parent):
+    place = {"index": index, "parent": parent}
+    return {"hidden": False, "id": number, **({"place": place} if form == 2 else place), "pose": dict(QUIET), "shape": {"kind": "group"}}
 
 
-def chain(length, chance):
+def chain(chance, form, length):
     """Groups one in another; the first may have one of them for its parent, or none that is there."""
     first = chance.choice([None, None, None, length, 98])
-    return [group(k, "a0", k - 1 if k > 1 else first) for k in range(1, length + 1)]
+    return [group(form, k, "a0", k - 1 if k > 1 else first) for k in range(1, length + 1)]
+
+
+LARGE = [(1, 4095), (1, 4096), (1, 4097), (1, 16_384), (2, 4097), (2, 16_383), (2, 16_384), (2, 16_385)]
+"""Formats, and numbers of records about as many as they may have."""
 
 
 def large_text(chance):
     """The bytes of a saved document with about as many records as there may be."""
-    count = chance.choice([4095, 4096, 4097])
-    groups = [group(k + 1, key_rows.fresh(k), None) for k in range(count)]
-    return json.dumps({"format": 1, "next": count + 1, "shapes": groups}).encode()
+    form, count = chance.choice(LARGE)
+    groups = [group(form, k + 1, key_rows.fresh(k), None) for k in range(count)]
+    return json.dumps({"format": form, "next": count + 1, "shapes": groups}).encode()
 
 
 RECORD_VALUES = {
     "id": [0, 1, 2, 3, 2**32 - 1, 2**32],
     "index": KEYS,
     "parent": [None, 0, 1, 2, 3, 99, 2**32 - 1, 2**32, -1],
+    "place": [None, {}, "a0", [], {"index": "a0"}, {"parent": None}, {"index": "a0", "parent": None}, {"index": "a00", "parent": None},
+              {"index": "a1", "parent": None, "x": 1}, {"index": "Zz", "parent": 1}],
     "hidden": [0, None, "true"],
     "pose": [{}, {**QUIET, "dx": BIG}, {**QUIET, "dx": BIG + 1}, {**QUIET, "quarter": 4}, {**QUIET, "dy": -BIG - 1}, {**QUIET, "z": 0}],
     "shape": [
@@ -475,14 +511,20 @@ RECORD_VALUES = {
 }
 
 
+def set_member(chance, record, name, value):
+    """Gives a record another value of a member: of format 2 index and parent lie in the place, and now and then elsewhere."""
+    place = record.get("place")
+    is_inside = name in ("index", "parent") and type(place) is dict and chance.random() < 0.9
+    (place if is_inside else record)[name] = value
+
+
 def saved_text(chance):
     """The bytes of a saved document, good or spoiled."""
     value = saved_value(chance)
     for _ in range(chance.choice([0, 0, 1, 2])):
-        record = chance.choice(value["shapes"]) if value["shapes"] else {}
         name = chance.choice(list(RECORD_VALUES))
-        if record:
-            record[name] = chance.choice(RECORD_VALUES[name])
+        if value["shapes"]:
+            set_member(chance, chance.choice(value["shapes"]), name, chance.choice(RECORD_VALUES[name]))
     if value["shapes"] and chance.random() < 0.1:
         value["shapes"].append(dict(chance.choice(value["shapes"])))
     if chance.random() < 0.15:

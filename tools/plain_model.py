@@ -8,7 +8,7 @@ import json
 
 import key_rows
 
-MOST_RECORDS = 4096
+MOST_RECORDS = 16384
 MOST_DEPTH = 32
 MOST_IDS = 4294967295
 MOST_SIDE = 65536
@@ -103,6 +103,23 @@ def first_colour(leaves, x, y):
     return WHITE
 
 
+def head_of(w, h):
+    """What stands before the pixels of an image."""
+    return b"P6\n%d %d\n255\n" % (w, h)
+
+
+def saved_record(number, record, form):
+    """A record as it is saved, with all its members."""
+    shape = dict(record["shape"])
+    if shape["kind"] == "frame":
+        shape.setdefault("fill", None)
+    if shape.get("fill"):
+        shape["fill"] = shape["fill"].lower()
+    place = {"index": record["index"], "parent": record["parent"]}
+    pose = {"dx": 0, "dy": 0, "flip": False, "quarter": 0, **record["pose"]}
+    return {"id": number, "hidden": record["hidden"], "pose": pose, "shape": shape, **({"place": place} if form == 2 else place)}
+
+
 class Model:
     """A document, empty at first: records by their ids."""
 
@@ -117,6 +134,7 @@ class Model:
         model, saved = cls(), json.loads(text)
         model.next = saved["next"]
         for record in saved["shapes"]:
+            record.update(record.pop("place", {}))
             model.records[record.pop("id")] = record
         return model
 
@@ -244,30 +262,37 @@ class Model:
 
     # -- pictures ----------------------------------------------------------------------------------------------------
 
-    def _leaves_of(self, parent, out, clip):
+    def _all_children(self):
+        """The ids of each parent's children, from front to back."""
+        found = {}
+        for number in sorted(self.records, key=lambda number: self.records[number]["index"], reverse=True):
+            found.setdefault(self.records[number]["parent"], []).append(number)
+        return found
+
+    def _leaves_of(self, children, parent, out, clip):
         """What may give a colour, from front to back: whether it holds a pixel, what clips it, and its colour."""
-        for number in self.children(parent):
+        for number in children.get(parent, ()):
             record = self.records[number]
             if record["hidden"]:
                 continue
             shape, pose = record["shape"], record["pose"]
             inner = lambda point, pose=pose: out(carried(pose, point))
             if shape["kind"] == "group":
-                yield from self._leaves_of(number, inner, clip)
+                yield from self._leaves_of(children, number, inner, clip)
             elif shape["kind"] == "polygon":
                 points = [inner(tuple(point)) for point in shape["points"]]
                 yield in_polygon, points, clip, shape["fill"]
             else:
                 box = box_of([inner((0, 0)), inner((shape["w"], shape["h"]))])
                 if shape["kind"] == "frame":
-                    yield from self._leaves_of(number, inner, meet(clip, box))
+                    yield from self._leaves_of(children, number, inner, meet(clip, box))
                 if shape.get("fill"):
                     yield in_ellipse if shape["kind"] == "ellipse" else in_box, box, clip, shape["fill"]
 
     def leaves(self):
         """Each leaf, from front to back, with the box that it lies in."""
         if self._leaves is None:
-            leaves = self._leaves_of(None, lambda point: point, None)
+            leaves = self._leaves_of(self._all_children(), None, lambda point: point, None)
             self._leaves = [(leaf, box_of(leaf[1]) if leaf[0] is in_polygon else leaf[1]) for leaf in leaves]
         return self._leaves
 
@@ -281,24 +306,19 @@ class Model:
         """The colour of a pixel: that of the first leaf that holds it, walked from front to back."""
         return first_colour(self.leaves_near(x, y, 1, 1), x, y)
 
-    def image(self, x, y, w, h):
-        """The P6 file of a window."""
-        near = list(self.leaves_near(x, y, w, h))
-        raster = bytes.fromhex("".join(first_colour(near, x + i, y + j) for j in range(h) for i in range(w)) if near else WHITE * (w * h))
-        return b"P6\n%d %d\n255\n" % (w, h) + raster
+    def image(self, x, y, w, h, level=0):
+        """The P6 file of a window: pixel (i, j) shows the page pixel ((x + i) * 2^level, (y + j) * 2^level)."""
+        scale = 1 << level
+        near = list(self.leaves_near(x * scale, y * scale, w * scale, h * scale))
+        if not near:
+            return head_of(w, h) + bytes.fromhex(WHITE) * (w * h)
+        rows = ("".join(first_colour(near, (x + i) * scale, (y + j) * scale) for i in range(w)) for j in range(h))
+        return head_of(w, h) + bytes.fromhex("".join(rows))
 
     # -- the saved text ----------------------------------------------------------------------------------------------
 
-    def saved(self):
-        """The text of the saved document."""
-        shapes = []
-        for number, record in sorted(self.records.items()):
-            pose = {"dx": 0, "dy": 0, "flip": False, "quarter": 0, **record["pose"]}
-            shape = dict(record["shape"])
-            if shape["kind"] == "frame":
-                shape.setdefault("fill", None)
-            if shape.get("fill"):
-                shape["fill"] = shape["fill"].lower()
-            shapes.append({**record, "id": number, "pose": pose, "shape": shape})
-        saved = {"format": 1, "next": self.next, "shapes": shapes}
+    def saved(self, form=2):
+        """The text of the saved document, in format 2, which is what an export has, or in format 1."""
+        shapes = [saved_record(number, record, form) for number, record in sorted(self.records.items())]
+        saved = {"format": form, "next": self.next, "shapes": shapes}
         return json.dumps(saved, separators=(",", ":"), sort_keys=True).encode()

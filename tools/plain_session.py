@@ -13,15 +13,17 @@ from plain_model import Model, Refused, check_polygon, check_pose, check_shape, 
 NAMES = {
     2: "NoSuchShape", 3: "NoSuchParent", 4: "NotAContainer", 5: "Cycle", 6: "TooDeep", 7: "TooMany", 8: "BadSize", 9: "BadPose",
     10: "BadPolygon", 11: "SpotNotSibling", 12: "IndexTaken", 13: "NoRoom", 14: "WrongKind", 15: "IdsSpent", 16: "VersionsSpent",
-    19: "NoSeats", 30: "BadWindow", 50: "BadJson", 51: "NotObject", 52: "BadVerb", 53: "BadField", 54: "ExtraField", 60: "BadFormat",
+    19: "NoSeats", 30: "BadWindow", 34: "BadLevel", 50: "BadJson", 51: "NotObject", 52: "BadVerb", 53: "BadField", 54: "ExtraField", 60: "BadFormat",
     61: "BadRecord", 62: "BadTree", 70: "LineTooLong", 73: "TooManyRequests", 74: "CutLine",
 }
 MOST_NESTING = 127
 MOST_LINE = 65_536
 MOST_REQUESTS = 1_000_000
 MOST_VERSIONS = 1_000_000
-MOST_SHAPES = 4_096
+MOST_SHAPES = {1: 4_096, 2: 16_384}
+"""How many records a saved document of a format may have."""
 MOST_STEPS = 32
+MOST_LEVEL = 6
 EDGE = 1 << 21
 
 
@@ -277,8 +279,8 @@ VERBS = {
     "show": {"id": unsigned, "hidden": truth},
     "delete": {"id": unsigned},
     "respace": {"parent": parent},
-    "tile": {"col": signed, "row": signed},
-    "patch": {"x": signed, "y": signed, "w": unsigned, "h": unsigned},
+    "tile": {"col": signed, "row": signed, "level": (byte, 0)},
+    "patch": {"x": signed, "y": signed, "w": unsigned, "h": unsigned, "level": (byte, 0)},
     "point": {"x": signed, "y": signed},
     "export": {},
 }
@@ -321,6 +323,14 @@ def read_request(line):
 
 def refusal(code):
     return b'{"body":0,"code":%d,"name":"%s","ok":false}\n' % (code, NAMES[code].encode())
+
+
+def window_of(request):
+    """The window that a tile or a patch asks for: x, y, w, h and the level."""
+    level = request.get("level", 0)
+    if request["verb"] == "tile":
+        return 256 * request["col"], 256 * request["row"], 256, 256, level
+    return request["x"], request["y"], request["w"], request["h"], level
 
 
 class Session:
@@ -387,16 +397,16 @@ class Session:
             return b'{"body":0,"colour":"%s","ok":true,"version":%d}\n' % (colour, self.version)
         if verb == "export":
             body = self.model.saved()
-        elif verb == "tile":
-            body = self._picture(256 * request["col"], 256 * request["row"], 256, 256)
         else:
-            body = self._picture(request["x"], request["y"], request["w"], request["h"])
+            body = self._picture(*window_of(request))
         return b'{"body":%d,"ok":true,"version":%d}\n' % (len(body), self.version) + body
 
-    def _picture(self, x, y, w, h):
-        is_inside = -EDGE <= x and x + w <= EDGE and -EDGE <= y and y + h <= EDGE
+    def _picture(self, x, y, w, h, level):
+        refuse_if(level > MOST_LEVEL, 34)
+        edge = EDGE >> level
+        is_inside = -edge <= x and x + w <= edge and -edge <= y and y + h <= edge
         refuse_if(not (1 <= w <= 256 and 1 <= h <= 256 and is_inside), 30)
-        return self.model.image(x, y, w, h)
+        return self.model.image(x, y, w, h, level)
 
 
 def run_script(data):
@@ -431,15 +441,19 @@ def saved_pose(value):
     return found
 
 
-RECORD = {"hidden": truth, "id": unsigned, "index": key, "parent": parent, "pose": saved_pose, "shape": saved_shape}
+PLACE = {"index": key, "parent": parent}
+VALUES = {"hidden": truth, "id": unsigned, "pose": saved_pose, "shape": saved_shape}
+RECORDS = {1: {**VALUES, **PLACE}, 2: {**VALUES, "place": lambda value: exactly(value, PLACE)}}
+"""The members of a record, by the format."""
 
 
-def read_record(value, number):
+def read_record(value, form, number):
     """An element of the list as a record, where the next id is `number`; raises Refused with 61."""
     try:
-        record = exactly(value, RECORD)
+        record = exactly(value, RECORDS[form])
     except (Wrong, Refused):
         raise Refused(61) from None
+    record.update(record.pop("place", {}))
     if not 1 <= record["id"] < number:
         raise Refused(61)
     return record
@@ -478,12 +492,12 @@ def open_document(data):
     except NotJson:
         raise Refused(50) from None
     try:
-        head = exactly(value, {"format": whole(1, 1), "next": whole(1, (1 << 32) - 1), "shapes": items_of})
+        head = exactly(value, {"format": whole(1, 2), "next": whole(1, (1 << 32) - 1), "shapes": items_of})
     except Wrong:
         raise Refused(60) from None
-    if len(head["shapes"]) > MOST_SHAPES:
+    if len(head["shapes"]) > MOST_SHAPES[head["format"]]:
         raise Refused(60)
-    records = [read_record(element, head["next"]) for element in head["shapes"]]
+    records = [read_record(element, head["format"], head["next"]) for element in head["shapes"]]
     check_tree(records)
     model = Model()
     model.next = head["next"]

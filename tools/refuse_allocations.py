@@ -37,7 +37,7 @@ import tempfile
 from pathlib import Path
 
 from canvas_client import PROGRAM, TOP, line_of, replies
-from check_server import NO_SEATS, SEATS, free_port, seats_left, wait_for
+from check_server import EMPTY, NO_SEATS, SEATS, free_port, seats_left, wait_for
 from check_streams import BUILT
 from plain_session import Session, open_document
 
@@ -70,6 +70,9 @@ EVERY_VERB = [
     {"verb": "respace", "parent": None},
     {"verb": "tile", "col": 0, "row": 0},
     {"verb": "patch", "x": -1, "y": 0, "w": 9, "h": 9},
+    {"verb": "tile", "col": 0, "row": 0, "level": 2},
+    {"verb": "patch", "x": -1, "y": 0, "w": 9, "h": 9, "level": 1},
+    {"verb": "patch", "x": 0, "y": 0, "w": 1, "h": 1, "level": 7},
     {"verb": "point", "x": 1, "y": 1},
     {"verb": "export"},
     {"verb": "delete", "id": 1},
@@ -84,6 +87,7 @@ CONVERSATION = [
     (1, {"verb": "move", "id": 3, "parent": 1, "spot": "front"}),
     (0, {"verb": "delete", "id": 9}),
     (1, {"verb": "patch", "x": -2, "y": 0, "w": 12, "h": 12}),
+    (0, {"verb": "patch", "x": -2, "y": 0, "w": 12, "h": 12, "level": 1}),
     (0, {"verb": "respace", "parent": None}),
     (1, {"verb": "paint"}),
     (0, {"verb": "export"}),
@@ -106,7 +110,9 @@ SAME_WINDOW = [
     (0, WINDOW),
     (1, WINDOW),
     (1, {**WINDOW, "x": 1}),
+    (1, {**WINDOW, "level": 2}),
     (1, WINDOW),
+    (1, {**WINDOW, "level": 2}),
 ]
 LONG_CONVERSATION = CONVERSATION + [(k % 2, request) for k, request in enumerate(EVERY_VERB * 2)]
 EDITS = {"create", "move", "pose", "reshape", "show", "delete", "respace"}
@@ -345,7 +351,7 @@ def sweeps(shim, folder, is_long):
     yield sweep(shim, "the first path", FIRST_PATH)
     yield sweep(shim, "every verb", EVERY_VERB)
     file = folder / "document.json"
-    file.write_bytes(b'{"format":1,"next":1,"shapes":[]}')
+    file.write_bytes(EMPTY)
     yield sweep_server(shim, "two clients", file, CONVERSATION)
     yield sweep_server(shim, "two clients and one window", file, SAME_WINDOW)
     if is_long:
@@ -356,6 +362,8 @@ def sweeps(shim, folder, is_long):
         file.write_bytes((TOP / "examples" / "poster.json").read_bytes())
         looks_and_edit = [(0, EXPORT), (1, {"verb": "tile", "col": 0, "row": 0}), (0, EVERY_VERB[4])]
         yield sweep_server(shim, "two clients and a poster", file, looks_and_edit)
+        file.write_bytes((TOP / "examples" / "poster-format-1.json").read_bytes())
+        yield sweep_server(shim, "two clients and a poster of format 1", file, looks_and_edit[1:])
 
 
 def main():

@@ -38,7 +38,7 @@ CODES_OF_GARBAGE = {50, 51, 52, 53, 54}
 
 
 def first_document():
-    """Groups with rectangles, ellipses and polygons in them, as a saved text."""
+    """Groups with rectangles, ellipses and polygons in them, as a saved text of format 2."""
     chance, shapes = random.Random(1), []
     for number in range(1, FIRST_SHAPES + 1):
         kind = chance.choice(["rect", "ellipse", "polygon"]) if number > 10 else "group"
@@ -49,8 +49,9 @@ def first_document():
             shape.update(w=chance.randrange(1, 90), h=chance.randrange(1, 90), fill=f"{chance.randrange(1 << 24):06x}")
         parent = None if number <= 10 else chance.randrange(1, 11)
         pose = {"dx": chance.randrange(300), "dy": chance.randrange(300), "quarter": 0, "flip": False}
-        shapes.append({"id": number, "index": key_rows.fresh(number), "parent": parent, "hidden": False, "pose": pose, "shape": shape})
-    return json.dumps({"format": 1, "next": FIRST_SHAPES + 1, "shapes": shapes}).encode()
+        place = {"index": key_rows.fresh(number), "parent": parent}
+        shapes.append({"id": number, "place": place, "hidden": False, "pose": pose, "shape": shape})
+    return json.dumps({"format": 2, "next": FIRST_SHAPES + 1, "shapes": shapes}).encode()
 
 
 class TurnedAway(Exception):
@@ -129,14 +130,15 @@ def edit_of(chance):
 
 
 def look_of(chance):
-    x, y = chance.randrange(300), chance.randrange(300)
+    x, y, level = chance.randrange(300), chance.randrange(300), chance.choice([0, 0, 0, 1, 2, 3, 4, 5, 6])
     what = chance.random()
     if what < 0.03:
-        return {"verb": "tile", "col": chance.randrange(2), "row": chance.randrange(2)}
+        return {"verb": "tile", "col": chance.randrange(2), "row": chance.randrange(2), "level": level}
     if what < 0.04:
         return {"verb": "export"}
     if what < 0.3:
-        return {"verb": "patch", "x": x, "y": y, "w": chance.randrange(1, 100), "h": chance.randrange(1, 60)}
+        return {"verb": "patch", "x": x >> level, "y": y >> level, "w": chance.randrange(1, 100), "h": chance.randrange(1, 60),
+                "level": level}
     return {"verb": "point", "x": x, "y": y}
 
 

@@ -96,7 +96,7 @@ fn windows_have_their_place(rt: HostRuntime) {
         (-256, 512, 256, 256)
     );
     assert_eq!(rt;
-        tile.page_box(),
+        tile.covered(),
         PageBox {
             left: -256,
             top: 512,
@@ -104,6 +104,74 @@ fn windows_have_their_place(rt: HostRuntime) {
             bottom: 768
         }
     );
+}
+
+#[test]
+fn windows_of_levels_have_limits(rt: HostRuntime) {
+    assert!(rt; Window::tile_at(6, 127, 0).is_ok());
+    assert!(rt; Window::tile_at(6, -128, 0).is_ok());
+    assert_eq!(rt;
+        Window::tile_at(6, 128, 0).err(),
+        Some(WindowFault::BadWindow)
+    );
+    assert_eq!(rt;
+        Window::tile_at(7, 128, 0).err(),
+        Some(WindowFault::BadLevel)
+    );
+    assert_eq!(rt;
+        Window::at_level(255, 0, 0, 0, 0).err(),
+        Some(WindowFault::BadLevel)
+    );
+    assert!(rt; Window::at_level(1, 1_048_575, -1_048_576, 1, 256).is_ok());
+    assert!(rt; Window::at_level(1, 1_048_575, 0, 2, 1).is_err());
+    assert!(rt; Window::at_level(1, 0, -1_048_577, 1, 1).is_err());
+    assert_eq!(rt; WindowFault::BadLevel.code(), 34);
+    assert_eq!(rt; WindowFault::BadLevel.name(), "BadLevel");
+}
+
+#[test]
+fn windows_of_levels_cover_a_box(rt: HostRuntime) {
+    let Ok(window) = Window::at_level(3, -1, 2, 2, 5) else {
+        assert!(rt; false, "the window is refused");
+        return;
+    };
+    assert_eq!(rt;
+        (
+            window.level(),
+            window.x(),
+            window.y(),
+            window.w(),
+            window.h()
+        ),
+        (3, -1, 2, 2, 5)
+    );
+    assert_eq!(rt;
+        window.covered(),
+        PageBox {
+            left: -8,
+            top: 16,
+            right: 8,
+            bottom: 56
+        }
+    );
+    assert_eq!(rt; (window.row_shown(0), window.row_shown(4)), (16, 48));
+}
+
+#[test]
+fn windows_count_places_before_an_edge(rt: HostRuntime) {
+    let Ok(window) = Window::at_level(3, -1, 2, 2, 5) else {
+        assert!(rt; false, "the window is refused");
+        return;
+    };
+    let edges = [i64::MIN, -8, -7, 0, 1, 8, i64::MAX];
+    let columns = [0, 0, 1, 1, 2, 2, 2];
+    for (edge, count) in edges.iter().zip(columns.iter()) {
+        assert_eq!(rt; window.columns_before(*edge), *count);
+    }
+    assert_eq!(rt; window.rows_before(16), 0);
+    assert_eq!(rt; window.rows_before(17), 1);
+    assert_eq!(rt; window.rows_before(48), 4);
+    assert_eq!(rt; window.rows_before(49), 5);
 }
 
 #[test]

@@ -1,10 +1,12 @@
 -- Items cut to a window, and the words of their rows.
-use Rattle.std.proofs.Common.{◌≡◌, ℕ, zero, suc, ◌+◌, ◌-◌, ◌*◌, ◌<◌, ◌≤◌, max, min, List, [], ◌∷◌, ◌++◌, ℤ, Bool, true, false, ◌&&◌, cond, Option, Some, None, refl, sym, ap, ◌∙◌, arith, length, take, get_or, pos, ◌+ℤ◌, ◌-ℤ◌, nat_le, nat_lt, ◌/◌, ◌%◌, slice_index, set, get_or-set_same, get_or-set_other, ◌≢◌, ⊎_elim}
+use Rattle.std.proofs.Common.{◌≡◌, ℕ, zero, suc, ◌+◌, ◌-◌, ◌*◌, ◌^◌, ◌<◌, ◌≤◌, max, min, List, [], ◌∷◌, ◌++◌, ℤ, Bool, true, false, ◌&&◌, cond, Option, Some, None, refl, sym, ap, ◌∙◌, arith, length, take, get_or, pos, ◌-ℤ◌, nat_le, nat_lt, ◌/◌, ◌%◌, slice_index, set, get_or-set_same, get_or-set_other, ◌≢◌, ⊎_elim}
 use Rattle.std.specs.Prelude.{int_le, int_lt}
-use Rattle.std.proofs.Math.IntN.{+ℤ_assoc, pos-+ℤ-pos}
+use Rattle.canvas_plane.specs.Sides.{scale_of}
+use Rattle.canvas_plane.proofs.Levels.{along}
 use Rattle.std.proofs.lemmas.List.{take_more}
 use Rattle.std.proofs.lemmas.Bool.{cases_eq}
 use Rattle.std.proofs.lemmas.Bool.Decides.{nat_tests}
+use Rattle.std.proofs.Math.Nat.{div-mul-le_self, mod-eq_of_lt}
 use Rattle.std.proofs.lemmas.Int.{ints}
 use Rattle.canvas_plane.specs.Page.{is_in}
 use Rattle.canvas_plane.specs.declared.Point.{Point}
@@ -21,7 +23,8 @@ use Rattle.canvas_doc.specs.Picture.{or_else}
 use Rattle.canvas_scene.specs.Items.{fill_at, item_holds, last_fill}
 use Rattle.canvas_scene.specs.declared.item.Item.{Item}
 use Rattle.canvas_paint.specs.declared.block.Block.{Block}
-use Rattle.canvas_paint.specs.Blocks.{block_fill, block_holds, column_at, form_holds, row_at, row_has}
+use Rattle.canvas_plane.specs.Window.{column_shown, row_shown}
+use Rattle.canvas_paint.specs.Blocks.{block_fill, block_holds, form_holds, row_has}
 use Rattle.canvas_shape.specs.Words.{has}
 use Rattle.canvas_paint.specs.Words.{is_within, IsWord}
 use Rattle.canvas_paint.proofs.Bits.{has-zero}
@@ -33,11 +36,11 @@ part-none from to base i start end s e le lt =
     has-zero i ∙ sym out
 
 -- the columns between the ends of an ellipse's row
-pub ellipse-between : (w : Window) (sides : PageBox) (k j from to : ℕ) (x x2 y s t : ℤ) → nat_le from k ≡ int_le s (x +ℤ pos k) → nat_lt k to ≡ int_lt (x2 +ℤ pos k) t → x ≡ w.x → x2 ≡ w.x → ((z : ℤ) → is_from_to s z t ≡ is_in_ellipse sides z y) → y ≡ row_at w j → is_within from k to ≡ is_in_ellipse sides (column_at w k) (row_at w j)
-ellipse-between w sides k j from to x x2 y s t f g ex ex2 h ey =
-    ap (λ u. u && nat_lt k to) (f ∙ ap (λ z. int_le s (z +ℤ pos k)) ex)
-    ∙ ap (λ u. int_le s (column_at w k) && u) (g ∙ ap (λ z. int_lt (z +ℤ pos k) t) ex2)
-    ∙ h (column_at w k) ∙ ap (λ z. is_in_ellipse sides (column_at w k) z) ey
+pub ellipse-between : (w : Window) (sides : PageBox) (k j from to : ℕ) (y s t : ℤ) → nat_le from k ≡ int_le s (column_shown w k) → nat_lt k to ≡ int_lt (column_shown w k) t → ((z : ℤ) → is_from_to s z t ≡ is_in_ellipse sides z y) → y ≡ row_shown w j → is_within from k to ≡ is_in_ellipse sides (column_shown w k) (row_shown w j)
+ellipse-between w sides k j from to y s t f g h ey =
+    ap (λ u. u && nat_lt k to) f
+    ∙ ap (λ u. int_le s (column_shown w k) && u) g
+    ∙ h (column_shown w k) ∙ ap (is_in_ellipse sides (column_shown w k)) ey
 
 four-words : (test : ℕ → Bool) (a b c d n i : ℕ) → n < 4 → i < 64 → IsWord a (λ i. test (0 + i)) → IsWord b (λ i. test (64 + i)) → IsWord c (λ i. test (128 + i)) → IsWord d (λ i. test (192 + i)) → has (slice_index (a ∷ b ∷ c ∷ d ∷ []) n) i ≡ test (64 * n + i)
 four-words test a b c d zero i lt below p q r s = p i below
@@ -78,10 +81,10 @@ rows-in : (top bottom first end at to j : ℕ) → at ≡ max top first → to �
 rows-in top bottom first end at to j e f p q = rw (e, f) (let r : is_within (max top first) j (min bottom end) ≡ is_within top j bottom = grind (arith, nat_tests) in r)
 
 -- the columns and the rows of a strip that lie in a box
-pub region-is : (w : Window) (box : PageBox) (f t u v first end top bottom k j : ℕ) → nat_le f k ≡ int_le box.left (column_at w k) → nat_lt k t ≡ int_lt (column_at w k) box.right → nat_le u j ≡ int_le box.top (row_at w j) → nat_lt j v ≡ int_lt (row_at w j) box.bottom → top ≡ max u first → bottom ≡ min v end → first ≤ j → j < end → (is_within f k t && is_within top j bottom) ≡ is_in box (column_at w k) (row_at w j)
+pub region-is : (w : Window) (box : PageBox) (f t u v first end top bottom k j : ℕ) → nat_le f k ≡ int_le box.left (column_shown w k) → nat_lt k t ≡ int_lt (column_shown w k) box.right → nat_le u j ≡ int_le box.top (row_shown w j) → nat_lt j v ≡ int_lt (row_shown w j) box.bottom → top ≡ max u first → bottom ≡ min v end → first ≤ j → j < end → (is_within f k t && is_within top j bottom) ≡ is_in box (column_shown w k) (row_shown w j)
 region-is w box f t u v first end top bottom k j e1 e2 e3 e4 et eb p q =
     ap (λ r. is_within f k t && r) (rows-in u v first end top bottom j et eb p q)
-    ∙ (let edges : (is_within f k t && is_within u j v) ≡ is_in box (column_at w k) (row_at w j) = rw (e1, e2, e3, e4) refl in edges)
+    ∙ (let edges : (is_within f k t && is_within u j v) ≡ is_in box (column_shown w k) (row_shown w j) = rw (e1, e2, e3, e4) refl in edges)
 
 -- what of a box and a clip the region has
 pub region-met : (here : Bool) (box page clip cut : PageBox) (x y : ℤ) → here ≡ is_in cut x y → ((x y : ℤ) → is_in cut x y ≡ (is_in box x y && is_in clip x y)) → box ≡ page → here ≡ (is_in page x y && is_in clip x y)
@@ -95,10 +98,10 @@ none-of false clip true e h = let z : false ≡ true = h refl in cc
 none-of false clip false e h = refl
 
 -- an item that leaves no pixel of the strip
-pub cut-none : (w : Window) (item : Item) (here : Bool) (k j : ℕ) → here ≡ false → here ≡ (is_in (page_box_of item.leaf) (column_at w k) (row_at w j) && is_in item.clip (column_at w k) (row_at w j)) → ((x y : ℤ) → carried_holds item.leaf x y ≡ true → is_in (page_box_of item.leaf) x y ≡ true) → None ≡ fill_at item (column_at w k) (row_at w j)
+pub cut-none : (w : Window) (item : Item) (here : Bool) (k j : ℕ) → here ≡ false → here ≡ (is_in (page_box_of item.leaf) (column_shown w k) (row_shown w j) && is_in item.clip (column_shown w k) (row_shown w j)) → ((x y : ℤ) → carried_holds item.leaf x y ≡ true → is_in (page_box_of item.leaf) x y ≡ true) → None ≡ fill_at item (column_shown w k) (row_shown w j)
 cut-none w item here k j e f h =
-    let x = column_at w k in
-    let y = row_at w j in
+    let x = column_shown w k in
+    let y = row_shown w j in
     sym (ap (λ t. cond t (Some item.fill) None) (none-of (is_in (page_box_of item.leaf) x y) (is_in item.clip x y) (carried_holds item.leaf x y) (sym f ∙ e) (h x y)))
 
 some-of : (here box clip leaf form : Bool) → here ≡ (box && clip) → (here ≡ true → box ≡ true → form ≡ leaf) → (leaf ≡ true → box ≡ true) → (here && form) ≡ (leaf && clip)
@@ -109,10 +112,10 @@ some-of here false clip true form e f h = let z : false ≡ true = h refl in cc
 some-of here false clip false form e f h = ap (λ t. t && form) e
 
 -- the block of an item
-pub cut-some : (w : Window) (item : Item) (b : Block) (k j : ℕ) → (is_within b.from k b.to && is_within b.top j b.bottom) ≡ (is_in (page_box_of item.leaf) (column_at w k) (row_at w j) && is_in item.clip (column_at w k) (row_at w j)) → ((is_within b.from k b.to && is_within b.top j b.bottom) ≡ true → is_in (page_box_of item.leaf) (column_at w k) (row_at w j) ≡ true → form_holds b.form k j ≡ carried_holds item.leaf (column_at w k) (row_at w j)) → ((x y : ℤ) → carried_holds item.leaf x y ≡ true → is_in (page_box_of item.leaf) x y ≡ true) → b.fill ≡ item.fill → block_fill b k j ≡ fill_at item (column_at w k) (row_at w j)
+pub cut-some : (w : Window) (item : Item) (b : Block) (k j : ℕ) → (is_within b.from k b.to && is_within b.top j b.bottom) ≡ (is_in (page_box_of item.leaf) (column_shown w k) (row_shown w j) && is_in item.clip (column_shown w k) (row_shown w j)) → ((is_within b.from k b.to && is_within b.top j b.bottom) ≡ true → is_in (page_box_of item.leaf) (column_shown w k) (row_shown w j) ≡ true → form_holds b.form k j ≡ carried_holds item.leaf (column_shown w k) (row_shown w j)) → ((x y : ℤ) → carried_holds item.leaf x y ≡ true → is_in (page_box_of item.leaf) x y ≡ true) → b.fill ≡ item.fill → block_fill b k j ≡ fill_at item (column_shown w k) (row_shown w j)
 cut-some w item b k j e f h same =
-    let x = column_at w k in
-    let y = row_at w j in
+    let x = column_shown w k in
+    let y = row_shown w j in
     ap (λ t. cond t (Some b.fill) None) (some-of (is_within b.from k b.to && is_within b.top j b.bottom) (is_in (page_box_of item.leaf) x y) (is_in item.clip x y) (carried_holds item.leaf x y) (form_holds b.form k j) e f (h x y))
     ∙ ap (λ c. cond (item_holds item x y) (Some c) None) same
 
@@ -199,11 +202,6 @@ empty-rows from to top bottom k j h = ap (λ t. is_within from k to && t) (no-ro
 
 -- ---- rows of four words
 
-row-down : (y : ℤ) (top j : ℕ) → top ≤ j → (y +ℤ pos top) +ℤ pos (j - top) ≡ y +ℤ pos j
-row-down y top j low =
-    let e : top + (j - top) ≡ j = omega arith in
-    +ℤ_assoc y (pos top) (pos (j - top)) ∙ ap (λ z. y +ℤ z) (pos-+ℤ-pos top (j - top)) ∙ ap (λ n. y +ℤ pos n) e
-
 -- the words of the held columns have these
 pub held-row : (words flags : List ℕ) → ((n i : ℕ) → n < 4 → i < 64 → has (slice_index words n) i ≡ is_held flags (64 * n + i)) → (k : ℕ) → k < 256 → row_has words k ≡ is_held flags k
 held-row words flags h k lt =
@@ -211,19 +209,27 @@ held-row words flags h k lt =
     h (k / 64) (k % 64) (omega arith) (omega arith) ∙ ap (is_held flags) same
 
 -- the rows of a polygon from one of a window's rows on
-pub polygon-rows : (w : Window) (points : List Point) (flags : List EdgeFlags) (words : List (List ℕ)) (top n k j : ℕ) (x y : ℤ) (d : EdgeFlags) → k < w.w → n ≡ w.w → n ≤ 256 → top ≤ j → j - top < length flags → x ≡ w.x → y ≡ row_at w top → ((j k : ℕ) (d : EdgeFlags) → j < length flags → k < 256 → row_has (get_or words j []) k ≡ is_held (get_or flags j d).words k) → ((j i : ℕ) (d : EdgeFlags) → j < length flags → is_held (get_or flags j d).words i ≡ (nat_lt i n && is_in_polygon points (x +ℤ pos i) (y +ℤ pos j))) → row_has (get_or words (j - top) []) k ≡ is_in_polygon points (column_at w k) (row_at w j)
-polygon-rows w points flags words top n k j x y d lt wide narrow low inside ex ey held flagged =
-    let near : k < n = omega (arith, wide) in
-    let on : nat_lt k n ≡ true = grind (arith, nat_tests) in
-    let down : y +ℤ pos (j - top) ≡ row_at w j = ap (λ z. z +ℤ pos (j - top)) ey ∙ row-down w.y top j low in
+pub polygon-rows : (w : Window) (points : List Point) (flags : List EdgeFlags) (words : List (List ℕ)) (top k j : ℕ) (d : EdgeFlags) → k < w.w → w.w ≤ 256 → top ≤ j → j - top < length flags → ((j k : ℕ) (d : EdgeFlags) → j < length flags → k < 256 → row_has (get_or words j []) k ≡ is_held (get_or flags j d).words k) → ((j i : ℕ) (d : EdgeFlags) → j < length flags → is_held (get_or flags j d).words i ≡ (nat_lt i w.w && is_in_polygon points (column_shown w i) (row_shown w (top + j)))) → row_has (get_or words (j - top) []) k ≡ is_in_polygon points (column_shown w k) (row_shown w j)
+polygon-rows w points flags words top k j d lt narrow low inside held flagged =
+    let on : nat_lt k w.w ≡ true = grind (arith, nat_tests) in
+    let down : top + (j - top) ≡ j = omega arith in
     held (j - top) k d inside (omega arith)
     ∙ flagged (j - top) k d inside
-    ∙ ap (λ t. t && is_in_polygon points (x +ℤ pos k) (y +ℤ pos (j - top))) on
-    ∙ ap (λ z. is_in_polygon points (z +ℤ pos k) (y +ℤ pos (j - top))) ex
-    ∙ ap (λ z. is_in_polygon points (column_at w k) z) down
+    ∙ ap (λ t. t && is_in_polygon points (column_shown w k) (row_shown w (top + (j - top)))) on
+    ∙ ap (λ n. is_in_polygon points (column_shown w k) (row_shown w n)) down
 
--- a row that lies as far from the first as a mirror image does
-pub mirror-row : (w : Window) (sides : PageBox) (x first mirror row : ℤ) (y n : ℕ) → first ≡ w.y → row ≡ row_at w y → pos n ≡ mirror -ℤ first → is_in_ellipse sides x mirror ≡ is_in_ellipse sides x row → is_in_ellipse sides x (row_at w n) ≡ is_in_ellipse sides x (row_at w y)
-mirror-row w sides x first mirror row y n ef er en same =
-    let at : row_at w n ≡ mirror = omega (arith, ints) in
-    ap (is_in_ellipse sides x) at ∙ same ∙ ap (is_in_ellipse sides x) er
+-- the row so many whole steps below a window's first
+pub row-below : (w : Window) (at first : ℤ) (n : ℕ) → first ≡ row_shown w 0 → pos (n * 2 ^ w.level) ≡ at -ℤ first → row_shown w n ≡ at
+row-below w at first n e d =
+    let s = scale_of w.level in
+    let top = along w.y 0 s in
+    let down = along w.y n s in
+    let none : 0 * s ≡ 0 = omega arith in
+    omega (arith, ints, top, down, none, e, d)
+
+-- what is shifted down and up again and stays is whole steps of a level
+pub whole-steps : (n a k : ℕ) → a ≡ k → n < 2 ^ 64 → (n / 2 ^ a * 2 ^ a) % 2 ^ 64 ≡ n → n / 2 ^ a * 2 ^ k ≡ n
+whole-steps n a k e fits h =
+    let low : n / 2 ^ a * 2 ^ a ≤ n = div-mul-le_self n (2 ^ a) in
+    let same : n / 2 ^ a * 2 ^ a ≡ n = sym (mod-eq_of_lt (omega (arith, low, fits))) ∙ h in
+    ap (λ m. n / 2 ^ a * 2 ^ m) (sym e) ∙ same

@@ -1,13 +1,15 @@
 -- A window painted from a scene is the document's picture, and strips in order are the whole of it.
-use Rattle.std.proofs.Common.{◌≡◌, ℕ, ◌+◌, ◌<◌, ◌≤◌, ◌++◌, ◌∙◌, List, ℤ, ◌+ℤ◌, pos, ◌&&◌, true, ap, append-nil, arith, length, refl, sym, take, Result, Ok, Err}
+use Rattle.std.proofs.Common.{◌≡◌, ℕ, ◌+◌, ◌<◌, ◌≤◌, ◌++◌, ◌∙◌, List, ℤ, ◌+ℤ◌, ◌*ℤ◌, ◌≤ℤ◌, ◌<ℤ◌, ◌*◌, pos, ◌&&◌, true, ap, append-nil, arith, length, refl, sym, take, Result, Ok, Err}
 use Rattle.std.proofs.lemmas.List.{take_at}
-use Rattle.std.proofs.Math.Nat.{mul-div_cancel_left}
+use Rattle.std.proofs.Math.Nat.{mul-div_cancel_left, mul-le-mul_right}
 use Rattle.std.specs.Result.{OnOk}
-use Rattle.std.specs.Prelude.{int_le, int_lt}
 use Rattle.std.proofs.lemmas.Int.{ints}
 use Rattle.canvas_plane.specs.declared.windows.Window.{Window}
 use Rattle.canvas_plane.specs.Page.{is_in}
-use Rattle.canvas_plane.specs.Window.{box_of_window}
+use Rattle.canvas_plane.specs.Sides.{scale_of}
+use Rattle.canvas_plane.specs.Window.{column_shown, covered_by, row_shown}
+use Rattle.canvas_plane.proofs.Levels.{along, scale-least}
+use Rattle.canvas_shape.specs.Spans.{is_from_to}
 use Rattle.canvas_shape.specs.declared.Colour.{Colour}
 use Rattle.canvas_scene.specs.declared.item.Item.{Item}
 use Rattle.canvas_scene.specs.Items.{last_colour}
@@ -15,16 +17,30 @@ use Rattle.canvas_scene.specs.Pictures.{bytes_at, picture_of, rows_of}
 use Rattle.canvas_scene.proofs.Raster.{band-more, rows-agree}
 use Rattle.canvas_paint.specs.Strips.{IsStrip, strip_start}
 
-in-side : (x : ℤ) (k n : ℕ) → k < n → (int_le x (x +ℤ pos k) && int_lt (x +ℤ pos k) (x +ℤ pos n)) ≡ true
-in-side x k n lt = grind (arith, ints)
+from-to : (a b c : ℤ) → a ≤ℤ b → b <ℤ c → is_from_to a b c ≡ true
+from-to a b c p q = grind (arith, ints)
 
--- the window's box has each pixel of its columns and rows
-pub in-window : (w : Window) (k j : ℕ) → k < w.w → j < w.h → is_in (box_of_window w) (w.x +ℤ pos k) (w.y +ℤ pos j) ≡ true
-in-window w k j p q = ap (λ t. t && (int_le w.y (w.y +ℤ pos j) && int_lt (w.y +ℤ pos j) (w.y +ℤ pos w.h))) (in-side w.x k w.w p) ∙ in-side w.y j w.h q
+in-side : (x : ℤ) (k n level : ℕ) → k < n → is_from_to ((x +ℤ pos 0) *ℤ pos (scale_of level)) ((x +ℤ pos k) *ℤ pos (scale_of level)) ((x +ℤ pos n) *ℤ pos (scale_of level)) ≡ true
+in-side x k n level lt =
+    let s = scale_of level in
+    let first = along x 0 s in
+    let here = along x k s in
+    let last = along x n s in
+    let least = scale-least level in
+    let next : (k + 1) * s ≤ n * s = mul-le-mul_right s (omega arith) in
+    let step : (k + 1) * s ≡ k * s + s = omega arith in
+    let none : 0 * s ≡ 0 = omega arith in
+    let low : ((x +ℤ pos 0) *ℤ pos s) ≤ℤ ((x +ℤ pos k) *ℤ pos s) = omega (arith, ints, first, here, none) in
+    let high : ((x +ℤ pos k) *ℤ pos s) <ℤ ((x +ℤ pos n) *ℤ pos s) = omega (arith, ints, here, last, least, next, step) in
+    from-to ((x +ℤ pos 0) *ℤ pos s) ((x +ℤ pos k) *ℤ pos s) ((x +ℤ pos n) *ℤ pos s) low high
 
--- colours that agree in a window's box make one picture
-pub joined-picture : (f g : ℤ → ℤ → Colour) (w : Window) → ((x y : ℤ) → is_in (box_of_window w) x y ≡ true → f x y ≡ g x y) → rows_of f w 0 w.h ≡ picture_of g w
-joined-picture f g w h = rows-agree f g w 0 w.h (omega arith) (omega arith) (λ k j p q. h (w.x +ℤ pos k) (w.y +ℤ pos j) (in-window w k j p q))
+-- the box that the window covers has each pixel that its columns and rows show
+pub in-window : (w : Window) (k j : ℕ) → k < w.w → j < w.h → is_in (covered_by w) (column_shown w k) (row_shown w j) ≡ true
+in-window w k j p q = ap (λ t. t && is_from_to (row_shown w 0) (row_shown w j) (row_shown w w.h)) (in-side w.x k w.w w.level p) ∙ in-side w.y j w.h w.level q
+
+-- colours that agree in the box that a window covers make one picture
+pub joined-picture : (f g : ℤ → ℤ → Colour) (w : Window) → ((x y : ℤ) → is_in (covered_by w) x y ≡ true → f x y ≡ g x y) → rows_of f w 0 w.h ≡ picture_of g w
+joined-picture f g w h = rows-agree f g w 0 w.h (omega arith) (omega arith) (λ k j p q. h (column_shown w k) (row_shown w j) (in-window w k j p q))
 
 -- what follows of a call that succeeded
 pub ok-then : {A E : Type 0} (r : Result A E) (P Q : Type 0) → (P → Q) → OnOk r P → OnOk r Q

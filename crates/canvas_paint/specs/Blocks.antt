@@ -1,6 +1,5 @@
--- Items as a window shows them: columns and rows of the window in place of pixels of the page.
-use Rattle.std.specs.Prelude.{ℕ, List, [], ◌∷◌, Bool, true, ◌&&◌, cond, Option, Some, None, ℤ, ◌+ℤ◌, pos, slice_index, slice_index_or, ◌-◌, ◌/◌, ◌%◌}
-use Rattle.canvas_plane.specs.declared.windows.Window.{Window}
+-- Items as a window shows them: its columns and rows in place of the pixels of the page that they show.
+use Rattle.std.specs.Prelude.{ℕ, List, [], ◌∷◌, Bool, true, ◌&&◌, cond, Option, Some, None, slice_index, slice_index_or, ◌-◌, ◌/◌, ◌%◌}
 use Rattle.canvas_shape.specs.declared.Colour.{Colour}
 use Rattle.canvas_doc.specs.Picture.{or_else, or_white}
 use Rattle.canvas_paint.specs.declared.block.Form.{Form}
@@ -8,13 +7,6 @@ use Rattle.canvas_paint.specs.declared.block.Form.TheVariants.{Whole, Rows}
 use Rattle.canvas_paint.specs.declared.block.Block.{Block}
 use Rattle.canvas_shape.specs.Words.{has}
 use Rattle.canvas_paint.specs.Words.{is_within}
-
--- the pixel of a window's column and row
-abbrev pub column_at : Window → ℕ → ℤ
-column_at w k = w.x +ℤ pos k
-
-abbrev pub row_at : Window → ℕ → ℤ
-row_at w j = w.y +ℤ pos j
 
 -- the words of a row have the column
 abbrev pub row_has : List ℕ → ℕ → Bool

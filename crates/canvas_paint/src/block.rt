@@ -1,10 +1,11 @@
 //! Items as a window shows them.
 
-ghost use Rattle.std.specs.Prelude.{◌≡◌, ℕ, ℤ, ◌+◌, ◌-◌, ◌<◌, ◌≤◌, ◌%◌, ◌&&◌, ◌+ℤ◌, pos, false, true, IfOk, int_le, int_lt, nat_le, nat_lt};
+ghost use Rattle.std.specs.Prelude.{◌≡◌, ℕ, ◌+◌, ◌-◌, ◌<◌, ◌≤◌, ◌%◌, ◌&&◌, false, true, IfOk};
 ghost use Rattle.canvas_plane.specs.Page.{is_in};
+ghost use Rattle.canvas_plane.specs.Window.{column_shown, row_shown};
 ghost use Rattle.canvas_shape.specs.Leaves.{carried_holds, page_box_of};
 ghost use Rattle.canvas_scene.specs.Items.{fill_at};
-ghost use Rattle.canvas_paint.specs.Blocks.{column_at, cut_fill, form_holds, row_at};
+ghost use Rattle.canvas_paint.specs.Blocks.{cut_fill, form_holds};
 ghost use Rattle.canvas_shape.specs.Words.{has};
 ghost use Rattle.canvas_paint.specs.Words.{is_within};
 
@@ -42,23 +43,6 @@ pub(crate) struct Held {
     pub until: usize,
 }
 
-// How many of `size` places from `origin` on lie before an edge.
-pub(crate) fn place(edge: i64, origin: i32, size: u32) -> usize
-    requires { size ≤ 256 }
-    ensures within { result ≤ size }
-    ensures from { (k : ℕ) → k < size → nat_le result k ≡ int_le edge (origin +ℤ pos k) }
-    ensures to { (k : ℕ) → k < size → nat_lt k result ≡ int_lt (origin +ℤ pos k) edge }
-{
-    let start = i64::from(origin);
-    if edge <= start {
-        0
-    } else if start + i64::from(size) <= edge {
-        size as usize
-    } else {
-        (edge - start) as usize
-    }
-}
-
 // What of its box a leaf holds in the rows from one up to another. A rectangle takes no memory.
 fn form_of<'a>(
     bump: &'a Bump,
@@ -69,7 +53,7 @@ fn form_of<'a>(
 ) -> Result<Form<'a>, OutOfMemory>
     requires rows { top < bottom }
     requires bottom { bottom ≤ window.now.h }
-    ensures { IfOk result (λ form. (k j : ℕ) → k < window.now.w → top ≤ j → j < bottom → is_in (page_box_of leaf.now) (column_at window.now k) (row_at window.now j) ≡ true → form_holds form k j ≡ carried_holds leaf.now (column_at window.now k) (row_at window.now j)) }
+    ensures { IfOk result (λ form. (k j : ℕ) → k < window.now.w → top ≤ j → j < bottom → is_in (page_box_of leaf.now) (column_shown window.now k) (row_shown window.now j) ≡ true → form_holds form k j ≡ carried_holds leaf.now (column_shown window.now k) (row_shown window.now j)) }
 {
     match leaf {
         Carried::Rect(_) => Ok(Form::Whole),
@@ -90,17 +74,17 @@ struct Region {
 }
 
 impl Region {
-    // The columns, and the rows from one up to another, that lie in a box of the page.
+    // The columns, and the rows from one up to another, that show pixels of a box of the page.
     fn of(sides: &PageBox, window: &Window, first: usize, end: usize) -> Region
         requires { end ≤ window.now.h }
-        ensures exact { (k j : ℕ) → k < window.now.w → first ≤ j → j < end → (is_within result.from k result.to && is_within result.top j result.bottom) ≡ is_in sides.now (column_at window.now k) (row_at window.now j) }
+        ensures exact { (k j : ℕ) → k < window.now.w → first ≤ j → j < end → (is_within result.from k result.to && is_within result.top j result.bottom) ≡ is_in sides.now (column_shown window.now k) (row_shown window.now j) }
         ensures bottom { result.bottom ≤ end }
     {
         Region {
-            from: place(sides.left, window.x(), window.w()),
-            to: place(sides.right, window.x(), window.w()),
-            top: place(sides.top, window.y(), window.h()).max(first),
-            bottom: place(sides.bottom, window.y(), window.h()).min(end),
+            from: window.columns_before(sides.left),
+            to: window.columns_before(sides.right),
+            top: window.rows_before(sides.top).max(first),
+            bottom: window.rows_before(sides.bottom).min(end),
         }
     }
 
@@ -122,7 +106,7 @@ impl<'a> Block<'a> {
         end: usize,
     ) -> Result<Option<Block<'a>>, OutOfMemory>
         requires { end ≤ window.now.h }
-        ensures { IfOk result (λ block. (k j : ℕ) → k < window.now.w → first ≤ j → j < end → cut_fill block k j ≡ fill_at item.now (column_at window.now k) (row_at window.now j)) }
+        ensures { IfOk result (λ block. (k j : ℕ) → k < window.now.w → first ≤ j → j < end → cut_fill block k j ≡ fill_at item.now (column_shown window.now k) (row_shown window.now j)) }
     {
         let page_box = item.leaf.page_box();
         let region = Region::of(&page_box.meet(&item.clip), window, first, end);

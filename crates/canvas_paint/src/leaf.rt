@@ -1,15 +1,15 @@
 //! Rows of ellipses and polygons as words.
 
-ghost use Rattle.std.specs.Prelude.{◌≡◌, ℕ, ℤ, ◌+◌, ◌<◌, ◌≤◌, length, ◌-◌, ◌%◌, IfOk, [], slice_index_or};
+ghost use Rattle.std.specs.Prelude.{◌≡◌, ℕ, ℤ, ◌+◌, ◌<◌, ◌≤◌, length, ◌-◌, ◌%◌, ◌^◌, IfOk, IfSome, [], slice_index_or, unsigned_abs};
+ghost use Rattle.canvas_plane.specs.Window.{column_shown, row_shown};
 ghost use Rattle.canvas_shape.specs.Leaves.{sides_of};
 ghost use Rattle.canvas_shape.specs.Ellipse.{is_in_ellipse};
 ghost use Rattle.canvas_shape.specs.Edges.{is_in_polygon};
 ghost use Rattle.canvas_shape.specs.Flags.{is_held};
 ghost use Rattle.canvas_shape.specs.declared.edge_flags.EdgeFlags.{EdgeFlags as RowFlags};
-ghost use Rattle.canvas_paint.specs.Blocks.{column_at, row_at, row_has};
+ghost use Rattle.canvas_paint.specs.Blocks.{row_has};
 ghost use Rattle.canvas_shape.specs.Words.{has};
 
-use crate::block::place;
 use crate::word::{PIXELS, row_between};
 use bumpalo::Bump;
 use bumpalo::collections::into_bump_slice;
@@ -39,33 +39,45 @@ impl RowWords<'_> {
     }
 }
 
-// The row of the page that a window's row shows.
-fn page_row(window: &Window, y: usize) -> i32
-    requires { y < window.now.h }
-    ensures { result ≡ row_at window.now y }
-{
-    window.y() + y as i32
-}
-
 // The pixels of an ellipse in a window's row.
 fn ellipse_row(sides: &LeafBox, window: &Window, y: usize) -> [u64; 4]
     requires { y < window.now.h }
-    ensures { (k : ℕ) → k < window.now.w → row_has result k ≡ is_in_ellipse (sides_of sides.now) (column_at window.now k) (row_at window.now y) }
+    ensures { (k : ℕ) → k < window.now.w → row_has result k ≡ is_in_ellipse (sides_of sides.now) (column_shown window.now k) (row_shown window.now y) }
 {
-    let ends = sides.row_ends(page_row(window, y));
-    let from = place(ends.from, window.x(), window.w());
-    let to = place(ends.to, window.x(), window.w());
+    let ends = sides.row_ends(window.row_shown(y));
+    let from = window.columns_before(ends.from);
+    let to = window.columns_before(ends.to);
     row_between(from, to)
 }
 
-// A row of a window in which an ellipse has the same columns: the mirror image of a row from top to bottom, or the row itself
-// where that one lies above the window.
+// The row that shows a row of the page, of a window's and of those that would follow them, if there is one.
+fn showing(window: &Window, at: i64) -> Option<usize>
+    requires { unsigned_abs at ≤ 2 ^ 32 }
+    ensures { IfSome result (λ row. row_shown window.now row ≡ at) }
+{
+    let distance = at - i64::from(window.row_shown(0));
+    if distance < 0 {
+        return None;
+    }
+    let level = window.level();
+    let row = distance as u64 >> level;
+    if row << level == distance as u64 {
+        Some(row as usize)
+    } else {
+        None
+    }
+}
+
+// A row of a window in which an ellipse has the same columns: the one that shows the mirror image of a row from top to bottom,
+// or the row itself where none does.
 fn mirrored(sides: &LeafBox, window: &Window, y: usize) -> usize
     requires { y < window.now.h }
-    ensures { (x : ℤ) → is_in_ellipse (sides_of sides.now) x (row_at window.now result) ≡ is_in_ellipse (sides_of sides.now) x (row_at window.now y) }
+    ensures { (x : ℤ) → is_in_ellipse (sides_of sides.now) x (row_shown window.now result) ≡ is_in_ellipse (sides_of sides.now) x (row_shown window.now y) }
 {
-    let row = sides.mirror(page_row(window, y)) - i64::from(window.y());
-    if 0 <= row { row as usize } else { y }
+    match showing(window, sides.mirror(window.row_shown(y))) {
+        Some(row) => row,
+        None => y,
+    }
 }
 
 // The pixels of an ellipse in a row of a window, below rows from `top` on that were made. No root is taken where they have the
@@ -78,8 +90,8 @@ fn next_ellipse_row(
     y: usize,
 ) -> [u64; 4]
     requires y { y < window.now.h }
-    requires made { (k j : ℕ) → k < window.now.w → top ≤ j → j < top + length made.now → row_has (slice_index_or made.now (j - top) []) k ≡ is_in_ellipse (sides_of sides.now) (column_at window.now k) (row_at window.now j) }
-    ensures { (k : ℕ) → k < window.now.w → row_has result k ≡ is_in_ellipse (sides_of sides.now) (column_at window.now k) (row_at window.now y) }
+    requires made { (k j : ℕ) → k < window.now.w → top ≤ j → j < top + length made.now → row_has (slice_index_or made.now (j - top) []) k ≡ is_in_ellipse (sides_of sides.now) (column_shown window.now k) (row_shown window.now j) }
+    ensures { (k : ℕ) → k < window.now.w → row_has result k ≡ is_in_ellipse (sides_of sides.now) (column_shown window.now k) (row_shown window.now y) }
 {
     let same = mirrored(sides, window, y);
     if top <= same && same - top < made.len() {
@@ -99,7 +111,7 @@ pub(crate) fn ellipse_rows<'a>(
 ) -> Result<RowWords<'a>, OutOfMemory>
     requires rows { top < bottom }
     requires bottom { bottom ≤ window.now.h }
-    ensures { IfOk result (λ rows. (k j : ℕ) → k < window.now.w → top ≤ j → j < bottom → row_has (slice_index_or rows.words.now (j - rows.first) []) k ≡ is_in_ellipse (sides_of sides.now) (column_at window.now k) (row_at window.now j)) }
+    ensures { IfOk result (λ rows. (k j : ℕ) → k < window.now.w → top ≤ j → j < bottom → row_has (slice_index_or rows.words.now (j - rows.first) []) k ≡ is_in_ellipse (sides_of sides.now) (column_shown window.now k) (row_shown window.now j)) }
 {
     let words = bump.try_alloc_slice_fill_clone(bottom - top, [0; 4])?;
     for k in 0..words.len() {
@@ -118,10 +130,10 @@ pub(crate) fn polygon_rows<'a>(
 ) -> Result<RowWords<'a>, OutOfMemory>
     requires rows { top < bottom }
     requires bottom { bottom ≤ window.now.h }
-    ensures { IfOk result (λ rows. (k j : ℕ) → k < window.now.w → top ≤ j → j < bottom → row_has (slice_index_or rows.words.now (j - rows.first) []) k ≡ is_in_polygon vertices.now.points.now (column_at window.now k) (row_at window.now j)) }
+    ensures { IfOk result (λ rows. (k j : ℕ) → k < window.now.w → top ≤ j → j < bottom → row_has (slice_index_or rows.words.now (j - rows.first) []) k ≡ is_in_polygon vertices.now.points.now (column_shown window.now k) (row_shown window.now j)) }
 {
     let rows = bump.try_alloc_slice_fill_clone(bottom - top, EdgeFlags::none())?;
-    vertices.flag_rows(page_row(window, top), window.x(), window.w(), rows);
+    vertices.flag_rows(window, top, rows);
     Ok(RowWords {
         first: top,
         words: held_rows(bump, rows)?,

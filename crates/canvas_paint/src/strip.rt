@@ -1,10 +1,11 @@
 //! Pictures of items, strip by strip.
 
 ghost use Rattle.std.specs.Prelude.{◌≡◌, ℕ, ◌+◌, ◌-◌, ◌*◌, ◌/◌, ◌<◌, ◌≤◌, ◌++◌, List, length, false, slice_index_or, IfOk, OnOk, OnErr, take, vec_len, All};
+ghost use Rattle.canvas_plane.specs.Window.{column_shown, row_shown};
 ghost use Rattle.canvas_scene.specs.Items.{last_colour, last_fill};
 ghost use Rattle.canvas_scene.specs.Pictures.{raster_of, rows_of};
 ghost use Rattle.canvas_doc.specs.Picture.{or_else};
-ghost use Rattle.canvas_paint.specs.Blocks.{block_fill, column_at, row_at};
+ghost use Rattle.canvas_paint.specs.Blocks.{block_fill};
 ghost use Rattle.canvas_paint.specs.Columns.{AreColumns, IsNew, blocks_in, fill_in, shown_in};
 ghost use Rattle.canvas_paint.specs.Strips.{strip_start};
 
@@ -59,7 +60,7 @@ fn columns_of<'a>(
     requires { end ≤ window.now.h }
     ensures count { IfOk result (λ columns. vec_len columns ≡ 4) }
     ensures new { IfOk result (λ columns. All IsNew columns.items) }
-    ensures fills { IfOk result (λ columns. (k j : ℕ) → k < window.now.w → first ≤ j → j < end → fill_in (blocks_in columns.items) k j ≡ last_fill items.now (column_at window.now k) (row_at window.now j)) }
+    ensures fills { IfOk result (λ columns. (k j : ℕ) → k < window.now.w → first ≤ j → j < end → fill_in (blocks_in columns.items) k j ≡ last_fill items.now (column_shown window.now k) (row_shown window.now j)) }
 {
     let mut columns = new_columns(alloc, items.len())?;
     for item in items {

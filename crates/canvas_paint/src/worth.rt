@@ -65,10 +65,11 @@ fn cost_of_edges(points: &[Point], clip: &PageBox, window: &Window) -> u64
     requires { 0 < length points.now }
 {
     let mut cost = 0_u64;
-    let mut from = points[points.len() - 1].y;
+    let mut from = row_at(points[points.len() - 1].y, clip, window);
     for to in points {
-        cost = cost.saturating_add(VERTEX + CROSSING * rows_between(from, to.y, clip, window));
-        from = to.y;
+        let row = row_at(to.y, clip, window);
+        cost = cost.saturating_add(VERTEX + CROSSING * from.abs_diff(row));
+        from = row;
     }
     cost
 }
@@ -77,18 +78,12 @@ fn cost_of_edges(points: &[Point], clip: &PageBox, window: &Window) -> u64
 fn rows_between(one: i64, other: i64, clip: &PageBox, window: &Window) -> u64
     ensures { result ≤ 256 }
 {
-    row_at(within(one, clip), window).abs_diff(row_at(within(other, clip), window))
+    row_at(one, clip, window).abs_diff(row_at(other, clip, window))
 }
 
-// A height of the page, or the end of a clip that is nearer.
-fn within(height: i64, clip: &PageBox) -> i64 {
-    height.max(clip.top).min(clip.bottom)
-}
-
-// The row of a window at a height of the page, or the end of the window that is nearer.
-fn row_at(height: i64, window: &Window) -> u64
+// How many rows of a window lie above a height of the page, or above the end of a clip that is nearer.
+fn row_at(height: i64, clip: &PageBox, window: &Window) -> u64
     ensures { result ≤ 256 }
 {
-    let row = height.saturating_sub(i64::from(window.y()));
-    row.max(0).min(window.h() as i64) as u64
+    window.rows_before(height.max(clip.top).min(clip.bottom)) as u64
 }

@@ -1,4 +1,5 @@
 pub mod Boxes
 pub mod Composition
 pub mod Inverse
+pub mod Levels
 pub mod Sides

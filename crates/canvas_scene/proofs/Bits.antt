@@ -2,7 +2,7 @@
 use Rattle.std.proofs.Common.{◌≡◌, ℕ, zero, suc, ◌+◌, ◌-◌, ◌*◌, ◌/◌, ◌%◌, ◌^◌, ◌<◌, ◌≤◌, Bool, true, false, ◌&&◌, ◌||◌, refl, sym, ap, ◌∙◌, arith}
 use Rattle.std.specs.Prelude.{bit_and, bit_or, nat_eq}
 use Rattle.std.proofs.lemmas.Nat.{and_mod, and_shr, or_mod, or_shr, pow-add, pow_pos, shr-shr}
-use Rattle.canvas_scene.specs.Cells.{is_among, is_bit}
+use Rattle.canvas_scene.specs.Places.{is_among, is_bit}
 
 one-or : (u v : ℕ) → u < 2 → v < 2 → nat_eq (bit_or u v) 1 ≡ (nat_eq u 1 || nat_eq v 1)
 one-or zero zero p q = refl

@@ -1,18 +1,19 @@
 -- Cells that are marked, and the pixels that lie in them.
 use Rattle.std.proofs.Common.{◌≡◌, ◌≢◌, ◌⊎◌, ℕ, zero, suc, replicate, ◌+◌, ◌<◌, ◌≤◌, List, get_or, length, set, Bool, true, false, ◌&&◌, ◌||◌, refl, sym, ap, ◌∙◌, arith, inl, inr, subst}
-use Rattle.std.specs.Prelude.{ℤ, int_le, int_lt}
+use Rattle.std.specs.Prelude.{ℤ}
 use Rattle.std.proofs.lemmas.List.{get_or-set_other, get_or-set_same}
 use Rattle.canvas_plane.specs.declared.PageBox.{PageBox}
-use Rattle.canvas_plane.specs.declared.windows.Window.{Window}
 use Rattle.canvas_plane.specs.Page.{is_in}
-use Rattle.canvas_plane.specs.Window.{box_of_window}
-use Rattle.canvas_scene.specs.Cells.{cell_of, is_among, is_bit, is_marked, is_on_side}
+use Rattle.canvas_shape.specs.Spans.{is_from_to}
+use Rattle.canvas_scene.specs.declared.side.Side.{Side}
+use Rattle.canvas_scene.specs.Cells.{is_marked}
+use Rattle.canvas_scene.specs.Places.{cell_of, is_among, is_bit}
 use Rattle.canvas_scene.proofs.Bits.{no-bit}
 use Rattle.canvas_scene.proofs.Sides.{among, is-among}
 
--- the pixel is one of the window's, in a marked cell of these rows
-abbrev pub covered : Window → List ℕ → ℤ → ℤ → Bool
-covered w rows x y = is_in (box_of_window w) x y && is_marked rows (cell_of w.x x) (cell_of w.y y)
+-- the pixel lies on both sides, in a marked cell of these rows
+abbrev pub covered : Side → Side → List ℕ → ℤ → ℤ → Bool
+covered a d rows x y = (is_from_to a.start x a.end && is_from_to d.start y d.end) && is_marked rows (cell_of a.start a.shift x) (cell_of d.start d.shift y)
 
 either-kept : (old more new : Bool) → (more ≡ true → (old || new) ≡ true) → (more || new) ≡ true → (old || new) ≡ true
 either-kept old true new f h = f refl
@@ -50,18 +51,19 @@ marked-or-new true false new part e h f = f h
 marked-or-new false old new part e h f = cc
 
 -- what rows cover that have a run's bits in a run of rows more
-pub covered-more : (w : Window) (olds rows : List ℕ) (part : PageBox) (left top : ℤ) (wide high word fa ea fd ed : ℕ) → left ≡ w.x → wide ≡ w.w → top ≡ w.y → high ≡ w.h → ((column at : ℕ) → is_marked rows column at ≡ true → (is_marked olds column at || (is_among fd ed at && is_bit word column)) ≡ true) → ((k : ℕ) → is_bit word k ≡ is_among fa ea k) → ((x : ℤ) → is_on_side left wide x ≡ true → is_among fa ea (cell_of left x) ≡ true → (int_le part.left x && int_lt x part.right) ≡ true) → ((y : ℤ) → is_on_side top high y ≡ true → is_among fd ed (cell_of top y) ≡ true → (int_le part.top y && int_lt y part.bottom) ≡ true) → (x y : ℤ) → covered w rows x y ≡ true → (covered w olds x y || is_in part x y) ≡ true
-covered-more w olds rows part left top wide high word fa ea fd ed ex ew ey eh marks bits across down x y h =
-    let column = cell_of w.x x in
-    let row = cell_of w.y y in
-    let parts = both (is_in (box_of_window w) x y) (is_marked rows column row) h in
-    let sides = both (is_on_side w.x w.w x) (is_on_side w.y w.h y) parts.0 in
-    marked-or-new (is_in (box_of_window w) x y) (is_marked olds column row) (is_among fd ed row && is_bit word column) (is_in part x y) parts.0 (marks column row parts.1)
+pub covered-more : (a d : Side) (olds rows : List ℕ) (part : PageBox) (word fa ea fd ed : ℕ) → ((column at : ℕ) → is_marked rows column at ≡ true → (is_marked olds column at || (is_among fd ed at && is_bit word column)) ≡ true) → ((k : ℕ) → is_bit word k ≡ is_among fa ea k) → ((x : ℤ) → is_from_to a.start x a.end ≡ true → is_among fa ea (cell_of a.start a.shift x) ≡ true → is_from_to part.left x part.right ≡ true) → ((y : ℤ) → is_from_to d.start y d.end ≡ true → is_among fd ed (cell_of d.start d.shift y) ≡ true → is_from_to part.top y part.bottom ≡ true) → (x y : ℤ) → covered a d rows x y ≡ true → (covered a d olds x y || is_in part x y) ≡ true
+covered-more a d olds rows part word fa ea fd ed marks bits across down x y h =
+    let column = cell_of a.start a.shift x in
+    let row = cell_of d.start d.shift y in
+    let inside = is_from_to a.start x a.end && is_from_to d.start y d.end in
+    let parts = both inside (is_marked rows column row) h in
+    let sides = both (is_from_to a.start x a.end) (is_from_to d.start y d.end) parts.0 in
+    marked-or-new inside (is_marked olds column row) (is_among fd ed row && is_bit word column) (is_in part x y) parts.0 (marks column row parts.1)
     (λ new.
     let cell = both (is_among fd ed row) (is_bit word column) new in
-    and (int_le part.left x && int_lt x part.right) (int_le part.top y && int_lt y part.bottom)
-    (across x (ap (λ s. is_on_side s wide x) ex ∙ ap (λ s. is_on_side w.x s x) ew ∙ sides.0) (ap (λ s. is_among fa ea (cell_of s x)) ex ∙ sym (bits column) ∙ cell.1))
-    (down y (ap (λ s. is_on_side s high y) ey ∙ ap (λ s. is_on_side w.y s y) eh ∙ sides.1) (ap (λ s. is_among fd ed (cell_of s y)) ey ∙ cell.0)))
+    and (is_from_to part.left x part.right) (is_from_to part.top y part.bottom)
+    (across x sides.0 (sym (bits column) ∙ cell.1))
+    (down y sides.1 cell.0))
 
 -- ---- cells that are all marked
 
@@ -75,16 +77,16 @@ row-has_all rows first i word has before column at h b = elim (same at i) [
 ]
 
 -- a box whose cells are all marked
-pub covered-all : (w : Window) (rows : List ℕ) (part : PageBox) (left top : ℤ) (wide high word fa ea fd ed past : ℕ) → left ≡ w.x → wide ≡ w.w → top ≡ w.y → high ≡ w.h → ed ≤ past → ((column at : ℕ) → is_among fd past at ≡ true → is_bit word column ≡ true → is_marked rows column at ≡ true) → ((k : ℕ) → is_bit word k ≡ is_among fa ea k) → ((x : ℤ) → is_on_side left wide x ≡ true → (int_le part.left x && int_lt x part.right) ≡ true → is_among fa ea (cell_of left x) ≡ true) → ((y : ℤ) → is_on_side top high y ≡ true → (int_le part.top y && int_lt y part.bottom) ≡ true → is_among fd ed (cell_of top y) ≡ true) → (x y : ℤ) → is_in (box_of_window w) x y ≡ true → is_in part x y ≡ true → covered w rows x y ≡ true
-covered-all w rows part left top wide high word fa ea fd ed past ex ew ey eh le marks bits across down x y inside h =
-    let column = cell_of w.x x in
-    let row = cell_of w.y y in
-    let sides = both (is_on_side w.x w.w x) (is_on_side w.y w.h y) inside in
-    let parts = both (int_le part.left x && int_lt x part.right) (int_le part.top y && int_lt y part.bottom) h in
-    let at-column : is_among fa ea column ≡ true = ap (λ s. is_among fa ea (cell_of s x)) (sym ex) ∙ across x (ap (λ s. is_on_side s wide x) ex ∙ ap (λ s. is_on_side w.x s x) ew ∙ sides.0) parts.0 in
-    let at-row : is_among fd ed row ≡ true = ap (λ s. is_among fd ed (cell_of s y)) (sym ey) ∙ down y (ap (λ s. is_on_side s high y) ey ∙ ap (λ s. is_on_side w.y s y) eh ∙ sides.1) parts.1 in
+pub covered-all : (a d : Side) (rows : List ℕ) (part : PageBox) (word fa ea fd ed past : ℕ) → ed ≤ past → ((column at : ℕ) → is_among fd past at ≡ true → is_bit word column ≡ true → is_marked rows column at ≡ true) → ((k : ℕ) → is_bit word k ≡ is_among fa ea k) → ((x : ℤ) → is_from_to a.start x a.end ≡ true → is_from_to part.left x part.right ≡ true → is_among fa ea (cell_of a.start a.shift x) ≡ true) → ((y : ℤ) → is_from_to d.start y d.end ≡ true → is_from_to part.top y part.bottom ≡ true → is_among fd ed (cell_of d.start d.shift y) ≡ true) → (x y : ℤ) → (is_from_to a.start x a.end && is_from_to d.start y d.end) ≡ true → is_in part x y ≡ true → covered a d rows x y ≡ true
+covered-all a d rows part word fa ea fd ed past le marks bits across down x y inside h =
+    let column = cell_of a.start a.shift x in
+    let row = cell_of d.start d.shift y in
+    let sides = both (is_from_to a.start x a.end) (is_from_to d.start y d.end) inside in
+    let parts = both (is_from_to part.left x part.right) (is_from_to part.top y part.bottom) h in
+    let at-column : is_among fa ea column ≡ true = across x sides.0 parts.0 in
+    let at-row : is_among fd ed row ≡ true = down y sides.1 parts.1 in
     let bounds = among fd ed row at-row in
-    and (is_in (box_of_window w) x y) (is_marked rows column row) inside
+    and (is_from_to a.start x a.end && is_from_to d.start y d.end) (is_marked rows column row) inside
     (marks column row (is-among fd past row bounds.0 (omega (arith, le, bounds.1))) (bits column ∙ at-column))
 
 -- ---- no cell is marked
@@ -93,8 +95,11 @@ none : (p q : Bool) → q ≡ false → (p && q) ≡ false
 none true q e = e
 none false q e = refl
 
-pub none-covered : (w : Window) (rows : List ℕ) (x y : ℤ) → ((column at : ℕ) → is_marked rows column at ≡ false) → covered w rows x y ≡ false
-none-covered w rows x y h = none (is_in (box_of_window w) x y) (is_marked rows (cell_of w.x x) (cell_of w.y y)) (h (cell_of w.x x) (cell_of w.y y))
+pub none-covered : (a d : Side) (rows : List ℕ) (x y : ℤ) → ((column at : ℕ) → is_marked rows column at ≡ false) → covered a d rows x y ≡ false
+none-covered a d rows x y h =
+    let column = cell_of a.start a.shift x in
+    let row = cell_of d.start d.shift y in
+    none (is_from_to a.start x a.end && is_from_to d.start y d.end) (is_marked rows column row) (h column row)
 
 zero-at : (n i : ℕ) → get_or (replicate n zero) i zero ≡ zero
 zero-at zero i = refl

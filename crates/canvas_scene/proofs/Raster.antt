@@ -2,8 +2,9 @@
 use Rattle.std.proofs.Common.{◌≡◌, ℕ, zero, suc, ◌+◌, ◌-◌, ◌<◌, ◌≤◌, List, [], ◌∷◌, ◌++◌, refl, sym, ap, ◌∙◌, arith, length, get_or, append_assoc, append-nil}
 use Rattle.std.specs.List.{flat_map}
 use Rattle.std.proofs.Common.{Result, Ok, Err, IfOk, Vec, Global}
-use Rattle.std.specs.Prelude.{ℤ, ◌+ℤ◌, pos}
+use Rattle.std.specs.Prelude.{ℤ}
 use Rattle.canvas_plane.specs.declared.windows.Window.{Window}
+use Rattle.canvas_plane.specs.Window.{column_shown, row_shown}
 use Rattle.canvas_shape.specs.declared.Colour.{Colour}
 use Rattle.canvas_scene.specs.Pictures.{bytes_at, raster_of, row_of, rows_of}
 
@@ -81,6 +82,6 @@ row-more f w first y row start old new bytes le long o h b e =
     e
 
 -- pictures of colours that agree on a window are the same bytes
-pub rows-agree : (f g : ℤ → ℤ → Colour) (w : Window) (first end : ℕ) → first ≤ end → end ≤ w.h → ((k j : ℕ) → k < w.w → j < w.h → f (w.x +ℤ pos k) (w.y +ℤ pos j) ≡ g (w.x +ℤ pos k) (w.y +ℤ pos j)) → rows_of f w first end ≡ rows_of g w first end
+pub rows-agree : (f g : ℤ → ℤ → Colour) (w : Window) (first end : ℕ) → first ≤ end → end ≤ w.h → ((k j : ℕ) → k < w.w → j < w.h → f (column_shown w k) (row_shown w j) ≡ g (column_shown w k) (row_shown w j)) → rows_of f w first end ≡ rows_of g w first end
 rows-agree f g w first end le high h =
     raster-agree (bytes_at f w) (bytes_at g w) w.w first (end - first) (λ x z p q r. ap (λ (c : Colour). c.0) (h x z p (omega arith)))

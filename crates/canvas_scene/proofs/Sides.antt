@@ -1,11 +1,15 @@
--- Places on the sides of a window, and the cells in which they lie.
-use Rattle.std.proofs.Common.{◌≡◌, ℕ, ◌+◌, ◌-◌, ◌*◌, ◌/◌, ◌<◌, ◌≤◌, ℤ, ◌-ℤ◌, ◌⊎◌, true, false, ◌&&◌, inl, inr, sym, ◌∙◌, arith}
+-- Places on the sides of what a window covers, and the cells in which they lie.
+use Rattle.std.proofs.Common.{◌≡◌, ℕ, Bool, refl, ⊎_elim, ◌+◌, ◌-◌, ◌*◌, ◌/◌, ◌^◌, ◌<◌, ◌≤◌, ℤ, ◌-ℤ◌, ◌+ℤ◌, ◌*ℤ◌, ◌≤ℤ◌, pos, true, false, sym, ap, ◌∙◌, arith}
 use Rattle.std.specs.Prelude.{int_le, int_lt, nat_le, unsigned_abs}
+use Rattle.std.proofs.lemmas.Bool.{cases_lt}
 use Rattle.std.proofs.lemmas.Int.{ints}
-use Rattle.canvas_scene.specs.Cells.{cell_of, is_among, is_on_side}
-
-on-side : (start : ℤ) (size : ℕ) (x : ℤ) → is_on_side start size x ≡ true → unsigned_abs (x -ℤ start) < size
-on-side start size x h = grind (arith, ints)
+use Rattle.std.proofs.lemmas.Nat.{div-mul-add, pow-add, pow_pos}
+use Rattle.std.proofs.Math.Nat.{div-mul-le_self, lt-div-mul-add, mul-le-mul_right}
+use Rattle.std.proofs.Math.Pow.{pow_mono, shr_mono}
+use Rattle.canvas_plane.specs.Sides.{scale_of}
+use Rattle.canvas_plane.proofs.Levels.{along}
+use Rattle.canvas_shape.specs.Spans.{is_from_to}
+use Rattle.canvas_scene.specs.Places.{cell_of, is_among}
 
 pub among : (first end k : ℕ) → is_among first end k ≡ true → (first ≤ k) × (k < end)
 among first end k h = (grind arith, grind arith)
@@ -13,52 +17,105 @@ among first end k h = (grind arith, grind arith)
 pub is-among : (first end k : ℕ) → first ≤ k → k < end → is_among first end k ≡ true
 is-among first end k p q = grind arith
 
-le : (a b : ℕ) → a ≤ b → nat_le a b ≡ true
-le a b h = grind arith
+-- ---- cells of 2 ^ s places
 
-not-le : (a b : ℕ) → b < a → nat_le a b ≡ false
-not-le a b h = grind arith
+pub small : (s : ℕ) → s ≤ 9 → 2 ^ s ≤ 512
+small s h = pow_mono h
 
-from-le : (a b : ℕ) → nat_le a b ≡ true → a ≤ b
-from-le a b h = grind arith
+-- 32 cells have at most 16384 places
+pub near : (start end : ℤ) (s : ℕ) → s ≤ 9 → end ≤ℤ (start +ℤ pos (32 * 2 ^ s)) → end ≤ℤ (start +ℤ pos 16384)
+near start end s h e = omega (arith, ints, small s h, e)
 
-from-not_le : (a b : ℕ) → nat_le a b ≡ false → b < a
-from-not_le a b h = grind arith
+pub before : (start end at : ℤ) → end ≤ℤ (start +ℤ pos 16384) → int_lt at end ≡ true → at ≤ℤ (start +ℤ pos 16384)
+before start end at e lt = grind (arith, ints)
+
+pub begun-most : (s a : ℕ) → a ≤ 32 * 2 ^ s → (a + (2 ^ s - 1)) / 2 ^ s ≤ 32
+begun-most s a h =
+    let up : (a + (2 ^ s - 1)) / 2 ^ s ≤ (32 * 2 ^ s + (2 ^ s - 1)) / 2 ^ s = shr_mono s (omega (arith, h)) in
+    let most : (32 * 2 ^ s + (2 ^ s - 1)) / 2 ^ s ≡ 32 = div-mul-add 32 (2 ^ s) (2 ^ s - 1) (omega (arith, pow_pos s)) in
+    omega (arith, up, most)
+
+pub ended-most : (s a : ℕ) → a ≤ 32 * 2 ^ s → a / 2 ^ s ≤ 32
+ended-most s a h =
+    let up : a / 2 ^ s ≤ (a + (2 ^ s - 1)) / 2 ^ s = shr_mono s (omega arith) in
+    omega (arith, up, begun-most s a h)
+
+-- a place behind the cells that begin before another is not before that
+past : (s a n : ℕ) → (a + (2 ^ s - 1)) / 2 ^ s ≤ n / 2 ^ s → a ≤ n
+past s a n h =
+    let low : a + (2 ^ s - 1) < (a + (2 ^ s - 1)) / 2 ^ s * 2 ^ s + 2 ^ s = lt-div-mul-add (pow_pos s) in
+    let mid : (a + (2 ^ s - 1)) / 2 ^ s * 2 ^ s ≤ n / 2 ^ s * 2 ^ s = mul-le-mul_right (2 ^ s) h in
+    let high : n / 2 ^ s * 2 ^ s ≤ n = div-mul-le_self n (2 ^ s) in
+    omega (arith, low, mid, high, pow_pos s)
+
+from-nat : (a b : ℕ) → nat_le a b ≡ true → a ≤ b
+from-nat a b h = grind arith
+
+to-nat : (a b : ℕ) → a ≤ b → nat_le a b ≡ true
+to-nat a b h = grind arith
+
+pub begun-past : (start at x : ℤ) (s a : ℕ) → int_le at x ≡ nat_le a (unsigned_abs (x -ℤ start)) → (a + (2 ^ s - 1)) / 2 ^ s ≤ cell_of start s x → int_le at x ≡ true
+begun-past start at x s a e h = let n = unsigned_abs (x -ℤ start) in e ∙ to-nat a n (past s a n h)
+
+pub ended-before : (start at x : ℤ) (s a : ℕ) → int_le at x ≡ nat_le a (unsigned_abs (x -ℤ start)) → int_le at x ≡ true → a / 2 ^ s ≤ cell_of start s x
+ended-before start at x s a e h = shr_mono s (from-nat a (unsigned_abs (x -ℤ start)) (sym e ∙ h))
+
+-- ---- runs of cells
 
 -- a place is at one or past it, and before another
-between : (from to x : ℤ) → int_le from x ≡ true → int_le to x ≡ false → (int_le from x && int_lt x to) ≡ true
+between : (from to x : ℤ) → int_le from x ≡ true → int_le to x ≡ false → is_from_to from x to ≡ true
 between from to x p q = grind (arith, ints)
 
-from-between : (from to x : ℤ) → (int_le from x && int_lt x to) ≡ true → (int_le from x ≡ true) × (int_le to x ≡ false)
+from-between : (from to x : ℤ) → is_from_to from x to ≡ true → (int_le from x ≡ true) × (int_le to x ≡ false)
 from-between from to x h = (grind (arith, ints), grind (arith, ints))
 
-past-first : (a n : ℕ) → (a + 8 - 1) / 8 ≤ n / 8 → a ≤ n
-past-first a n h = omega arith
+not-past : (end cell : ℕ) (b : Bool) → (b ≡ true → end ≤ cell) → cell < end → b ≡ false
+not-past end cell true h lt = absurd (omega (arith, h refl, lt))
+not-past end cell false h lt = refl
 
-before-last : (n b size end : ℕ) → n < size → (end * 8 ≤ b) ⊎ (b ≡ size) → n / 8 < end → n < b
-before-last n b size end near (inl h) g = omega arith
-before-last n b size end near (inr e) g = omega arith
+not-behind : (end cell : ℕ) (b : Bool) → (end ≤ cell → b ≡ true) → b ≡ false → cell < end
+not-behind end cell b h e =
+    ⊎_elim
+    (λ (lt : cell < end). lt)
+    (λ (le : end ≤ cell). let z : true ≡ false = sym (h le) ∙ e in cc)
+    (cases_lt cell end)
 
--- the pixels of cells that lie wholly between two places lie so too
-pub within-cells : (start from to x : ℤ) (size a b end : ℕ) → is_on_side start size x ≡ true → int_le from x ≡ nat_le a (unsigned_abs (x -ℤ start)) → int_le to x ≡ nat_le b (unsigned_abs (x -ℤ start)) → (end * 8 ≤ b) ⊎ (b ≡ size) → is_among ((a + 8 - 1) / 8) end (cell_of start x) ≡ true → (int_le from x && int_lt x to) ≡ true
-within-cells start from to x size a b end side ea eb last h =
-    let n = unsigned_abs (x -ℤ start) in
-    let among-both = among ((a + 8 - 1) / 8) end (n / 8) h in
-    between from to x
-    (ea ∙ le a n (past-first a n among-both.0))
-    (eb ∙ not-le b n (before-last n b size end (on-side start size x side) last among-both.1))
+pub run-within : (from to x : ℤ) (first end cell : ℕ) → (first ≤ cell → int_le from x ≡ true) → (int_le to x ≡ true → end ≤ cell) → is_among first end cell ≡ true → is_from_to from x to ≡ true
+run-within from to x first end cell p q h =
+    let both = among first end cell h in
+    between from to x (p both.0) (not-past end cell (int_le to x) q both.1)
 
-cell-from : (a n : ℕ) → a ≤ n → a / 8 ≤ n / 8
-cell-from a n h = omega arith
-
-cell-to : (n b : ℕ) → n < b → n / 8 < (b + 8 - 1) / 8
-cell-to n b h = omega arith
-
--- pixels between two places lie in cells that have some
-pub touched-cells : (start from to x : ℤ) (a b : ℕ) → int_le from x ≡ nat_le a (unsigned_abs (x -ℤ start)) → int_le to x ≡ nat_le b (unsigned_abs (x -ℤ start)) → (int_le from x && int_lt x to) ≡ true → is_among (a / 8) ((b + 8 - 1) / 8) (cell_of start x) ≡ true
-touched-cells start from to x a b ea eb h =
-    let n = unsigned_abs (x -ℤ start) in
+pub run-touched : (from to x : ℤ) (first end cell : ℕ) → (int_le from x ≡ true → first ≤ cell) → (end ≤ cell → int_le to x ≡ true) → is_from_to from x to ≡ true → is_among first end cell ≡ true
+run-touched from to x first end cell p q h =
     let both = from-between from to x h in
-    is-among (a / 8) ((b + 8 - 1) / 8) (n / 8)
-    (cell-from a n (from-le a n (sym ea ∙ both.0)))
-    (cell-to n b (from-not_le b n (sym eb ∙ both.1)))
+    is-among first end cell (p both.0) (not-behind end cell (int_le to x) q both.1)
+
+-- no place of a side lies past its end
+pub none-past : (start end at x : ℤ) → end ≤ℤ at → is_from_to start x end ≡ true → int_le at x ≡ false
+none-past start end at x e h = grind (arith, ints)
+
+-- 32 cells of 8 pixels are 256 pixels, at each level
+pub all-cells : (start end from to : ℤ) (level n : ℕ) → from ≡ start → to ≡ end → n ≡ level → end ≤ℤ (start +ℤ pos (256 * 2 ^ level)) → to ≤ℤ (from +ℤ pos (32 * 2 ^ (n + 3)))
+all-cells start end from to level n es ee same h =
+    let e : 2 ^ (n + 3) ≡ 2 ^ n * 8 = pow-add 2 n 3 in
+    let f : 2 ^ n ≡ 2 ^ level = ap (λ m. 2 ^ m) same in
+    omega (arith, ints, e, f, h, es, ee)
+
+-- ---- the sides of what a window covers
+
+pub side-order : (x : ℤ) (size level : ℕ) → ((x +ℤ pos 0) *ℤ pos (scale_of level)) ≤ℤ ((x +ℤ pos size) *ℤ pos (scale_of level))
+side-order x size level =
+    let s = scale_of level in
+    let first = along x 0 s in
+    let last = along x size s in
+    let none : 0 * s ≡ 0 = omega arith in
+    omega (arith, ints, first, last, none)
+
+pub side-short : (x : ℤ) (size level : ℕ) → size ≤ 256 → ((x +ℤ pos size) *ℤ pos (scale_of level)) ≤ℤ (((x +ℤ pos 0) *ℤ pos (scale_of level)) +ℤ pos (256 * 2 ^ level))
+side-short x size level h =
+    let s = scale_of level in
+    let first = along x 0 s in
+    let last = along x size s in
+    let none : 0 * s ≡ 0 = omega arith in
+    let most : size * s ≤ 256 * s = mul-le-mul_right s h in
+    omega (arith, ints, first, last, none, most)

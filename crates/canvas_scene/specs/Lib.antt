@@ -4,5 +4,6 @@ pub mod Covers
 pub mod Items
 pub mod Pictures
 pub mod Nodes
+pub mod Places
 pub mod Scenes
 pub mod Trees

@@ -1,6 +1,7 @@
 -- Pictures as bytes: rows from the top, pixels from the left, red, green and blue of each (the raster of Netpbm's ppm).
-use Rattle.std.specs.Prelude.{ℕ, zero, suc, ◌+◌, ◌-◌, List, [], ◌++◌, ℤ, ◌+ℤ◌, pos}
+use Rattle.std.specs.Prelude.{ℕ, zero, suc, ◌+◌, ◌-◌, List, [], ◌++◌, ℤ}
 use Rattle.canvas_plane.specs.declared.windows.Window.{Window}
+use Rattle.canvas_plane.specs.Window.{column_shown, row_shown}
 use Rattle.canvas_shape.specs.declared.Colour.{Colour}
 
 -- the bytes of w pixels of a row, from the column x on, where `pixel` gives the bytes of a column
@@ -13,9 +14,9 @@ abbrev pub raster_of : (ℕ → ℕ → List ℕ) → ℕ → ℕ → ℕ → Li
 raster_of pixel w y zero = []
 raster_of pixel w y (suc n) = row_of (λ x. pixel x y) 0 w ++ raster_of pixel w (y + 1) n
 
--- the bytes of a window's column and row, where `colour` gives the colour of a pixel of the page
+-- the bytes of a window's column and row: those of the page's pixel that is shown there, where `colour` gives the colour of a pixel of the page
 abbrev pub bytes_at : (ℤ → ℤ → Colour) → Window → ℕ → ℕ → List ℕ
-bytes_at colour window x y = (colour (window.x +ℤ pos x) (window.y +ℤ pos y)).0
+bytes_at colour window i j = (colour (column_shown window i) (row_shown window j)).0
 
 -- the bytes of a window's rows from one up to another
 abbrev pub rows_of : (ℤ → ℤ → Colour) → Window → ℕ → ℕ → List ℕ

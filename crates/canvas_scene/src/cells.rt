@@ -1,35 +1,24 @@
-//! The cells of a window, each marked or not.
+//! The cells of what a window covers, each marked or not.
 
-ghost use Rattle.std.specs.Prelude.{◌≡◌, ◌≤◌, ◌^◌, ◌+ℤ◌, ◌≤ℤ◌, pos, ◌||◌, ◌&&◌, ℕ, ℤ, false, true, int_le, int_lt, nat_le, unsigned_abs, ◌-ℤ◌, IsTrue};
+ghost use Rattle.std.specs.Prelude.{◌≡◌, ◌≤◌, ◌^◌, ◌||◌, ℕ, ℤ, false, true, IsTrue};
 ghost use Rattle.canvas_plane.specs.Page.{is_in};
-ghost use Rattle.canvas_scene.specs.Cells.{cell_of, is_among, is_bit, is_covered, is_on_side};
+ghost use Rattle.canvas_scene.specs.Cells.{is_covered};
+ghost use Rattle.canvas_scene.specs.Places.{is_among, is_bit};
 
 use crate::shown::lies_within;
+use crate::side::{Run, Side};
 use canvas_plane::{PageBox, Window};
 
-/// The side of a cell, in pixels.
-const SIDE: u32 = 8;
-
-/// How many cells the greatest window has across and down.
-const COUNT: u32 = 32;
-
-/// The cells of a window: squares of 8 by 8 pixels from its left top corner on, at its right and
-/// bottom edges what of them lies in it.
+/// The cells of what a window covers: squares of 8 by 8 of its own pixels from its left top corner
+/// on, at its right and bottom edges what of them lies in it. So there are as many at each level.
 #[derive(Clone, Copy)]
 pub(crate) struct Cells {
-    window: Window,
+    across: Side,
+    down: Side,
     // A word for each row of cells, in which the least bit stands for the left cell.
     rows: [u64; 32],
     // The same for the cells that have a pixel of a box whose cells were marked.
     touched: [u64; 32],
-}
-
-// The columns or rows of cells from one up to another.
-#[derive(Clone, Copy)]
-struct Run {
-    first: u32,
-    end: u32,
-    ghost bound: { end ≤ 32 },
 }
 
 impl Cells {
@@ -37,8 +26,11 @@ impl Cells {
     pub(crate) fn new(window: &Window) -> Cells
         ensures { (x y : ℤ) → is_covered result x y ≡ false }
     {
+        let area = window.covered();
+        let level = window.level();
         Cells {
-            window: *window,
+            across: Side::new(area.left, area.right, level),
+            down: Side::new(area.top, area.bottom, level),
             rows: [0; 32],
             touched: [0; 32],
         }
@@ -48,8 +40,8 @@ impl Cells {
     pub(crate) fn mark(&mut self, part: &PageBox)
         ensures { (x y : ℤ) → is_covered self.new x y ≡ true → (is_covered self.old x y || is_in part.now x y) ≡ true }
     {
-        let across = run_within(part.left, part.right, self.window.x(), self.window.w());
-        let down = run_within(part.top, part.bottom, self.window.y(), self.window.h());
+        let across = self.across.within(part.left, part.right);
+        let down = self.down.within(part.top, part.bottom);
         let word = bits(across);
         for row in down.first..down.end {
             self.rows[row as usize] = with_bits(self.rows[row as usize], word);
@@ -59,11 +51,12 @@ impl Cells {
 
     // Notes the cells that a box touches.
     fn touch(&mut self, part: &PageBox)
-        ensures window { self.new.window ≡ self.old.window }
+        ensures across { self.new.across ≡ self.old.across }
+        ensures down { self.new.down ≡ self.old.down }
         ensures rows { self.new.rows ≡ self.old.rows }
     {
-        let across = run_touched(part.left, part.right, self.window.x(), self.window.w());
-        let down = run_touched(part.top, part.bottom, self.window.y(), self.window.h());
+        let across = self.across.touched(part.left, part.right);
+        let down = self.down.touched(part.top, part.bottom);
         let word = bits(across);
         for row in down.first..down.end {
             self.touched[row as usize] = with_bits(self.touched[row as usize], word);
@@ -73,8 +66,8 @@ impl Cells {
     /// Whether each cell that a box touches is touched by a box whose cells were marked. If not,
     /// some cell that it touches is not marked, and it lies within no such box.
     pub(crate) fn may_cover(&self, part: &PageBox) -> bool {
-        let across = run_touched(part.left, part.right, self.window.x(), self.window.w());
-        let down = run_touched(part.top, part.bottom, self.window.y(), self.window.h());
+        let across = self.across.touched(part.left, part.right);
+        let down = self.down.touched(part.top, part.bottom);
         let word = bits(across);
         for row in down.first..down.end {
             if !has_bits(self.touched[row as usize], word) {
@@ -84,17 +77,29 @@ impl Cells {
         true
     }
 
-    /// Whether a box lies in the window, and each cell that it touches is marked. Inlined, it shares
+    // The box of the cells.
+    fn area(&self) -> PageBox
+        ensures { result ≡ record { left = self.now.across.start; top = self.now.down.start; right = self.now.across.end; bottom = self.now.down.end } }
+    {
+        PageBox {
+            left: self.across.start,
+            top: self.down.start,
+            right: self.across.end,
+            bottom: self.down.end,
+        }
+    }
+
+    /// Whether a box lies in what the window covers, and each cell that it touches is marked. Inlined, it shares
     /// the cells that a box touches with `may_cover`.
     #[inline(always)]
     pub(crate) fn covers(&self, part: &PageBox) -> bool
         ensures { IsTrue result → (x y : ℤ) → is_in part.now x y ≡ true → is_covered self.now x y ≡ true }
     {
-        if !lies_within(part, &self.window.page_box()) {
+        if !lies_within(part, &self.area()) {
             return false;
         }
-        let across = run_touched(part.left, part.right, self.window.x(), self.window.w());
-        let down = run_touched(part.top, part.bottom, self.window.y(), self.window.h());
+        let across = self.across.touched(part.left, part.right);
+        let down = self.down.touched(part.top, part.bottom);
         let word = bits(across);
         for row in down.first..down.end {
             if !has_bits(self.rows[row as usize], word) {
@@ -103,59 +108,6 @@ impl Cells {
         }
         true
     }
-}
-
-// The cells of a side whose pixels all lie from one place up to another.
-fn run_within(from: i64, to: i64, start: i32, size: u32) -> Run
-    requires { size ≤ 256 }
-    ensures { (x : ℤ) → is_on_side start size x ≡ true → is_among result.first result.end (cell_of start x) ≡ true → (int_le from x && int_lt x to) ≡ true }
-{
-    let end = offset(to, start, size);
-    Run {
-        first: (offset(from, start, size) + SIDE - 1) / SIDE,
-        end: if end == size { COUNT } else { end / SIDE },
-    }
-}
-
-// The cells of a side that have a pixel from one place up to another.
-fn run_touched(from: i64, to: i64, start: i32, size: u32) -> Run
-    requires { size ≤ 256 }
-    ensures { (x : ℤ) → is_on_side start size x ≡ true → (int_le from x && int_lt x to) ≡ true → is_among result.first result.end (cell_of start x) ≡ true }
-{
-    Run {
-        first: offset(from, start, size) / SIDE,
-        end: (offset(to, start, size) + SIDE - 1) / SIDE,
-    }
-}
-
-// How many pixels of a side lie before a place.
-fn offset(at: i64, start: i32, size: u32) -> u32
-    requires { size ≤ 256 }
-    ensures bound { result ≤ size }
-    ensures pixels { (x : ℤ) → is_on_side start size x ≡ true → int_le at x ≡ nat_le result (unsigned_abs (x -ℤ start)) }
-{
-    if at <= i64::from(start) {
-        0
-    } else if at < end_of(start, size) {
-        distance(start, at)
-    } else {
-        size
-    }
-}
-
-fn end_of(start: i32, size: u32) -> i64
-    requires { size ≤ 256 }
-    ensures { result ≡ start +ℤ pos size }
-{
-    i64::from(start) + i64::from(size)
-}
-
-fn distance(start: i32, at: i64) -> u32
-    requires from { start ≤ℤ at }
-    requires near { at ≤ℤ (start +ℤ pos 256) }
-    ensures { start +ℤ pos result ≡ at }
-{
-    (at - i64::from(start)) as u32
 }
 
 // A word with the bits of a run.

@@ -7,6 +7,7 @@ mod item;
 mod nodes;
 mod scenes;
 mod shown;
+mod side;
 mod walk;
 
 pub use item::Item;

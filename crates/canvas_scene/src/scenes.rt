@@ -2,7 +2,7 @@
 
 ghost use Rattle.std.specs.Prelude.{◌≡◌, ◌≤◌, ◌<◌, ℕ, ℤ, All, IfOk, true, reverse};
 ghost use Rattle.canvas_plane.specs.Page.{is_in};
-ghost use Rattle.canvas_plane.specs.Window.{box_of_window};
+ghost use Rattle.canvas_plane.specs.Window.{covered_by};
 ghost use Rattle.canvas_doc.specs.Picture.{colour};
 ghost use Rattle.canvas_doc.specs.declared.records.Parent.TheVariants.{Page};
 ghost use Rattle.canvas_scene.specs.Clips.{IsClipped};
@@ -28,23 +28,25 @@ pub struct Scene<'a> {
 }
 
 impl<'a> Scene<'a> {
-    /// The scene of a document in a window. These make no item: what is hidden, what has no common
-    /// pixel with its clip and the window, what of the window lies wholly within what one
-    /// rectangle in front of it shows there, and what touches only cells of the window that each
-    /// lie wholly within what one such rectangle shows. Cells are squares of 8 by 8 pixels from
-    /// the window's left top corner on, cut by it. Want of memory is the only refusal.
+    /// The scene of a document in a window, right at each of the page's pixels in the box that the
+    /// window covers, shown or not. These make no item: what is hidden, what has no common pixel
+    /// with its clip and that box, what of the box lies wholly within what one rectangle in front
+    /// of it shows there, and what touches only cells of the box that each lie wholly within what
+    /// one such rectangle shows. Cells are squares of 8 by 8 of the window's pixels, so of
+    /// 8 * 2^level by 8 * 2^level of the page's, from the box's left top corner on, cut by it. Want
+    /// of memory is the only refusal.
     pub fn build(
         bump: &'a Bump,
         document: &Document,
         window: &Window,
     ) -> Result<Scene<'a>, OutOfMemory>
-        ensures colours { IfOk result (λ scene. (x y : ℤ) → is_in (box_of_window window.now) x y ≡ true → last_colour (display_list_of scene) x y ≡ colour document.now.records x y) }
-        ensures clips { IfOk result (λ scene. All (IsClipped (box_of_window window.now)) (root_of scene)) }
-        ensures tree { IfOk result (λ scene. AreNodesOf document.now.records Page (λ q. q) (box_of_window window.now) (root_of scene)) }
+        ensures colours { IfOk result (λ scene. (x y : ℤ) → is_in (covered_by window.now) x y ≡ true → last_colour (display_list_of scene) x y ≡ colour document.now.records x y) }
+        ensures clips { IfOk result (λ scene. All (IsClipped (covered_by window.now)) (root_of scene)) }
+        ensures tree { IfOk result (λ scene. AreNodesOf document.now.records Page (λ q. q) (covered_by window.now) (root_of scene)) }
         ensures order { IfOk result (λ scene. display_list_of scene ≡ items_along (root_of scene)) }
     {
         let mut shown = Shown::new(bump, window)?;
-        let root = nodes_of_page(bump, document, &window.page_box(), &mut shown)?;
+        let root = nodes_of_page(bump, document, &window.covered(), &mut shown)?;
         Ok(Scene {
             root,
             items: shown.into_list(),

@@ -4,6 +4,7 @@ pub mod Edge
 pub mod EllipseRow
 pub mod FlagCuts
 pub mod FlagLaws
+pub mod Grids
 pub mod Held
 pub mod Law
 pub mod LeafRows

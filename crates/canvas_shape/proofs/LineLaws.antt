@@ -7,7 +7,7 @@ use lib.IntN.{neg_ℤ, *ℤ-negsuc}
 use Rattle.canvas_plane.specs.declared.Point.{Point}
 use Rattle.canvas_shape.specs.declared.line.Line.{Line}
 use Rattle.canvas_shape.specs.Edges.{counts, crosses_row, is_right_of}
-use Rattle.canvas_shape.specs.Lines.{IsDivided, downward, lean_of, Follows}
+use Rattle.canvas_shape.specs.Lines.{IsDivided, downward, lean_of, lean_over, Follows}
 use Rattle.canvas_shape.proofs.Edge.{times-add, first-past, down-edge, up-edge, lt_test-true, lt_test-false, le-lt_test}
 
 neg-sum : (a b : ℤ) → neg_ℤ (a +ℤ b) ≡ neg_ℤ a +ℤ neg_ℤ b
@@ -20,12 +20,12 @@ times-sum a b (negsuc n) =
     *ℤ-negsuc (a +ℤ b) n ∙ ap neg_ℤ (times-add a b (suc n)) ∙ neg-sum (a *ℤ pos (suc n)) (b *ℤ pos (suc n))
     ∙ ap (λ u. u +ℤ neg_ℤ (b *ℤ pos (suc n))) (sym (*ℤ-negsuc a n)) ∙ ap (λ u. a *ℤ negsuc n +ℤ u) (sym (*ℤ-negsuc b n))
 
-row-more : (y py : ℤ) → pos 2 *ℤ (y +ℤ pos 1) +ℤ pos 1 -ℤ pos 2 *ℤ py ≡ (pos 2 *ℤ y +ℤ pos 1 -ℤ pos 2 *ℤ py) +ℤ pos 2
-row-more y py = omega (arith, ints)
+row-more : (y py a : ℤ) → pos 2 *ℤ (y +ℤ a) +ℤ pos 1 -ℤ pos 2 *ℤ py ≡ (pos 2 *ℤ y +ℤ pos 1 -ℤ pos 2 *ℤ py) +ℤ pos 2 *ℤ a
+row-more y py a = omega (arith, ints)
 
-lean-next : (p q : Point) (y : ℤ) → lean_of p q (y +ℤ pos 1) ≡ lean_of p q y +ℤ pos 2 *ℤ (q.x -ℤ p.x)
-lean-next p q y =
-    ap (λ u. u *ℤ (q.x -ℤ p.x)) (row-more y p.y) ∙ times-sum (pos 2 *ℤ y +ℤ pos 1 -ℤ pos 2 *ℤ p.y) (pos 2) (q.x -ℤ p.x)
+lean-next : (p q : Point) (apart : ℕ) (y : ℤ) → lean_of p q (y +ℤ pos apart) ≡ lean_of p q y +ℤ lean_over p q apart
+lean-next p q apart y =
+    ap (λ u. u *ℤ (q.x -ℤ p.x)) (row-more y p.y (pos apart)) ∙ times-sum (pos 2 *ℤ y +ℤ pos 1 -ℤ pos 2 *ℤ p.y) (pos 2 *ℤ pos apart) (q.x -ℤ p.x)
 
 cond-sum : (b : Bool) (m n : ℤ) → cond b (m +ℤ n) (neg_ℤ (m +ℤ n)) ≡ cond b m (neg_ℤ m) +ℤ cond b n (neg_ℤ n)
 cond-sum true m n = refl
@@ -75,20 +75,20 @@ divided-is n w held h r e er lt = let k = left-over n (w *ℤ pos h) held r h e 
 next-here : (a b l : ℤ) (h : ℕ) → l ≡ a +ℤ b → ((a +ℤ pos h) -ℤ pos 1) +ℤ b ≡ (l +ℤ pos h) -ℤ pos 1
 next-here a b l h e = omega (arith, ints)
 
-pub next-follows : (p q : Point) (y : ℤ) (line next : Line) → next.x ≡ line.x → next.height ≡ line.height → next.step.whole ≡ line.step.whole → next.step.rest ≡ line.step.rest → ((n m : ℤ) → IsDivided n line.height line.here.whole line.here.rest → IsDivided m line.height line.step.whole line.step.rest → IsDivided (n +ℤ m) line.height next.here.whole next.here.rest) → Follows p q y line → Follows p q (y +ℤ pos 1) next
-next-follows p q y line next ex eh ew er sum f =
+pub next-follows : (p q : Point) (apart : ℕ) (y : ℤ) (line next : Line) → next.x ≡ line.x → next.height ≡ line.height → next.step.whole ≡ line.step.whole → next.step.rest ≡ line.step.rest → ((n m : ℤ) → IsDivided n line.height line.here.whole line.here.rest → IsDivided m line.height line.step.whole line.step.rest → IsDivided (n +ℤ m) line.height next.here.whole next.here.rest) → Follows p q apart y line → Follows p q apart (y +ℤ pos apart) next
+next-follows p q apart y line next ex eh ew er sum f =
     let h = line.height in
     let l = downward p q (lean_of p q y) in
-    let s = downward p q (pos 2 *ℤ (q.x -ℤ p.x)) in
-    let e : downward p q (lean_of p q (y +ℤ pos 1)) ≡ l +ℤ s = ap (downward p q) (lean-next p q y) ∙ down-sum p q (lean_of p q y) (pos 2 *ℤ (q.x -ℤ p.x)) in
-    let here : IsDivided ((downward p q (lean_of p q (y +ℤ pos 1)) +ℤ pos h) -ℤ pos 1) h next.here.whole next.here.rest =
-    subst (λ n. IsDivided n h next.here.whole next.here.rest) (next-here l s (downward p q (lean_of p q (y +ℤ pos 1))) h e) (sum ((l +ℤ pos h) -ℤ pos 1) s f.here f.step) in
+    let s = downward p q (lean_over p q apart) in
+    let e : downward p q (lean_of p q (y +ℤ pos apart)) ≡ l +ℤ s = ap (downward p q) (lean-next p q apart y) ∙ down-sum p q (lean_of p q y) (lean_over p q apart) in
+    let here : IsDivided ((downward p q (lean_of p q (y +ℤ pos apart)) +ℤ pos h) -ℤ pos 1) h next.here.whole next.here.rest =
+    subst (λ n. IsDivided n h next.here.whole next.here.rest) (next-here l s (downward p q (lean_of p q (y +ℤ pos apart))) h e) (sum ((l +ℤ pos h) -ℤ pos 1) s f.here f.step) in
     record {
       x = ex ∙ f.x;
       height = ap pos eh ∙ f.height;
       positive = omega (arith, f.positive);
       low = omega (arith, f.low);
-      here = subst (λ k. IsDivided ((downward p q (lean_of p q (y +ℤ pos 1)) +ℤ pos k) -ℤ pos 1) k next.here.whole next.here.rest) (sym eh) here;
+      here = subst (λ k. IsDivided ((downward p q (lean_of p q (y +ℤ pos apart)) +ℤ pos k) -ℤ pos 1) k next.here.whole next.here.rest) (sym eh) here;
       step = subst (λ k. IsDivided s k next.step.whole next.step.rest) (sym eh) (subst (λ w. IsDivided s h w next.step.rest) (sym ew) (subst (λ r. IsDivided s h line.step.whole r) (sym er) f.step));
     }
 
@@ -108,8 +108,8 @@ turned-rise a b d e = omega (arith, ints)
 turn-rise : (a b : ℤ) → a -ℤ b ≡ neg_ℤ (b -ℤ a)
 turn-rise a b = omega (arith, ints)
 
-right-of-line : (p q : Point) (x y : ℤ) (line : Line) → Follows p q y line → is_right_of p q x y ≡ int_lt x (line.x +ℤ line.here.whole)
-right-of-line p q x y line f = elim (cases_Bool (int_lt p.y q.y)) [
+right-of-line : (p q : Point) (apart : ℕ) (x y : ℤ) (line : Line) → Follows p q apart y line → is_right_of p q x y ≡ int_lt x (line.x +ℤ line.here.whole)
+right-of-line p q apart x y line f = elim (cases_Bool (int_lt p.y q.y)) [
   | inl t ↦
       let lean = lean_of p q y in
       let down : (n : ℤ) → downward p q n ≡ n = λ n. ap (λ b. cond b n (neg_ℤ n)) t in
@@ -124,12 +124,12 @@ right-of-line p q x y line f = elim (cases_Bool (int_lt p.y q.y)) [
       (past-of line.x x (neg_ℤ lean) line.here.whole line.height line.here.rest here ∙ ap (λ z. int_lt (pos 0) ((pos 2 *ℤ z -ℤ pos 2 *ℤ x -ℤ pos 1) *ℤ pos line.height +ℤ neg_ℤ lean)) f.x)
 ]
 
-pub line-counts : (p q : Point) (x y t : ℤ) (line : Line) → t ≡ line.x +ℤ line.here.whole → Follows p q y line → crosses_row p q y ≡ true → counts p q x y ≡ int_lt x t
-line-counts p q x y t line et f c = ap (λ b. b && is_right_of p q x y) c ∙ right-of-line p q x y line f ∙ ap (int_lt x) (sym et)
+pub line-counts : (p q : Point) (apart : ℕ) (x y t : ℤ) (line : Line) → t ≡ line.x +ℤ line.here.whole → Follows p q apart y line → crosses_row p q y ≡ true → counts p q x y ≡ int_lt x t
+line-counts p q apart x y t line et f c = ap (λ b. b && is_right_of p q x y) c ∙ right-of-line p q apart x y line f ∙ ap (int_lt x) (sym et)
 
 -- the line of an edge that runs upward, in its first row
-pub up-follows : (p q : Point) (y lean step : ℤ) (h : ℕ) (line : Line) → q.y ≤ℤ p.y → line.x ≡ p.x → line.height ≡ h → pos h ≡ p.y -ℤ q.y → 0 < h → h ≤ 268435456 → lean ≡ neg_ℤ (lean_of p q y) → step ≡ neg_ℤ (pos 2 *ℤ (q.x -ℤ p.x)) → IsDivided ((lean +ℤ pos h) -ℤ pos 1) h line.here.whole line.here.rest → IsDivided step h line.step.whole line.step.rest → Follows p q y line
-up-follows p q y lean step h line above ex eh er some low el es here next =
+pub up-follows : (p q : Point) (apart : ℕ) (y lean step : ℤ) (h : ℕ) (line : Line) → q.y ≤ℤ p.y → line.x ≡ p.x → line.height ≡ h → pos h ≡ p.y -ℤ q.y → 0 < h → h ≤ 268435456 → lean ≡ neg_ℤ (lean_of p q y) → step ≡ neg_ℤ (lean_over p q apart) → IsDivided ((lean +ℤ pos h) -ℤ pos 1) h line.here.whole line.here.rest → IsDivided step h line.step.whole line.step.rest → Follows p q apart y line
+up-follows p q apart y lean step h line above ex eh er some low el es here next =
     let t = le-lt_test p.y q.y above in
     let up : (n : ℤ) → neg_ℤ n ≡ downward p q n = λ n. sym (ap (λ b. cond b n (neg_ℤ n)) t) in
     record {
@@ -138,5 +138,5 @@ up-follows p q y lean step h line above ex eh er some low el es here next =
       positive = omega arith;
       low = omega arith;
       here = subst (λ k. IsDivided ((downward p q (lean_of p q y) +ℤ pos k) -ℤ pos 1) k line.here.whole line.here.rest) (sym eh) (subst (λ l. IsDivided ((l +ℤ pos h) -ℤ pos 1) h line.here.whole line.here.rest) (el ∙ up (lean_of p q y)) here);
-      step = subst (λ k. IsDivided (downward p q (pos 2 *ℤ (q.x -ℤ p.x))) k line.step.whole line.step.rest) (sym eh) (subst (λ n. IsDivided n h line.step.whole line.step.rest) (es ∙ up (pos 2 *ℤ (q.x -ℤ p.x))) next);
+      step = subst (λ k. IsDivided (downward p q (lean_over p q apart)) k line.step.whole line.step.rest) (sym eh) (subst (λ n. IsDivided n h line.step.whole line.step.rest) (es ∙ up (lean_over p q apart)) next);
     }

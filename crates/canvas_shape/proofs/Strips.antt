@@ -55,20 +55,20 @@ crosses p q y least most el em h k = elim (cases_Bool (int_lt q.y p.y)) [
 ]
 
 -- the rows above an edge
-pub row-above : (p q : Point) (first m left : ℤ) (old : List ℕ) (start count width j i : ℕ) → m ≤ℤ p.y → m ≤ℤ q.y → ((k : ℕ) → k < count → nat_lt k start ≡ int_lt (first +ℤ pos k) m) → j < start → j < count → is_held old i ≡ not_same (is_held old i) (nat_lt i width && counts p q (left +ℤ pos i) (first +ℤ pos j))
-row-above p q first m left old start count width j i hp hq place lt below =
-    kept-row old i width (counts p q (left +ℤ pos i) (first +ℤ pos j)) (above-none p q (left +ℤ pos i) (first +ℤ pos j) m hp hq (sym (place j below) ∙ lt-ltb j start lt))
+pub row-above : (p q : Point) (shown : ℕ → ℤ) (m x : ℤ) (old : List ℕ) (start count width j i : ℕ) → m ≤ℤ p.y → m ≤ℤ q.y → ((k : ℕ) → k < count → nat_lt k start ≡ int_lt (shown k) m) → j < start → j < count → is_held old i ≡ not_same (is_held old i) (nat_lt i width && counts p q x (shown j))
+row-above p q shown m x old start count width j i hp hq place lt below =
+    kept-row old i width (counts p q x (shown j)) (above-none p q x (shown j) m hp hq (sym (place j below) ∙ lt-ltb j start lt))
 
 -- and the rows below it
-pub row-below : (p q : Point) (first m left : ℤ) (old : List ℕ) (end count width j i : ℕ) → p.y ≤ℤ m → q.y ≤ℤ m → ((k : ℕ) → k < count → nat_lt k end ≡ int_lt (first +ℤ pos k) m) → end ≤ j → j < count → is_held old i ≡ not_same (is_held old i) (nat_lt i width && counts p q (left +ℤ pos i) (first +ℤ pos j))
-row-below p q first m left old end count width j i hp hq place le below =
-    kept-row old i width (counts p q (left +ℤ pos i) (first +ℤ pos j)) (below-none p q (left +ℤ pos i) (first +ℤ pos j) m hp hq (sym (place j below) ∙ le-ltb j end le))
+pub row-below : (p q : Point) (shown : ℕ → ℤ) (m x : ℤ) (old : List ℕ) (end count width j i : ℕ) → p.y ≤ℤ m → q.y ≤ℤ m → ((k : ℕ) → k < count → nat_lt k end ≡ int_lt (shown k) m) → end ≤ j → j < count → is_held old i ≡ not_same (is_held old i) (nat_lt i width && counts p q x (shown j))
+row-below p q shown m x old end count width j i hp hq place le below =
+    kept-row old i width (counts p q x (shown j)) (below-none p q x (shown j) m hp hq (sym (place j below) ∙ le-ltb j end le))
 
 -- the columns before a place are those of the window before a threshold
-pub columns-before : (left t : ℤ) (place width i : ℕ) → place ≤ width → ((k : ℕ) → k < width → nat_lt k place ≡ int_lt (left +ℤ pos k) t) → nat_lt i place ≡ (nat_lt i width && int_lt (left +ℤ pos i) t)
-columns-before left t place width i le h = elim (cases_lt i width) [
-  | inl lt ↦ h i lt ∙ ap (λ b. b && int_lt (left +ℤ pos i) t) (sym (lt-ltb i width lt))
-  | inr ge ↦ le-ltb i place (omega arith) ∙ ap (λ b. b && int_lt (left +ℤ pos i) t) (sym (le-ltb i width ge))
+pub columns-before : (shown : ℕ → ℤ) (t : ℤ) (place width i : ℕ) → place ≤ width → ((k : ℕ) → k < width → nat_lt k place ≡ int_lt (shown k) t) → nat_lt i place ≡ (nat_lt i width && int_lt (shown i) t)
+columns-before shown t place width i le h = elim (cases_lt i width) [
+  | inl lt ↦ h i lt ∙ ap (λ b. b && int_lt (shown i) t) (sym (lt-ltb i width lt))
+  | inr ge ↦ le-ltb i place (omega arith) ∙ ap (λ b. b && int_lt (shown i) t) (sym (le-ltb i width ge))
 ]
 
 right-of : (a x : ℤ) → x <ℤ a → pos 0 ≤ℤ (a -ℤ x -ℤ pos 1)
@@ -123,6 +123,6 @@ edge-done a w b p points k x y le h =
     sym (ap (λ l. not_same a (w && is_odd_along p l x y)) (drop_of_length-le points le) ∙ ap (not_same a) (and-false w) ∙ same-false a) ∙ h
 
 -- a row from the first that is not above the edge to the last that is not below it
-pub crosses-at : (p q : Point) (first least most : ℤ) (start end count k : ℕ) → least ≡ int_min p.y q.y → most ≡ int_max p.y q.y → ((j : ℕ) → j < count → nat_lt j start ≡ int_lt (first +ℤ pos j) least) → ((j : ℕ) → j < count → nat_lt j end ≡ int_lt (first +ℤ pos j) most) → start ≤ k → k < end → k < count → crosses_row p q (first +ℤ pos k) ≡ true
-crosses-at p q first least most start end count k el em above below le lt inside =
-    crosses p q (first +ℤ pos k) least most el em (sym (above k inside) ∙ le-ltb k start le) (sym (below k inside) ∙ lt-ltb k end lt)
+pub crosses-at : (p q : Point) (shown : ℕ → ℤ) (least most : ℤ) (start end count k : ℕ) → least ≡ int_min p.y q.y → most ≡ int_max p.y q.y → ((j : ℕ) → j < count → nat_lt j start ≡ int_lt (shown j) least) → ((j : ℕ) → j < count → nat_lt j end ≡ int_lt (shown j) most) → start ≤ k → k < end → k < count → crosses_row p q (shown k) ≡ true
+crosses-at p q shown least most start end count k el em above below le lt inside =
+    crosses p q (shown k) least most el em (sym (above k inside) ∙ le-ltb k start le) (sym (below k inside) ∙ lt-ltb k end lt)

@@ -5,6 +5,7 @@
 mod edge_flags;
 mod ellipse;
 mod flag_words;
+mod grid;
 mod hex_text;
 mod kinds;
 mod leaves;

@@ -36,12 +36,3 @@ pub struct Row {
     pub right: i32,
     ghost ordered: { left ≤ℤ right },
 }
-
-/// Columns of rows from one on, at most 256 columns.
-#[derive(Clone, Copy)]
-pub struct Window {
-    pub top: i32,
-    pub left: i32,
-    pub width: usize,
-    ghost wide: { width ≤ 256 },
-}

@@ -399,7 +399,7 @@ pub(crate) fn raised(lean: i64, rise: u64) -> i64
 }
 
 pub(crate) fn plus(a: i64, b: i64) -> i64
-    requires first { unsigned_abs a ≤ 2 ^ 29 }
+    requires first { unsigned_abs a ≤ 2 ^ 36 }
     requires second { unsigned_abs b ≤ 2 ^ 62 + 2 ^ 48 }
     ensures value { result ≡ a +ℤ b }
     ensures bound { unsigned_abs result ≤ unsigned_abs a + unsigned_abs b }

@@ -1,10 +1,10 @@
 //! Random leaves: the spans of rows beside the pixels asked one by one.
 
-ghost use Rattle.std.specs.Prelude.{◌≡◌, ◌<◌, ◌≤◌, ◌≤ℤ◌, ◌+ℤ◌, ◌^◌, All, length, nat_le, pos, true};
+ghost use Rattle.std.specs.Prelude.{◌≡◌, ◌<◌, ◌≤◌, ◌≤ℤ◌, ◌<ℤ◌, ◌+ℤ◌, ◌^◌, All, length, nat_le, pos, true};
 ghost use Rattle.canvas_plane.specs.Motion.{size_of};
 
 use canvas_code::OutOfMemory;
-use canvas_plane::{PageBox, Point, Pose};
+use canvas_plane::{PageBox, Point, Pose, Window};
 use canvas_shape::{Carried, Colour, EdgeFlags, Kind, Points, Span};
 use std::alloc::Global;
 use std::cmp::Ordering;
@@ -201,13 +201,6 @@ fn polygons_agree_with_their_pixels(rt: HostRuntime) -> Result<(), Fail> {
     Ok(())
 }
 
-// The columns of a window, from `left` on.
-#[derive(Clone, Copy)]
-struct Columns {
-    left: i32,
-    width: u32,
-}
-
 // A width that is often that of a word or of all words.
 fn some_width(dice: &mut Dice) -> u32
     ensures { result ≤ 256 }
@@ -223,28 +216,42 @@ fn some_width(dice: &mut Dice) -> u32
     }
 }
 
+// An edge of a window of a level whose pixels lie so far apart, mostly near one of two page pixels.
+fn some_edge(dice: &mut Dice, apart: i64, low: i64, high: i64) -> i32
+    requires { pos 0 <ℤ apart }
+{
+    let most = (1 << 21) / apart - 256;
+    let at = match dice.below(4) {
+        0 => low / apart,
+        1 => high / apart,
+        2 => dice.wild(1 << 21),
+        _ => 0,
+    };
+    pixel(at.saturating_add(dice.within(300)).clamp(-most, most))
+}
+
+// A window of some level near a leaf.
+fn some_window(dice: &mut Dice, shape: &PageBox) -> Option<Window> {
+    let level = dice.below(7) as u8;
+    let apart = 1i64 << u32::from(level);
+    let x = some_edge(dice, apart, shape.left, shape.right);
+    let y = some_edge(dice, apart, shape.top, shape.bottom);
+    let w = some_width(dice).max(1);
+    let h = some_width(dice).max(5);
+    Window::at_level(level, x, y, w, h).ok()
+}
+
+// The page pixel that a window's column or row shows, so far from the edge `first`.
+fn shown(window: &Window, first: i32, k: u32) -> i32 {
+    let at = i64::from(first).saturating_add(k as i64);
+    pixel(at.saturating_mul(1 << u32::from(window.level())))
+}
+
 // The place as the first of 256 columns, or the nearest one.
 fn first_column(at: i64) -> i32
     ensures { (result +ℤ pos 256) ≤ℤ pos 2147483647 }
 {
     at.clamp(-2_147_483_648, 2_147_483_391) as i32
-}
-
-// Some columns near a leaf.
-fn columns_near(dice: &mut Dice, shape: &PageBox) -> Columns
-    ensures wide { result.width ≤ 256 }
-    ensures range { (result.left +ℤ pos result.width) ≤ℤ pos 2147483647 }
-{
-    let left = match dice.below(4) {
-        0 => shape.left.saturating_add(dice.within(300)),
-        1 => shape.right.saturating_add(dice.within(300)),
-        2 => dice.wild(i32::MAX as u32),
-        _ => dice.within(40),
-    };
-    Columns {
-        left: first_column(left),
-        width: some_width(dice),
-    }
 }
 
 // Whether a bit of a row's words stands.
@@ -254,49 +261,60 @@ fn is_set(words: &[u64; 4], i: u32) -> bool {
         .is_some_and(|word| word >> (i % 64) & 1 == 1)
 }
 
-// Whether a row's held columns and its spans are the pixels that the leaf holds one by one, and nothing else.
+// Whether the held columns of a window's row, and their spans from the pixel `left` on, are the page pixels that the leaf holds
+// one by one, and nothing else.
 fn row_agrees(
     alloc: Global,
     flags: &EdgeFlags,
     leaf: &Carried<'_>,
-    y: i32,
-    columns: Columns,
+    window: &Window,
+    row: u32,
+    left: i32,
 ) -> Result<bool, OutOfMemory>
-    requires wide { columns.width ≤ 256 }
-    requires range { (columns.left +ℤ pos columns.width) ≤ℤ pos 2147483647 }
+    requires { (left +ℤ pos 256) ≤ℤ pos 2147483647 }
 {
     let there = Span { from: 7, to: 7 };
     let mut out = Vec::new(alloc);
     out.push(there)?;
-    flags.append_spans(columns.left, columns.width, &mut out)?;
+    let width = window.w();
+    flags.append_spans(left, width, &mut out)?;
     let held = flags.held();
+    let y = shown(window, window.y(), row);
     let mut same = out.first() == Some(&there) && are_rising(&out);
     for i in 0..256u32 {
-        let x = columns.left.saturating_add(i as i32);
-        let is_held = i < columns.width && leaf.holds(x, y);
+        let is_held = i < width && leaf.holds(shown(window, window.x(), i), y);
         same = same && is_set(&held, i) == is_held;
-        same = same && (i >= columns.width || has(&out, x) == is_held);
+        same = same && (i >= width || has(&out, left.saturating_add(i as i32)) == is_held);
     }
     Ok(same)
 }
 
-// Whether the flagged rows of a polygon near one of its ends hold its pixels.
+// Whether the flagged rows of a polygon in a window hold its pixels.
 fn flags_agree(alloc: Global, dice: &mut Dice, leaf: &Carried<'_>) -> Result<bool, OutOfMemory> {
     let Carried::Polygon(vertices) = leaf else {
         return Ok(false);
     };
-    let end = match dice.below(3) {
-        0 => vertices.bounds.top,
-        1 => vertices.bounds.bottom,
-        _ => dice.wild(1 << 27),
+    let Some(window) = some_window(dice, &vertices.bounds) else {
+        return Ok(false);
     };
-    let top = pixel(end.saturating_add(dice.within(9))).min(i32::MAX - 5);
-    let columns = columns_near(dice, &vertices.bounds);
     let mut rows = [EdgeFlags { words: [5; 4] }; 5];
-    vertices.flag_rows(top, columns.left, columns.width, &mut rows);
+    let first = dice.below(256) as u32 % window.h();
+    if first + 5 > window.h() {
+        return Ok(true);
+    }
+    vertices.flag_rows(&window, first as usize, &mut rows);
+    let left = first_column(dice.wild(i32::MAX as u32));
     let mut same = true;
     for (k, row) in rows.iter().enumerate() {
-        same = same && row_agrees(alloc, row, leaf, top.saturating_add(k as i32), columns)?;
+        same = same
+            && row_agrees(
+                alloc,
+                row,
+                leaf,
+                &window,
+                first.saturating_add(k as u32),
+                left,
+            )?;
     }
     Ok(same)
 }

@@ -2,8 +2,8 @@
 
 use crate::random_leaves::polygon;
 use canvas_code::OutOfMemory;
-use canvas_plane::{Point, Pose};
-use canvas_shape::{Carried, Colour, Kind, KindFault, Points, Span};
+use canvas_plane::{Point, Pose, Window};
+use canvas_shape::{Carried, Colour, EdgeFlags, Kind, KindFault, Points, Span};
 use std::alloc::Global;
 use std::test::Fail;
 
@@ -97,6 +97,32 @@ fn crossed_polygon(rt: HostRuntime) -> Result<(), Fail> {
     assert!(rt; has_row(rt.alloc(), &leaf, 1, &[span(0, 1), span(2, 4)])?);
     assert!(rt; has_row(rt.alloc(), &leaf, 2, &[span(0, 1), span(2, 4)])?);
     assert!(rt; has_row(rt.alloc(), &leaf, 3, &[span(3, 4)])?);
+    Ok(())
+}
+
+// Whether the first row of a window holds these columns of a polygon, from the first to the last.
+fn shows(points: &[Point], window: &Window, want: u64) -> bool {
+    let Some(Carried::Polygon(vertices)) = polygon(points) else {
+        return false;
+    };
+    let mut rows = [EdgeFlags::none(); 1];
+    vertices.flag_rows(window, 0, &mut rows);
+    rows[0].held() == [want, 0, 0, 0]
+}
+
+#[test]
+fn shown_pixels_are_the_corners_of_blocks(rt: HostRuntime) -> Result<(), Fail> {
+    let square = [at(0, 0), at(10, 0), at(10, 10), at(0, 10)];
+    assert!(rt; shows(&square, &Window::at_level(3, 0, 0, 3, 1)?, 0b011));
+    assert!(rt; shows(&square, &Window::at_level(3, -1, 0, 2, 1)?, 0b10));
+    assert!(rt; shows(&square, &Window::at_level(3, 0, 1, 3, 1)?, 0b011));
+    assert!(rt; shows(&square, &Window::at_level(3, 0, 2, 3, 1)?, 0));
+    let dot = [at(1, 0), at(2, 0), at(2, 1), at(1, 1)];
+    assert!(rt; shows(&dot, &Window::at_level(1, 0, 0, 2, 1)?, 0));
+    assert!(rt; shows(&dot, &Window::at_level(0, 0, 0, 2, 1)?, 0b10));
+    let crossed = [at(0, 0), at(40, 40), at(40, 0), at(0, 40)];
+    assert!(rt; shows(&crossed, &Window::at_level(3, 0, 1, 5, 1)?, 0b10001));
+    assert!(rt; shows(&crossed, &Window::at_level(3, 0, 2, 5, 1)?, 0b11011));
     Ok(())
 }
 

@@ -16,8 +16,12 @@ use std::test::Fail;
 fn told(alloc: Global, line: &[u8]) -> Result<String, AllocError> {
     match read_request(alloc, line) {
         Ok(Request::Edit(edit)) => told_edit(alloc, &edit),
-        Ok(Request::Tile { col, row }) => format!(in alloc; "tile {col} {row}"),
-        Ok(Request::Patch { x, y, w, h }) => format!(in alloc; "patch {x} {y} {w} {h}"),
+        Ok(Request::Tile { level, col, row }) => {
+            format!(in alloc; "tile {col} {row} at {level}")
+        }
+        Ok(Request::Patch { level, x, y, w, h }) => {
+            format!(in alloc; "patch {x} {y} {w} {h} at {level}")
+        }
         Ok(Request::Point { x, y }) => format!(in alloc; "point {x} {y}"),
         Ok(Request::Export) => format!(in alloc; "export"),
         Err(fault) => format!(in alloc; "{}", fault.code()),
@@ -179,9 +183,9 @@ fn worked_rows(rt: HostRuntime) -> Result<(), Fail> {
             ),
             (
                 r#"{"verb":"patch","x":0,"y":0,"w":257,"h":1}"#,
-                "patch 0 0 257 1",
+                "patch 0 0 257 1 at 0",
             ),
-            (r#"{"verb":"tile","col":8192,"row":0}"#, "tile 8192 0"),
+            (r#"{"verb":"tile","col":8192,"row":0}"#, "tile 8192 0 at 0"),
             (
                 r#"{"verb":"create","shape":{"kind":"group"},"parent":1}"#,
                 "create group; 0 0 0 false; false; in 1; front",
@@ -262,17 +266,17 @@ fn every_member_of_each_verb(rt: HostRuntime) -> Result<(), Fail> {
             (r#"{"verb":"respace","parent":null}"#, "respace page"),
             (
                 r#"{"verb":"tile","col":-2147483648,"row":2147483647}"#,
-                "tile -2147483648 2147483647",
+                "tile -2147483648 2147483647 at 0",
             ),
             (
                 r#"{"verb":"patch","x":-1,"y":-2,"w":4294967295,"h":0}"#,
-                "patch -1 -2 4294967295 0",
+                "patch -1 -2 4294967295 0 at 0",
             ),
             (r#"{"verb":"point","x":-7,"y":8}"#, "point -7 8"),
             (r#"{"verb":"export"}"#, "export"),
             (
                 " \t{ \"row\" : 2 , \"verb\" : \"tile\" , \"col\" : 1 } ",
-                "tile 1 2",
+                "tile 1 2 at 0",
             ),
         ],
     )?;
@@ -374,6 +378,55 @@ fn missing_and_wrong_members(rt: HostRuntime) -> Result<(), Fail> {
             (r#"{"verb":"patch","x":0,"y":0,"w":1}"#, "53"),
             (r#"{"verb":"patch","x":0,"y":0,"w":-1,"h":1}"#, "53"),
             (r#"{"verb":"point","x":0,"y":"0"}"#, "53"),
+        ],
+    )?;
+    Ok(())
+}
+
+#[test]
+fn levels_of_windows(rt: HostRuntime) -> Result<(), Fail> {
+    assert_told(
+        &rt,
+        rt.alloc(),
+        &[
+            (
+                r#"{"verb":"tile","col":1,"row":2,"level":3}"#,
+                "tile 1 2 at 3",
+            ),
+            (
+                r#"{"level":255,"verb":"tile","col":0,"row":0}"#,
+                "tile 0 0 at 255",
+            ),
+            (
+                r#"{"verb":"patch","x":1,"y":2,"w":3,"h":4,"level":6}"#,
+                "patch 1 2 3 4 at 6",
+            ),
+            (
+                r#"{"verb":"patch","x":1,"y":2,"w":3,"h":4,"level":0}"#,
+                "patch 1 2 3 4 at 0",
+            ),
+            (
+                r#"{"verb":"tile","col":0,"row":0,"level":7,"level":5}"#,
+                "tile 0 0 at 5",
+            ),
+            (r#"{"verb":"tile","col":0,"row":0,"level":256}"#, "53"),
+            (r#"{"verb":"tile","col":0,"row":0,"level":-1}"#, "53"),
+            (r#"{"verb":"tile","col":0,"row":0,"level":1.0}"#, "53"),
+            (r#"{"verb":"tile","col":0,"row":0,"level":"1"}"#, "53"),
+            (r#"{"verb":"tile","col":0,"row":0,"level":null}"#, "53"),
+            (
+                r#"{"verb":"patch","x":0,"y":0,"w":1,"h":1,"level":256}"#,
+                "53",
+            ),
+            (
+                r#"{"verb":"patch","x":0,"y":0,"w":1,"h":1,"level":null}"#,
+                "53",
+            ),
+            (r#"{"verb":"tile","row":0,"level":1}"#, "53"),
+            (r#"{"verb":"tile","col":0,"row":0,"level":256,"x":1}"#, "53"),
+            (r#"{"verb":"tile","col":0,"row":0,"level":1,"x":1}"#, "54"),
+            (r#"{"verb":"point","x":0,"y":0,"level":0}"#, "54"),
+            (r#"{"verb":"export","level":0}"#, "54"),
         ],
     )?;
     Ok(())

@@ -9,7 +9,7 @@ use Rattle.canvas_wire.specs.declared.request.Request.{Request}
 use Rattle.canvas_wire.specs.declared.request.Request.TheVariants as request
 use Rattle.canvas_wire.specs.declared.verb.Verb.{Verb}
 use Rattle.canvas_wire.specs.declared.verb.Verb.TheVariants.{Create, Move, Pose, Reshape, Show, Delete, Respace, Tile, Patch, Point, Export}
-use Rattle.canvas_wire.specs.Json.{i32_of, u32_of, required, optional, ◌>>=◌}
+use Rattle.canvas_wire.specs.Json.{i32_of, u32_of, u8_of, required, optional, ◌>>=◌}
 use Rattle.canvas_wire.specs.Places.{parent_of, spot_of}
 use Rattle.canvas_wire.specs.Poses.{pose_of, still}
 use Rattle.canvas_wire.specs.Shapes.{shape_of}
@@ -49,13 +49,15 @@ asked Respace d = do
 asked Tile d = do
   col ← required i32_of (codes "col") d
   row ← required i32_of (codes "row") d
-  Some (request.Tile col row)
+  level ← optional u8_of 0 (codes "level") d
+  Some (request.Tile level col row)
 asked Patch d = do
   x ← required i32_of (codes "x") d
   y ← required i32_of (codes "y") d
   w ← required u32_of (codes "w") d
   h ← required u32_of (codes "h") d
-  Some (request.Patch x y w h)
+  level ← optional u8_of 0 (codes "level") d
+  Some (request.Patch level x y w h)
 asked Point d = do
   x ← required i32_of (codes "x") d
   y ← required i32_of (codes "y") d

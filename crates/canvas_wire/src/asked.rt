@@ -6,7 +6,7 @@ ghost use Rattle.canvas_wire.specs.Json.{required};
 ghost use Rattle.canvas_wire.specs.Shapes.{shape_of};
 ghost use Rattle.canvas_wire.specs.declared.verb.Verb.TheVariants as verb;
 
-use crate::field::{bool_at, bool_or_false, i32_at, u32_at};
+use crate::field::{bool_at, bool_or_false, i32_at, u8_or_zero, u32_at};
 use crate::place::{parent_at, parent_or_page, pose_at, pose_or_still, spot_at, spot_or_front};
 use crate::request::Request;
 use crate::shape::shape_at;
@@ -132,7 +132,8 @@ fn tile_of(object: &Value) -> Option<Request>
 {
     let col = i32_at(object, "col")?;
     let row = i32_at(object, "row")?;
-    Some(Request::Tile { col, row })
+    let level = u8_or_zero(object, "level")?;
+    Some(Request::Tile { level, col, row })
 }
 
 #[tactic(auto, unfolding(crate::specs::Asked::asked))]
@@ -143,7 +144,8 @@ fn patch_of(object: &Value) -> Option<Request>
     let y = i32_at(object, "y")?;
     let w = u32_at(object, "w")?;
     let h = u32_at(object, "h")?;
-    Some(Request::Patch { x, y, w, h })
+    let level = u8_or_zero(object, "level")?;
+    Some(Request::Patch { level, x, y, w, h })
 }
 
 #[tactic(auto, unfolding(crate::specs::Asked::asked))]

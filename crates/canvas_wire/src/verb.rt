@@ -53,8 +53,8 @@ impl Verb {
             Verb::Show => &["verb", "id", "hidden"],
             Verb::Delete => &["verb", "id"],
             Verb::Respace => &["verb", "parent"],
-            Verb::Tile => &["verb", "col", "row"],
-            Verb::Patch => &["verb", "x", "y", "w", "h"],
+            Verb::Tile => &["verb", "col", "row", "level"],
+            Verb::Patch => &["verb", "x", "y", "w", "h", "level"],
             Verb::Point => &["verb", "x", "y"],
             Verb::Export => &["verb"],
         }

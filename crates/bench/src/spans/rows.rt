@@ -1,5 +1,6 @@
 //! The rows of a window of 256 by 256, row by row or together.
 
+use canvas_plane::Window;
 use canvas_shape::{Carried, Cuts, EdgeFlags, Span, Vertices};
 use std::alloc::{AllocError, Global};
 use std::fmt;
@@ -70,7 +71,10 @@ fn append_together(
     rows: &mut [EdgeFlags; SIDE as usize],
     out: &mut Vec<Span>,
 ) -> Result<(), AllocError> {
-    vertices.flag_rows(0, 0, SIDE, rows);
+    let Ok(tile) = Window::tile(0, 0) else {
+        return Ok(());
+    };
+    vertices.flag_rows(&tile, 0, rows);
     for row in rows.iter() {
         row.append_spans(0, SIDE, out).map_err(|_| AllocError)?;
     }

@@ -1,5 +1,5 @@
 use Rattle.std.proofs.Common.{◌∙◌, ◌-◌, ◌^◌, ap, arith}
-use Rattle.canvas_scene.specs.Cells.{is_bit}
+use Rattle.canvas_scene.specs.Places.{is_bit}
 use Rattle.canvas_scene.proofs.Bits.{empty-run, pow_up, run-bit}
 use Rattle.canvas_scene.proofs.cells.bits.Goals as goal
 

@@ -1,5 +1,6 @@
 use Rattle.std.proofs.Common.{◌≡◌, ℕ, true}
-use Rattle.canvas_scene.specs.Cells.{is_among, is_bit, is_marked}
+use Rattle.canvas_scene.specs.Cells.{is_marked}
+use Rattle.canvas_scene.specs.Places.{is_among, is_bit}
 use Rattle.canvas_scene.proofs.cells.Cells.covers.Given as goal
 
 abbrev pub invariant-loop-row : goal.invariant-loop-row

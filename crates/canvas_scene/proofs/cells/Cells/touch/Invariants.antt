@@ -3,6 +3,7 @@ use Rattle.canvas_scene.proofs.cells.Cells.touch.Given as goal
 
 abbrev pub invariant-loop-row : goal.invariant-loop-row
 invariant-loop-row l = record {
-  window : l.self.window ≡ l.initial.self.window;
+  across : l.self.across ≡ l.initial.self.across;
+  down : l.self.down ≡ l.initial.self.down;
   rows : l.self.rows ≡ l.initial.self.rows;
 }

@@ -12,14 +12,14 @@ use Rattle.canvas_scene.proofs.scenes.Scene.build.Goals as goal
 pub returns-clause-colours : goal.returns-clause-colours
 returns-clause-colours c = λ x y h.
     ap (λ l. last_colour l x y) c.into_list.ensures ∙ ap or_white (last-is-first c.nodes_of_page.new.shown x y)
-    ∙ c.in_ok-root.ensures.colours x y (ap (λ b. is_in b x y) c.page_box.ensures ∙ h)
+    ∙ c.in_ok-root.ensures.colours x y (ap (λ b. is_in b x y) c.covered.ensures ∙ h)
 
 pub returns-clause-clips : goal.returns-clause-clips
 returns-clause-clips c =
     let P : PageBox → Type 0 = λ b. All (IsClipped b) c.in_ok-root.root.now in
-    subst P c.page_box.ensures c.in_ok-root.ensures.clips
+    subst P c.covered.ensures c.in_ok-root.ensures.clips
 
 pub returns-clause-tree : goal.returns-clause-tree
 returns-clause-tree c =
     let P : PageBox → Type 0 = λ b. AreNodesOf c.args.document.now.records Page (λ q. q) b c.in_ok-root.root.now in
-    subst P c.page_box.ensures c.in_ok-root.ensures.tree
+    subst P c.covered.ensures c.in_ok-root.ensures.tree

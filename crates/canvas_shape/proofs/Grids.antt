@@ -1,0 +1,87 @@
+-- Columns and rows that a window shows.
+use Rattle.std.proofs.Common.{◌≡◌, ℕ, ◌+◌, ◌*◌, ◌/◌, ◌-◌, ◌<◌, ◌≤◌, ℤ, pos, ◌+ℤ◌, ◌*ℤ◌, ◌<ℤ◌, ◌≤ℤ◌, sym, ap, ◌∙◌, arith, inl, inr}
+use Rattle.std.specs.Prelude.{int_lt, nat_lt, min}
+use Rattle.std.proofs.lemmas.Bool.{cases_lt, lt-ltb, le-ltb}
+use Rattle.std.proofs.lemmas.Int.{ints}
+use Rattle.std.proofs.lemmas.Nat.{div_below, le-div, mul-le, pow_pos}
+use Rattle.std.proofs.Math.Nat.{div-mul-le_self, pow-le-pow_right}
+use Rattle.canvas_plane.specs.Sides.{scale_of}
+use Rattle.canvas_plane.specs.Window.{row_shown}
+use Rattle.canvas_plane.specs.declared.windows.Window.{Window}
+use Rattle.canvas_shape.proofs.Edge.{lt-lt_test, le-lt_test, times-add}
+
+below-of : (edge from : ℤ) (n m : ℕ) → from +ℤ pos n +ℤ pos 1 ≡ edge → edge ≤ℤ (from +ℤ pos m) → n < m
+below-of edge from n m e le = omega (arith, ints)
+
+-- a place before an edge lies fewer steps away than any place that is not
+pub steps-most : (edge from : ℤ) (n s k : ℕ) → 0 < s → from +ℤ pos n +ℤ pos 1 ≡ edge → edge ≤ℤ (from +ℤ pos (k * s)) → n / s < k
+steps-most edge from n s k h e le = div_below n s k h (below-of edge from n (k * s) e le)
+
+step-inside : (edge from : ℤ) (n m : ℕ) → from +ℤ pos n +ℤ pos 1 ≡ edge → m ≤ n → (from +ℤ pos m) <ℤ edge
+step-inside edge from n m e le = omega (arith, ints)
+
+step-beyond : (edge from : ℤ) (n m : ℕ) → from +ℤ pos n +ℤ pos 1 ≡ edge → n < m → edge ≤ℤ (from +ℤ pos m)
+step-beyond edge from n m e lt = omega (arith, ints)
+
+times-within : (n s k : ℕ) → k ≤ n / s → k * s ≤ n
+times-within n s k le = let a = mul-le k s (n / s) s le (omega arith) in let b = div-mul-le_self n s in omega (arith, a, b)
+
+times-beyond : (n s k : ℕ) → 0 < s → n / s < k → n < k * s
+times-beyond n s k h lt = elim (cases_lt n (k * s)) [
+  | inl below ↦ below
+  | inr le ↦ let q = le-div k n s h le in absurd (omega (arith, q))
+]
+
+-- the steps that a place before an edge is away
+pub steps-before : (edge from : ℤ) (n s k : ℕ) → 0 < s → from +ℤ pos n +ℤ pos 1 ≡ edge → nat_lt k (n / s + 1) ≡ int_lt (from +ℤ pos (k * s)) edge
+steps-before edge from n s k h e = elim (cases_lt k (n / s + 1)) [
+  | inl lt ↦ lt-ltb k (n / s + 1) lt ∙ sym (lt-lt_test (from +ℤ pos (k * s)) edge (step-inside edge from n (k * s) e (times-within n s k (omega (arith, lt)))))
+  | inr ge ↦ le-ltb k (n / s + 1) ge ∙ sym (le-lt_test (from +ℤ pos (k * s)) edge (step-beyond edge from n (k * s) e (times-beyond n s k h (omega (arith, ge)))))
+]
+
+pub scale-positive : (level : ℕ) → 0 < scale_of level
+scale-positive level = pow_pos level
+
+pub scale-most : (level : ℕ) → level ≤ 6 → scale_of level ≤ 64
+scale-most level le = let two : 0 < 2 = omega arith in pow-le-pow_right two le
+
+no-more : (z : ℤ) → z +ℤ pos 0 ≡ z
+no-more z = omega (arith, ints)
+
+-- what a window shows lies so many steps behind its first
+pub shown-steps : (x : ℤ) (k s : ℕ) → (x +ℤ pos k) *ℤ pos s ≡ (x +ℤ pos 0) *ℤ pos s +ℤ pos (k * s)
+shown-steps x k s = times-add x (pos k) s ∙ ap (λ z. z *ℤ pos s +ℤ pos k *ℤ pos s) (sym (no-more x))
+
+-- and one step behind the one before it
+pub shown-next : (y : ℤ) (j s : ℕ) → (y +ℤ pos (j + 1)) *ℤ pos s ≡ (y +ℤ pos j) *ℤ pos s +ℤ pos s
+shown-next y j s = let a = shown-steps y (j + 1) s in let b = shown-steps y j s in let c : (j + 1) * s ≡ j * s + s = omega arith in omega (arith, ints, a, b, c)
+
+steps-near : (w s : ℕ) → w ≤ 256 → s ≤ 64 → w * s ≤ 16384
+steps-near w s h k = mul-le w s 256 64 h k
+
+-- the steps from the left edge to a column
+pub shown-from : (left x : ℤ) (k l level : ℕ) → left ≡ (x +ℤ pos 0) *ℤ pos (scale_of level) → l ≡ level → left +ℤ pos (k * scale_of l) ≡ (x +ℤ pos k) *ℤ pos (scale_of level)
+shown-from left x k l level el e = ap (λ n. left +ℤ pos (k * scale_of n)) e ∙ ap (λ z. z +ℤ pos (k * scale_of level)) el ∙ sym (shown-steps x k (scale_of level))
+
+near-by : (edge left : ℤ) (n m : ℕ) → edge ≤ℤ (left +ℤ pos n) → n ≤ m → edge ≤ℤ (left +ℤ pos m)
+near-by edge left n m h le = omega (arith, ints)
+
+-- a threshold in a window lies at most 16,384 behind its left edge
+pub edge-near : (edge left : ℤ) (w level : ℕ) → w ≤ 256 → level ≤ 6 → edge ≤ℤ (left +ℤ pos (w * scale_of level)) → edge ≤ℤ (left +ℤ pos 16384)
+edge-near edge left w level h k le = near-by edge left (w * scale_of level) 16384 le (steps-near w (scale_of level) h (scale-most level k))
+
+-- the next row that a window shows
+pub row-next : (window : Window) (first k apart : ℕ) → apart ≡ scale_of window.level → row_shown window (first + k) +ℤ pos apart ≡ row_shown window (first + (k + 1))
+row-next window first k apart e =
+    let one : first + (k + 1) ≡ (first + k) + 1 = omega arith in
+    ap (λ n. row_shown window (first + k) +ℤ pos n) e ∙ sym (ap (row_shown window) one ∙ shown-next window.y (first + k) (scale_of window.level))
+
+min-less : (a b k : ℕ) → k < b → nat_lt k (min a b) ≡ nat_lt k a
+min-less a b k lt = grind arith
+
+minus-less : (n first k : ℕ) → nat_lt k (n - first) ≡ nat_lt (first + k) n
+minus-less n first k = grind arith
+
+-- rows that are counted from a later one
+pub rows-less : (n first count k : ℕ) → k < count → nat_lt k (min (n - first) count) ≡ nat_lt (first + k) n
+rows-less n first count k lt = min-less (n - first) count k lt ∙ minus-less n first k

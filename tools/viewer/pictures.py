@@ -1,0 +1,104 @@
+#!/usr/bin/python3
+"""Takes the pictures of the viewer that the pages show: docs/pictures/viewer-*.png.
+
+usage: tools/viewer/pictures.py
+"""
+
+import asyncio
+import io
+import math
+import subprocess
+import sys
+from pathlib import Path
+
+from PIL import Image
+
+sys.path.insert(0, str(Path(__file__).resolve().parent.parent))
+from browser import Browser  # noqa: E402
+from canvas_client import TOP, Canvas  # noqa: E402
+from check_server import free_port  # noqa: E402
+
+PICTURES = TOP / "docs" / "pictures"
+FLOWER = ["d9412f", "ef7d2d", "f6c13c", "7cb342", "19a5a0", "2f6fde", "7a4fc9"]
+SEEDS = 900
+MIDDLE = 3900
+
+
+async def save(tab, name):
+    """Saves a picture of the tab, in at most 128 colours."""
+    await tab.value("document.activeElement.blur()")
+    await asyncio.sleep(0.5)
+    image = Image.open(io.BytesIO(await tab.screenshot())).convert("RGB")
+    image.quantize(128, dither=Image.Dither.NONE).save(PICTURES / f"viewer-{name}.png", optimize=True)
+
+
+async def spot(tab, point):
+    x, y, *_ = await tab.box_of("#stage")
+    i, j = await tab.value(f"app.view.toWindow([{point[0]}, {point[1]}])")
+    return x + i, y + j
+
+
+async def select(tab):
+    """The examples, with a frame of the poster selected."""
+    await tab.drag([await spot(tab, (100, 40))])
+    await save(tab, "select")
+
+
+async def draw(tab):
+    """A polygon that is being drawn beside them."""
+    await tab.value("app.editor.select(null), app.editor.setFill('7a4fc9')")
+    await tab.key("p")
+    for point in [(330, 420), (390, 330), (480, 300), (540, 400)]:
+        await tab.drag([await spot(tab, point)])
+    await tab.pointer("mouseMoved", *(await spot(tab, (450, 500))), held=False)
+    await save(tab, "draw")
+    await tab.key("Escape")
+
+
+def plant(canvas):
+    """A flower of many seeds on a sheet of its own, some thousand pixels wide, beside all else."""
+    reply, _ = canvas.ask(verb="create", shape={"kind": "frame", "w": 2 * MIDDLE, "h": 2 * MIDDLE, "fill": "1b2a49"}, pose={"dx": 800, "dy": -MIDDLE})
+    for number in range(SEEDS):
+        reach, angle = 118 * math.sqrt(number), number * math.radians(137.508)
+        side = 90 + number * 110 // SEEDS
+        place = {"dx": round(MIDDLE + reach * math.cos(angle)) - side // 2, "dy": round(MIDDLE + reach * math.sin(angle)) - side // 2}
+        fill = FLOWER[number * len(FLOWER) // SEEDS]
+        canvas.send(verb="create", shape={"kind": "ellipse", "w": side, "h": side, "fill": fill}, pose=place, parent=reply["id"])
+    for _ in range(SEEDS):
+        last, _ = canvas.read()
+    return last["version"]
+
+
+async def far(tab, server):
+    """The flower, from far."""
+    with Canvas.connect(server) as canvas:
+        version = plant(canvas)
+    await tab.until(f"app.picture.isSettled && app.picture.tree.version >= {version}")
+    await tab.key("v")
+    await tab.key("9")
+    await tab.until("app.picture.isSettled")
+    await tab.drag([await spot(tab, (880, 200))])
+    await save(tab, "far")
+
+
+async def main():
+    demo = subprocess.Popen([str(TOP / "bin" / "canvas-demo"), "--listen", f"127.0.0.1:{free_port()}"], stdout=subprocess.PIPE, text=True,
+                            start_new_session=True)
+    try:
+        words = (await asyncio.to_thread(demo.stdout.readline)).replace(")", " ").split()
+        page, server = words[2], words[words.index("at", 3) + 1]
+        async with Browser(1000, 680) as browser:
+            tab = await browser.open(page)
+            await tab.until("app.picture.isSettled")
+            await select(tab)
+            await draw(tab)
+            await far(tab, server)
+            if tab.faults:
+                sys.exit(f"the console says {tab.faults}")
+    finally:
+        demo.send_signal(2)
+        demo.wait()
+
+
+if __name__ == "__main__":
+    asyncio.run(main())

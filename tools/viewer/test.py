@@ -1,0 +1,679 @@
+#!/usr/bin/python3
+"""Drives the viewer in a headless Chromium, beside the built program.
+
+usage: tools/viewer/test.py
+
+Two tabs look at one document: what is drawn, moved, reordered, coloured, hidden and deleted in one is seen in the other; pictures of the canvas are
+compared, pixel by pixel, with the server's own patches; the server is killed and started again; at the end no console has an error.
+
+Prints each case that fails, and a last line 'N passed, M failed'; the status is 1 where something failed.
+"""
+
+import asyncio
+import io
+import json
+import os
+import signal
+import statistics
+import subprocess
+import sys
+import tempfile
+import time
+from pathlib import Path
+
+import aiohttp
+from PIL import Image, ImageChops
+
+HERE = Path(__file__).resolve().parent
+sys.path.insert(0, str(HERE.parent))
+from browser import SHIFT, Browser, Fault  # noqa: E402
+from canvas_client import PROGRAM, TOP, Canvas  # noqa: E402
+from check_server import difference, free_port  # noqa: E402
+
+SECONDS = 30
+SOON = 0.5
+"""Seconds within which others see an edit."""
+POSTER = TOP / "examples" / "poster.json"
+PAPER = {"kind": "rect", "w": 700, "h": 60, "fill": "102030"}
+LEVELS = 7
+EDGE = 1 << 21
+
+
+# -- the server and the gateway ----------------------------------------------------------------------------------------
+
+class Server:
+    """A run of the program at an address that stays the same; it can be killed, and started again."""
+
+    def __init__(self, file):
+        self.file = file
+        self.address = f"127.0.0.1:{free_port()}"
+        self._process = None
+
+    def start(self):
+        self._process = subprocess.Popen([str(PROGRAM), "serve", self.address, str(self.file), "1"], stdout=subprocess.PIPE)
+        line = self._process.stdout.readline()
+        if line != b"listening\n":
+            raise RuntimeError(f"the server says {line!r}")
+
+    def kill(self):
+        if self._process is not None:
+            self._process.kill()
+            self._process.wait()
+            self._process.stdout.close()
+            self._process = None
+
+    def connect(self):
+        return Canvas.connect(self.address, SECONDS)
+
+    def ask(self, **request):
+        """The reply and the body of one request, in a session of its own."""
+        with self.connect() as canvas:
+            return canvas.ask(**request)
+
+    def records(self):
+        """The saved records, by their ids; `parent` and `index` of each, in either format."""
+        saved = json.loads(self.ask(verb="export")[1])
+        return {record["id"]: {**record, **record.get("place", {})} for record in saved["shapes"]}
+
+    def order(self, parent=None):
+        """The ids of a parent's children, from front to back."""
+        found = [record for record in self.records().values() if record["parent"] == parent]
+        return [record["id"] for record in sorted(found, key=lambda record: record["index"], reverse=True)]
+
+
+class Gateway:
+    """A run of the gateway."""
+
+    def __init__(self, server):
+        self._process = subprocess.Popen([str(HERE / "gateway.py"), server.address, "--listen", "127.0.0.1:0"], stdout=subprocess.PIPE)
+        self.page = self._process.stdout.readline().decode().strip()
+        if not self.page.startswith("http://127.0.0.1:"):
+            raise RuntimeError(f"the gateway says {self.page!r}")
+
+    def close(self):
+        self._process.terminate()
+        self._process.wait()
+        self._process.stdout.close()
+
+
+# -- a tab as a user has it --------------------------------------------------------------------------------------------
+
+class Desk:
+    """A tab with the page, at which points are told in pixels of the page."""
+
+    def __init__(self, tab, server):
+        self.tab, self.server = tab, server
+
+    @classmethod
+    async def open(cls, browser, gateway, server):
+        desk = cls(await browser.open(gateway.page), server)
+        await desk.settle(0)
+        return desk
+
+    async def settle(self, version, seconds=SECONDS):
+        """Waits until a version at or above this one is shown."""
+        await self.tab.until(f"app.picture.isSettled && app.picture.tree.version >= {version}", seconds)
+
+    async def spot(self, point):
+        """Where a point of the page lies in the tab; its corner shows its pixel."""
+        x, y, *_ = await self.tab.box_of("#stage")
+        i, j = await self.tab.value(f"app.view.toWindow({json.dumps(point)})")
+        return x + i, y + j
+
+    async def drag(self, *points, modifiers=0):
+        await self.tab.drag([await self.spot(point) for point in points], modifiers)
+
+    async def click(self, point):
+        await self.tab.drag([await self.spot(point)])
+
+    async def press(self, *keys, modifiers=0):
+        for key in keys:
+            await self.tab.key(key, modifiers)
+
+    async def text(self, name):
+        return await self.tab.value(f"document.getElementById({json.dumps(name)}).textContent")
+
+    async def selected(self):
+        return await self.tab.value("app.editor.selected")
+
+    async def view(self):
+        return await self.tab.value("(({level, left, top, width, height}) => [level, left, top, width, height])(app.view)")
+
+    async def made(self, before):
+        """The id of the shape that is selected, when it is another one than before and in the tree."""
+        await self.tab.until(f"app.editor.selected !== {json.dumps(before)} && app.editor.record !== undefined")
+        return await self.selected()
+
+    async def look_at(self, level, point):
+        """Looks at a level, with a point of the page in the middle."""
+        await self.tab.value(f"app.zoom({level}), app.view.centre({point[0]}, {point[1]}), app.look()")
+        await self.settle(0)
+
+    async def picture(self):
+        """What the canvas shows, with no marks above it; two frames after the last change."""
+        await self.tab.value("app.choose('select'), app.editor.select(null), document.activeElement.blur()")
+        await self.tab.value("new Promise((done) => requestAnimationFrame(() => requestAnimationFrame(done)))")
+        return Image.open(io.BytesIO(await self.tab.screenshot(await self.tab.box_of("#stage")))).convert("RGB")
+
+    async def wrong_pixels(self):
+        """What is wrong with the picture of the canvas, beside the server's patches of the same window."""
+        level, left, top, width, height = await self.view()
+        shown, wanted = await self.picture(), patches(self.server, level, left, top, width, height)
+        if shown.size != wanted.size:
+            return f"{shown.size} for {wanted.size}"
+        box = ImageChops.difference(shown, wanted).getbbox()
+        return box and f"level {level} at {left}, {top}: pixels in {box} differ, as {shown.getpixel(box[:2])} for {wanted.getpixel(box[:2])}"
+
+
+def patches(server, level, left, top, width, height):
+    """The picture of a window of any size, from the server's patches; what lies beside the page has no colour there, and is asked from no one."""
+    found = Image.new("RGB", (width, height))
+    with server.connect() as canvas:
+        for y in range(0, height, 256):
+            for x in range(0, width, 256):
+                w, h = min(256, width - x), min(256, height - y)
+                _, body = canvas.ask(verb="patch", x=left + x, y=top + y, w=w, h=h, **({"level": level} if level else {}))
+                found.paste(Image.open(io.BytesIO(body)), (x, y))
+    return found
+
+
+# -- what is looked at -------------------------------------------------------------------------------------------------
+
+async def first_view(ann, ben, server):
+    """Both tabs show the document, its version and its layers."""
+    for name, desk in [("Ann", ann), ("Ben", ben)]:
+        yield f"the version that {name} sees", difference(await desk.text("version"), "version 0")
+        yield f"the picture that {name} sees", await desk.wrong_pixels()
+    rows = await ann.tab.value("[...document.querySelectorAll('.row')].map((row) => Number(row.dataset.id))")
+    wanted, records = [], server.records()
+
+    def walk(parent):
+        children = [record for record in records.values() if record["parent"] == parent]
+        for record in sorted(children, key=lambda record: record["index"], reverse=True):
+            wanted.append(record["id"])
+            walk(record["id"])
+
+    walk(None)
+    yield "the order of the layers", difference(rows, wanted[:len(rows)])
+    yield "some layers are seen", None if len(rows) > 10 else f"{len(rows)} rows"
+
+
+async def seen(ann, ben, name, edit):
+    """An edit of Ann's that Ben sees."""
+    version = server_version = ann.server.ask(verb="point", x=0, y=0)[0]["version"]
+    await edit()
+    end = time.monotonic() + SECONDS
+    while server_version == version and time.monotonic() < end:
+        server_version = ann.server.ask(verb="point", x=0, y=0)[0]["version"]
+        await asyncio.sleep(0.005)
+    yield f"{name}: an edit was made", None if server_version > version else "none"
+    await ben.settle(version + 1)
+    await ann.settle(version + 1)
+
+
+async def seen_soon(ann, ben, rounds=3, edits=10):
+    """Ben sees Ann's edits within half a second; where the machine is busy, in one of three rounds."""
+    middles = []
+    for _ in range(rounds):
+        waits = []
+        for number in range(edits):
+            version = await ann.tab.value(f"app.editor.send({{verb: 'pose', id: 1, pose: {{dx: {number % 3}}}}}).then(({{version}}) => version)")
+            begin = time.monotonic()
+            await ben.settle(version)
+            waits.append(time.monotonic() - begin)
+            await asyncio.sleep(0.03 * number)
+        middles.append(statistics.median(waits))
+        print(f"an edit is seen in another tab after {1000 * middles[-1]:.0f} ms in the middle, {1000 * max(waits):.0f} ms at most")
+        if middles[-1] <= SOON:
+            break
+    yield "edits are seen soon", None if min(middles) <= SOON else f"{middles} s"
+
+
+async def drawn(ann, ben, server):
+    """Shapes that Ann draws with the mouse."""
+    await ann.press("r")
+    before = await ann.selected()
+    async for case in seen(ann, ben, "a rectangle", lambda: ann.drag([-120, 40], [-60, 60], [-20, 90])):
+        yield case
+    rect = await ann.made(before)
+    record = server.records()[rect]
+    yield "the rectangle", difference([record["shape"], record["pose"], record["parent"]], [
+        {"kind": "rect", "w": 100, "h": 50, "fill": "2f6fde"}, {"dx": -120, "dy": 40, "quarter": 0, "flip": False}, None])
+    yield "the picture that Ben sees of it", await ben.wrong_pixels()
+
+    await ann.press("e")
+    await ann.drag([-90, 130], [-60, 140], [-30, 150], modifiers=SHIFT)
+    ellipse = await ann.made(rect)
+    yield "an ellipse with equal sides", difference(server.records()[ellipse]["shape"], {"kind": "ellipse", "w": 60, "h": 60, "fill": "2f6fde"})
+
+    await ann.press("p")
+    for point in ([-200, 200], [-140, 200], [-140, 260], [-170, 290]):
+        await ann.click(point)
+    await ann.click([-200, 200])
+    polygon = await ann.made(ellipse)
+    yield "a polygon", difference(server.records()[polygon]["shape"]["points"], [[0, 0], [60, 0], [60, 60], [30, 90]])
+
+    await ann.press("f")
+    await ann.drag([300, 20], [350, 100], [420, 160])
+    frame = await ann.made(polygon)
+    await ann.press("r")
+    await ann.drag([400, 120], [450, 200])
+    inner = await ann.made(frame)
+    record = server.records()[inner]
+    yield "a rectangle in a frame", difference([record["parent"], record["pose"]["dx"], record["pose"]["dy"]], [frame, 100, 100])
+    for name, desk in [("Ann", ann), ("Ben", ben)]:
+        await desk.settle(5)
+        yield f"the picture that {name} sees of all", await desk.wrong_pixels()
+
+
+async def changed(ann, ben, server):
+    """A shape that is moved, coloured, turned, reordered, hidden and deleted."""
+    await ann.press("v")
+    await ann.click([-100, 60])
+    rect = await ann.selected()
+    yield "the rectangle is selected", difference(server.records()[rect]["shape"]["kind"], "rect")
+    yield "and named", difference(await ann.text("shape-head"), f"Rectangle {rect}")
+
+    await ann.press("m")
+    async for case in seen(ann, ben, "a move", lambda: ann.drag([-100, 60], [-80, 70], [-10, 130])):
+        yield case
+    record = server.records()[rect]
+    yield "where it is", difference([record["pose"]["dx"], record["pose"]["dy"]], [-30, 110])
+    yield "the picture of the move", await ben.wrong_pixels()
+
+    async def act(name, selector):
+        """Clicks a button, and waits until its edit is seen."""
+        x, y, w, h = await ann.tab.box_of(selector)
+        async for case in seen(ann, ben, name, lambda: ann.tab.click(x + w / 2, y + h / 2)):
+            yield case
+
+    async def again():
+        await ann.press("v")
+        await ann.tab.value(f"app.editor.select({rect})")
+
+    await again()
+    steps = [
+        ("a colour", '[data-fill="d9412f"]', lambda: server.records()[rect]["shape"]["fill"], "d9412f"),
+        ("to the back", '[data-act="back"]', lambda: server.order()[-1], rect),
+        ("to the front", '[data-act="front"]', lambda: server.order()[0], rect),
+        ("a turn", '[data-act="turn"]', lambda: server.records()[rect]["pose"], {"dx": 45, "dy": 85, "quarter": 1, "flip": False}),
+        ("a flip", '[data-act="flip"]', lambda: server.records()[rect]["pose"]["flip"], True),
+        ("hidden", '[data-act="hide"]', lambda: server.records()[rect]["hidden"], True),
+        ("shown", '[data-act="hide"]', lambda: server.records()[rect]["hidden"], False),
+        ("deleted", '[data-act="delete"]', lambda: rect in server.records(), False),
+    ]
+    for name, selector, found, wanted in steps:
+        async for case in act(name, selector):
+            yield case
+        yield name, difference(found(), wanted)
+        yield f"{name}: the picture that Ben sees", await ben.wrong_pixels()
+        if name != "deleted":
+            await again()
+    yield "nothing is selected", difference(await ann.text("shape-head"), "Nothing is selected")
+
+
+BOX = "(({left, top, right, bottom}) => [left, top, right, bottom])(app.picture.tree.boxOf(%d))"
+FIRST, SECOND = ([420, 240], [460, 290]), ([425, 180], [470, 220])
+"""Two boxes of the page, inside the turned frame; the second one begins inside its group."""
+
+
+async def in_turned_frame(ann, server):
+    """Drawing in a frame that is turned and flipped, and in a group inside it: on the page all goes where the pointer is."""
+    with server.connect() as canvas:
+        pose = {"dx": 500, "dy": 300, "quarter": 1, "flip": True}
+        frame = canvas.ask(verb="create", shape={"kind": "frame", "w": 200, "h": 100, "fill": "eeeeee"}, pose=pose)[0]["id"]
+        group = canvas.ask(verb="create", shape={"kind": "group"}, pose={"dx": 7, "quarter": 3}, parent=frame)[0]["id"]
+        inner = {"shape": {"kind": "rect", "w": 30, "h": 20, "fill": "00aa00"}, "pose": {"dx": -60, "dy": 100, "flip": True}}
+        made, _ = canvas.ask(verb="create", parent=group, **inner)
+    await ann.look_at(0, (400, 200))
+    await ann.settle(made["version"])
+    for kind, key, parent, (begin, end) in [("rectangle", "r", frame, FIRST), ("polygon", "p", group, SECOND)]:
+        await ann.tab.value(f"app.editor.select({parent}), app.editor.fill = '0000ff'")
+        await ann.press(key)
+        if kind == "rectangle":
+            await ann.drag(begin, end)
+        else:
+            for point in (begin, [end[0], begin[1]], end, [begin[0], end[1]], begin):
+                await ann.click(point)
+        number = await ann.made(parent)
+        yield f"the parent of a {kind} there", difference(server.records()[number]["parent"], parent)
+        yield f"the box of a {kind} there", difference(await ann.tab.value(BOX % number), [*begin, *end])
+        pixels = [server.ask(verb="point", x=x, y=y)[0]["colour"] for x, y in [begin, (end[0] - 1, end[1] - 1)]]
+        yield f"the pixels of a {kind} there", difference(pixels, ["0000ff"] * 2)
+        yield f"the picture of a {kind} there", await ann.wrong_pixels()
+        async for case in carried(ann, server, kind, number):
+            yield case
+    gone, _ = server.ask(verb="delete", id=frame)
+    await ann.settle(gone["version"])
+    yield "nothing of the frame is there", difference({frame, group} & set(server.records()), set())
+
+
+async def carried(ann, server, kind, number):
+    """A shape that is taken out, put in again, put into a group, and then moved."""
+    parent = server.records()[number]["parent"]
+    outer = server.records()[parent]["parent"]
+    before = await ann.picture()
+    for key, wanted in [("o", outer), ("i", parent), ("g", None)]:
+        await ann.tab.value(f"app.editor.select({number})")
+        version = server.ask(verb="point", x=0, y=0)[0]["version"]
+        await ann.press(key)
+        await ann.settle(version + 2)
+        found = server.records()[number]["parent"]
+        if key == "g":
+            yield f"a {kind} in a group", difference(server.records()[found]["parent"], parent)
+        else:
+            yield f"key {key}: the parent of a {kind}", difference(found, wanted)
+        yield f"key {key}: a {kind} stays where it is", difference(ImageChops.difference(before, await ann.picture()).getbbox(), None)
+    left, top, *_ = await ann.tab.value(BOX % number)
+    await ann.press("m")
+    await ann.drag([left + 5, top + 5], [left + 8, top + 1])
+    await ann.tab.until(f"app.picture.tree.boxOf({number}).left === {left + 3} && app.picture.tree.boxOf({number}).top === {top - 4}")
+    yield f"the picture of a {kind} that was moved there", await ann.wrong_pixels()
+
+
+def other_format(saved):
+    """A saved document in the other format: with or without a place in each record."""
+    def turned(record):
+        rest = {name: value for name, value in record.items() if name not in ("place", "parent", "index")}
+        if "place" in record:
+            return {**rest, **record["place"]}
+        return {**rest, "place": {"index": record["index"], "parent": record["parent"]}}
+    return {**saved, "format": 3 - saved["format"], "shapes": [turned(record) for record in saved["shapes"]]}
+
+
+async def both_formats(ann, server):
+    """The page reads the same tree of either format of saved documents."""
+    saved = json.loads(server.ask(verb="export")[1])
+    rows = "new Tree(%s, 0).rows(new Set()).map(({record, depth}) => [record.id, record.parent, depth])"
+    script = f"import('/page/tree.js').then(({{Tree}}) => [{rows % json.dumps(saved)}, {rows % json.dumps(other_format(saved))}])"
+    one, other = await ann.tab.value(script)
+    yield "both formats", difference(one, other)
+    yield "all records of both", difference(len(other), len(saved["shapes"]))
+
+
+async def zoomed(ann, server):
+    """All seven levels by the wheel, out and in, and by keys; the picture of each."""
+    x, y, width, height = await ann.tab.box_of("#stage")
+    await ann.look_at(0, (128, 128))
+    here = (x + 300, y + 200)
+    point = "app.view.toPage([300, 200])"
+    begin = await ann.tab.value(point)
+    for level in range(LEVELS):
+        yield f"level {level}", difference((await ann.view())[0], level)
+        yield f"the picture of level {level}", await ann.wrong_pixels()
+        now = await ann.tab.value(point)
+        yield f"the wheel keeps its point at level {level}", None if max(abs(a - b) for a, b in zip(now, begin)) <= 2**level else f"{now} for {begin}"
+        await ann.tab.wheel(*here, 100)
+        await ann.tab.until(f"app.view.level === {min(level + 1, LEVELS - 1)}")
+        await ann.settle(0)
+    for level in reversed(range(LEVELS - 1)):
+        await ann.press("+")
+        await ann.settle(0)
+        yield f"level {level} on the way back", difference((await ann.view())[0], level)
+    yield "the picture after the way back", await ann.wrong_pixels()
+    await ann.press("-", "-", "9")
+    await ann.settle(0)
+    yield "the whole document", await ann.wrong_pixels()
+
+
+async def panned(ann, server):
+    """Panning by the mouse and by keys, and the edges of the page."""
+    await ann.look_at(0, (0, 0))
+    _, left, top, *_ = await ann.view()
+    x, y, *_ = await ann.tab.box_of("#stage")
+    await ann.tab.drag([(x + 700, y + 500), (x + 500, y + 450), (x + 311, y + 322)])
+    await ann.settle(0)
+    yield "a pan by the mouse", difference((await ann.view())[1:3], [left + 389, top + 178])
+    yield "the picture after it", await ann.wrong_pixels()
+    await ann.press("ArrowLeft", "ArrowUp", "ArrowUp")
+    await ann.settle(0)
+    yield "a pan by keys", difference((await ann.view())[1:3], [left + 389 - 64, top + 178 - 128])
+    for level in (0, 3, 6):
+        for corner in ((-EDGE, -EDGE), (EDGE, EDGE)):
+            await ann.look_at(level, corner)
+            refused = await ann.tab.value("app.picture.refused")
+            yield f"the edge {corner} at level {level}", difference(refused, [])
+    await ann.look_at(1, (128, 128))
+
+
+async def refused(ann, server):
+    """A refusal is told in words, with its name; nothing is changed."""
+    before = server.records()
+    await ann.look_at(6, (1_500_000, 0))
+    await ann.press("r")
+    await ann.drag([1_500_000, 0], [1_510_000, 9_984])
+    await ann.tab.until("!document.getElementById('refusal').hidden")
+    said = await ann.text("refusal")
+    yield "the words of a refusal", None if "9 BadPose" in said and "too far" in said else said
+    yield "the document after it", difference(server.records(), before)
+    await ann.press("Escape")
+    yield "the refusal is put away", difference(await ann.tab.value("document.getElementById('refusal').hidden"), True)
+    await ann.look_at(0, (128, 128))
+
+
+async def without_a_mouse(ann, server):
+    """Drawing, moving, selecting and deleting by keys alone."""
+    await ann.tab.value("app.editor.select(null)")
+    await ann.press("f", "Enter", *["ArrowRight"] * 5, *["ArrowDown"] * 4, "Enter")
+    frame = await ann.made(None)
+    record = server.records()[frame]
+    yield "a frame by keys", difference([record["shape"]["kind"], record["shape"]["w"], record["shape"]["h"]], ["frame", 40, 32])
+    await ann.press("m", *["ArrowRight"] * 3, "ArrowUp")
+    await ann.press("ArrowLeft", modifiers=SHIFT)
+    wanted = [record["pose"]["dx"] + 3 - 10, record["pose"]["dy"] - 1]
+    await ann.tab.until(f"(({{dx, dy}}) => dx === {wanted[0]} && dy === {wanted[1]})(app.editor.record.pose)")
+    await ann.press("Escape", "p", "Enter", *["ArrowRight"] * 5, "Enter", *["ArrowDown"] * 4, "Enter", "Enter")
+    polygon = await ann.made(None)
+    yield "a polygon by keys", difference(server.records()[polygon]["shape"]["points"], [[0, 0], [40, 0], [40, 32]])
+    await ann.press("v")
+    found = set()
+    for _ in range(80):
+        await ann.press("Tab")
+        found.add(await ann.tab.value("document.activeElement.id || document.activeElement.dataset.tool || document.activeElement.dataset.act || ''"))
+        if "layers" in found:
+            break
+    yield "Tab reaches the layers", None if {"colour-text", "layers"} <= found else str(found)
+    await ann.press("Home", "ArrowDown")
+    second = await ann.selected()
+    yield "the second layer", difference(second, server.order()[1])
+    await ann.press("Home", "Delete")
+    await ann.tab.until(f"!app.picture.tree.record({polygon})")
+    yield "a delete by keys", difference(polygon in server.records(), False)
+    await ann.press("?")
+    yield "the table of keys", difference(await ann.tab.value("document.getElementById('help').open"), True)
+    await ann.press("Escape")
+    yield "the table is put away", difference(await ann.tab.value("document.getElementById('help').open"), False)
+
+
+NAMELESS = """[...document.querySelectorAll('button, input, [role=tree], [role=toolbar]')].filter((it) => it.offsetParent !== null &&
+  !(it.ariaLabel || it.textContent.trim() || it.title || it.getAttribute('aria-labelledby'))).map((it) => it.outerHTML)"""
+FAINT = """(() => {
+  const parts = (colour) => colour.match(/[0-9.]+/g).map(Number);
+  const light = (rgb) => rgb.slice(0, 3).map((c) => c / 255).map((c) => c <= 0.04045 ? c / 12.92 : ((c + 0.055) / 1.055) ** 2.4)
+    .reduce((sum, c, k) => sum + c * [0.2126, 0.7152, 0.0722][k], 0);
+  const behind = (it) => { for (; it; it = it.parentElement) { const found = parts(getComputedStyle(it).backgroundColor);
+    if (found.length < 4 || found[3] > 0.9) return found; } return [255, 255, 255]; };
+  const has = (it) => it.offsetParent !== null && [...it.childNodes].some((node) => node.nodeType === 3 && node.data.trim());
+  return [...document.querySelectorAll('body *')].filter(has).map((it) => {
+    const [a, b] = [light(parts(getComputedStyle(it).color)), light(behind(it))].sort((p, q) => q - p);
+    return [(a + 0.05) / (b + 0.05), it.textContent.trim().slice(0, 30)];
+  }).filter(([ratio]) => ratio < 4.5);
+})()"""
+
+
+async def readable(ann):
+    """Everything that can be pressed has a name, and every text stands out by 4.5 to 1."""
+    yield "names", difference(await ann.tab.value(NAMELESS), [])
+    yield "contrast", difference(await ann.tab.value(FAINT), [])
+
+
+async def sent_once(ann, server, gateway):
+    """A picture that the browser has is not sent again."""
+    await ann.look_at(0, (128, 128))
+    before = len(ann.tab.fetched)
+    made, _ = server.ask(verb="create", shape={"kind": "rect", "w": 3, "h": 3, "fill": "ff00ff"}, pose={"dx": 30, "dy": 30})
+    await ann.settle(made["version"])
+    pictures = [url for url, _ in ann.tab.fetched[before:] if "/picture/" in url]
+    yield "one tile has changed, and one is sent", difference(len(pictures), 1)
+    async with aiohttp.ClientSession() as client:
+        async with client.get(pictures[0]) as response:
+            tag = response.headers["ETag"]
+            yield "a picture's tag is its hash", difference(tag, '"' + pictures[0].rpartition("/")[2].removesuffix(".png") + '"')
+        async with client.get(pictures[0], headers={"If-None-Match": tag}) as response:
+            yield "a picture that is there already", difference((response.status, await response.read()), (304, b""))
+        async with client.get(f"{gateway.page}picture/00.png") as response:
+            yield "a picture that no one has", difference(response.status, 404)
+        try:
+            await client.ws_connect(f"{gateway.page}session", origin="http://elsewhere.example")
+            yield "a page of another site", "has a session"
+        except aiohttp.WSServerHandshakeError as refusal:
+            yield "a page of another site", difference(refusal.status, 403)
+
+
+WATCH = """window.looks = [], app.picture.addEventListener('shown', () => {
+  const context = new OffscreenCanvas(app.view.width, app.view.height).getContext('2d', {willReadFrequently: true});
+  app.picture.draw(context, app.view);
+  const colours = [-250, 100, 390].map((x) => [...context.getImageData(x - app.view.left, 530 - app.view.top, 1, 1).data.slice(0, 3)]
+    .map((part) => part.toString(16).padStart(2, '0')).join(''));
+  window.looks.push([app.picture.versions, colours]);
+}), 0"""
+
+
+async def one_version(ann, server, seconds=4):
+    """While a shape over several tiles changes its colour with each edit, what is shown is of one version, or said to be mixed."""
+    await ann.look_at(0, (100, 400))
+    with server.connect() as editor:
+        made, _ = editor.ask(verb="create", shape=PAPER, pose={"dx": -300, "dy": 500})
+        await ann.settle(made["version"])
+        await ann.tab.value(WATCH)
+        fills, end, number = {made["version"]: PAPER["fill"]}, time.monotonic() + seconds, 0
+        while time.monotonic() < end:
+            number += 1
+            fill = f"{number * 40503 % 0xFFFFFF:06x}"
+            changed, _ = await asyncio.to_thread(editor.ask, verb="reshape", id=made["id"], shape={**PAPER, "fill": fill})
+            fills[changed["version"]] = fill
+            await asyncio.sleep([0.05, 0, 0.002, 0.2][number % 4])
+        await ann.settle(changed["version"])
+    looks = await ann.tab.value("window.looks")
+    single = [(versions[0], colours) for versions, colours in looks if len(versions) == 1]
+    wrong = [look for look in single if look[1] != [fills.get(look[0])] * 3]
+    yield "what is shown is one version", f"{len(wrong)} of {len(single)}, as {wrong[0]}, not {fills.get(wrong[0][0])}" if wrong else None
+    yield "it is shown again and again", None if len(looks) >= seconds else f"{len(looks)} times"
+    mixed = [[fills.get(version) for version in versions] for versions, _ in looks if len(versions) > 1]
+    listed = all(set(colours) <= {fills.get(version) for version in versions} for versions, colours in looks)
+    yield "what is mixed is said", None if listed else f"{len(mixed)} mixed"
+    print(f"while edits came: {len(looks)} pictures were shown, {len(mixed)} of them mixed and said to be; {number} edits")
+    yield "the last picture", await ann.wrong_pixels()
+
+
+async def away(ann, ben, server):
+    """The server is killed, and started again with the document that was saved."""
+    _, text = server.ask(verb="export")
+    server.kill()
+    for name, desk in [("Ann", ann), ("Ben", ben)]:
+        await desk.tab.until("!document.getElementById('away').hidden")
+        yield f"{name} is told that the server is away", difference(await desk.text("away-head"), "The server is away.")
+        yield f"{name} sees no version", difference(await desk.text("version"), "away")
+    await ann.press("r")
+    await ann.drag([0, 400], [50, 450])
+    await ann.tab.until("!document.getElementById('refusal').hidden")
+    yield "an edit meanwhile", difference(await ann.text("refusal"), "Not done.The server is away.")
+    await asyncio.sleep(1)
+    server.file.write_bytes(text)
+    server.start()
+    for name, desk in [("Ann", ann), ("Ben", ben)]:
+        await desk.tab.until("document.getElementById('away').hidden && app.picture.isSettled")
+        yield f"the version that {name} sees afterwards", difference(await desk.text("version"), "version 0")
+        await desk.press("Escape", "Escape")
+        yield f"the picture that {name} sees afterwards", await desk.wrong_pixels()
+    await ann.press("r")
+    async for case in seen(ann, ben, "a rectangle afterwards", lambda: ann.drag([0, 300], [50, 350])):
+        yield case
+
+
+async def no_seat(browser, gateway, server):
+    """A tab that finds no seat says so, and is served when one is free."""
+    guests = []
+    try:
+        while len(guests) < 70:
+            guest = server.connect()
+            guests.append(guest)
+            guest.ask(verb="point", x=0, y=0)
+    except Exception as fault:  # the first that finds no seat
+        yield "all seats are taken", None if "NoSeats" in str(fault) else repr(fault)
+    tab = await browser.open(gateway.page)
+    await tab.until("!document.getElementById('away').hidden")
+    why = await tab.value("document.getElementById('away-why').textContent")
+    yield "a tab without a seat", None if "All seats of the server are taken" in why else why
+    for guest in guests:
+        guest.close()
+    await tab.until("window.app.picture.isSettled")
+    yield "a seat for it", difference(await tab.value("document.getElementById('away').hidden"), True)
+    yield "its console", difference(tab.faults, [])
+    await tab.close()
+
+
+async def demo():
+    """bin/canvas-demo serves the page, and Ctrl-C ends all of it."""
+    address = f"127.0.0.1:{free_port()}"
+    process = subprocess.Popen([str(TOP / "bin" / "canvas-demo"), "--listen", address], stdout=subprocess.PIPE, text=True, start_new_session=True)
+    line = await asyncio.to_thread(process.stdout.readline)
+    yield "what the demo says", None if f"http://{address}/" in line else repr(line)
+    async with aiohttp.ClientSession() as client:
+        async with client.get(f"http://{address}/") as response:
+            yield "its page", difference(response.status, 200)
+        async with client.ws_connect(f"http://{address}/session") as socket:
+            yield "its server", difference((await socket.receive_json(timeout=SECONDS))["say"], "here")
+    os.killpg(process.pid, signal.SIGINT)
+    yield "its end", difference(await asyncio.to_thread(process.wait, SECONDS), 0)
+    process.stdout.close()
+    left = subprocess.run(["ps", "-o", "args=", "-g", str(process.pid)], capture_output=True, text=True).stdout.strip()
+    yield "nothing of it is left", difference(left, "")
+
+
+async def stages(folder):
+    file = Path(folder) / "document.json"
+    file.write_bytes(POSTER.read_bytes())
+    server, gateway = Server(file), None
+    try:
+        server.start()
+        gateway = Gateway(server)
+        async with Browser() as browser:
+            ann = await Desk.open(browser, gateway, server)
+            ben = await Desk.open(browser, gateway, server)
+            for stage in (first_view(ann, ben, server), drawn(ann, ben, server), changed(ann, ben, server), seen_soon(ann, ben),
+                          in_turned_frame(ann, server), both_formats(ann, server), zoomed(ann, server), panned(ann, server),
+                          refused(ann, server), without_a_mouse(ann, server), readable(ann), sent_once(ann, server, gateway),
+                          one_version(ann, server), away(ann, ben, server), no_seat(browser, gateway, server)):
+                begin = time.monotonic()
+                try:
+                    async for case in stage:
+                        yield case
+                except (Fault, TimeoutError, asyncio.TimeoutError, KeyError, TypeError) as fault:
+                    yield stage.__name__, f"stopped by {fault!r}"
+                print(f"{stage.__name__}: {time.monotonic() - begin:.1f} s", flush=True)
+            for name, desk in [("Ann", ann), ("Ben", ben)]:
+                yield f"the console of {name}", difference(desk.tab.faults, [])
+        async for case in demo():
+            yield case
+    finally:
+        if gateway is not None:
+            gateway.close()
+        server.kill()
+
+
+async def main():
+    subprocess.run([str(PROGRAM), "script"], stdin=subprocess.DEVNULL, check=True)  # builds it where it is not built
+    passed = failed = 0
+    with tempfile.TemporaryDirectory() as folder:
+        async for name, fault in stages(folder):
+            passed += fault is None
+            failed += fault is not None
+            if fault is not None:
+                print(f"{name}: {fault}", flush=True)
+    print(f"{passed} passed, {failed} failed")
+    return 1 if failed else 0
+
+
+if __name__ == "__main__":
+    sys.exit(asyncio.run(main()))
