@@ -9,9 +9,9 @@ use std::alloc::Global;
 use std::io::Read;
 
 /// The most bytes of a saved document that is opened.
-const MOST_BYTES: u64 = 67_108_864;
+const MOST_BYTES: u64 = 134_217_728;
 
-/// The document of a saved text of at most 67,108,864 bytes; a longer one is refused as 60, and is not read to its end.
+/// The document of a saved text of at most 134,217,728 bytes; a longer one is refused as 60, and is not read to its end.
 pub fn read_document<R: Read + Drop>(alloc: Global, file: R) -> Result<Document, Fault> {
     let text = text_of(alloc, file)?;
     Ok(import(alloc, &text)?)
@@ -19,7 +19,7 @@ pub fn read_document<R: Read + Drop>(alloc: Global, file: R) -> Result<Document,
 
 // The bytes of a file, where they are not too many.
 fn text_of<R: Read + Drop>(alloc: Global, file: R) -> Result<Vec<u8>, Fault>
-    ensures { IfOk result (λ text. vec_len text ≤ 67108864) }
+    ensures { IfOk result (λ text. vec_len text ≤ 134217728) }
 {
     let mut text = Vec::new(alloc);
     file.take(MOST_BYTES + 1).read_to_end(&mut text)?;
