@@ -1,7 +1,8 @@
 -- Which responses a board may give to a list of requests.
-use Rattle.std.specs.Prelude.{◌≡◌, ℕ, ℤ, pos, ◌*ℤ◌, Bool, true, false, ◌⊎◌, List, [], ◌∷◌, Result, Ok, Err}
+use Rattle.std.specs.Prelude.{◌≡◌, ℕ, ℤ, pos, ◌*ℤ◌, ◌⊎◌, List, [], ◌∷◌, Option, None, Some, Result, Ok, Err}
 use Rattle.canvas_plane.specs.declared.windows.Window.{Window}
-use Rattle.canvas_plane.specs.Sides.{is_window}
+use Rattle.canvas_plane.specs.declared.windows.WindowFault.{WindowFault}
+use Rattle.canvas_plane.specs.Limits.{window_fault, window_fault_code}
 use Rattle.canvas_plane.specs.Window.{IsWindowAt}
 use Rattle.canvas_wire.specs.declared.request.Request.{Request}
 use Rattle.canvas_wire.specs.declared.request.Request.TheVariants.{Edit, Tile, Patch, Point, Export}
@@ -23,16 +24,20 @@ pub record Shows (workers : ℕ) (s : Seen) (window : Window) (a : Response) (t 
   pub step : Paints s window workers result t
   pub answer : a ≡ picture_response result
 
--- the picture of a window that may be none
-abbrev pub ShowsIf : Bool → ℕ → Seen → ℤ → ℤ → ℕ → ℕ → Response → Seen → Type 0
-ShowsIf true workers s x y w h a t = (window : Window) × IsWindowAt x y w h window × Shows workers s window a t
-ShowsIf false workers s x y w h a t = (a ≡ bare (refused 30)) × (t ≡ s)
+-- the picture of a window, or why there is no such window
+abbrev pub ShowsUnless : Option WindowFault → ℕ → Seen → ℕ → ℤ → ℤ → ℕ → ℕ → Response → Seen → Type 0
+ShowsUnless None workers s level x y w h a t = (window : Window) × IsWindowAt level x y w h window × Shows workers s window a t
+ShowsUnless (Some fault) workers s level x y w h a t = (a ≡ bare (refused (window_fault_code fault))) × (t ≡ s)
+
+-- the picture of the window of this level, place and sides, if it is one
+abbrev pub ShowsAt : ℕ → Seen → ℕ → ℤ → ℤ → ℕ → ℕ → Response → Seen → Type 0
+ShowsAt workers s level x y w h a t = ShowsUnless (window_fault level x y w h) workers s level x y w h a t
 
 -- what one request, or the fault of its line, is answered with, and what board it leaves
 abbrev pub Step : ℕ → Seen → Result Request WireFault → Response → Seen → Type 0
 Step workers s (Ok (Edit edit)) a t = (result : Result Edited BoardFault) × Edits s edit result t × (a ≡ edit_response result)
-Step workers s (Ok (Tile col row)) a t = ShowsIf (is_window (pos 256 *ℤ col) (pos 256 *ℤ row) 256 256) workers s (pos 256 *ℤ col) (pos 256 *ℤ row) 256 256 a t
-Step workers s (Ok (Patch x y w h)) a t = ShowsIf (is_window x y w h) workers s x y w h a t
+Step workers s (Ok (Tile level col row)) a t = ShowsAt workers s level (pos 256 *ℤ col) (pos 256 *ℤ row) 256 256 a t
+Step workers s (Ok (Patch level x y w h)) a t = ShowsAt workers s level x y w h a t
 Step workers s (Ok (Point x y)) a t = (result : Result Dot BoardFault) × Looks s x y result t × (a ≡ point_response result)
 Step workers s (Ok Export) a t = (result : Result Saved BoardFault) × Saves s result t × (a ≡ saved_response result)
 Step workers s (Err fault) a t = (a ≡ bare (refused (fault_code fault))) × (t ≡ s)

@@ -3,8 +3,7 @@ ghost use Rattle.std.specs.Prelude.{◌≡◌, Ok, pos, ◌*ℤ◌};
 ghost use Rattle.canvas_wire.specs.Replies.{IsNamed, refused, said};
 ghost use Rattle.canvas_wire.specs.Requests.{request_of};
 ghost use Rattle.canvas_session.specs.Response.{bare, edit_response, fault_response, made, picture_response, point_response, saved_response};
-ghost use Rattle.canvas_session.specs.Transcript.{Answers, Shows, ShowsIf, Step};
-ghost use Rattle.canvas_plane.specs.Sides.{is_window};
+ghost use Rattle.canvas_session.specs.Transcript.{Answers, Shows, ShowsAt, Step};
 
 use crate::answer::Answer;
 use canvas_board::{Board, BoardFault, Dot, Edited, Picture, Saved};
@@ -48,8 +47,12 @@ fn answer_request<B: Board, H: Threads + Wait + Sync>(
             let result = board.edit(rt, edit);
             edit_answer(alloc, &result)
         }
-        Request::Tile { col, row } => answer_tile(rt, alloc, board, workers, *col, *row),
-        Request::Patch { x, y, w, h } => { answer_patch(rt, alloc, board, workers, *x, *y, *w, *h) }
+        Request::Tile { level, col, row } => {
+            answer_tile(rt, alloc, board, workers, *level, *col, *row)
+        }
+        Request::Patch { level, x, y, w, h } => {
+            answer_patch(rt, alloc, board, workers, *level, *x, *y, *w, *h)
+        }
         Request::Point { x, y } => {
             let result = board.point(*x, *y);
             point_answer(alloc, &result)
@@ -61,39 +64,39 @@ fn answer_request<B: Board, H: Threads + Wait + Sync>(
     }
 }
 
-// The answer to the wish for a tile.
+// The answer to the wish for a tile of a level.
 fn answer_tile<B: Board, H: Threads + Wait + Sync>(
     rt: &H,
     alloc: Global,
     board: &mut B,
     workers: u32,
+    level: u8,
     col: i32,
     row: i32,
 ) -> Answer
-    ensures { ShowsIf (is_window (pos 256 *ℤ col) (pos 256 *ℤ row) 256 256) workers (B.seen board.old)
-        (pos 256 *ℤ col) (pos 256 *ℤ row) 256 256 result (B.seen board.new) }
+    ensures { ShowsAt workers (B.seen board.old) level (pos 256 *ℤ col) (pos 256 *ℤ row) 256 256 result (B.seen board.new) }
 {
-    match Window::tile(col, row) {
+    match Window::tile_at(level, col, row) {
         Ok(window) => answer_window(rt, alloc, board, workers, &window),
         Err(fault) => Answer::bare(alloc, refusal(fault.code())),
     }
 }
 
-// The answer to the wish for a window.
+// The answer to the wish for a window of a level.
 fn answer_patch<B: Board, H: Threads + Wait + Sync>(
     rt: &H,
     alloc: Global,
     board: &mut B,
     workers: u32,
+    level: u8,
     x: i32,
     y: i32,
     w: u32,
     h: u32,
 ) -> Answer
-    ensures { ShowsIf (is_window x y w h) workers (B.seen board.old)
-        x y w h result (B.seen board.new) }
+    ensures { ShowsAt workers (B.seen board.old) level x y w h result (B.seen board.new) }
 {
-    match Window::new(x, y, w, h) {
+    match Window::at_level(level, x, y, w, h) {
         Ok(window) => answer_window(rt, alloc, board, workers, &window),
         Err(fault) => Answer::bare(alloc, refusal(fault.code())),
     }
