@@ -436,6 +436,32 @@ async def panned(ann, server):
     await ann.look_at(1, (128, 128))
 
 
+async def layers(ann, server):
+    """The layers panel by the mouse: a row that is pressed while others edit, its eye, and what it holds."""
+    await ann.tab.value("document.getElementById('layers').scrollTop = 0, app.editor.select(null)")
+    front = server.order()[0]
+    x, y, w, h = await ann.tab.box_of(f"#layer-{front} .name")
+    await ann.tab.pointer("mouseMoved", x + 9, y + 9, held=False)
+    await ann.tab.pointer("mousePressed", x + 9, y + 9, clickCount=1)
+    changed, _ = server.ask(verb="respace", parent=None)
+    await ann.settle(changed["version"])
+    await ann.tab.pointer("mouseReleased", x + 9, y + 9, clickCount=1)
+    yield "a row that is pressed while others edit", difference(await ann.selected(), front)
+    for is_hidden in (True, False):
+        x, y, w, h = await ann.tab.box_of(f"#layer-{front} .eye")
+        await ann.tab.click(x + w / 2, y + h / 2)
+        await ann.tab.until(f"app.picture.tree.record({front}).hidden === {json.dumps(is_hidden)}")
+        yield f"its eye, hidden is {is_hidden}", difference(server.records()[front]["hidden"], is_hidden)
+    poster = next(number for number, record in server.records().items() if record["shape"]["kind"] == "frame" and server.order(number))
+    count = "app.picture.tree.rows(new Set()).length, parseInt(document.getElementById('rows').style.height)"
+    all_rows = await ann.tab.value(count)
+    await ann.tab.value(f"app.editor.select({poster}), document.getElementById('layers').focus()")
+    await ann.press("ArrowLeft")
+    yield "a container is closed", None if await ann.tab.value(count) < all_rows else "it shows as many rows"
+    await ann.press("ArrowRight")
+    yield "and open again", difference(await ann.tab.value(count), all_rows)
+
+
 async def refused(ann, server):
     """A refusal is told in words, with its name; nothing is changed."""
     before = server.records()
@@ -643,7 +669,7 @@ async def stages(folder):
             ben = await Desk.open(browser, gateway, server)
             for stage in (first_view(ann, ben, server), drawn(ann, ben, server), changed(ann, ben, server), seen_soon(ann, ben),
                           in_turned_frame(ann, server), both_formats(ann, server), zoomed(ann, server), panned(ann, server),
-                          refused(ann, server), without_a_mouse(ann, server), readable(ann), sent_once(ann, server, gateway),
+                          layers(ann, server), refused(ann, server), without_a_mouse(ann, server), readable(ann), sent_once(ann, server, gateway),
                           one_version(ann, server), away(ann, ben, server), no_seat(browser, gateway, server)):
                 begin = time.monotonic()
                 try:
