@@ -3,7 +3,7 @@
 use canvas_code::name_of;
 
 // Each code with its name, written from the format's own table.
-static NAMES: [(u16, &str); 46] = [
+static NAMES: [(u16, &str); 47] = [
     (1, "OutOfMemory"),
     (2, "NoSuchShape"),
     (3, "NoSuchParent"),
@@ -33,6 +33,7 @@ static NAMES: [(u16, &str); 46] = [
     (31, "BadWorkers"),
     (32, "BadSetting"),
     (33, "NoView"),
+    (34, "BadLevel"),
     (40, "NotP6"),
     (41, "BadHeader"),
     (42, "Truncated"),
