@@ -216,11 +216,19 @@ fn some_width(dice: &mut Dice) -> u32
     }
 }
 
+// How far the edge of a window of 256 pixels may lie from the origin, where its pixels lie so far apart.
+fn far_edge(apart: i64) -> i64
+    requires { pos 0 <ℤ apart }
+    ensures { (pos 0 ≤ℤ result) × (result ≤ℤ pos 2097152) }
+{
+    ((1 << 21) / apart).saturating_sub(256).clamp(0, 1 << 21)
+}
+
 // An edge of a window of a level whose pixels lie so far apart, mostly near one of two page pixels.
 fn some_edge(dice: &mut Dice, apart: i64, low: i64, high: i64) -> i32
     requires { pos 0 <ℤ apart }
 {
-    let most = (1 << 21) / apart - 256;
+    let most = far_edge(apart);
     let at = match dice.below(4) {
         0 => low / apart,
         1 => high / apart,
