@@ -202,28 +202,43 @@ fn spots_name_siblings(rt: HostRuntime) -> Result<(), Fail> {
     Ok(())
 }
 
+// Three rectangles on the page, the second and the third with indexes close to one another.
+fn crowded_page(alloc: Global) -> Result<Document, Fail> {
+    let mut records = Vec::new(alloc);
+    for (id, index, kind) in [
+        (1, b"b00".as_slice(), rectangle(1, 1, RED)),
+        (2, b"a0V".as_slice(), rectangle(3, 1, BLUE)),
+        (3, b"a0l".as_slice(), rectangle(2, 1, GREEN)),
+    ] {
+        records.push(record(id, Parent::Page, Key::read(index)?, kind))?;
+    }
+    Ok(restored(alloc, records, 6)?)
+}
+
+fn respace(parent: Parent) -> Edit {
+    Edit::Respace { parent }
+}
+
 #[test]
 fn respaced_children_keep_their_order(rt: HostRuntime) -> Result<(), Fail> {
     let alloc = rt.alloc();
-    let mut records = Vec::new(alloc);
-    records.push(record(1, Parent::Page, Key::read(b"b00")?, rectangle(1, 1, RED)))?;
-    records.push(record(2, Parent::Page, Key::read(b"a0V")?, rectangle(3, 1, BLUE)))?;
-    records.push(record(3, Parent::Page, Key::read(b"a0l")?, rectangle(2, 1, GREEN)))?;
-    let document = restored(alloc, records, 6)?;
+    let document = crowded_page(alloc)?;
     assert!(rt; looks_like(&document, 0, 0, &["rgb."]));
-    let page = Edit::Respace {
-        parent: Parent::Page,
-    };
-    let spaced = edited(alloc, &document, &page)?;
+    let spaced = edited(alloc, &document, &respace(Parent::Page))?;
     for (id, index) in [(2, b"a0"), (3, b"a1"), (1, b"a2")] {
         assert!(rt; index_of(&spaced, id) == index.as_slice(), "shape {id}");
     }
     assert!(rt; looks_like(&spaced, 0, 0, &["rgb."]));
-    let with_group = edited(alloc, &spaced, &group(Spot::Front))?;
-    let childless = Edit::Respace {
-        parent: Parent::Shape(6),
-    };
-    assert!(rt; edited(alloc, &with_group, &childless)?.get(6) == with_group.get(6));
+    Ok(())
+}
+
+#[test]
+fn a_group_without_children_is_respaced(rt: HostRuntime) -> Result<(), Fail> {
+    let alloc = rt.alloc();
+    let document = crowded_page(alloc)?;
+    let with_group = edited(alloc, &document, &group(Spot::Front))?;
+    let spaced = edited(alloc, &with_group, &respace(Parent::Shape(6)))?;
+    assert!(rt; spaced.get(6) == with_group.get(6));
     Ok(())
 }
 

@@ -165,7 +165,7 @@ impl Plain {
         if self.path(alloc, parent)?.len() >= 32 {
             return Err(Refusal::TooDeep);
         }
-        if self.records.len() >= 4096 {
+        if self.records.len() >= 16_384 {
             return Err(Refusal::TooMany);
         }
         if self.next == 4_294_967_295 {

@@ -1,7 +1,7 @@
 //! Lists of records that are documents, and the positions of the faults of others.
 
 use canvas_code::OutOfMemory;
-use canvas_doc::{Document, Edit, Parent, Place, Record, Refusal, Spot, TreeFault};
+use canvas_doc::{Document, Edit, MOST_RECORDS, Parent, Place, Record, Refusal, Spot, TreeFault};
 use canvas_key::fresh;
 use canvas_plane::{Point, Pose};
 use canvas_shape::{Colour, Kind, Points};
@@ -54,7 +54,7 @@ fn records(alloc: Global, rows: &[Row]) -> Result<Vec<Record>, OutOfMemory> {
 
 // `restore`, where its conditions hold.
 fn restored(alloc: Global, records: Vec<Record>, next: u32) -> Result<Document, TreeFault> {
-    if next == 0 || records.len() > 4096 {
+    if next == 0 || records.len() > MOST_RECORDS {
         return Err(TreeFault::OutOfMemory);
     }
     Document::restore(alloc, records, next)
@@ -82,11 +82,11 @@ fn chain(alloc: Global, levels: u32) -> Result<Vec<Row>, OutOfMemory> {
     Ok(rows)
 }
 
-// Groups on the page with the ids 1 to `count`, the k-th from 0 with the k-th fresh index.
-fn row_of_groups(alloc: Global, count: u32) -> Result<Vec<Record>, OutOfMemory> {
+// Groups on the page with the ids 1 to `count`, the k-th from 0 with the `step * k`-th fresh index.
+fn row_of_groups(alloc: Global, count: u32, step: u32) -> Result<Vec<Record>, OutOfMemory> {
     let mut records = Vec::new(alloc);
     for rank in 0..count {
-        records.push(record(&(rank + 1, 0, rank, GROUP)))?;
+        records.push(record(&(rank + 1, 0, rank.wrapping_mul(step), GROUP)))?;
     }
     Ok(records)
 }
@@ -296,25 +296,55 @@ fn any_order_is_restored_in_rising_id(rt: HostRuntime) -> Result<(), Fail> {
     Ok(())
 }
 
-#[test]
-fn as_many_as_may_be(rt: HostRuntime) -> Result<(), Fail> {
-    let alloc = rt.alloc();
-    let list = row_of_groups(alloc, 4096)?;
-    let full = restored(alloc, list, 4097)?;
-    assert_eq!(rt; full.count(), 4096);
-    assert_eq!(rt; full.records_in_order(alloc)?.len(), 4096);
-    let create = Edit::Create {
+// A document with as many groups on the page as may be.
+fn full_page(alloc: Global, step: u32) -> Result<Document, TreeFault> {
+    let list = row_of_groups(alloc, 16_384, step)?;
+    restored(alloc, list, 16_385)
+}
+
+fn new_group() -> Edit {
+    Edit::Create {
         kind: Kind::Group,
         pose: Pose::STILL,
         hidden: false,
         parent: Parent::Page,
         spot: Spot::Front,
-    };
-    assert!(rt; full.decide(alloc, &create).err() == Some(Refusal::TooMany));
+    }
+}
+
+#[test]
+fn as_many_as_may_be(rt: HostRuntime) -> Result<(), Fail> {
+    let alloc = rt.alloc();
+    let full = full_page(alloc, 1)?;
+    assert_eq!(rt; full.count(), 16_384);
+    assert_eq!(rt; full.records_in_order(alloc)?.len(), 16_384);
+    assert!(rt; full.decide(alloc, &new_group()).err() == Some(Refusal::TooMany));
+    Ok(())
+}
+
+#[test]
+fn room_for_one_after_a_deletion(rt: HostRuntime) -> Result<(), Fail> {
+    let alloc = rt.alloc();
+    let full = full_page(alloc, 1)?;
     let less = full.with(alloc, &full.decide(alloc, &Edit::Delete { id: 1 })?)?;
-    let again = less.with(alloc, &less.decide(alloc, &create)?)?;
-    assert_eq!(rt; again.count(), 4096);
-    assert!(rt; again.get(4097).is_some());
+    let again = less.with(alloc, &less.decide(alloc, &new_group())?)?;
+    assert_eq!(rt; again.count(), 16_384);
+    assert!(rt; again.get(16_385).is_some());
     assert!(rt; again.get(1).is_none());
+    Ok(())
+}
+
+#[test]
+fn a_full_page_is_respaced(rt: HostRuntime) -> Result<(), Fail> {
+    let alloc = rt.alloc();
+    let full = full_page(alloc, 3)?;
+    let page = Edit::Respace {
+        parent: Parent::Page,
+    };
+    let spaced = full.with(alloc, &full.decide(alloc, &page)?)?;
+    let back = spaced.get(1).ok_or("the first")?;
+    assert!(rt; back.place.index.bytes() == b"a0".as_slice());
+    let front = spaced.get(16_384).ok_or("the last")?;
+    assert!(rt; front.place.index.bytes() == b"c3FF".as_slice());
     Ok(())
 }

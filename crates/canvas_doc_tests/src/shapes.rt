@@ -1,7 +1,7 @@
 //! Kinds, records, edits and documents for tests.
 
 use canvas_code::OutOfMemory;
-use canvas_doc::{Document, Edit, Parent, Place, Record, Refusal, Spot, TreeFault};
+use canvas_doc::{Document, Edit, MOST_RECORDS, Parent, Place, Record, Refusal, Spot, TreeFault};
 use canvas_key::{Key, KeyFault};
 use canvas_plane::{Point, Pose};
 use canvas_shape::{Colour, Kind, Points};
@@ -80,7 +80,7 @@ pub(crate) fn restored(
     records: Vec<Record>,
     next: u32,
 ) -> Result<Document, TreeFault> {
-    if next == 0 || records.len() > 4096 {
+    if next == 0 || records.len() > MOST_RECORDS {
         return Err(TreeFault::OutOfMemory);
     }
     Document::restore(alloc, records, next)

@@ -2,7 +2,7 @@
 
 use canvas_board::{Alone, Board, BoardFault};
 use canvas_code::OutOfMemory;
-use canvas_doc::{Document, Edit, Parent, Place, Record, Refusal, Spot};
+use canvas_doc::{Document, Edit, MOST_RECORDS, Parent, Place, Record, Refusal, Spot};
 use canvas_key::{Key, KeyFault, fresh};
 use canvas_plane::{Pose, Window};
 use canvas_shape::{Colour, Kind, Points};
@@ -136,10 +136,10 @@ fn refused_edits_change_nothing(rt: HostRuntime) -> Result<(), Fail> {
     Ok(())
 }
 
-// 4,096 groups on the page.
+// As many groups on the page as may be.
 fn crowd(alloc: Global) -> Result<Vec<Record>, OutOfMemory> {
     let mut records = Vec::new(alloc);
-    for rank in 0..4096u32 {
+    for rank in 0..16_384u32 {
         records.push(Record {
             id: rank + 1,
             kind: Kind::Group,
@@ -159,10 +159,10 @@ fn full_documents_are_kept(rt: HostRuntime) -> Result<(), Fail> {
     let alloc = rt.alloc();
     let edit = create(Kind::Group, Parent::Page, Spot::Front);
     let records = crowd(alloc)?;
-    if records.len() > 4096 {
+    if records.len() > MOST_RECORDS {
         return Err(Fail::from("too many records"));
     }
-    let full = Document::restore(alloc, records, 4097)?;
+    let full = Document::restore(alloc, records, 16_385)?;
     let mut board = Alone::new(alloc, full, 1)?;
     let fault = BoardFault::Refused(Refusal::TooMany);
     assert!(rt; is_kept(&rt, &mut board, &edit, fault)?);

@@ -214,10 +214,10 @@ fn lines_on_one_rectangle(rt: HostRuntime) -> Result<(), Fail> {
     session.edits(r#"{"verb":"move","id":1,"parent":null,"spot":"front"}"#, 3)?;
     session.line(
         r#"{"verb":"export"}"#,
-        r#"{"body":183,"ok":true,"version":3}"#,
+        r#"{"body":193,"ok":true,"version":3}"#,
     )?;
     session.answers.extend_from_slice(
-        br#"{"format":1,"next":2,"shapes":[{"hidden":false,"id":1,"index":"a0","parent":null,"pose":{"dx":0,"dy":0,"flip":false,"quarter":0},"shape":{"fill":"ff0000","h":1,"kind":"rect","w":2}}]}"#,
+        br#"{"format":2,"next":2,"shapes":[{"hidden":false,"id":1,"place":{"index":"a0","parent":null},"pose":{"dx":0,"dy":0,"flip":false,"quarter":0},"shape":{"fill":"ff0000","h":1,"kind":"rect","w":2}}]}"#,
     )?;
     session.check(&rt)
 }

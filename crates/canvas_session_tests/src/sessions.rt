@@ -198,7 +198,7 @@ fn the_document_is_exported(rt: HostRuntime) -> Result<(), Fail> {
         &rt,
         rt.alloc(),
         b"{\"verb\":\"export\"}\n",
-        b"{\"body\":33,\"ok\":true,\"version\":0}\n{\"format\":1,\"next\":1,\"shapes\":[]}",
+        b"{\"body\":33,\"ok\":true,\"version\":0}\n{\"format\":2,\"next\":1,\"shapes\":[]}",
         1,
     )
 }

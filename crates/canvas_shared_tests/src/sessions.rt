@@ -28,7 +28,7 @@ const REQUESTS: &[u8] = br#"{"verb":"create","shape":{"kind":"rect","w":10,"h":1
 const HEADER: &[u8] = b"P6\n16 1\n255\n";
 
 const SAVED: &[u8] =
-    br#"{"format":1,"next":3,"shapes":[{"hidden":false,"id":1,"index":"a0","parent":null,"pose":{"dx":100,"dy":0,"flip":false,"quarter":0},"shape":{"fill":"ff0000","h":10,"kind":"rect","w":10}},{"hidden":false,"id":2,"index":"a1","parent":null,"pose":{"dx":500,"dy":0,"flip":false,"quarter":0},"shape":{"fill":"ff0000","h":1,"kind":"rect","w":1}}]}"#;
+    br#"{"format":2,"next":3,"shapes":[{"hidden":false,"id":1,"place":{"index":"a0","parent":null},"pose":{"dx":100,"dy":0,"flip":false,"quarter":0},"shape":{"fill":"ff0000","h":10,"kind":"rect","w":10}},{"hidden":false,"id":2,"place":{"index":"a1","parent":null},"pose":{"dx":500,"dy":0,"flip":false,"quarter":0},"shape":{"fill":"ff0000","h":1,"kind":"rect","w":1}}]}"#;
 
 /// The bytes of all answers.
 fn answers(alloc: Global) -> Result<Vec<u8>, AllocError> {
@@ -51,7 +51,7 @@ fn answers(alloc: Global) -> Result<Vec<u8>, AllocError> {
     out.extend_from_slice([255; 48].as_slice())?;
     out.extend_from_slice(b"{\"body\":0,\"colour\":\"ffffff\",\"ok\":true,\"version\":3}\n")?;
     out.extend_from_slice(b"{\"body\":0,\"code\":2,\"name\":\"NoSuchShape\",\"ok\":false}\n")?;
-    out.extend_from_slice(b"{\"body\":340,\"ok\":true,\"version\":3}\n")?;
+    out.extend_from_slice(b"{\"body\":360,\"ok\":true,\"version\":3}\n")?;
     out.extend_from_slice(SAVED)?;
     Ok(out)
 }

@@ -7,7 +7,7 @@ use crate::dice::Dice;
 use crate::table::{Play, Table, play_at};
 use canvas_board::Board;
 use canvas_code::OutOfMemory;
-use canvas_doc::{Document, Edit, Parent, Place, Record, Spot};
+use canvas_doc::{Document, Edit, MOST_RECORDS, Parent, Place, Record, Spot};
 use canvas_key::fresh;
 use canvas_line::Lines;
 use canvas_plane::{Pose, Window};
@@ -216,7 +216,7 @@ impl Play for Elsewhere {
 fn viewers_elsewhere_are_answered_again(rt: HostRuntime) -> Result<(), Fail> {
     let alloc = rt.alloc();
     let records = squares(alloc, 4000)?;
-    if records.len() > 4096 {
+    if records.len() > MOST_RECORDS {
         return Err(Fail::from("too many records"));
     }
     let Ok(document) = Document::restore(alloc, records, 4001) else {

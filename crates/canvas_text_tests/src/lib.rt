@@ -4,6 +4,10 @@
 #[cfg(test)]
 mod memory;
 #[cfg(test)]
+mod refused;
+#[cfg(test)]
 mod requests;
 #[cfg(test)]
 mod saved;
+#[cfg(test)]
+mod texts;

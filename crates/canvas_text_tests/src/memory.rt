@@ -11,10 +11,13 @@ use std::alloc::Global;
 use std::test::Fail;
 
 const TWO: &[u8] =
+    br#"{"format":2,"next":3,"shapes":[{"hidden":false,"id":1,"place":{"index":"a0","parent":null},"pose":{"dx":0,"dy":0,"flip":false,"quarter":0},"shape":{"fill":"ff0000","h":1,"kind":"rect","w":2}},{"hidden":false,"id":2,"place":{"index":"a1","parent":null},"pose":{"dx":0,"dy":0,"flip":false,"quarter":0},"shape":{"fill":"0000ff","h":1,"kind":"rect","w":2}}]}"#;
+
+const OLDER_TWO: &[u8] =
     br#"{"format":1,"next":3,"shapes":[{"hidden":false,"id":1,"index":"a0","parent":null,"pose":{"dx":0,"dy":0,"flip":false,"quarter":0},"shape":{"fill":"ff0000","h":1,"kind":"rect","w":2}},{"hidden":false,"id":2,"index":"a1","parent":null,"pose":{"dx":0,"dy":0,"flip":false,"quarter":0},"shape":{"fill":"0000ff","h":1,"kind":"rect","w":2}}]}"#;
 
 const NO_KEY: &[u8] =
-    br#"{"format":1,"next":3,"shapes":[{"hidden":false,"id":1,"index":"a00","parent":null,"pose":{"dx":0,"dy":0,"flip":false,"quarter":0},"shape":{"kind":"group"}}]}"#;
+    br#"{"format":2,"next":3,"shapes":[{"hidden":false,"id":1,"place":{"index":"a00","parent":null},"pose":{"dx":0,"dy":0,"flip":false,"quarter":0},"shape":{"kind":"group"}}]}"#;
 
 const TRIANGLE: &[u8] =
     br#"{"verb":"create","shape":{"kind":"polygon","points":[[0,0],[4,0],[0,4]],"fill":"010203"}}"#;
@@ -86,6 +89,8 @@ fn opened_with_little_memory(rt: HostRuntime) -> Result<(), Fail> {
     let alloc = rt.alloc();
     let first = opens(alloc, TWO);
     assert!(rt; are_right(first, opens(alloc, TWO)));
+    let first = opens(alloc, OLDER_TWO);
+    assert!(rt; are_right(first, opens(alloc, OLDER_TWO)));
     let first = is_refused(alloc, NO_KEY);
     assert!(rt; are_right(first, is_refused(alloc, NO_KEY)));
     Ok(())

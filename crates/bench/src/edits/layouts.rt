@@ -1,7 +1,7 @@
 //! Documents to be edited.
 
 use canvas_code::OutOfMemory;
-use canvas_doc::{Document, Parent, Place, Record, TreeFault};
+use canvas_doc::{Document, MOST_RECORDS, Parent, Place, Record, TreeFault};
 use canvas_key::fresh;
 use canvas_plane::{Point, Pose};
 use canvas_shape::{Colour, Kind, Points};
@@ -101,7 +101,7 @@ pub fn records(alloc: Global, layout: Layout, count: u32) -> Result<Vec<Record>,
             kind,
             place: Place {
                 parent,
-                index: fresh(id.wrapping_mul(1_597) % 4096 * 2),
+                index: fresh(id.wrapping_mul(1_597) % 16_384 * 2),
             },
             pose: Pose::STILL,
             hidden: false,
@@ -112,8 +112,8 @@ pub fn records(alloc: Global, layout: Layout, count: u32) -> Result<Vec<Record>,
 
 /// The document of records, where the conditions of `restore` hold.
 pub fn restored(alloc: Global, records: Vec<Record>) -> Result<Document, TreeFault> {
-    if records.len() > 4096 {
+    if records.len() > MOST_RECORDS {
         return Err(TreeFault::OutOfMemory);
     }
-    Document::restore(alloc, records, 5_000)
+    Document::restore(alloc, records, 20_000)
 }

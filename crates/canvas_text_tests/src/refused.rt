@@ -1,0 +1,357 @@
+//! Each cause for which a saved text is refused, with its position.
+use crate::texts::{GROUP, POSE, assert_told, document, place, record, told};
+use canvas_code::OutOfMemory;
+use std::alloc::Global;
+use std::process::Abort;
+use std::test::Fail;
+
+// A document of a format with these records is told so.
+fn assert_records(
+    rt: &impl Abort,
+    alloc: Global,
+    format: u32,
+    records: &str,
+    wanted: &str,
+) -> Result<(), OutOfMemory> {
+    let text = document(alloc, format, 9, records)?;
+    let found = told(alloc, text.as_bytes())?;
+    assert_eq!(rt; found.as_str(), wanted, "at {records}");
+    Ok(())
+}
+
+#[test]
+fn no_json(rt: HostRuntime) -> Result<(), Fail> {
+    let alloc = rt.alloc();
+    assert_told(
+        &rt,
+        alloc,
+        &[
+            ("", "50"),
+            ("{", "50"),
+            (r#"{"format":2,"next":1,"shapes":[]}x"#, "50"),
+            (r#"{"format":1,"next":1e999,"shapes":[]}"#, "50"),
+            (r#"{"format":2,"next":1,"shapes":[],}"#, "50"),
+        ],
+    )?;
+    let bad = told(alloc, b"\"\xff\"")?;
+    assert_eq!(rt; bad.as_str(), "50");
+    Ok(())
+}
+
+#[test]
+fn no_object_of_three_members(rt: HostRuntime) -> Result<(), Fail> {
+    assert_told(
+        &rt,
+        rt.alloc(),
+        &[
+            ("7", "60"),
+            ("[]", "60"),
+            ("{}", "60"),
+            ("null", "60"),
+            (r#"{"next":1,"shapes":[]}"#, "60"),
+            (r#"{"format":1,"shapes":[]}"#, "60"),
+            (r#"{"format":2,"shapes":[]}"#, "60"),
+            (r#"{"format":2,"next":1}"#, "60"),
+            (r#"{"format":1,"name":1,"next":1,"shapes":[]}"#, "60"),
+            (r#"{"format":2,"name":1,"next":1,"shapes":[]}"#, "60"),
+        ],
+    )?;
+    Ok(())
+}
+
+#[test]
+fn no_format(rt: HostRuntime) -> Result<(), Fail> {
+    assert_told(
+        &rt,
+        rt.alloc(),
+        &[
+            (r#"{"format":0,"next":1,"shapes":[]}"#, "60"),
+            (r#"{"format":3,"next":1,"shapes":[]}"#, "60"),
+            (r#"{"format":-1,"next":1,"shapes":[]}"#, "60"),
+            (r#"{"format":4294967297,"next":1,"shapes":[]}"#, "60"),
+            (r#"{"format":1.0,"next":1,"shapes":[]}"#, "60"),
+            (r#"{"format":2.0,"next":1,"shapes":[]}"#, "60"),
+            (r#"{"format":"2","next":1,"shapes":[]}"#, "60"),
+            (r#"{"format":null,"next":1,"shapes":[]}"#, "60"),
+        ],
+    )?;
+    Ok(())
+}
+
+#[test]
+fn no_next_id_or_list(rt: HostRuntime) -> Result<(), Fail> {
+    assert_told(
+        &rt,
+        rt.alloc(),
+        &[
+            (r#"{"format":1,"next":0,"shapes":[]}"#, "60"),
+            (r#"{"format":2,"next":0,"shapes":[]}"#, "60"),
+            (r#"{"format":2,"next":-1,"shapes":[]}"#, "60"),
+            (r#"{"format":2,"next":1.5,"shapes":[]}"#, "60"),
+            (r#"{"format":2,"next":4294967296,"shapes":[]}"#, "60"),
+            (r#"{"format":2,"next":null,"shapes":[]}"#, "60"),
+            (r#"{"format":1,"next":1,"shapes":{}}"#, "60"),
+            (r#"{"format":2,"next":1,"shapes":null}"#, "60"),
+            // Before the elements are read.
+            (r#"{"format":2,"next":0,"shapes":[7]}"#, "60"),
+        ],
+    )?;
+    Ok(())
+}
+
+// A record of each format with these members before its place, this index and this parent is told so.
+fn assert_members(
+    rt: &impl Abort,
+    alloc: Global,
+    members: &str,
+    index: &str,
+    parent: &str,
+    wanted: &str,
+) -> Result<(), OutOfMemory> {
+    for format in [1, 2] {
+        let place = place(alloc, format, index, parent)?;
+        let text = format!(in alloc; "{{{members},{place},\"pose\":{POSE},\"shape\":{GROUP}}}")?;
+        assert_records(rt, alloc, format, text.as_str(), wanted)?;
+    }
+    Ok(())
+}
+
+#[test]
+fn no_record(rt: HostRuntime) -> Result<(), Fail> {
+    let one = r#""hidden":false,"id":1"#;
+    for (members, index, parent, wanted) in [
+        (r#""id":1"#, r#""a0""#, "null", "61 at 0"),
+        (r#""hidden":0,"id":1"#, r#""a0""#, "null", "61 at 0"),
+        (
+            r#""hidden":false,"id":1,"name":"x""#,
+            r#""a0""#,
+            "null",
+            "61 at 0",
+        ),
+        (r#""hidden":false,"id":0"#, r#""a0""#, "null", "61 at 0"),
+        (r#""hidden":false,"id":9"#, r#""a0""#, "null", "61 at 0"),
+        (r#""hidden":false,"id":1.0"#, r#""a0""#, "null", "61 at 0"),
+        (one, r#""""#, "null", "61 at 0"),
+        (one, r#""a00""#, "null", "61 at 0"),
+        (one, "7", "null", "61 at 0"),
+        (one, r#""a0""#, "-1", "61 at 0"),
+        (one, r#""a0""#, "4294967296", "61 at 0"),
+        (one, r#""a0""#, "4294967295", "62 at 0"),
+    ] {
+        assert_members(&rt, rt.alloc(), members, index, parent, wanted)?;
+    }
+    Ok(())
+}
+
+// A record of a format with these members in the place of its place is none.
+fn assert_no_place(
+    rt: &impl Abort,
+    alloc: Global,
+    format: u32,
+    members: &str,
+) -> Result<(), OutOfMemory> {
+    let text = format!(in alloc;
+        "{{\"hidden\":false,\"id\":1,{members},\"pose\":{POSE},\"shape\":{GROUP}}}"
+    )?;
+    assert_records(rt, alloc, format, text.as_str(), "61 at 0")
+}
+
+#[test]
+fn no_element_of_its_own_format(rt: HostRuntime) -> Result<(), Fail> {
+    let alloc = rt.alloc();
+    for (format, other) in [(1, 2), (2, 1)] {
+        assert_records(&rt, alloc, format, "7", "61 at 0")?;
+        assert_records(&rt, alloc, format, "{}", "61 at 0")?;
+        let text = record(alloc, other, 1, "a0", "null", GROUP)?;
+        assert_records(&rt, alloc, format, text.as_str(), "61 at 0")?;
+    }
+    Ok(())
+}
+
+#[test]
+fn no_place(rt: HostRuntime) -> Result<(), Fail> {
+    for (format, members) in [
+        (1, r#""index":"a0""#),
+        (1, r#""parent":null"#),
+        (
+            1,
+            r#""index":"a0","parent":null,"place":{"index":"a0","parent":null}"#,
+        ),
+        (2, r#""index":"a00""#),
+        (2, r#""place":null"#),
+        (2, r#""place":["a0",null]"#),
+        (2, r#""place":{}"#),
+        (2, r#""place":{"index":"a0"}"#),
+        (2, r#""place":{"parent":null}"#),
+        (2, r#""place":{"index":"a0","name":1,"parent":null}"#),
+        (2, r#""index":"a0","place":{"index":"a0","parent":null}"#),
+        (2, r#""parent":null,"place":{"index":"a0","parent":null}"#),
+    ] {
+        assert_no_place(&rt, rt.alloc(), format, members)?;
+    }
+    Ok(())
+}
+
+// A record of each format with this pose is none.
+fn assert_no_pose(rt: &impl Abort, alloc: Global, pose: &str) -> Result<(), OutOfMemory> {
+    for format in [1, 2] {
+        let place = place(alloc, format, "\"a0\"", "null")?;
+        let text = format!(in alloc;
+            "{{\"hidden\":false,\"id\":1,{place},\"pose\":{pose},\"shape\":{GROUP}}}"
+        )?;
+        assert_records(rt, alloc, format, text.as_str(), "61 at 0")?;
+    }
+    Ok(())
+}
+
+#[test]
+fn no_pose(rt: HostRuntime) -> Result<(), Fail> {
+    for pose in [
+        "null",
+        "{}",
+        r#"{"dx":0,"dy":0,"flip":false}"#,
+        r#"{"dx":0,"dy":0,"flip":0,"quarter":0}"#,
+        r#"{"dx":0,"dy":0,"flip":false,"quarter":0,"scale":1}"#,
+        r#"{"dx":0,"dy":0,"flip":false,"quarter":4}"#,
+        r#"{"dx":0,"dy":0,"flip":false,"quarter":256}"#,
+        r#"{"dx":1048577,"dy":0,"flip":false,"quarter":0}"#,
+        r#"{"dx":0,"dy":-1048577,"flip":false,"quarter":0}"#,
+        r#"{"dx":0,"dy":2147483648,"flip":false,"quarter":0}"#,
+        r#"{"dx":1e3,"dy":0,"flip":false,"quarter":0}"#,
+    ] {
+        assert_no_pose(&rt, rt.alloc(), pose)?;
+    }
+    Ok(())
+}
+
+// A record of each format with this shape is none.
+fn assert_no_shape(rt: &impl Abort, alloc: Global, shape: &str) -> Result<(), OutOfMemory> {
+    for format in [1, 2] {
+        let text = record(alloc, format, 1, "a0", "null", shape)?;
+        assert_records(rt, alloc, format, text.as_str(), "61 at 0")?;
+    }
+    Ok(())
+}
+
+#[test]
+fn no_shape_with_sides(rt: HostRuntime) -> Result<(), Fail> {
+    for shape in [
+        "null",
+        "{}",
+        r#"{"kind":"star"}"#,
+        r#"{"kind":7}"#,
+        r#"{"fill":null,"kind":"group"}"#,
+        r#"{"h":1,"kind":"frame","w":1}"#,
+        r#"{"fill":"red","h":1,"kind":"frame","w":1}"#,
+        r#"{"fill":null,"h":1,"kind":"rect","w":1}"#,
+        r#"{"fill":"00000","h":1,"kind":"rect","w":1}"#,
+        r#"{"fill":"000000","h":0,"kind":"rect","w":1}"#,
+        r#"{"fill":"000000","h":1,"kind":"rect","w":65537}"#,
+        r#"{"fill":"000000","h":-1,"kind":"rect","w":1}"#,
+        r#"{"fill":"000000","kind":"ellipse","w":1}"#,
+        r#"{"fill":"000000","h":1,"kind":"ellipse","points":[],"w":1}"#,
+    ] {
+        assert_no_shape(&rt, rt.alloc(), shape)?;
+    }
+    Ok(())
+}
+
+#[test]
+fn no_polygon(rt: HostRuntime) -> Result<(), Fail> {
+    for shape in [
+        r#"{"fill":"000000","kind":"polygon"}"#,
+        r#"{"fill":"000000","kind":"polygon","points":[[0,0],[1,1]]}"#,
+        r#"{"fill":"000000","kind":"polygon","points":[[0,0],[1,1],[1048577,0]]}"#,
+        r#"{"fill":"000000","kind":"polygon","points":[[0,0],[1,1],[1]]}"#,
+        r#"{"fill":"000000","kind":"polygon","points":[[0,0],[1,1],[1,2,3]]}"#,
+        r#"{"fill":"000000","kind":"polygon","points":[[0,0],[1,1],7]}"#,
+        r#"{"fill":"000000","kind":"polygon","points":{}}"#,
+        r#"{"fill":"000000","h":1,"kind":"polygon","points":[[0,0],[1,1],[0,1]]}"#,
+    ] {
+        assert_no_shape(&rt, rt.alloc(), shape)?;
+    }
+    Ok(())
+}
+
+// A document of these groups of a format, each with its id, index and parent, is told so.
+fn assert_groups(
+    rt: &impl Abort,
+    alloc: Global,
+    format: u32,
+    groups: &[(u32, &str, &str)],
+    wanted: &str,
+) -> Result<(), OutOfMemory> {
+    let mut text = String::new(alloc);
+    for (position, (id, index, parent)) in groups.iter().enumerate() {
+        if position != 0 {
+            text.push_str(",")?;
+        }
+        text.push_str(record(alloc, format, *id, index, parent, GROUP)?.as_str())?;
+    }
+    assert_records(rt, alloc, format, text.as_str(), wanted)
+}
+
+// These groups are no tree in either format.
+fn assert_no_tree(
+    rt: &impl Abort,
+    alloc: Global,
+    groups: &[(u32, &str, &str)],
+    wanted: &str,
+) -> Result<(), OutOfMemory> {
+    assert_groups(rt, alloc, 1, groups, wanted)?;
+    assert_groups(rt, alloc, 2, groups, wanted)
+}
+
+#[test]
+fn no_tree(rt: HostRuntime) -> Result<(), Fail> {
+    let alloc = rt.alloc();
+    // An id twice; of the two, the first counts as the parent.
+    let twice = [(1, "a0", "null"), (2, "a0", "1"), (1, "a1", "2")];
+    assert_no_tree(&rt, alloc, &twice, "62 at 2")?;
+    // No such parent.
+    let lost = [(1, "a0", "null"), (2, "a0", "9")];
+    assert_no_tree(&rt, alloc, &lost, "62 at 1")?;
+    // A shape below itself.
+    assert_no_tree(&rt, alloc, &[(1, "a0", "1")], "62 at 0")?;
+    let round = [(1, "a0", "null"), (2, "a0", "3"), (3, "a0", "2")];
+    assert_no_tree(&rt, alloc, &round, "62 at 1")?;
+    // Two shapes at one place.
+    let crowded = [
+        (1, "a0", "null"),
+        (2, "a1", "null"),
+        (3, "a0", "2"),
+        (4, "a1", "null"),
+    ];
+    assert_no_tree(&rt, alloc, &crowded, "62 at 3")?;
+    Ok(())
+}
+
+#[test]
+fn a_leaf_is_no_parent(rt: HostRuntime) -> Result<(), Fail> {
+    let alloc = rt.alloc();
+    let leaf = r#"{"fill":"000000","h":1,"kind":"rect","w":1}"#;
+    for format in [1, 2] {
+        let above = record(alloc, format, 1, "a0", "null", leaf)?;
+        let below = record(alloc, format, 2, "a0", "1", GROUP)?;
+        let text = format!(in alloc; "{above},{below}")?;
+        assert_records(&rt, alloc, format, text.as_str(), "62 at 1")?;
+    }
+    Ok(())
+}
+
+#[test]
+fn least_position(rt: HostRuntime) -> Result<(), Fail> {
+    let alloc = rt.alloc();
+    let good = record(alloc, 2, 1, "a0", "null", GROUP)?;
+    let lost = record(alloc, 2, 2, "a0", "7", GROUP)?;
+    let zero = record(alloc, 2, 0, "a1", "null", GROUP)?;
+    for (text, wanted) in [
+        // What an element is and what its values are is judged together, before the tree.
+        (format!(in alloc; "{good},{lost},{zero},7")?, "61 at 2"),
+        (format!(in alloc; "{good},{lost},7,{zero}")?, "61 at 2"),
+        (format!(in alloc; "{good},{lost},{good}")?, "62 at 1"),
+    ] {
+        assert_records(&rt, alloc, 2, text.as_str(), wanted)?;
+    }
+    Ok(())
+}
