@@ -222,6 +222,112 @@ fn lines_on_one_rectangle(rt: HostRuntime) -> Result<(), Fail> {
     session.check(&rt)
 }
 
+/// Windows that are refused by their level before all else.
+const REFUSED_LEVELS: [(&str, u16, &str); 8] = [
+    (
+        r#"{"verb":"tile","col":0,"row":0,"level":7}"#,
+        34,
+        "BadLevel",
+    ),
+    (
+        r#"{"verb":"tile","col":128,"row":0,"level":7}"#,
+        34,
+        "BadLevel",
+    ),
+    (
+        r#"{"verb":"tile","col":128,"row":0,"level":6}"#,
+        30,
+        "BadWindow",
+    ),
+    (
+        r#"{"verb":"tile","col":0,"row":0,"level":256}"#,
+        53,
+        "BadField",
+    ),
+    (
+        r#"{"verb":"patch","x":0,"y":0,"w":257,"h":1,"level":255}"#,
+        34,
+        "BadLevel",
+    ),
+    (
+        r#"{"verb":"patch","x":0,"y":0,"w":257,"h":1,"level":1}"#,
+        30,
+        "BadWindow",
+    ),
+    (
+        r#"{"verb":"patch","x":32768,"y":0,"w":1,"h":1,"level":6}"#,
+        30,
+        "BadWindow",
+    ),
+    (
+        r#"{"verb":"patch","x":0,"y":-32769,"w":1,"h":1,"level":6}"#,
+        30,
+        "BadWindow",
+    ),
+];
+
+#[test]
+fn levels_that_are_refused(rt: HostRuntime) -> Result<(), Fail> {
+    for (line, code, name) in REFUSED_LEVELS {
+        let mut session = Session::new(rt.alloc());
+        session.refuses(line, code, name)?;
+        session.check(&rt)?;
+    }
+    Ok(())
+}
+
+#[test]
+fn patches_of_a_level(rt: HostRuntime) -> Result<(), Fail> {
+    let mut session = Session::new(rt.alloc());
+    session.creates(
+        r#"{"verb":"create","shape":{"kind":"rect","w":10,"h":10,"fill":"ff0000"}}"#,
+        1,
+        1,
+    )?;
+    session.paints(
+        r#"{"verb":"patch","x":0,"y":0,"w":3,"h":1,"level":3}"#,
+        1,
+        "P6\n3 1\n255\n",
+        "rrw",
+    )?;
+    session.paints(
+        r#"{"verb":"patch","x":-1,"y":0,"w":2,"h":1,"level":3}"#,
+        1,
+        "P6\n2 1\n255\n",
+        "wr",
+    )?;
+    session.paints(
+        r#"{"verb":"patch","x":32767,"y":-32768,"w":1,"h":1,"level":6}"#,
+        1,
+        "P6\n1 1\n255\n",
+        "w",
+    )?;
+    session.check(&rt)
+}
+
+#[test]
+fn a_pixel_between_those_of_a_level_is_not_seen(rt: HostRuntime) -> Result<(), Fail> {
+    let mut session = Session::new(rt.alloc());
+    session.creates(
+        r#"{"verb":"create","shape":{"kind":"rect","w":1,"h":1,"fill":"ff0000"},"pose":{"dx":1}}"#,
+        1,
+        1,
+    )?;
+    session.paints(
+        r#"{"verb":"patch","x":0,"y":0,"w":2,"h":1,"level":1}"#,
+        1,
+        "P6\n2 1\n255\n",
+        "ww",
+    )?;
+    session.paints(
+        r#"{"verb":"patch","x":0,"y":0,"w":2,"h":1,"level":0}"#,
+        1,
+        "P6\n2 1\n255\n",
+        "wr",
+    )?;
+    session.check(&rt)
+}
+
 #[test]
 fn a_turned_frame_cuts_what_it_holds(rt: HostRuntime) -> Result<(), Fail> {
     let mut session = Session::new(rt.alloc());

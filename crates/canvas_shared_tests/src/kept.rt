@@ -90,7 +90,12 @@ fn play_rows<H: Threads + Wait + Abort + Sync>(
 
 // A window of 16 by 16.
 fn window_at(x: i32, y: i32) -> Result<Window, Fail> {
-    match Window::new(x, y, 16, 16) {
+    window_of(0, x, y, 16)
+}
+
+// A window of a level, as wide as high.
+fn window_of(level: u8, x: i32, y: i32, side: u32) -> Result<Window, Fail> {
+    match Window::at_level(level, x, y, side, side) {
         Ok(window) => Ok(window),
         Err(_) => Err(Fail::from("no window")),
     }
@@ -234,6 +239,107 @@ fn as_many_windows_as_are_kept(rt: HostRuntime) -> Result<(), Fail> {
         play_at(&rt, alloc, Document::empty(alloc), keep, &play)?;
     }
     Ok(())
+}
+
+/// A picture of 2 by 2 pixels that lie 8 apart, after changes beside them, between them and at one of them.
+#[derive(Clone, Copy)]
+struct OfALevel;
+
+impl OfALevel {
+    // An edit makes a version, whose picture is all red, by so many answers as kept.
+    fn edits<B: Lines, H: Threads + Wait + Abort + Sync>(
+        self,
+        rt: &H,
+        table: &mut Table<B>,
+        edit: &Edit,
+        version: u64,
+        hits: u64,
+    ) -> Result<(), Fail>
+        requires { IsSync H.row }
+    {
+        let red = b"P6\n2 2\n255\n\xff\0\0\xff\0\0\xff\0\0\xff\0\0".as_slice();
+        let window = window_of(3, 0, 0, 2)?;
+        assert!(rt; table.edits(rt, false, edit));
+        let Some(picture) = table.picture(rt, &window) else {
+            return Err(Fail::from("no picture"));
+        };
+        assert_eq!(rt; picture.version, version);
+        assert!(rt; picture.bytes.as_slice() == red);
+        assert_eq!(rt; table.viewer.hits(), hits);
+        Ok(())
+    }
+}
+
+impl Play for OfALevel {
+    fn play<B: Lines, H: Threads + Wait + Abort + Sync>(
+        &self,
+        rt: &H,
+        table: &mut Table<B>,
+    ) -> Result<(), Fail> {
+        self.edits(rt, table, &square(10, 0), 1, 0)?;
+        self.edits(rt, table, &square(1, 20), 2, 1)?;
+        self.edits(rt, table, &dot(15, 15), 3, 1)?;
+        self.edits(rt, table, &dot(16, 0), 4, 2)?;
+        self.edits(rt, table, &dot(0, -1), 5, 3)
+    }
+}
+
+// A red square of one pixel in front of all others on the page.
+fn dot(dx: i64, dy: i64) -> Edit {
+    Edit::Create {
+        kind: Kind::Rect {
+            w: 1,
+            h: 1,
+            fill: RED,
+        },
+        pose: Pose {
+            dx,
+            dy,
+            quarter: 0,
+            flip: false,
+        },
+        hidden: false,
+        parent: Parent::Page,
+        spot: Spot::Front,
+    }
+}
+
+#[test]
+fn pictures_of_a_level_are_kept(rt: HostRuntime) -> Result<(), Fail> {
+    let alloc = rt.alloc();
+    play_at(&rt, alloc, Document::empty(alloc), 4, &OfALevel)
+}
+
+/// Windows of all levels at one place of as many pixels: the picture of each is kept beside the others.
+#[derive(Clone, Copy)]
+struct AtEachLevel;
+
+impl Play for AtEachLevel {
+    fn play<B: Lines, H: Threads + Wait + Abort + Sync>(
+        &self,
+        rt: &H,
+        table: &mut Table<B>,
+    ) -> Result<(), Fail> {
+        assert!(rt; table.edits(rt, false, &square(10, 4)));
+        for number in 0..14u8 {
+            let window = window_of(number % 7, 0, 0, 16)?;
+            assert!(rt; table.picture(rt, &window).is_some(), "picture {number}");
+        }
+        assert_eq!(rt; table.viewer.hits(), 7);
+        assert!(rt; table.edits(rt, false, &square(1, 16)));
+        for level in 0..7u8 {
+            let window = window_of(level, 0, 0, 16)?;
+            assert!(rt; table.picture(rt, &window).is_some(), "level {level}");
+        }
+        assert_eq!(rt; table.viewer.hits(), 8);
+        Ok(())
+    }
+}
+
+#[test]
+fn levels_are_kept_apart(rt: HostRuntime) -> Result<(), Fail> {
+    let alloc = rt.alloc();
+    play_at(&rt, alloc, Document::empty(alloc), 7, &AtEachLevel)
 }
 
 /// Pictures asked after some changes elsewhere each: what is answered again counts as kept then.

@@ -101,19 +101,20 @@ fn edit(dice: &mut Dice, made: u32) -> Edit {
     }
 }
 
-// One of 64 windows, most often one of the first.
+// One of 64 windows, most often one of the first, and at times one of another level.
 fn some_window(dice: &mut Dice) -> Result<Window, Fail> {
-    if dice.below(4) == 0 {
-        return tile(dice.below(64) as i32, 32);
+    match dice.below(8) {
+        0 | 1 => tile(0, dice.below(64) as i32, 32),
+        2 => tile(dice.below(7) as u8, dice.below(6) as i32, 32),
+        _ => tile(0, dice.below(6) as i32, 32),
     }
-    tile(dice.below(6) as i32, 32)
 }
 
-// A window of 16 by 16, one of 8 in a row, so far apart.
-fn tile(number: i32, apart: i32) -> Result<Window, Fail> {
+// A window of a level of 16 by 16, one of 8 in a row, so far apart.
+fn tile(level: u8, number: i32, apart: i32) -> Result<Window, Fail> {
     let x = (number % 8).saturating_mul(apart);
     let y = (number / 8).saturating_mul(apart);
-    match Window::new(x, y, 16, 16) {
+    match Window::at_level(level, x, y, 16, 16) {
         Ok(window) => Ok(window),
         Err(_) => Err(Fail::from("no window")),
     }
@@ -195,7 +196,7 @@ impl Play for Elsewhere {
         for number in 0..400u32 {
             let pose = at(i64::from(number % 7));
             assert!(rt; table.edits(rt, false, &Edit::Pose { id: 1, pose }));
-            let window = tile((number % 8) as i32 + 8, 64)?;
+            let window = tile(0, (number % 8) as i32 + 8, 64)?;
             assert!(rt; table.viewer.picture(rt, &window, 1).is_ok());
             asked = asked.saturating_add(1);
         }
@@ -204,9 +205,9 @@ impl Play for Elsewhere {
             hits.saturating_mul(100) >= asked.saturating_mul(90),
             "{hits} of {asked}"
         );
-        let corner = tile(0, 64)?;
+        let corner = tile(0, 0, 64)?;
         assert!(rt; table.picture(rt, &corner).is_some());
-        let beside = tile(8, 64)?;
+        let beside = tile(0, 8, 64)?;
         assert!(rt; table.picture(rt, &beside).is_some());
         Ok(())
     }
