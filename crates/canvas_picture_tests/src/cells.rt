@@ -1,4 +1,4 @@
-//! What several rectangles hide together: the cells of 8 by 8 pixels that lie in one of them each.
+//! What several rectangles hide together: the cells of 8 by 8 pixels of the window that lie in one of them each.
 
 use crate::random::{Dice, after, agrees, random_polygon};
 use bumpalo::Bump;
@@ -114,6 +114,19 @@ fn cells_at_the_right_and_bottom_edges_are_cut(rt: HostRuntime) -> Result<(), Fa
     assert_eq!(rt; count(alloc, &document, &window)?, 4);
     let document = tiled(alloc, behind(alloc)?, 0, 0, 200, 131)?;
     assert!(rt; count(alloc, &document, &window)? > 4);
+    Ok(())
+}
+
+#[test]
+fn a_window_of_a_level_has_greater_cells(rt: HostRuntime) -> Result<(), Fail> {
+    let alloc = rt.alloc();
+    let window = Window::at_level(2, 0, 0, 201, 131)?;
+    let back = in_front(rect(1000, 1000, RED), 0, 0, 0);
+    let behind = after(alloc, Document::empty(alloc), &back)?;
+    let document = tiled(alloc, behind.try_clone(alloc)?, 0, 0, 804, 524)?;
+    assert_eq!(rt; count(alloc, &document, &window)?, 4);
+    let document = tiled(alloc, behind, 0, 0, 803, 524)?;
+    assert_eq!(rt; count(alloc, &document, &window)?, 5);
     Ok(())
 }
 

@@ -133,6 +133,29 @@ fn a_new_look_begins_anew(rt: HostRuntime) -> Result<(), Fail> {
 }
 
 #[test]
+fn a_tile_of_a_level_shows_the_first_pixel_of_each_block(rt: HostRuntime) -> Result<(), Fail> {
+    let window = Window::at_level(1, -1, 0, 3, 1)?;
+    let events = [
+        Event::Edit {
+            seat: 0,
+            edit: create(2, 2),
+        },
+        Event::Look { seat: 0, window },
+        Event::Strip {
+            seat: 0,
+            k: 0,
+            n: 1,
+        },
+        Event::Answer { seat: 0 },
+    ];
+    assert_eq!(rt;
+        transcript(rt.alloc(), 1, &events)?.as_str(),
+        "edited 1 1; looked 1; painted; tile 1 3 1 [255, 255, 255, 255, 0, 0, 255, 255, 255]; "
+    );
+    Ok(())
+}
+
+#[test]
 fn strips_come_in_any_order(rt: HostRuntime) -> Result<(), Fail> {
     let alloc = rt.alloc();
     let window = Window::new(0, 0, 1, 2)?;

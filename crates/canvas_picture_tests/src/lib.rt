@@ -10,6 +10,8 @@ mod gates;
 #[cfg(test)]
 mod images;
 #[cfg(test)]
+mod levels;
+#[cfg(test)]
 mod memory;
 #[cfg(test)]
 mod painting;

@@ -1,5 +1,6 @@
 //! Worked pictures, and random documents compared with the walk, pixel by pixel.
 
+use crate::random::agrees;
 use bumpalo::Bump;
 use canvas_code::OutOfMemory;
 use canvas_doc::{Document, Edit, Parent, Spot};
@@ -61,25 +62,6 @@ fn picture<R: Threads + Sync>(
     let workers = workers.clamp(1, 4);
     append_picture(rt, alloc, &bump, document, window, workers, &mut out)?;
     Ok(out)
-}
-
-// Whether a picture has the document's colour at each pixel of a window.
-fn agrees(document: &Document, window: &Window, bytes: &[u8]) -> bool {
-    let mut at = 0usize;
-    for j in 0..window.h() {
-        let y = window.y().wrapping_add(j as i32);
-        for k in 0..window.w() {
-            let x = window.x().wrapping_add(k as i32);
-            let Colour([red, green, blue]) = document.colour_at(x, y);
-            for byte in [red, green, blue] {
-                if bytes.get(at) != Some(&byte) {
-                    return false;
-                }
-                at = at.wrapping_add(1);
-            }
-        }
-    }
-    at == bytes.len()
 }
 
 // A turned frame of 2 by 1 without fill that holds a rectangle of 5 by 5.

@@ -156,13 +156,19 @@ fn random_window(dice: &mut Dice, x: i32, y: i32) -> Option<Window> {
     Window::new(left, top, w, h).ok()
 }
 
+// The place of the page that a window shows so many pixels from its edge.
+fn shown(window: &Window, edge: i32, at: u32) -> i32 {
+    let scale = 1i32.wrapping_shl(u32::from(window.level()));
+    edge.wrapping_add(at.min(256) as i32).wrapping_mul(scale)
+}
+
 // Whether a picture has the document's colour at each pixel of a window.
 pub(crate) fn agrees(document: &Document, window: &Window, bytes: &[u8]) -> bool {
     let mut at = 0usize;
     for j in 0..window.h() {
-        let y = window.y().wrapping_add(j as i32);
+        let y = shown(window, window.y(), j);
         for k in 0..window.w() {
-            let x = window.x().wrapping_add(k as i32);
+            let x = shown(window, window.x(), k);
             let Colour([red, green, blue]) = document.colour_at(x, y);
             for byte in [red, green, blue] {
                 if bytes.get(at) != Some(&byte) {
