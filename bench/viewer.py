@@ -3,7 +3,7 @@
 
 usage: bench/viewer.py [tabs, 20 where it is left out]
 
-The document is the one of bin/canvas-demo. Requests are counted between the gateway and the server. Measured are, in a window of 1200 by 800:
+The document is the one of bin/canvas-demo. Requests of one tab are counted between the gateway and the server. Measured are, in a window of 1200 by 800:
 
 - the time from a page's begin until its whole view is shown, ten times
 - frames while panning for five seconds, a step with each frame; and how many of them showed all tiles
@@ -78,7 +78,7 @@ async def started(words, pattern, **more):
     """A program, and what its first line has."""
     process = subprocess.Popen(words, stdout=subprocess.PIPE, text=True, **more)
     line = await asyncio.to_thread(process.stdout.readline)
-    return process, re.search(pattern, line).group(1)
+    return process, *re.search(pattern, line).groups()
 
 
 async def first_views(browser, page):
@@ -132,7 +132,7 @@ async def many_tabs(browser, page, count):
 
 async def main():
     count = int(sys.argv[1]) if len(sys.argv) > 1 else 20
-    demo, server = await started([str(TOP / "bin" / "canvas-demo"), "--listen", f"127.0.0.1:{free_port()}"], r"the server is at (\S+)\)",
+    demo, direct, server = await started([str(TOP / "bin" / "canvas-demo"), "--listen", f"127.0.0.1:{free_port()}"], r"(http://\S+) \(the server is at (\S+)\)",
                                  start_new_session=True)
     counter, gateway = Counter(server), None
     try:
@@ -142,7 +142,7 @@ async def main():
         async with Browser() as browser:
             await first_views(browser, page)
             await one_tab(browser, page, counter)
-            await many_tabs(browser, page, count)
+            await many_tabs(browser, direct, count)
     finally:
         for process in (gateway, demo):
             if process is not None:

@@ -12,7 +12,7 @@ A batch goes to the server in one piece, and its replies come back together, in 
     {"batch": 7, "replies": [{"ok": true, "version": 3, "picture": "5f0c.."}, {"ok": true, "version": 3, "document": {..}}]}
 
 A body never goes through the WebSocket as it is: a picture is named by its hash, and lies as a PNG at /picture/HASH.png, where the hash
-is the ETag. Four times a second the gateway asks for a point; what the tab did not ask for is one of these:
+is the ETag. Four times a second, and when another tab was told of a newer version, the gateway asks for a point; what the tab did not ask for is one of these:
 
     {"say": "here", "version": 3}       the server is there; its versions begin anew
     {"say": "version", "version": 4}    the document has changed
@@ -166,11 +166,34 @@ class Session:
 
 # -- tabs --------------------------------------------------------------------------------------------------------------
 
+class News:
+    """Wakes all tabs that wait, when one of them was told of a newer version."""
+
+    def __init__(self):
+        self._version, self._event = 0, asyncio.Event()
+
+    def begin(self, version):
+        """Takes a version as the newest; that of a server that was started again is lower."""
+        self._version = version
+
+    def tell(self, version):
+        if version > self._version:
+            event, self._version, self._event = self._event, version, asyncio.Event()
+            event.set()
+
+    async def wait(self, seconds):
+        """Waits so long, or until there is a newer version."""
+        try:
+            await asyncio.wait_for(self._event.wait(), seconds)
+        except asyncio.TimeoutError:
+            pass
+
+
 class Tab:
     """A browser's tab: its WebSocket, and its session while the server is there."""
 
-    def __init__(self, socket, pictures, host, port):
-        self._socket, self._pictures, self._host, self._port = socket, pictures, host, port
+    def __init__(self, socket, pictures, news, host, port):
+        self._socket, self._pictures, self._news, self._host, self._port = socket, pictures, news, host, port
         self._session = None
         self._version = None
 
@@ -216,9 +239,10 @@ class Tab:
         if not reply["ok"]:
             raise Away(reply["name"])
         self._session, self._version = session, reply["version"]
+        self._news.begin(self._version)
         await self._say(say="here", version=self._version)
         while True:
-            await asyncio.sleep(POLL)
+            await self._news.wait(POLL)
             (reply, _), = await session.ask([POINT])
             if not reply["ok"]:
                 raise Away(reply["name"])
@@ -227,6 +251,7 @@ class Tab:
     async def _see(self, version):
         if version > self._version:
             self._version = version
+            self._news.tell(version)
             await self._say(say="version", version=version)
 
     async def _answer(self, message):
@@ -236,6 +261,7 @@ class Tab:
         if session is not None and requests:
             try:
                 answers = await session.ask(requests)
+                self._news.tell(max(reply.get("version", 0) for reply, _ in answers))
                 replies = await asyncio.gather(*(self._for_tab(request, *answer) for request, answer in zip(requests, answers)))
             except Away:
                 pass  # the watch tells the tab
@@ -261,14 +287,14 @@ def is_own(request, listen):
 
 
 def application(host, port, listen):
-    pictures = Pictures()
+    pictures, news = Pictures(), News()
 
     async def tab(request):
         if not is_own(request, listen):
             raise web.HTTPForbidden
         found = web.WebSocketResponse(compress=False, heartbeat=20)
         await found.prepare(request)
-        await Tab(found, pictures, host, port).serve()
+        await Tab(found, pictures, news, host, port).serve()
         return found
 
     async def page(_):
