@@ -50,9 +50,13 @@ fn faults_of_values(rt: HostRuntime) -> Result<(), Fail> {
     assert!(rt; is_told(alloc, &OutOfMemory, memory, (1, "OutOfMemory"))?);
     let pose = PoseFault::BadPose;
     assert!(rt; is_told(alloc, &pose, (pose.code(), pose.name()), (9, "BadPose"))?);
-    let window = WindowFault::BadWindow;
-    let found = (window.code(), window.name());
-    assert!(rt; is_told(alloc, &window, found, (30, "BadWindow"))?);
+    for (fault, code, name) in [
+        (WindowFault::BadLevel, 34, "BadLevel"),
+        (WindowFault::BadWindow, 30, "BadWindow"),
+    ] {
+        let found = (fault.code(), fault.name());
+        assert!(rt; is_told(alloc, &fault, found, (code, name))?, "{name}");
+    }
     for (fault, code, name) in [
         (KindFault::BadSize, 8, "BadSize"),
         (KindFault::BadPolygon, 10, "BadPolygon"),
