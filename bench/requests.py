@@ -9,8 +9,8 @@ Without a word it measures all three. The program serves request lines from a fi
   ratio to a line counter (wc -l) over the same file, both the least of three runs, and the greatest size of the program in memory at
   100,000 requests and at a tenth of them, which shows whether memory grows with the number of requests.
 - growth: documents of 10 to 16,384 squares of 10 by 10, each in a tile of its own, on one page and in groups of 63 (the groups count among
-  the records). A request's time is that of a run that makes the document and then sends the requests, less that of a run that makes the
-  document alone, each the least of three, their replies thrown away: a small edit (a pose of some square), a mixed edit (a pose, a mark,
+  the records). A request's time is that from the last reply to the edits that make the document until the program has answered the
+  requests and ended, the least of three runs, the replies read from a pipe and thrown away: a small edit (a pose of some square), a mixed edit (a pose, a mark,
   a new shape's values, a move to the front, a deletion and a new square in turn), and a tile of level 0 that one square meets. Ratios are
   to the document of 10, and of the greatest to that of 4,096.
 - levels: 16,384 small shapes 128 pixels apart, of which a tile at level k meets 4 to the power of k + 1. Beside it stands the same document
@@ -19,9 +19,11 @@ Without a word it measures all three. The program serves request lines from a fi
 """
 
 import json
+import os
 import subprocess
 import sys
 import tempfile
+import threading
 import time
 from pathlib import Path
 
@@ -114,9 +116,13 @@ def run(words, path):
     return seconds, memory
 
 
+def text_of(lines):
+    return "".join(json.dumps(line, separators=(",", ":")) + "\n" for line in lines).encode()
+
+
 def written(lines, folder):
     path = Path(folder) / "requests.jsonl"
-    path.write_text("".join(json.dumps(line, separators=(",", ":")) + "\n" for line in lines))
+    path.write_bytes(text_of(lines))
     return path
 
 
@@ -187,15 +193,42 @@ def one_tile_each(count, in_groups):
 GROWTH = {"small edit": small_edits, "mixed edit": mixed_edits, "tile": one_tile_each}
 
 
-def timed(path):
-    """The least seconds of three runs over a file, the replies thrown away."""
+def read_replies(pipe, room, count=None):
+    """Reads so many replies without bodies, or, without a number, all that is left."""
+    while count is None or count > 0:
+        size = os.readv(pipe, [room])
+        if size == 0:
+            return
+        if count is not None:
+            count -= room[:size].count(b"\n")
+
+
+def timed(making, lines):
+    """The least seconds of three sessions from the last reply to the edits that make a document until the program has ended after the lines."""
     found = []
     for _ in range(3):
-        with open(path, "rb") as source:
-            begin = time.perf_counter()
-            subprocess.run([str(BUILT), "script", "1"], stdin=source, stdout=subprocess.DEVNULL, check=True)
-            found.append(time.perf_counter() - begin)
+        child = subprocess.Popen([str(BUILT), "script", "1"], stdin=subprocess.PIPE, stdout=subprocess.PIPE, bufsize=0)
+        room, pipe = bytearray(1 << 20), child.stdout.fileno()
+        feeder = threading.Thread(target=feed, args=(child.stdin, making, False))
+        feeder.start()
+        read_replies(pipe, room, making.count(b"\n"))
+        feeder.join()
+        feeder = threading.Thread(target=feed, args=(child.stdin, lines, True))
+        begin = time.perf_counter()
+        feeder.start()
+        read_replies(pipe, room)
+        found.append(time.perf_counter() - begin)
+        feeder.join()
+        child.wait()
     return min(found)
+
+
+def feed(source, text, is_last):
+    view = memoryview(text)
+    while view:
+        view = view[source.write(view):]
+    if is_last:
+        source.close()
 
 
 def bodies(lines, folder):
@@ -211,10 +244,10 @@ def bodies(lines, folder):
     return found
 
 
-def microseconds(making, lines, folder, seconds):
-    """The time of each of some requests after those that make a document, which alone take so many seconds."""
+def microseconds(making, lines):
+    """The time of each of some requests after those that make a document."""
     lines = list(lines)
-    return (timed(written(making + lines, folder)) - seconds) / len(lines) * 1e6
+    return timed(text_of(making), text_of(lines)) / len(lines) * 1e6
 
 
 def measure_growth(folder):
@@ -223,9 +256,8 @@ def measure_growth(folder):
         for count in SIZES:
             making = squares(count, in_groups)
             bodies(making + list(mixed_edits(count, in_groups)), folder)
-            seconds = timed(written(making, folder))
             for name, requests in GROWTH.items():
-                found[name].append(microseconds(making, requests(count, in_groups), folder, seconds))
+                found[name].append(microseconds(making, requests(count, in_groups)))
         for name, times in found.items():
             told = ", ".join(f"{count:,}: {it:.1f} ({it / times[0]:.2f})" for count, it in zip(SIZES, times))
             print(f"{name}, {'in groups of 63' if in_groups else 'on one page'}, microseconds at so many records (ratio to {SIZES[0]}): "
@@ -263,15 +295,13 @@ def tiles(count, level, shown):
 
 def measure_levels(name, kind, folder):
     far = wide(kind, 0)
-    far_seconds = timed(written(far, folder))
     for level in range(7):
-        near, count = wide(kind, level), max(40, TILES >> level)
+        near, count = wide(kind, level), max(6, TILES >> 2 * level)
         is_same = bodies(far + tiles(2, level, level), folder)[-2:] == bodies(near + tiles(2, level, 0), folder)[-2:]
         if kind is square_of and not is_same:
             sys.exit(f"a tile at level {level} is not the tile of the smaller document")
-        near_seconds = timed(written(near, folder))
-        at_level = microseconds(far, tiles(count, level, level), folder, far_seconds)
-        at_zero = microseconds(near, tiles(count, level, 0), folder, near_seconds)
+        at_level = microseconds(far, tiles(count, level, level))
+        at_zero = microseconds(near, tiles(count, level, 0))
         print(f"{name}, a tile at level {level} over {MOST:,} shapes, {4 ** (level + 1):,} of which meet it: {at_level:.0f} microseconds; "
               f"at level 0 with as many: {at_zero:.0f}; ratio {at_level / at_zero:.2f}", flush=True)
 
