@@ -85,7 +85,7 @@ fn a_red_rectangle(rt: HostRuntime) -> Result<(), Fail> {
         return Err(Fail::from("not saved"));
     };
     assert_eq!(rt; saved.version, 1);
-    assert_eq!(rt; saved.text.len(), 183);
+    assert_eq!(rt; saved.text.len(), 193);
     Ok(())
 }
 

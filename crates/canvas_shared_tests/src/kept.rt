@@ -245,42 +245,31 @@ fn as_many_windows_as_are_kept(rt: HostRuntime) -> Result<(), Fail> {
 #[derive(Clone, Copy)]
 struct OfALevel;
 
-impl OfALevel {
-    // An edit makes a version, whose picture is all red, by so many answers as kept.
-    fn edits<B: Lines, H: Threads + Wait + Abort + Sync>(
-        self,
-        rt: &H,
-        table: &mut Table<B>,
-        edit: &Edit,
-        version: u64,
-        hits: u64,
-    ) -> Result<(), Fail>
-        requires { IsSync H.row }
-    {
-        let red = b"P6\n2 2\n255\n\xff\0\0\xff\0\0\xff\0\0\xff\0\0".as_slice();
-        let window = window_of(3, 0, 0, 2)?;
-        assert!(rt; table.edits(rt, false, edit));
-        let Some(picture) = table.picture(rt, &window) else {
-            return Err(Fail::from("no picture"));
-        };
-        assert_eq!(rt; picture.version, version);
-        assert!(rt; picture.bytes.as_slice() == red);
-        assert_eq!(rt; table.viewer.hits(), hits);
-        Ok(())
-    }
-}
-
 impl Play for OfALevel {
     fn play<B: Lines, H: Threads + Wait + Abort + Sync>(
         &self,
         rt: &H,
         table: &mut Table<B>,
     ) -> Result<(), Fail> {
-        self.edits(rt, table, &square(10, 0), 1, 0)?;
-        self.edits(rt, table, &square(1, 20), 2, 1)?;
-        self.edits(rt, table, &dot(15, 15), 3, 1)?;
-        self.edits(rt, table, &dot(16, 0), 4, 2)?;
-        self.edits(rt, table, &dot(0, -1), 5, 3)
+        let red = b"P6\n2 2\n255\n\xff\0\0\xff\0\0\xff\0\0\xff\0\0".as_slice();
+        let window = window_of(3, 0, 0, 2)?;
+        // Each edit makes a version, whose picture is all red, by so many answers as kept.
+        for (edit, version, hits) in [
+            (square(10, 0), 1, 0),
+            (square(1, 20), 2, 1),
+            (dot(15, 15), 3, 1),
+            (dot(16, 0), 4, 2),
+            (dot(0, -1), 5, 3),
+        ] {
+            assert!(rt; table.edits(rt, false, &edit));
+            let Some(picture) = table.picture(rt, &window) else {
+                return Err(Fail::from("no picture"));
+            };
+            assert_eq!(rt; picture.version, version);
+            assert!(rt; picture.bytes.as_slice() == red);
+            assert_eq!(rt; table.viewer.hits(), hits);
+        }
+        Ok(())
     }
 }
 
