@@ -81,7 +81,7 @@ fn records(alloc: Global) -> Result<Vec<Record>, Fail> {
 
 // As many groups more as there may be records.
 fn fill_up(records: &mut Vec<Record>) -> Result<(), OutOfMemory> {
-    for id in NEXT..4097 {
+    for id in NEXT..16_385 {
         records.push(record(id, Parent::Page, fresh(id), Kind::Group))?;
     }
     Ok(())
@@ -171,8 +171,8 @@ fn check_new_shapes(
 fn refusals_of_create(rt: HostRuntime) -> Result<(), Fail> {
     let alloc = rt.alloc();
     let documents = [
-        (document(alloc, false, 5_000)?, None),
-        (document(alloc, true, 5_000)?, Some(Refusal::TooMany)),
+        (document(alloc, false, 20_000)?, None),
+        (document(alloc, true, 20_000)?, Some(Refusal::TooMany)),
         (
             document(alloc, false, 4_294_967_295)?,
             Some(Refusal::IdsSpent),
