@@ -1,7 +1,7 @@
-//! Times edits of documents of 4,096 records, and the restoring of one.
+//! Times edits of documents, and the restoring of one.
 
 mod each;
-mod layouts;
+pub mod layouts;
 
 use crate::times::least_and_middle;
 use canvas_doc::{Document, Edit};
@@ -12,28 +12,51 @@ use std::time::{Clock, Duration, Instant};
 /// How often each call is timed.
 const ROUNDS: u32 = 401;
 
-/// Times each edit of each layout.
+/// How many records a document has of which each layout is timed.
+const MANY: u32 = 4_096;
+
+/// How many records the documents have by which the growth of costs is seen, all on the page.
+const SIZES: [u32; 4] = [10, 100, 1_000, 16_384];
+
+/// Times each edit of each layout, and of larger and smaller documents.
 pub fn time_all<R: Clock + Print>(rt: &R, alloc: Global) -> anyhow::Result<()> {
-    println!(rt; "layout    call    least   middle, of {ROUNDS} rounds")?;
+    println!(rt;
+        "layout, records, call: least of {ROUNDS} rounds until decided, made, and the old document dropped"
+    )?;
     for layout in Layout::ALL {
-        let room = layouts::restored(alloc, layouts::records(alloc, layout, 4095)?)?;
-        time_edit(
-            rt,
-            alloc,
-            (layout.name(), "Create"),
-            &room,
-            &each::create(alloc, layout)?,
-        )?;
-        let full = layouts::restored(alloc, layouts::records(alloc, layout, 4096)?)?;
-        for (name, edit) in each::others(alloc, layout)? {
-            time_edit(rt, alloc, (layout.name(), name), &full, &edit)?;
-        }
+        time_edits(rt, alloc, layout, MANY)?;
         time_restoring(rt, alloc, layout)?;
+    }
+    for records in SIZES {
+        time_edits(rt, alloc, Layout::Flat, records)?;
     }
     Ok(())
 }
 
-/// Times `decide` and `with` together, and `decide` alone.
+/// Times each edit of a document of so many records, `Create` of one with a record less.
+fn time_edits<R: Clock + Print>(
+    rt: &R,
+    alloc: Global,
+    layout: Layout,
+    records: u32,
+) -> anyhow::Result<()> {
+    let fewer = records.saturating_sub(1);
+    let room = layouts::restored(alloc, layouts::records(alloc, layout, fewer)?)?;
+    time_edit(
+        rt,
+        alloc,
+        (layout.name(), "Create"),
+        &room,
+        &each::create(alloc, layout)?,
+    )?;
+    let full = layouts::restored(alloc, layouts::records(alloc, layout, records)?)?;
+    for (name, edit) in each::others(alloc, layout, records)? {
+        time_edit(rt, alloc, (layout.name(), name), &full, &edit)?;
+    }
+    Ok(())
+}
+
+/// Times `decide`, `with` and the drop of one of the two documents.
 fn time_edit<R: Clock + Print>(
     rt: &R,
     alloc: Global,
@@ -41,37 +64,42 @@ fn time_edit<R: Clock + Print>(
     document: &Document,
     edit: &Edit,
 ) -> anyhow::Result<()> {
-    let mut whole: Vec<Duration> = Vec::new(alloc);
-    let mut judged: Vec<Duration> = Vec::new(alloc);
+    let mut decided = Duration::MAX;
+    let mut made = Duration::MAX;
+    let mut whole: Vec<Duration> = Vec::with_capacity(alloc, ROUNDS as usize)?;
     for _ in 0..ROUNDS {
         let start = Instant::now(rt)?;
         let change = document.decide(alloc, edit)?;
-        judged.push(start.elapsed(rt)?)?;
+        decided = decided.min(start.elapsed(rt)?);
         let after = document.with(alloc, &change)?;
+        made = made.min(start.elapsed(rt)?);
+        drop(after);
         whole.push(start.elapsed(rt)?)?;
-        // Taking the document away is no part of the edit.
-        let _next = after.next_id();
     }
-    print_times(rt, names, whole)?;
-    print_times(rt, ("  decide", names.1), judged)
+    let (least, middle) = least_and_middle(whole)?;
+    println!(rt;
+        "{:<9} {:>6} {:<7} {decided:?} {made:?} {least:?}, middle {middle:?}",
+        names.0,
+        document.count(),
+        names.1
+    )?;
+    Ok(())
 }
 
 fn time_restoring<R: Clock + Print>(rt: &R, alloc: Global, layout: Layout) -> anyhow::Result<()> {
     let mut times: Vec<Duration> = Vec::new(alloc);
     for _ in 0..21u32 {
-        let mut records = layouts::records(alloc, layout, 4096)?;
+        let mut records = layouts::records(alloc, layout, MANY)?;
         records.reverse();
         let start = Instant::now(rt)?;
         let document = layouts::restored(alloc, records)?;
         times.push(start.elapsed(rt)?)?;
         let _next = document.next_id();
     }
-    print_times(rt, (layout.name(), "restore"), times)
-}
-
-/// Prints the least and the middle of some times.
-fn print_times<R: Print>(rt: &R, names: (&str, &str), times: Vec<Duration>) -> anyhow::Result<()> {
     let (least, middle) = least_and_middle(times)?;
-    println!(rt; "{:<9} {:<7} {least:?} {middle:?}", names.0, names.1)?;
+    println!(rt;
+        "{:<9} {MANY:>6} restore {least:?}, middle {middle:?}",
+        layout.name()
+    )?;
     Ok(())
 }

@@ -10,6 +10,7 @@ mod scenes;
 mod seats;
 mod spans;
 mod times;
+mod versions;
 
 use std::{env, io};
 
@@ -30,6 +31,8 @@ enum Subject {
     Saving,
     /// Edits and looks through seats.
     Seats,
+    /// The memory of versions.
+    Versions,
 }
 
 impl Subject {
@@ -43,6 +46,7 @@ impl Subject {
             "painting" => Some(Subject::Painting),
             "saving" => Some(Subject::Saving),
             "seats" => Some(Subject::Seats),
+            "versions" => Some(Subject::Versions),
             _ => None,
         }
     }
@@ -50,7 +54,7 @@ impl Subject {
 
 fn main(rt: HostRuntime) -> anyhow::Result<()> {
     let Some(subject) = asked(&rt)? else {
-        println!(rt; "usage: bench spans|lists|edits|scenes|painting|saving|seats")?;
+        println!(rt; "usage: bench spans|lists|edits|scenes|painting|saving|seats|versions")?;
         return Ok(());
     };
     match subject {
@@ -61,6 +65,7 @@ fn main(rt: HostRuntime) -> anyhow::Result<()> {
         Subject::Painting => painting::time_all(&rt, rt.alloc()),
         Subject::Saving => Ok(saving::time_all(&rt)?),
         Subject::Seats => seats::time_all(&rt, rt.alloc()),
+        Subject::Versions => versions::measure_all(&rt),
     }
 }
 

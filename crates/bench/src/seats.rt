@@ -26,6 +26,8 @@ enum Work {
     Looks,
     /// The same while the first seat edits.
     LooksBesideEdits,
+    /// Edits by each seat on a thread of its own.
+    EditsAtOnce,
 }
 
 /// Times each kind of work.
@@ -50,6 +52,9 @@ pub fn time_all<R: Clock + Print + Threads + Wait + Sync>(
             seats,
             Work::LooksBesideEdits,
         )?;
+    }
+    for seats in [1, 2, 4, 8] {
+        time(rt, alloc, document(alloc, 100)?, seats, Work::EditsAtOnce)?;
     }
     Ok(())
 }
@@ -111,7 +116,11 @@ fn run<B: Lines + Send + Sync, R: Clock + Print + Threads + Wait + Sync>(
     match work {
         Work::Edits => edits::time_through_seats(rt, alloc, seats, records),
         Work::LooksInTurn => looks::time_in_turn(rt, seats),
-        Work::Looks => looks::time_looks(rt, alloc, seats, false),
-        Work::LooksBesideEdits => looks::time_looks(rt, alloc, seats, true),
+        Work::Looks => looks::time_at_once(rt, alloc, seats, 0),
+        Work::LooksBesideEdits => looks::time_at_once(rt, alloc, seats, 1),
+        Work::EditsAtOnce => {
+            let all = seats.len();
+            looks::time_at_once(rt, alloc, seats, all)
+        }
     }
 }

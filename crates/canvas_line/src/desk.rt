@@ -11,13 +11,14 @@ use crate::next::next_published;
 use crate::perch::Perch;
 use crate::published::Published;
 use crate::rule::Note;
+use crate::version::Version;
 use crate::writer::{LineWriter, publish};
 use canvas_doc::Edit;
 use core::mem::replace_with;
 use std::alloc::Global;
 use std::marker::{Model, PhantomData};
 use std::mem::ManuallyDrop;
-use std::sync::Wait;
+use std::sync::{Arc, Wait};
 
 /// The value of the lock. Contracts see it as the line's name, opening document, limit and history.
 #[derive(Drop)]
@@ -26,6 +27,10 @@ pub struct Desk<B: Lines> {
     head: Head,
     name: u64,
     alloc: Global,
+    // The version before the published one, and the one before that until it is taken. A desk keeps them so that no version
+    // is freed under the lock.
+    previous: Option<Arc<Version, Global>>,
+    retired: Option<Arc<Version, Global>>,
     of: PhantomData<B>,
 }
 
@@ -53,6 +58,8 @@ impl<B: Lines> Desk<B> {
             head,
             name,
             alloc,
+            previous,
+            retired,
             of,
         } = self;
         let (writer, done) = publish(rt, ManuallyDrop::into_inner(writer), next);
@@ -61,6 +68,8 @@ impl<B: Lines> Desk<B> {
             head,
             name,
             alloc,
+            previous,
+            retired,
             of,
         };
         (desk, done)
@@ -77,19 +86,15 @@ impl<B: Lines> Desk<B> {
             head,
             name,
             alloc,
+            previous: None,
+            retired: None,
             of: PhantomData,
         }
     }
 
     // Gives the line's memory up.
     pub(crate) fn close<R: Wait>(self, rt: &R) {
-        let Desk {
-            writer,
-            head,
-            name: _,
-            alloc: _,
-            of: _,
-        } = self;
+        let Desk { writer, head, .. } = self;
         drop(head);
         drop(ManuallyDrop::into_inner(writer).take(rt));
     }
@@ -130,6 +135,7 @@ impl<B: Lines> Desk<B> {
         ensures refused { MatchResult result (λ _. Unit {0}) (λ f. (self.new ≡ self.old) × Rightly self.old.opening self.old.limit self.old.history edit.now f) }
     {
         let (next, edited) = self.next(edit)?;
+        let before = Arc::try_clone(&self.writer.published().version)?;
         let published = replace_with(
             self,
             next,
@@ -138,11 +144,26 @@ impl<B: Lines> Desk<B> {
                 ensures { MatchBool result.1 (result.0 ≡ with_history desk next.changes) (result.0 ≡ desk) }
             { desk.published(rt, next) },
         );
-        if published {
-            Ok(edited)
-        } else {
-            Err(LineFault::OutOfMemory)
+        if !published {
+            return Err(LineFault::OutOfMemory);
         }
+        self.retire(before);
+        Ok(edited)
+    }
+
+    // Keeps the version before the published one, in place of the one before that.
+    fn retire(&mut self, before: Arc<Version, Global>)
+        ensures { self.new ≡ self.old }
+    {
+        self.retired = self.previous.replace(before);
+    }
+
+    /// The version that the last edit retired. Where no seat looks at it, it is freed with this pointer: whoever holds the lock
+    /// takes it, and lets it go once the lock is free.
+    pub(crate) fn take_retired(&mut self) -> Option<Arc<Version, Global>>
+        ensures { self.new ≡ self.old }
+    {
+        self.retired.take()
     }
 
     // What is to be published once the edit is accepted, and what is answered then.

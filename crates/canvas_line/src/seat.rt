@@ -51,7 +51,11 @@ impl<B: Lines> Seat<B> {
     {
         let Seat { desk, perch } = self;
         let mut guard = held(rt, desk);
-        perch.edit_at(&mut *guard, rt, edit)
+        let answer = perch.edit_at(&mut *guard, rt, edit);
+        let retired = guard.take_retired();
+        drop(guard);
+        drop(retired);
+        answer
     }
 
     /// The published version, without the lock. Its history begins with the front, and becomes it.

@@ -6,8 +6,10 @@ use canvas_doc::{Edit, Parent, Spot};
 use canvas_plane::Pose;
 use std::alloc::Global;
 
-/// A leaf of every layout.
-const LEAF: u32 = 4_000;
+/// A leaf of every layout of so many records.
+fn leaf_of(records: u32) -> u32 {
+    records / 2 + 3
+}
 
 /// A new leaf. The document must have room for it.
 pub fn create(alloc: Global, layout: Layout) -> Result<Edit, OutOfMemory> {
@@ -29,17 +31,22 @@ fn with_children(layout: Layout) -> Parent {
 }
 
 /// The root of a large subtree that can go elsewhere, and where.
-fn moved(layout: Layout) -> (u32, Parent) {
+fn moved(layout: Layout, records: u32) -> (u32, Parent) {
     match layout {
-        Layout::Flat => (LEAF, Parent::Page),
+        Layout::Flat => (leaf_of(records), Parent::Page),
         Layout::Deep => (32, Parent::Page),
         _ => (66, Parent::Shape(2)),
     }
 }
 
-/// All edits but `Create`, each with its name.
-pub fn others(alloc: Global, layout: Layout) -> Result<[(&'static str, Edit); 6], OutOfMemory> {
-    let (id, parent) = moved(layout);
+/// All edits but `Create` of a layout of so many records, each with its name.
+pub fn others(
+    alloc: Global,
+    layout: Layout,
+    records: u32,
+) -> Result<[(&'static str, Edit); 6], OutOfMemory> {
+    let (id, parent) = moved(layout, records);
+    let leaf_id = leaf_of(records);
     Ok([
         (
             "Move",
@@ -52,7 +59,7 @@ pub fn others(alloc: Global, layout: Layout) -> Result<[(&'static str, Edit); 6]
         (
             "Pose",
             Edit::Pose {
-                id: LEAF,
+                id: leaf_id,
                 pose: Pose {
                     dx: 3,
                     dy: 4,
@@ -64,14 +71,14 @@ pub fn others(alloc: Global, layout: Layout) -> Result<[(&'static str, Edit); 6]
         (
             "Reshape",
             Edit::Reshape {
-                id: LEAF,
+                id: leaf_id,
                 kind: leaf(alloc, layout, 9)?,
             },
         ),
         (
             "Show",
             Edit::Show {
-                id: LEAF,
+                id: leaf_id,
                 hidden: true,
             },
         ),

@@ -1,4 +1,4 @@
-//! Looks by many seats, in turn and at once.
+//! Looks by many seats, in turn and at once, and edits at once.
 
 use crate::seats::edits::pose_edit;
 use canvas_line::{LineFault, Lines, Seat};
@@ -10,8 +10,8 @@ use std::time::{Clock, Duration, Instant};
 /// How many looks each seat takes.
 const LOOKS: u32 = 1_000_000;
 
-/// How many edits the editor makes.
-const EDITS: u32 = 200_000;
+/// How many edits an editor makes.
+const EDITS: u32 = 100_000;
 
 /// How many rounds of looks are taken in turn.
 const ROUNDS: u32 = 100_000;
@@ -53,20 +53,20 @@ fn look_by_each<B: Lines>(seats: &mut [Seat<B>]) -> Result<(), LineFault> {
     Ok(())
 }
 
-/// Times looks by all seats, each on a thread of its own; the first one edits instead, if it is to.
-pub fn time_looks<B: Lines + Send + Sync, R: Clock + Print + Threads + Wait + Sync>(
+/// Times looks by all seats, each on a thread of its own; so many of the first ones edit instead.
+pub fn time_at_once<B: Lines + Send + Sync, R: Clock + Print + Threads + Wait + Sync>(
     rt: &R,
     alloc: Global,
     seats: Vec<Seat<B>>,
-    edits: bool,
+    editors: usize,
 ) -> anyhow::Result<()> {
     let count = seats.len();
     let mut jobs = Vec::with_capacity(alloc, count)?;
     for seat in seats {
-        let is_editor = edits && jobs.is_empty();
+        let is_editor = jobs.len() < editors;
         jobs.push(Job { seat, is_editor })?;
     }
-    println!(rt; "{count:>2} seats:")?;
+    println!(rt; "{count:>2} seats, {editors} of which edit:")?;
     for done in thread::map_vec(rt, jobs, &|job: Job<B>| work(rt, job))? {
         if let Some(Done { calls, took }) = done {
             let each = took.as_nanos() / u128::from(calls.max(1));
