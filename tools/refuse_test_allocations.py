@@ -26,6 +26,9 @@ TESTS = {
         "memory::events_with_little_memory",
     ],
     "canvas_text_tests": ["memory::saved_with_little_memory", "memory::opened_with_little_memory", "memory::read_with_little_memory"],
+    "canvas_session_tests": ["memory::an_edit_and_a_picture_with_little_memory", "memory::an_export_with_little_memory"],
+    "canvas_shared_tests": ["memory::a_square_moves_away_with_little_memory"],
+    "canvas_server_tests": ["memory::a_server_with_little_memory"],
 }
 MOST_RUNS = 5_000
 

@@ -2,6 +2,10 @@
 #![tactic(auto)]
 
 #[cfg(test)]
+mod crowd;
+#[cfg(test)]
+mod memory;
+#[cfg(test)]
 mod servers;
 #[cfg(test)]
 mod words;

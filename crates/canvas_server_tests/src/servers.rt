@@ -20,14 +20,15 @@ const PATCH: &str = "{\"verb\":\"patch\",\"x\":0,\"y\":0,\"w\":2,\"h\":1}\n";
 
 const PATCH_REPLY: &str = "{\"body\":17,\"ok\":true,\"version\":2}\nP6\n2 1\n255\n";
 
-const NO_SEATS: &str = "{\"body\":0,\"code\":19,\"name\":\"NoSeats\",\"ok\":false}\n";
+pub(crate) const NO_SEATS: &str = "{\"body\":0,\"code\":19,\"name\":\"NoSeats\",\"ok\":false}\n";
 
 // Where the number of the version stands in the reply to an accepted edit, and to a patch.
 const EDIT_VERSION: usize = 37;
 
 const PATCH_VERSION: usize = 31;
 
-fn settings(seats: u32, workers: u32, connections: u64) -> Settings {
+/// Settings of a server that takes ten changes and whose seats keep two pictures each.
+pub(crate) fn settings(seats: u32, workers: u32, connections: u64) -> Settings {
     Settings {
         seats,
         limit: 10,
@@ -37,7 +38,11 @@ fn settings(seats: u32, workers: u32, connections: u64) -> Settings {
     }
 }
 
-fn connected<H: Net<Stream = TcpStream>>(rt: &H, address: SocketAddr) -> io::Result<TcpStream> {
+/// A connection whose reads wait 20 seconds at most.
+pub(crate) fn connected<H: Net<Stream = TcpStream>>(
+    rt: &H,
+    address: SocketAddr,
+) -> io::Result<TcpStream> {
     let stream = TcpStream::connect(rt, address)?;
     stream.set_read_timeout(Some(Duration::from_secs(20)))?;
     Ok(stream)

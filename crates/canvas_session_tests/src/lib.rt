@@ -8,6 +8,8 @@ mod faults;
 #[cfg(test)]
 mod kept;
 #[cfg(test)]
+mod memory;
+#[cfg(test)]
 mod rows;
 #[cfg(test)]
 mod sessions;

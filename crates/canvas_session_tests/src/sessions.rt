@@ -77,26 +77,26 @@ impl Read for Same {
     }
 }
 
-/// A writer that keeps what the last write gave, and may not be flushed.
+/// A writer that counts how often it is given a text, and keeps what else it is given.
 #[derive(Drop)]
-struct Last {
-    bytes: Vec<u8>,
-    flushes: bool,
+struct Counting<'a> {
+    text: &'a [u8],
+    count: u64,
+    others: Vec<u8>,
 }
 
-impl Write for Last {
+impl Write for Counting<'_> {
     fn write(&mut self, buf: &[u8]) -> io::Result<usize> {
-        self.bytes.clear();
-        self.bytes.extend_from_slice(buf)?;
+        if buf == self.text {
+            self.count = self.count.saturating_add(1);
+        } else {
+            self.others.extend_from_slice(buf)?;
+        }
         Ok(buf.len())
     }
 
     fn flush(&mut self) -> io::Result<()> {
-        if self.flushes {
-            Ok(())
-        } else {
-            Err(io::Error::from(ErrorKind::Other))
-        }
+        Ok(())
     }
 }
 
@@ -141,11 +141,13 @@ pub(crate) fn check<H: Threads + Wait + Sync>(
     Ok(())
 }
 
-const RED: &[u8] =
+pub(crate) const RED: &[u8] =
     b"{\"verb\":\"create\",\"shape\":{\"kind\":\"rect\",\"w\":2,\"h\":1,\"fill\":\"ff0000\"}}\n{\"verb\":\"patch\",\"x\":0,\"y\":0,\"w\":3,\"h\":1}\n";
 
-const RED_ANSWERS: &[u8] =
+pub(crate) const RED_ANSWERS: &[u8] =
     b"{\"body\":0,\"id\":1,\"ok\":true,\"version\":1}\n{\"body\":20,\"ok\":true,\"version\":1}\nP6\n3 1\n255\n\xff\x00\x00\xff\x00\x00\xff\xff\xff";
+
+const BAD_JSON: &[u8] = b"{\"body\":0,\"code\":50,\"name\":\"BadJson\",\"ok\":false}\n";
 
 const BAD_WORKERS: &[u8] = b"{\"body\":0,\"code\":31,\"name\":\"BadWorkers\",\"ok\":false}\n";
 
@@ -289,9 +291,9 @@ fn a_writer_that_takes_nothing(rt: HostRuntime) -> Result<(), Fail> {
 fn a_writer_that_cannot_be_flushed(rt: HostRuntime) -> Result<(), Fail> {
     let alloc = rt.alloc();
     let mut reader = RED;
-    let mut writer = Last {
-        bytes: Vec::new(alloc),
-        flushes: false,
+    let mut writer = Flushed {
+        out: Vec::new(alloc),
+        flushes_left: 0,
     };
     let Err(fault) = serve(&rt, alloc, &mut board(alloc)?, 1, &mut reader, &mut writer) else {
         return Err(Fail::from("no fault"));
@@ -302,32 +304,35 @@ fn a_writer_that_cannot_be_flushed(rt: HostRuntime) -> Result<(), Fail> {
     Ok(())
 }
 
+// What is written where so many lines are answered.
+fn answers_to(lines: usize) -> &'static [u8] {
+    match lines {
+        0 => b"",
+        1 => &RED_ANSWERS[..40],
+        _ => RED_ANSWERS,
+    }
+}
+
 #[test]
 fn an_input_that_is_cut(rt: HostRuntime) -> Result<(), Fail> {
     let alloc = rt.alloc();
-    for end in 0..RED.len() {
+    for end in 0..=RED.len() {
         let (mut reader, rest) = RED.split_at(end);
         let before = RED.len() - rest.len();
         let mut out = Vec::new(alloc);
-        let lines = reader.iter().filter(|byte| **byte == b'\n').count() as u64;
+        let lines = reader.iter().filter(|byte| **byte == b'\n').count();
         let served = serve(&rt, alloc, &mut board(alloc)?, 1, &mut reader, &mut out);
-        let written = if lines == 0 { 0 } else { 40 };
-        assert_eq!(rt; out.as_slice(), &RED_ANSWERS[..written]);
+        let requests = lines as u64;
+        let written = out.len() as u64;
+        assert_eq!(rt; out.as_slice(), answers_to(lines));
         if before == 0 || RED[before - 1] == b'\n' {
-            assert!(rt;
-                served
-                    == Ok(Served {
-                        requests: lines,
-                        written: written as u64
-                    })
-            );
+            assert!(rt; served == Ok(Served { requests, written }));
         } else {
             let Err(fault) = served else {
                 return Err(Fail::from("no fault"));
             };
             assert_eq!(rt; fault.name(), "CutLine");
-            assert_eq!(rt; fault.answered, lines);
-            assert_eq!(rt; fault.written, written as u64);
+            assert_eq!(rt; (fault.answered, fault.written), (requests, written));
         }
     }
     Ok(())
@@ -336,7 +341,7 @@ fn an_input_that_is_cut(rt: HostRuntime) -> Result<(), Fail> {
 #[test]
 fn a_reader_that_fails(rt: HostRuntime) -> Result<(), Fail> {
     let alloc = rt.alloc();
-    for reads_left in 0..RED.len() {
+    for reads_left in 0..=RED.len() {
         let mut reader = Drip {
             rest: RED,
             reads_left,
@@ -345,14 +350,14 @@ fn a_reader_that_fails(rt: HostRuntime) -> Result<(), Fail> {
         let lines = RED[..reads_left]
             .iter()
             .filter(|byte| **byte == b'\n')
-            .count() as u64;
+            .count();
         let Err(fault) = serve(&rt, alloc, &mut board(alloc)?, 1, &mut reader, &mut out) else {
             return Err(Fail::from("no fault"));
         };
         assert_eq!(rt; fault.code(), 71);
-        assert_eq!(rt; fault.answered, lines);
+        assert_eq!(rt; fault.answered, lines as u64);
         assert_eq!(rt; fault.written, out.len() as u64);
-        assert_eq!(rt; fault.written, 40 * lines);
+        assert_eq!(rt; out.as_slice(), answers_to(lines));
     }
     Ok(())
 }
@@ -381,13 +386,7 @@ fn the_longest_line_is_read(rt: HostRuntime) -> Result<(), Fail> {
     let alloc = rt.alloc();
     let mut input = vec![in alloc; b' '; 65_536]?;
     input.push(b'\n')?;
-    check(
-        &rt,
-        rt.alloc(),
-        input.as_slice(),
-        b"{\"body\":0,\"code\":50,\"name\":\"BadJson\",\"ok\":false}\n",
-        1,
-    )?;
+    check(&rt, rt.alloc(), input.as_slice(), BAD_JSON, 1)?;
     input.insert(0, b' ')?;
     let mut reader = input.as_slice();
     let mut out = Vec::new(alloc);
@@ -405,9 +404,10 @@ fn one_line_too_many(rt: HostRuntime) -> Result<(), Fail> {
         byte: b'\n',
         left: 1_000_001,
     };
-    let mut writer = Last {
-        bytes: Vec::new(alloc),
-        flushes: true,
+    let mut writer = Counting {
+        text: BAD_JSON,
+        count: 0,
+        others: Vec::new(alloc),
     };
     let Err(fault) = serve(&rt, alloc, &mut board(alloc)?, 1, &mut reader, &mut writer) else {
         return Err(Fail::from("no fault"));
@@ -415,7 +415,8 @@ fn one_line_too_many(rt: HostRuntime) -> Result<(), Fail> {
     assert_eq!(rt; fault.code(), 73);
     assert_eq!(rt; fault.answered, 1_000_000);
     assert_eq!(rt; fault.written, 49_000_057);
-    assert!(rt; writer.bytes.as_slice() == TOO_MANY_REQUESTS);
+    assert_eq!(rt; writer.count, 1_000_000);
+    assert!(rt; writer.others.as_slice() == TOO_MANY_REQUESTS);
     Ok(())
 }
 

@@ -8,6 +8,8 @@ mod dice;
 #[cfg(test)]
 mod kept;
 #[cfg(test)]
+mod memory;
+#[cfg(test)]
 mod sessions;
 #[cfg(test)]
 mod table;

@@ -27,7 +27,8 @@ const REQUESTS: &[u8] = br#"{"verb":"create","shape":{"kind":"rect","w":10,"h":1
 
 const HEADER: &[u8] = b"P6\n16 1\n255\n";
 
-const SAVED: &[u8] =
+/// A square of 10 at 100 and one of 1 at 500, as they are saved.
+pub(crate) const SAVED: &[u8] =
     br#"{"format":2,"next":3,"shapes":[{"hidden":false,"id":1,"place":{"index":"a0","parent":null},"pose":{"dx":100,"dy":0,"flip":false,"quarter":0},"shape":{"fill":"ff0000","h":10,"kind":"rect","w":10}},{"hidden":false,"id":2,"place":{"index":"a1","parent":null},"pose":{"dx":500,"dy":0,"flip":false,"quarter":0},"shape":{"fill":"ff0000","h":1,"kind":"rect","w":1}}]}"#;
 
 /// The bytes of all answers.
