@@ -1,5 +1,5 @@
 -- Steps of painting a strip of many blocks, band by band.
-use Rattle.std.proofs.Common.{◌≡◌, ℕ, ◌+◌, ◌-◌, ◌*◌, ◌/◌, ◌<◌, ◌≤◌, ◌≢◌, List, [], ◌∷◌, ◌++◌, Bool, true, false, cond, Option, Some, None, All, sym, ap, ◌∙◌, arith, length, length-append, get_or, take, take-take, set, get_or-set_same, get_or-set_other, subst, ⊎_elim}
+use Rattle.std.proofs.Common.{◌≡◌, ℕ, ◌+◌, ◌-◌, ◌/◌, ◌<◌, ◌≤◌, ◌≢◌, List, [], ◌∷◌, ◌++◌, false, cond, Option, Some, None, sym, ap, ◌∙◌, arith, length, length-append, get_or, take, take-take, set, get_or-set_same, get_or-set_other, subst, ⊎_elim}
 use Rattle.std.proofs.lemmas.Bool.{cases_eq}
 use Rattle.std.proofs.lemmas.List.{get_or-map, take_more}
 use Rattle.canvas_shape.specs.declared.Colour.{Colour}

@@ -1,5 +1,5 @@
 use Rattle.std.proofs.Common.{arith}
-use Rattle.canvas_paint.proofs.Banding.{all-cleared, more-cleared}
+use Rattle.canvas_paint.proofs.Banding.{all-cleared}
 use Rattle.canvas_paint.proofs.bands.clear.Goals as goal
 
 pub returns-clause-new : goal.returns-clause-new
