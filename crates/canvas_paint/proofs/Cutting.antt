@@ -187,6 +187,9 @@ not-met false met h e = refl
 pub outside-columns : (b : Block) (k j : ℕ) (met : Bool) → (is_within b.from k b.to ≡ true → met ≡ true) → met ≡ false → block_holds b k j ≡ false
 outside-columns b k j met h e = ap (λ t. (t && is_within b.top j b.bottom) && form_holds b.form k j) (not-met (is_within b.from k b.to) met h e)
 
+pub outside-rows : (b : Block) (k j : ℕ) (met : Bool) → (is_within b.top j b.bottom ≡ true → met ≡ true) → met ≡ false → block_holds b k j ≡ false
+outside-rows b k j met h e = and-out (is_within b.from k b.to) (is_within b.top j b.bottom) (form_holds b.form k j) (not-met (is_within b.top j b.bottom) met h e)
+
 no-rows : (top bottom j : ℕ) → bottom ≤ top → is_within top j bottom ≡ false
 no-rows top bottom j h = grind (arith, nat_tests)
 

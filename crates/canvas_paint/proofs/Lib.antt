@@ -3,6 +3,7 @@ pub mod Painting
 pub mod Choosing
 pub mod Following
 pub mod Columns
+pub mod Banding
 pub mod Cutting
 pub mod Fraying
 pub mod Joined

@@ -131,6 +131,18 @@ impl<'a> Block<'a> {
     {
         self.from < base + PIXELS && base < self.to
     }
+
+    /// Whether the block has a row from one up to another.
+    pub(crate) fn meets_rows(&self, first: usize, end: usize) -> bool
+        ensures { (j : ℕ) → first ≤ j → j < end → is_within self.now.top j self.now.bottom ≡ true → result ≡ true }
+    {
+        self.top < end && first < self.bottom
+    }
+
+    /// How many rows the block has.
+    pub(crate) fn height(&self) -> usize {
+        self.bottom.saturating_sub(self.top)
+    }
 }
 
 impl Form<'_> {

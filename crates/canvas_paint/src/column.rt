@@ -1,7 +1,7 @@
 //! The words of a strip's rows, one below the other. The blocks that show in a word are chosen
 //! anew only where one begins or ends, and in a row only the pixels that change are filled.
 
-ghost use Rattle.std.specs.Prelude.{◌≡◌, ℕ, ◌+◌, ◌-◌, ◌*◌, ◌%◌, ◌<◌, ◌≤◌, IfOk, List, length, false, true, OnOk, slice_index_or, vec_len, if◌then◌else◌};
+ghost use Rattle.std.specs.Prelude.{◌≡◌, ℕ, ◌+◌, ◌-◌, ◌*◌, ◌%◌, ◌<◌, ◌≤◌, IfOk, List, [], length, false, true, OnOk, slice_index_or, vec_len, if◌then◌else◌};
 ghost use Rattle.canvas_doc.specs.Picture.{or_else};
 ghost use Rattle.canvas_shape.specs.Words.{has};
 ghost use Rattle.canvas_paint.specs.Blocks.{block_fill, last_block_fill};
@@ -43,6 +43,16 @@ impl<'a> Column<'a> {
             inside: 0,
             until: 0,
         })
+    }
+
+    /// Makes it a column of no block again, of which no row was painted. It keeps its room.
+    pub(crate) fn clear(&mut self)
+        ensures new { IsNew self.new }
+        ensures empty { self.new.blocks.items ≡ [] }
+    {
+        self.blocks.clear();
+        self.end = 0;
+        self.until = 0;
     }
 
     /// Puts a block in front of the others, if it meets the word at a column.

@@ -2,6 +2,7 @@
 #![tactic(auto)]
 
 mod active;
+mod bands;
 mod block;
 mod column;
 mod fault;

@@ -9,6 +9,7 @@ ghost use Rattle.canvas_paint.specs.Blocks.{block_fill};
 ghost use Rattle.canvas_paint.specs.Columns.{AreColumns, IsNew, blocks_in, fill_in, shown_in};
 ghost use Rattle.canvas_paint.specs.Strips.{strip_start};
 
+use crate::bands::append_banded;
 use crate::block::Block;
 use crate::column::Column;
 use crate::row::{Pixel, WHITE};
@@ -22,8 +23,11 @@ use std::alloc::Global;
 /// How many words a row has.
 const WORDS: usize = 4;
 
-// Four columns of no block, each with room for so many, of which no row was painted.
-fn new_columns<'a>(alloc: Global, room: usize) -> Result<Vec<Column<'a>>, OutOfMemory>
+/// Up to how many items a strip is painted at once. The blocks of more are gone along band by band.
+const FEW: usize = 128;
+
+/// Four columns of no block, each with room for so many, of which no row was painted.
+pub(crate) fn new_columns<'a>(alloc: Global, room: usize) -> Result<Vec<Column<'a>>, OutOfMemory>
     ensures count { IfOk result (λ columns. vec_len columns ≡ 4) }
     ensures new { IfOk result (λ columns. All IsNew columns.items) }
     ensures empty { IfOk result (λ columns. (k j : ℕ) → fill_in (blocks_in columns.items) k j ≡ None) }
@@ -35,8 +39,8 @@ fn new_columns<'a>(alloc: Global, room: usize) -> Result<Vec<Column<'a>>, OutOfM
     Ok(columns)
 }
 
-// Puts a block in front of the others in each column that it meets.
-fn add<'a>(block: &Block<'a>, columns: &mut [Column<'a>]) -> Result<(), OutOfMemory>
+/// Puts a block in front of the others in each column that it meets.
+pub(crate) fn add<'a>(block: &Block<'a>, columns: &mut [Column<'a>]) -> Result<(), OutOfMemory>
     requires count { length columns.old ≡ 4 }
     requires new { All IsNew columns.old }
     ensures new { OnOk result (All IsNew columns.new) }
@@ -88,8 +92,8 @@ fn refresh(y: usize, row: &mut [Pixel], columns: &mut [Column<'_>]) -> Result<()
     Ok(())
 }
 
-// Appends the rows of the picture of columns from one up to another.
-fn append_rows(
+/// Appends the rows of the picture of columns from one up to another.
+pub(crate) fn append_rows(
     columns: &mut [Column<'_>],
     first: usize,
     end: usize,
@@ -110,6 +114,46 @@ fn append_rows(
     Ok(())
 }
 
+// Appends the rows of a picture of few items from one up to another.
+fn append_unbanded(
+    alloc: Global,
+    items: &[Item<'_>],
+    window: &Window,
+    first: usize,
+    end: usize,
+    out: &mut Vec<u8>,
+) -> Result<(), OutOfMemory>
+    requires { (first ≤ end) × (end ≤ window.now.h) }
+    ensures ok { OnOk result (out.new.items ≡ out.old.items ++ rows_of (last_colour items.now) window.now first end) }
+    ensures kept { take (length out.old.items) out.new.items ≡ out.old.items }
+{
+    let bump = Bump::new(alloc);
+    let mut columns = columns_of(alloc, &bump, items, window, first, end)?;
+    let width = window.w() as usize;
+    let mut row = [WHITE; 256];
+    append_rows(columns.as_mut_slice(), first, end, &mut row[..width], out)
+}
+
+// Appends the rows of a picture from one up to another, those of many items band by band.
+fn append_rows_of(
+    alloc: Global,
+    items: &[Item<'_>],
+    window: &Window,
+    first: usize,
+    end: usize,
+    out: &mut Vec<u8>,
+) -> Result<(), OutOfMemory>
+    requires { (first ≤ end) × (end ≤ window.now.h) }
+    ensures ok { OnOk result (out.new.items ≡ out.old.items ++ rows_of (last_colour items.now) window.now first end) }
+    ensures kept { take (length out.old.items) out.new.items ≡ out.old.items }
+{
+    if items.len() <= FEW {
+        append_unbanded(alloc, items, window, first, end, out)
+    } else {
+        append_banded(alloc, items, window, first, end, out)
+    }
+}
+
 /// Appends the rows of a picture from one up to another: three bytes for each pixel, red, green
 /// and blue of the last item that holds it, or of white. Without memory all is as it was.
 pub fn append_strip(
@@ -125,13 +169,9 @@ pub fn append_strip(
     ensures err { OnErr result (out.new.items ≡ out.old.items) }
 {
     let (first, end) = (first as usize, end as usize);
-    let width = window.w() as usize;
-    let bump = Bump::new(alloc);
-    let mut columns = columns_of(alloc, &bump, items, window, first, end)?;
-    out.reserve(3 * width * (end - first))?;
-    let mut row = [WHITE; 256];
     let before = out.len();
-    match append_rows(columns.as_mut_slice(), first, end, &mut row[..width], out) {
+    out.reserve(3 * window.w() as usize * (end - first))?;
+    match append_rows_of(alloc, items, window, first, end, out) {
         Ok(()) => Ok(()),
         Err(fault) => {
             out.truncate(before);

@@ -15,7 +15,7 @@ use std::test::Fail;
 const RED: Colour = Colour([255, 0, 0]);
 
 // An edit that puts a shape in front of a parent's children.
-fn create(kind: Kind, dx: i64, dy: i64, quarter: u8, parent: Parent) -> Edit {
+pub(crate) fn create(kind: Kind, dx: i64, dy: i64, quarter: u8, parent: Parent) -> Edit {
     Edit::Create {
         kind,
         pose: Pose {
@@ -86,7 +86,8 @@ fn random_polygon(
     Ok(Kind::Polygon { points, fill })
 }
 
-fn random_kind(alloc: Global, dice: &mut Dice, reach: u32) -> Result<Kind, OutOfMemory> {
+// A shape of any kind but a group or a frame, with sides up to `reach`.
+pub(crate) fn random_kind(alloc: Global, dice: &mut Dice, reach: u32) -> Result<Kind, OutOfMemory> {
     let w = dice.below(reach).saturating_add(1);
     let h = dice.below(reach).saturating_add(1);
     let fill = Colour([dice.below(256).min(255) as u8, 90, 7]);

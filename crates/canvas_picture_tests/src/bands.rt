@@ -1,0 +1,87 @@
+//! Pictures of more shapes than are painted at once, compared with the walk pixel by pixel.
+
+use crate::levels::{create, random_kind};
+use crate::random::{Dice, after, agrees};
+use bumpalo::Bump;
+use canvas_code::OutOfMemory;
+use canvas_doc::{Document, Parent};
+use canvas_paint::append_strip;
+use canvas_plane::Window;
+use canvas_scene::{Item, Scene};
+use canvas_shape::{Colour, Kind};
+use std::alloc::Global;
+use std::process::Abort;
+use std::test::Fail;
+
+// How many shapes a document has. A strip paints up to 128 at once.
+const SHAPES: u32 = 320;
+
+// So many pixels of a window, as pixels of the page.
+fn scaled(pixels: u32, level: u8) -> u32 {
+    pixels.wrapping_shl(u32::from(level))
+}
+
+// A place of the page from 8 pixels of a window before the origin on.
+fn place(dice: &mut Dice, pixels: u32, level: u8) -> i64 {
+    let before = 0_i64.saturating_sub(i64::from(scaled(8, level)));
+    dice.within(before, scaled(pixels, level))
+}
+
+// Small shapes over one another, among them some large ones, and a rectangle in front that hides some.
+fn crowd(alloc: Global, dice: &mut Dice, level: u8) -> Result<Document, OutOfMemory> {
+    let mut document = Document::empty(alloc);
+    for _ in 0..SHAPES {
+        let reach = if dice.below(12) == 0 { 40 } else { 6 };
+        let kind = random_kind(alloc, dice, scaled(reach, level))?;
+        let dx = place(dice, 90, level);
+        let dy = place(dice, 60, level);
+        let quarter = dice.below(4).min(3) as u8;
+        let edit = create(kind, dx, dy, quarter, Parent::Page);
+        document = after(alloc, document, &edit)?;
+    }
+    let front = Kind::Rect {
+        w: scaled(20, level),
+        h: scaled(16, level),
+        fill: Colour([1, 2, 3]),
+    };
+    let at = i64::from(scaled(10, level));
+    after(alloc, document, &create(front, at, at, 0, Parent::Page))
+}
+
+// The picture of a window in two strips, of which the second begins at a row.
+fn in_two(
+    alloc: Global,
+    items: &[Item<'_>],
+    window: &Window,
+    row: u32,
+) -> Result<Vec<u8>, OutOfMemory> {
+    let middle = row.min(window.h());
+    let mut bytes = Vec::new(alloc);
+    append_strip(alloc, items, window, 0, middle, &mut bytes)?;
+    append_strip(alloc, items, window, middle, window.h(), &mut bytes)?;
+    Ok(bytes)
+}
+
+// Compares a random document with its picture in a window of a level.
+fn compare(rt: &impl Abort, alloc: Global, level: u8) -> Result<(), Fail> {
+    let mut dice = Dice(u64::from(level).wrapping_add(77));
+    let document = crowd(alloc, &mut dice, level)?;
+    let window = Window::at_level(level, -3, -2, 70, 43)?;
+    let bump = Bump::new(alloc);
+    let scene = Scene::build(&bump, &document, &window)?;
+    let items = scene.display_list();
+    assert!(rt; items.len() > 128, "{level}: {}", items.len());
+    let whole = in_two(alloc, items, &window, 0)?;
+    assert!(rt; agrees(&document, &window, whole.as_slice()), "{level}");
+    for row in [1, 15, 16, 17, 33, 42_u32] {
+        let parts = in_two(alloc, items, &window, row)?;
+        assert!(rt; parts.as_slice() == whole.as_slice(), "{level} {row}");
+    }
+    Ok(())
+}
+
+#[test]
+fn pictures_of_many_shapes_are_the_walk(rt: HostRuntime) -> Result<(), Fail> {
+    compare(&rt, rt.alloc(), 0)?;
+    compare(&rt, rt.alloc(), 3)
+}
