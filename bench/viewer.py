@@ -12,7 +12,6 @@ The document is the one of bin/canvas-demo. Requests of one tab are counted betw
 """
 
 import asyncio
-import contextlib
 import os
 import re
 import statistics
@@ -24,6 +23,7 @@ TOP = Path(__file__).resolve().parent.parent
 sys.path[:0] = [str(TOP / "tools"), str(TOP / "tools" / "viewer")]
 from browser import Browser  # noqa: E402
 from check_server import free_port  # noqa: E402
+from puppet import Counter  # noqa: E402
 
 VIEWS, EDITS, SECONDS = 10, 30, 5
 SETTLED = "new Promise((done) => { const look = () => window.app?.picture.isSettled ? done(performance.now()) : setTimeout(look, 1); look(); })"
@@ -46,32 +46,6 @@ EDIT = """(async (dx) => {
   const reply = await app.editor.send({ verb: "pose", id: 1, pose: { dx } });
   return [reply.version, begin];
 })(%d)"""
-
-
-class Counter:
-    """Passes connections on to a server, and counts the requests."""
-
-    def __init__(self, address):
-        self._address = address
-        self.requests = 0
-
-    async def start(self):
-        """Listens, and gives the address."""
-        self._server = await asyncio.start_server(self._pass_on, "127.0.0.1", 0)
-        return f"127.0.0.1:{self._server.sockets[0].getsockname()[1]}"
-
-    async def _pass_on(self, reader, writer):
-        host, _, port = self._address.rpartition(":")
-        other_reader, other_writer = await asyncio.open_connection(host, int(port))
-        with contextlib.suppress(OSError):
-            await asyncio.gather(self._copy(reader, other_writer, True), self._copy(other_reader, writer, False))
-
-    async def _copy(self, reader, writer, counts):
-        while piece := await reader.read(1 << 20):
-            self.requests += piece.count(b"\n") if counts else 0
-            writer.write(piece)
-            await writer.drain()
-        writer.close()
 
 
 async def started(words, pattern, **more):
