@@ -1,7 +1,7 @@
 -- What is hidden behind the items in front of it.
 use Rattle.std.proofs.Common.{◌≡◌, List, [], ◌∷◌, ◌++◌, Bool, true, false, ◌&&◌, ◌||◌, cond, Option, Some, None, ℤ, refl, sym, ap, ◌∙◌, reverse, All, subst}
 use Rattle.std.proofs.lemmas.List.{reverse-append}
-use Rattle.std.proofs.lemmas.List.Elements.{All-push, All-weaker}
+use Rattle.std.proofs.lemmas.List.Elements.{All-weaker}
 use Rattle.canvas_plane.specs.declared.PageBox.{PageBox}
 use Rattle.canvas_plane.specs.Page.{is_in, IsWithin}
 use Rattle.canvas_shape.specs.declared.Colour.{Colour}
@@ -105,11 +105,10 @@ still-hidden covers items news i e h =
     subst P (sym e) (all-hidden-more covers items (i ∷ []) h)
 
 -- and the box of which it holds all
-pub one-more-hidden : (covers after : List PageBox) (items news : List Item) (i : Item) (part : PageBox) → news ≡ items ++ i ∷ [] → after ≡ covers ++ part ∷ [] → ((x y : ℤ) → is_in part x y ≡ true → item_holds i x y ≡ true) → All (IsHidden items) covers → All (IsHidden news) after
-one-more-hidden covers after items news i part e f held h =
+pub newly-hidden : (items news : List Item) (i : Item) (part : PageBox) → news ≡ items ++ i ∷ [] → ((x y : ℤ) → is_in part x y ≡ true → item_holds i x y ≡ true) → IsHidden news part
+newly-hidden items news i part e held =
     let P : List Item → Type 0 = λ l. IsHidden l part in
-    let Q : List PageBox → Type 0 = λ l. All (IsHidden news) l in
-    subst Q (sym f) (All-push (IsHidden news) covers part (still-hidden covers items news i e h) (subst P (sym e) (hidden-by items i part held)))
+    subst P (sym e) (hidden-by items i part held)
 
 -- the same of cells that were hidden
 pub cells-still-hidden : (cells : Cells) (items news : List Item) (i : Item) → news ≡ items ++ i ∷ [] → AreCellsHidden items cells → AreCellsHidden news cells

@@ -20,13 +20,19 @@ use std::marker::Model;
 /// How many items and rectangles have room before memory grows: those of most windows.
 const ROOM: usize = 32;
 
-/// The items that a walk has come to, seen as their list from front to back. It keeps what each
-/// rectangle shows, and marks the window's cells that lie in one, so that what lies wholly behind
-/// one rectangle or wholly in marked cells makes no item.
+/// How many rectangles are kept at most, so that thousands of them don't make a walk slow: what lies behind one of them alone is
+/// painted then, where the cells don't show it hidden.
+const MOST_COVERS: usize = 128;
+
+/// The items that a walk has come to, seen as their list from front to back. It keeps what the first
+/// rectangles and the last one show, and marks the window's cells that lie in one, so that what lies
+/// wholly behind one of those kept or wholly in marked cells makes no item.
 #[derive(Drop)]
 pub(crate) struct Shown<'a> {
     items: Vec<Item<'a>, &'a Bump>,
     covers: Vec<PageBox, &'a Bump>,
+    // How many rectangles it has come to.
+    rectangles: usize,
     cells: Cells,
 }
 
@@ -46,13 +52,14 @@ impl<'a> Shown<'a> {
         Ok(Shown {
             items: Vec::with_capacity(bump, ROOM)?,
             covers: Vec::with_capacity(bump, ROOM)?,
+            rectangles: 0,
             cells: Cells::new(window),
         })
     }
 
-    /// How many rectangles it keeps.
-    pub(crate) fn cover_count(&self) -> usize {
-        self.covers.len()
+    /// How many rectangles it has come to.
+    pub(crate) fn rectangle_count(&self) -> usize {
+        self.rectangles
     }
 
     /// Whether nothing behind may be seen in a box, for it is empty, lies in marked cells or lies
@@ -73,13 +80,13 @@ impl<'a> Shown<'a> {
             && (self.cells.covers(part) || lies_within_one(part, &self.covers))
     }
 
-    /// Whether nothing behind may be seen in a box that was not hidden when it kept `before`
+    /// Whether nothing behind may be seen in a box that was not hidden when it had come to `before`
     /// rectangles: without one more it is not hidden now. Of the rectangles it looks at the last
     /// alone, behind which nothing in the box was added if it has all of it.
     pub(crate) fn hides_by_last(&self, part: &PageBox, before: usize) -> bool
         ensures { IsTrue result → IsHidden self.now part.now }
     {
-        before < self.covers.len() && self.covers_by_last(part)
+        before < self.rectangles && self.covers_by_last(part)
     }
 
     // Whether a box lies in marked cells or within the last rectangle.
@@ -109,8 +116,9 @@ impl<'a> Shown<'a> {
         self.items.push(item)?;
         if let Carried::Rect(shape) = leaf {
             let part = shape.sides().meet(clip);
+            self.rectangles = self.rectangles.saturating_add(1);
             self.cells.mark(&part);
-            self.covers.push(part)?;
+            keep_cover(&mut self.covers, part)?;
         }
         Ok(item)
     }
@@ -123,6 +131,15 @@ impl<'a> Shown<'a> {
         items.reverse();
         into_bump_slice(items)
     }
+}
+
+// Puts a box behind others. Where as many are kept as may be, the last one makes room.
+fn keep_cover(covers: &mut Vec<PageBox, &Bump>, part: PageBox) -> Result<(), OutOfMemory>
+    ensures { (items : List Item) → All (IsHidden items) covers.old.items → IsHidden items part → All (IsHidden items) covers.new.items }
+{
+    covers.truncate(MOST_COVERS - 1);
+    covers.push(part)?;
+    Ok(())
 }
 
 // Whether one of some boxes holds all that a box holds.

@@ -84,7 +84,7 @@ fn nodes_among<'a>(
         if is_out_of_sight(child, &page, clip, shown) {
             continue;
         }
-        let before = shown.cover_count();
+        let before = shown.rectangle_count();
         add_node(document, levels - 1, child, &page, clip, shown, &mut nodes)?;
         if shown.hides_by_last(clip, before) {
             break;

@@ -1,26 +1,26 @@
-use Rattle.std.proofs.Common.{◌≡◌, ◌∙◌, ◌++◌, ◌∷◌, [], All, List, ap, refl, rules, subst, sym}
-use Rattle.canvas_plane.specs.declared.PageBox.{PageBox}
+use Rattle.std.proofs.Common.{◌≡◌, ◌∙◌, ◌++◌, ◌∷◌, [], ap, refl, rules, sym}
 use Rattle.canvas_plane.specs.Page.{is_in}
 use Rattle.canvas_shape.specs.Leaves.{carried_holds, page_box_of}
 use Rattle.canvas_scene.specs.declared.item.Item.{Item}
-use Rattle.canvas_scene.specs.Covers.{first_fill, IsHidden}
-use Rattle.canvas_scene.proofs.Covering.{added-item, cells-still-hidden, more-cells-hidden, one-more-hidden, rectangle-holds, still-hidden}
+use Rattle.canvas_scene.specs.Covers.{first_fill}
+use Rattle.canvas_scene.proofs.Covering.{added-item, cells-still-hidden, more-cells-hidden, newly-hidden, rectangle-holds, still-hidden}
 use Rattle.canvas_scene.proofs.shown.Shown.add.Goals as goal
 
 pub invariant_of-self-in-Continue-branch-2 : goal.invariant_of-self-in-Continue-branch-2
 invariant_of-self-in-Continue-branch-2 c =
     let item : Item = record { leaf = c.args.leaf; clip = c.args.clip.now; fill = c.args.fill } in
-    let held = rectangle-holds c.args.leaf c.in-Rect.shape c.sides.result c.args.clip.now c.meet-part.result c.args.fill c.in-Rect.is (c.sides.ensures.value ∙ ap page_box_of (sym c.in-Rect.is)) c.meet-part.ensures.exact in (
-      one-more-hidden c.self.inside.covers.items c.push-in-Rect.new.self.items c.self.inside.items.items c.push.new.self.items item c.meet-part.result c.in_ok-push.ensures.items c.in_ok-push-2.ensures.items held c.self.invariant.0,
+    let held = rectangle-holds c.args.leaf c.in-Rect.shape c.sides.result c.args.clip.now c.meet-part.result c.args.fill c.in-Rect.is (c.sides.ensures.value ∙ ap page_box_of (sym c.in-Rect.is)) c.meet-part.ensures.exact in
+    let before = still-hidden c.self.inside.covers.items c.self.inside.items.items c.push.new.self.items item c.in_ok-push.ensures.items c.self.invariant.0 in (
+      c.keep_cover.ensures c.push.new.self.items before (newly-hidden c.self.inside.items.items c.push.new.self.items item c.meet-part.result c.in_ok-push.ensures.items held),
       more-cells-hidden c.self.inside.cells c.mark.new.self c.self.inside.items.items c.push.new.self.items item c.meet-part.result c.in_ok-push.ensures.items c.mark.ensures held c.self.invariant.1,
     )
 
-pub invariant_of-self-in_err-push-2 : goal.invariant_of-self-in_err-push-2
-invariant_of-self-in_err-push-2 c =
+pub invariant_of-self-in_err-keep_cover : goal.invariant_of-self-in_err-keep_cover
+invariant_of-self-in_err-keep_cover c =
     let item : Item = record { leaf = c.args.leaf; clip = c.args.clip.now; fill = c.args.fill } in
     let held = rectangle-holds c.args.leaf c.in-Rect.shape c.sides.result c.args.clip.now c.meet-part.result c.args.fill c.in-Rect.is (c.sides.ensures.value ∙ ap page_box_of (sym c.in-Rect.is)) c.meet-part.ensures.exact in
-    let P : List PageBox → Type 0 = λ l. All (IsHidden c.push.new.self.items) l in (
-      subst P (sym c.in_err-push-2.ensures.items) (still-hidden c.self.inside.covers.items c.self.inside.items.items c.push.new.self.items item c.in_ok-push.ensures.items c.self.invariant.0),
+    let before = still-hidden c.self.inside.covers.items c.self.inside.items.items c.push.new.self.items item c.in_ok-push.ensures.items c.self.invariant.0 in (
+      c.keep_cover.ensures c.push.new.self.items before (newly-hidden c.self.inside.items.items c.push.new.self.items item c.meet-part.result c.in_ok-push.ensures.items held),
       more-cells-hidden c.self.inside.cells c.mark.new.self c.self.inside.items.items c.push.new.self.items item c.meet-part.result c.in_ok-push.ensures.items c.mark.ensures held c.self.invariant.1,
     )
 
