@@ -15,17 +15,20 @@ const PAGE: u64 = 4_096;
 
 /// Keeps versions of documents of several sizes, all records on the page, and prints the memory that each takes more.
 pub fn measure_all(rt: &HostRuntime) -> anyhow::Result<()> {
+    // None goes before the last is measured: memory that was given back would serve the next ones.
+    let mut kept = Vec::new(rt.alloc());
     for records in [10, 100, 1_000, 4_096, 16_384] {
         let first = layouts::restored(
             rt.alloc(),
             layouts::records(rt.alloc(), Layout::Flat, records)?,
         )?;
-        measure(rt, first)?;
+        kept.push(versions_of(rt, first)?)?;
     }
     Ok(())
 }
 
-fn measure(rt: &HostRuntime, first: Document) -> anyhow::Result<()> {
+// Versions from a document on, each with the memory that it takes printed as a mean.
+fn versions_of(rt: &HostRuntime, first: Document) -> anyhow::Result<Vec<Document>> {
     let records = first.count() as u32;
     let mut versions = Vec::with_capacity(rt.alloc(), VERSIONS as usize + 1)?;
     versions.push(first)?;
@@ -41,7 +44,7 @@ fn measure(rt: &HostRuntime, first: Document) -> anyhow::Result<()> {
         "{records:>6} records: {} bytes a version",
         more / VERSIONS as u64
     )?;
-    Ok(())
+    Ok(versions)
 }
 
 // The document with another pose of a record.
