@@ -352,7 +352,7 @@ class Tab:
 
     async def _watch(self):
         """Keeps a session with the server, and tells the tab of each version that it did not see."""
-        while True:
+        while not self._socket.closed:
             try:
                 session = await Session.open(self._host, self._port)
                 try:
@@ -368,7 +368,7 @@ class Tab:
         session.seen = await session.version()
         self._session = session
         await self._say(say="here", version=session.seen)
-        while True:
+        while not self._socket.closed:
             await asyncio.sleep(POLL)
             self._news.tell(session, await session.version())
 
