@@ -1,5 +1,5 @@
 -- What a view knows of a line it knows after a step.
-use Rattle.std.proofs.Common.{◌≡◌, List, [], ◌∷◌, Result, Ok, Err, Option, Some, IfOk, IfSome, sym, ◌∙◌, subst}
+use Rattle.std.proofs.Common.{◌≡◌, List, [], ◌∷◌, Result, Ok, Err, Option, IfOk, IfSome, sym, ◌∙◌, subst}
 use Rattle.std.specs.Result.{result_ok}
 use Rattle.canvas_line.specs.declared.rule.View.{View}
 use Rattle.canvas_line.specs.Trails.{Facts}

@@ -6,7 +6,7 @@ use Rattle.canvas_doc.specs.Damage.{damage_of}
 use Rattle.canvas_doc.specs.Effect.{effect_of, Fits}
 use Rattle.canvas_doc.proofs.Histories.{replay-snoc, all_fit-snoc, last-snoc}
 use Rattle.canvas_line.specs.declared.version.Version.{Version}
-use Rattle.canvas_line.specs.Recent.{last_64, recent_of}
+use Rattle.canvas_line.specs.Recent.{last_64}
 use Rattle.canvas_line.specs.Standing.{IsVersionOf}
 use Rattle.canvas_line.proofs.Recently.{recent-snoc}
 
