@@ -73,8 +73,8 @@ children-are p order rs h o =
     (λ i d l. Contains-permutation kept (children p rs) (get_or listed i d) (front_first-moves kept) (within i d l))
     (All-permutation (Contains listed) kept (children p rs) (front_first-moves kept) (passing-within (is_child p) rs order o.complete))
 
--- one more of the records from a position on
-pub one-more : (order : List Record) (start at : ℕ) (r d : Record) → start ≤ at → at < length order → r ≡ get_or order at d → take (at + 1 - start) (drop start order) ≡ take (at - start) (drop start order) ++ r ∷ []
+-- one more of the items from a position on
+pub one-more : {A : Type 0} (order : List A) (start at : ℕ) (r d : A) → start ≤ at → at < length order → r ≡ get_or order at d → take (at + 1 - start) (drop start order) ≡ take (at - start) (drop start order) ++ r ∷ []
 one-more order start at r d a b e =
     let more : at + 1 - start ≡ at - start + 1 = omega arith in
     let here : start + (at - start) ≡ at = omega arith in

@@ -10,17 +10,19 @@ use Rattle.canvas_plane.specs.declared.Pose.{Pose}
 use Rattle.canvas_plane.specs.Motion.{carry}
 use Rattle.canvas_plane.specs.Page.{is_in}
 use Rattle.canvas_doc.specs.declared.bounds.Bounds.{Bounds}
+use Rattle.canvas_doc.specs.declared.placed_shapes.PlacedShape.{PlacedShape}
 use Rattle.canvas_doc.specs.declared.records.Parent.{Parent}
 use Rattle.canvas_doc.specs.declared.records.Record.{Record}
 use Rattle.canvas_doc.specs.Bounds.{HoldsClip, LieApart}
 use Rattle.canvas_doc.specs.Children.{children, IsPartOf}
 use Rattle.canvas_doc.specs.Contents.{Contents}
 use Rattle.canvas_doc.specs.Picture.{answer_of, first_answer}
+use Rattle.canvas_doc.specs.Placements.{Placements, placements_of}
 use Rattle.canvas_doc.specs.PlaceOrder.{AreChildrenWithin, IsInPlaceOrder, IsKeptInOrder}
 use Rattle.canvas_doc.specs.Tree.{IsInLimits}
 use Rattle.canvas_doc.proofs.ChildrenInOrder.{all-in_order, children-are, one-more}
 use Rattle.canvas_doc.proofs.Culled.{answers-pass, answers-push, apart-none, StandIn}
-use Rattle.canvas_doc.proofs.Marks.{some-at}
+use Rattle.canvas_doc.proofs.Placements.{bounds-at, long-bounds, shape-at}
 
 -- ---- parts of lists
 
@@ -96,80 +98,33 @@ out-of-sight d order bounds kept out clip area b at r quarter clipped er eb apar
           (record { at = at; shape = er; box = eb; quarter = own.quarter }) apart quarter (clipped.holds x y inside);
     }
 
--- ---- going over a part of a list
+-- ---- going over the children of a parent
 
--- the item at a position, where a part of the list begins with it
-first-of-rest : {A : Type 0} (xs : List A) (at end : ℕ) (a : A) (rest : List A) → take (end - at) (drop at xs) ≡ a ∷ rest → (at < end) × (slice_get xs at ≡ Some a) × (rest ≡ take (end - (at + 1)) (drop (at + 1) xs))
-first-of-rest xs at end a rest e =
-    let long : length (take (end - at) (drop at xs)) ≡ suc (length rest) = ap length e in
-    let few : length (take (end - at) (drop at xs)) ≡ min (end - at) (length xs - at) = simp (length-take, length-drop) refl in
-    let below : at < end = omega arith in
-    let within : at < length xs = omega arith in
-    let more : end - at ≡ suc (end - (at + 1)) = omega arith in
-    let same : get_or xs at a ∷ take (end - (at + 1)) (drop (at + 1) xs) ≡ a ∷ rest =
-    sym (ap (λ l. take (suc (end - (at + 1))) l) (drop_more xs at a within)) ∙ sym (ap (λ n. take n (drop at xs)) more) ∙ e in
-    (below, slice_get_read xs (length xs) at a refl within (sym (ap (λ l. get_or l 0 a) same)), sym (ap (λ l. drop 1 l) same))
-
--- no item, where the part is empty
-pub rest-ends : {A : Type 0} (xs : List A) (at end : ℕ) → at ≤ end → end ≤ length xs → take (end - at) (drop at xs) ≡ [] → at ≡ end
-rest-ends xs at end l b e =
-    let long : length (take (end - at) (drop at xs)) ≡ 0 = ap length e in
-    let few : length (take (end - at) (drop at xs)) ≡ min (end - at) (length xs - at) = simp (length-take, length-drop) refl in
-    omega arith
-
--- a walk over the bounds from one position up to another has come to the next one
-pub record StandsNext (order : List Record) (bounds rest : List Bounds) (start at end : ℕ) (r : Record) (b : Bounds) : Type 0 where
-  pub below : at < end
+-- a walk has come to the record of a position, with its bounds
+pub record StandsThere (order : List Record) (bounds : List Bounds) (start at : ℕ) (r : Record) (b : Bounds) : Type 0 where
   pub shape : slice_get order at ≡ Some r
   pub box : slice_get bounds at ≡ Some b
-  pub left : rest ≡ take (end - (at + 1)) (drop (at + 1) bounds)
   pub more : take (at + 1 - start) (drop start order) ≡ take (at - start) (drop start order) ++ r ∷ []
 
-pub stands-next : (order : List Record) (bounds left rest : List Bounds) (start at end : ℕ) (b : Bounds) → length bounds ≡ length order → start ≤ at → left ≡ take (end - at) (drop at bounds) → left ≡ b ∷ rest
-    → (r : Record) × StandsNext order bounds rest start at end r b
-stands-next order bounds left rest start at end b long from e f =
-    let here = first-of-rest bounds at end b rest (sym e ∙ f) in
-    let box : at < length bounds = slice_get_within bounds at b here.1 in
-    let within : at < length order = omega arith in
-    let r = some-at order at within in (
-      r.0,
-      record {
-        below = here.0;
-        shape = slice_get_read order (length order) at r.0 refl within r.1;
-        box = here.1;
-        left = here.2;
-        more = one-more order start at r.0 r.0 from within r.1;
-      },
-    )
-
--- a walk from one position up to another, at a later one
-pub walk-later : (bounds : List Bounds) (start at end : ℕ) → start ≤ at → at ≤ end → drop (at - start) (take (end - start) (drop start bounds)) ≡ take (end - at) (drop at bounds)
-walk-later bounds start at end h k =
-    let many : at - start + (end - at) ≡ end - start = omega arith in
-    let place : start + (at - start) ≡ at = omega arith in
-    ap (λ n. drop (at - start) (take n (drop start bounds))) (sym many)
-    ∙ drop-take (at - start) (end - at) (drop start bounds)
-    ∙ ap (take (end - at)) (drop-drop (at - start) start bounds ∙ ap (λ n. drop n bounds) place)
+pub stands-there : (all read : List PlacedShape) (p : Placements) (start at : ℕ) (x : PlacedShape) → placements_of all ≡ p → read ≡ all → start ≤ at → at < length p.shapes → x ≡ get_or read at x
+    → StandsThere p.shapes p.bounds start at x.shape x.bounds
+stands-there all read p start at x is same from within e =
+    let here : x ≡ get_or all at x = e ∙ ap (λ l. get_or l at x) same in
+    let long : length p.bounds ≡ length p.shapes = long-bounds all p is in
+    let shape : x.shape ≡ get_or p.shapes at x.shape = shape-at all p is at x here in
+    record {
+      shape = slice_get_read p.shapes (length p.shapes) at x.shape refl within shape;
+      box = slice_get_read p.bounds (length p.bounds) at x.bounds refl (omega arith) (bounds-at all p is at x here);
+      more = one-more p.shapes start at x.shape x.shape from within shape;
+    }
 
 -- a walk that has come to its end has gone over all children
-pub children-in_sight : (d now : Contents) (order : List Record) (bounds left : List Bounds) → IsKeptInOrder d order bounds → d ≡ now → (p : Parent) (out : Pose) (clip : PageBox) (seen : List Record) (start at end : ℕ)
-    → AreChildrenWithin p order start end → at ≤ end → left ≡ take (end - at) (drop at bounds) → left ≡ [] → AreInSight d.records out clip seen (take (at - start) (drop start order)) → AreInSight now.records out clip seen (children p now.records)
-children-in_sight d now order bounds left kept view p out clip seen start at end w l e none h =
-    let long : end ≤ length bounds = omega (arith, w.bound, kept.bounded.long) in
-    let done : at ≡ end = rest-ends bounds at end l long (sym e ∙ none) in
-    let all : take (at - start) (drop start order) ≡ children p d.records = ap (λ n. take (n - start) (drop start order)) done ∙ w.are ∙ children-are p order d.records kept.well_formed.places kept.in_order in
-    let P : Contents → Type 0 = λ c. AreInSight c.records out clip seen (children p c.records) in
-    let Q : List Record → Type 0 = λ l. AreInSight d.records out clip seen l in
-    subst P view (subst Q all h)
-
--- the same of a walk over what was taken from the lists before it
-pub walked-in_sight : (d now : Contents) (order shapes : List Record) (bounds whole left : List Bounds) → IsKeptInOrder d order bounds → d ≡ now → shapes ≡ order → (p : Parent) (out : Pose) (clip : PageBox) (seen : List Record) (start at end : ℕ)
-    → AreChildrenWithin p order start end → start ≤ at → at ≤ end → whole ≡ take (end - start) (drop start bounds) → left ≡ drop (at - start) whole → left ≡ [] → AreInSight now.records out clip seen (take (at - start) (drop start shapes)) → AreInSight now.records out clip seen (children p now.records)
-walked-in_sight d now order shapes bounds whole left kept view same p out clip seen start at end w h l is e none sight =
-    let P : Contents → Type 0 = λ c. AreInSight c.records out clip seen (take (at - start) (drop start shapes)) in
-    let Q : List Record → Type 0 = λ l. AreInSight d.records out clip seen (take (at - start) (drop start l)) in
-    children-in_sight d now order bounds left kept view p out clip seen start at end w l (e ∙ ap (drop (at - start)) is ∙ walk-later bounds start at end h l) none
-    (subst Q same (subst P (sym view) sight))
+pub children-in_sight : (d now : Contents) (order : List Record) (bounds : List Bounds) → IsKeptInOrder d order bounds → d ≡ now → (p : Parent) (out : Pose) (clip : PageBox) (seen : List Record) (start at end : ℕ)
+    → AreChildrenWithin p order start end → at ≡ end → AreInSight now.records out clip seen (take (at - start) (drop start order)) → AreInSight now.records out clip seen (children p now.records)
+children-in_sight d now order bounds kept view p out clip seen start at end w done h =
+    let all : take (at - start) (drop start order) ≡ children p now.records =
+    ap (λ n. take (n - start) (drop start order)) done ∙ w.are ∙ children-are p order d.records kept.well_formed.places kept.in_order ∙ ap (λ (c : Contents). children p c.records) view in
+    subst (λ l. AreInSight now.records out clip seen l) all h
 
 -- ---- one pixel
 

@@ -13,6 +13,7 @@ pub mod FitCreate
 pub mod FitDelete
 pub mod Respaced
 pub mod Marks
+pub mod Placements
 pub mod Decided
 pub mod OneChanged
 pub mod Histories

@@ -13,6 +13,7 @@ pub mod Fitting
 pub mod Restored
 pub mod Listed
 pub mod PlaceOrder
+pub mod Placements
 pub mod Ends
 pub mod Edges
 pub mod Bounds

@@ -231,8 +231,9 @@ fn levels_below(document: &Document, levels: u32, shape: &Record) -> u32
     }
     let Range { start, end } = children_range(order, Parent::Shape(shape.id));
     let mut tallest: u32 = 0;
-    for child in order.iter_range(start, end) {
-        tallest = tallest.max(levels_below(document, levels - 1, child.value()) + 1);
+    for placed in order.list.iter_range(start, end) {
+        let child = placed.shape.value();
+        tallest = tallest.max(levels_below(document, levels - 1, child) + 1);
     }
     tallest
 }

@@ -79,16 +79,15 @@ fn answer_among(
     }
     let Range { start, end } = children_range(&document.order, parent);
     let area = Bounds::of_clip(out, &at.sides());
-    let mut slot = start;
-    for bounds in document.bounds.iter_range(start, end) {
-        if bounds.meets(&area) {
-            let shape = document.order.at(slot).value();
-            let answer = answer_of(document, levels - 1, shape, out, at);
+    let mut all = document.order.reader();
+    for slot in start..end {
+        let placed = all.at(slot);
+        if placed.bounds.meets(&area) {
+            let answer = answer_of(document, levels - 1, placed.shape.value(), out, at);
             if answer.is_some() {
                 return answer;
             }
         }
-        slot += 1;
     }
     None
 }

@@ -25,7 +25,6 @@ impl Document {
         Ok(Document {
             records: self.records.try_clone(alloc)?,
             order: self.order.try_clone(alloc)?,
-            bounds: self.bounds.try_clone(alloc)?,
             next: self.next,
         })
     }

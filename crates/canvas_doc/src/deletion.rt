@@ -9,35 +9,34 @@ ghost use Rattle.canvas_doc.specs.Deletion.{is_held, has_id_of, container_ids, c
 ghost use Rattle.canvas_doc.specs.PlaceOrder.{comes_first};
 
 use crate::ancestry::is_container;
-use crate::kept_bounds::BoundsList;
 use crate::lookup::position_of;
 use crate::place_order::{children_range, position_in};
+use crate::placed_shapes::PlacedShapes;
 use crate::records::{Parent, Records};
 use canvas_code::OutOfMemory;
 use std::alloc::Global;
 use std::ops::Range;
 
-// The records of a document by id and by place, and their bounds in the positions of the latter.
+// The records of a document by id, and by place with their bounds.
 #[derive(Drop)]
 pub(crate) struct Lists {
     pub(crate) records: Records,
-    pub(crate) order: Records,
-    pub(crate) bounds: BoundsList,
+    pub(crate) order: PlacedShapes,
 }
 
 // The lists without all that hangs under some shapes, or under groups and frames below these, where
 // `whole` has all of them; so many levels of them.
 pub(crate) fn without_below(
     alloc: Global,
-    whole: &Records,
+    whole: &PlacedShapes,
     levels: u32,
     level: &[u32],
     lists: Lists,
 ) -> Result<Lists, OutOfMemory>
-    requires rising { IsStrictlySortedBy comes_first whole.now }
-    requires lists { AreLists lists.records lists.order lists.bounds }
-    ensures lists { IfOk result (λ after. AreLists after.records after.order after.bounds) }
-    ensures records { IfOk result (λ after. after.records ≡ filter (λ r. not (is_held (holders_below levels whole.now level.now) r)) lists.records) }
+    requires rising { IsStrictlySortedBy comes_first whole.now.shapes }
+    requires lists { AreLists lists.records lists.order.shapes lists.order.bounds }
+    ensures lists { IfOk result (λ after. AreLists after.records after.order.shapes after.order.bounds) }
+    ensures records { IfOk result (λ after. after.records ≡ filter (λ r. not (is_held (holders_below levels whole.now.shapes level.now) r)) lists.records) }
 {
     if levels == 0 {
         return Ok(lists);
@@ -50,11 +49,11 @@ pub(crate) fn without_below(
 // The groups and frames among the children of some shapes.
 fn containers_under(
     alloc: Global,
-    order: &Records,
+    order: &PlacedShapes,
     holders: &[u32],
 ) -> Result<Vec<u32>, OutOfMemory>
-    requires { IsStrictlySortedBy comes_first order.now }
-    ensures { IfOk result (λ all. all.items ≡ containers_under order.now holders.now) }
+    requires { IsStrictlySortedBy comes_first order.now.shapes }
+    ensures { IfOk result (λ all. all.items ≡ containers_under order.now.shapes holders.now) }
 {
     let mut all = Vec::new(alloc);
     for holder in holders {
@@ -64,9 +63,13 @@ fn containers_under(
 }
 
 // Ids, and those of the groups and frames among the children of a shape.
-fn with_containers(order: &Records, holder: u32, ids: Vec<u32>) -> Result<Vec<u32>, OutOfMemory>
-    requires { IsStrictlySortedBy comes_first order.now }
-    ensures { IfOk result (λ all. all.items ≡ ids.items ++ container_ids (filter (is_child (Shape holder)) order.now)) }
+fn with_containers(
+    order: &PlacedShapes,
+    holder: u32,
+    ids: Vec<u32>,
+) -> Result<Vec<u32>, OutOfMemory>
+    requires { IsStrictlySortedBy comes_first order.now.shapes }
+    ensures { IfOk result (λ all. all.items ≡ ids.items ++ container_ids (filter (is_child (Shape holder)) order.now.shapes)) }
 {
     let Range { start, end } = children_range(order, Parent::Shape(holder));
     let mut all = ids;
@@ -81,8 +84,8 @@ fn with_containers(order: &Records, holder: u32, ids: Vec<u32>) -> Result<Vec<u3
 
 // The lists without the children of some shapes.
 fn without_held(alloc: Global, holders: &[u32], lists: Lists) -> Result<Lists, OutOfMemory>
-    requires { AreLists lists.records lists.order lists.bounds }
-    ensures lists { IfOk result (λ after. AreLists after.records after.order after.bounds) }
+    requires { AreLists lists.records lists.order.shapes lists.order.bounds }
+    ensures lists { IfOk result (λ after. AreLists after.records after.order.shapes after.order.bounds) }
     ensures records { IfOk result (λ after. after.records ≡ filter (λ r. not (is_held holders.now r)) lists.records) }
 {
     let mut left = lists;
@@ -94,35 +97,30 @@ fn without_held(alloc: Global, holders: &[u32], lists: Lists) -> Result<Lists, O
 
 // The lists without the children of a shape.
 fn without_children(alloc: Global, holder: u32, lists: Lists) -> Result<Lists, OutOfMemory>
-    requires { AreLists lists.records lists.order lists.bounds }
-    ensures lists { IfOk result (λ after. AreLists after.records after.order after.bounds) }
+    requires { AreLists lists.records lists.order.shapes lists.order.bounds }
+    ensures lists { IfOk result (λ after. AreLists after.records after.order.shapes after.order.bounds) }
     ensures records { IfOk result (λ after. after.records ≡ filter (λ r. not (is_child (Shape holder) r)) lists.records) }
 {
     let Range { start, end } = children_range(&lists.order, Parent::Shape(holder));
     let records = without_range(alloc, lists.records, &lists.order, start, end)?;
-    let no_records = Vec::new(alloc);
-    let order = lists.order.with_spliced(alloc, start, end, no_records)?;
-    let no_bounds = Vec::new(alloc);
-    let bounds = lists.bounds.with_spliced(alloc, start, end, no_bounds)?;
-    Ok(Lists {
-        records,
-        order,
-        bounds,
-    })
+    let order = lists
+        .order
+        .with_spliced(alloc, start, end, Vec::new(alloc))?;
+    Ok(Lists { records, order })
 }
 
 // Records without those that have the ids of those from one position of the order up to another.
 fn without_range(
     alloc: Global,
     records: Records,
-    order: &Records,
+    order: &PlacedShapes,
     start: usize,
     end: usize,
 ) -> Result<Records, OutOfMemory>
     requires rising { AreRising records }
     requires from { start ≤ end }
-    requires within { end ≤ length order.now }
-    ensures { IfOk result (λ left. left ≡ filter (λ r. not (has_id_of (take (end - start) (drop start order.now)) r)) records) }
+    requires within { end ≤ length order.now.shapes }
+    ensures { IfOk result (λ left. left ≡ filter (λ r. not (has_id_of (take (end - start) (drop start order.now.shapes)) r)) records) }
 {
     let mut left = records;
     for at in start..end {
@@ -144,8 +142,8 @@ fn without_id(alloc: Global, records: Records, id: u32) -> Result<Records, OutOf
 
 // The lists without the record of an id.
 pub(crate) fn without_shape(alloc: Global, id: u32, lists: Lists) -> Result<Lists, OutOfMemory>
-    requires { AreLists lists.records lists.order lists.bounds }
-    ensures lists { IfOk result (λ after. AreLists after.records after.order after.bounds) }
+    requires { AreLists lists.records lists.order.shapes lists.order.bounds }
+    ensures lists { IfOk result (λ after. AreLists after.records after.order.shapes after.order.bounds) }
     ensures records { IfOk result (λ after. after.records ≡ filter (λ r. not (r.id == id)) lists.records) }
 {
     match position_of(&lists.records, id) {
@@ -154,7 +152,6 @@ pub(crate) fn without_shape(alloc: Global, id: u32, lists: Lists) -> Result<List
             Ok(Lists {
                 records: lists.records.without(alloc, at)?,
                 order: lists.order.without(alloc, from)?,
-                bounds: lists.bounds.without(alloc, from)?,
             })
         }
         None => Ok(lists),

@@ -1,6 +1,6 @@
 //! The document after a change.
 
-ghost use Rattle.std.specs.Prelude.{◌≡◌, ◌+◌, ◌≤◌, ◌<◌, ◌++◌, ◌∷◌, [], map, filter, length, ◌==◌, IfOk, MatchOption, None, false, true, slice_index_or, slice_set};
+ghost use Rattle.std.specs.Prelude.{◌≡◌, ◌+◌, ◌-◌, ◌≤◌, ◌<◌, ◌++◌, ◌∷◌, [], map, filter, length, ◌==◌, IfOk, MatchOption, None, drop, false, take, true, slice_index_or, slice_set};
 ghost use Rattle.std.specs.List.{remove};
 ghost use Rattle.std.specs.List.Sorted.{IsStrictlySortedBy};
 ghost use Rattle.std.specs.Option.{unwrap_or};
@@ -10,6 +10,7 @@ ghost use Rattle.canvas_doc.specs.Children.{is_child};
 ghost use Rattle.canvas_doc.specs.Contents.{record_of, HaveIds, AreRising, IsWellFormed, most_records};
 ghost use Rattle.canvas_doc.specs.declared.records.Record.{Record};
 ghost use Rattle.canvas_doc.specs.Effect.{changed_by, respaced, ReplacesAt};
+ghost use Rattle.canvas_doc.specs.Placements.{placements_of};
 ghost use Rattle.canvas_doc.specs.PlaceOrder.{comes_first, AreChildrenWithin, IsInPlaceOrder};
 ghost use Rattle.canvas_doc.specs.Tree.{HavePlaces};
 
@@ -17,9 +18,10 @@ use crate::Document;
 use crate::ancestry::STEPS;
 use crate::deletion::{Lists, without_below, without_shape};
 use crate::edits::Change;
-use crate::kept_bounds::{BoundsList, bounds_for, raised};
+use crate::kept_bounds::{bounds_for, raised};
 use crate::lookup::position_of;
 use crate::place_order::{children_range, position_in, shares};
+use crate::placed_shapes::{PlacedShape, PlacedShapes};
 use crate::records::{Parent, Place, Record, Records};
 use canvas_code::OutOfMemory;
 use canvas_key::fresh;
@@ -74,16 +76,14 @@ impl Document {
     {
         let at = position_in(&self.order, &shape.place);
         let last = self.records.len();
-        let own = bounds_for(&self.order, &self.bounds, &shape);
+        let own = bounds_for(&self.order, &shape);
         let shape = Shared::new(alloc, shape)?;
         let records = self.records.with_inserted(alloc, last, shape.share()?)?;
-        let order = self.order.with_inserted(alloc, at, shape)?;
-        let bounds = self.bounds.with_inserted(alloc, at, own)?;
-        let bounds = raised(alloc, &records, &order, bounds, at, STEPS)?;
+        let more = self.order.with_inserted(alloc, at, shape, own)?;
+        let order = raised(alloc, &records, more, at, STEPS)?;
         Ok(Document {
             records,
             order,
-            bounds,
             next: self.next + 1,
         })
     }
@@ -100,57 +100,63 @@ impl Document {
         let old = self.records.at(at).value();
         let new = Shared::new(alloc, changed_by(alloc, old, change)?)?;
         let records = self.records.with_replaced(alloc, at, new.share()?)?;
-        let placed = match change {
+        let order = match change {
             Change::Move { .. } => self.moved(alloc, &records, at)?,
             _ => self.replaced(alloc, &records, at)?,
         };
         Ok(Document {
             records,
-            order: placed.order,
-            bounds: placed.bounds,
+            order,
             next: self.next,
         })
     }
 
-    // The order and the bounds of records that are the document's but for the one at a position,
-    // which has another place and nothing else.
-    fn moved(&self, alloc: Global, records: &Records, at: usize) -> Result<Placed, OutOfMemory>
+    // The order of records that are the document's but for the one at a position, which has another
+    // place and nothing else.
+    fn moved(
+        &self,
+        alloc: Global,
+        records: &Records,
+        at: usize,
+    ) -> Result<PlacedShapes, OutOfMemory>
         requires there { at < length self.now.records }
         requires one { (r : Record) → records.now ≡ slice_set self.now.records at (slice_index_or records.now at r) }
         requires shape { (r : Record) → HaveOneShape (slice_index_or self.now.records at r) (slice_index_or records.now at r) }
         requires well_formed { IsWellFormed (record { records = records.now; next = self.now.next }) }
-        ensures order { IfOk result (λ placed. IsInPlaceOrder placed.order records.now) }
-        ensures bounds { IfOk result (λ placed. AreBounds placed.order placed.bounds) }
+        ensures order { IfOk result (λ all. IsInPlaceOrder all.shapes records.now) }
+        ensures bounds { IfOk result (λ all. AreBounds all.shapes all.bounds) }
     {
         let from = position_in(&self.order, &self.records.at(at).value().place);
+        let own = *self.order.bounds_at(from);
         let others = self.order.without(alloc, from)?;
         let moved = records.at(at);
         let to = position_in(&others, &moved.value().place);
-        let order = others.with_inserted(alloc, to, moved.share()?)?;
-        let own = *self.bounds.at(from);
-        let left = self.bounds.without(alloc, from)?;
-        let bounds = left.with_inserted(alloc, to, own)?;
-        let bounds = raised(alloc, records, &order, bounds, to, STEPS)?;
-        Ok(Placed { order, bounds })
+        let order = others.with_inserted(alloc, to, moved.share()?, own)?;
+        raised(alloc, records, order, to, STEPS)
     }
 
-    // The order and the bounds of records that are the document's but for the one at a position,
-    // which has the same place.
-    fn replaced(&self, alloc: Global, records: &Records, at: usize) -> Result<Placed, OutOfMemory>
+    // The order of records that are the document's but for the one at a position, which has the same
+    // place.
+    fn replaced(
+        &self,
+        alloc: Global,
+        records: &Records,
+        at: usize,
+    ) -> Result<PlacedShapes, OutOfMemory>
         requires there { at < length self.now.records }
         requires one { (r : Record) → records.now ≡ slice_set self.now.records at (slice_index_or records.now at r) }
         requires place { (r : Record) → (slice_index_or self.now.records at r).place ≡ (slice_index_or records.now at r).place }
         requires well_formed { IsWellFormed (record { records = records.now; next = self.now.next }) }
-        ensures order { IfOk result (λ placed. IsInPlaceOrder placed.order records.now) }
-        ensures bounds { IfOk result (λ placed. AreBounds placed.order placed.bounds) }
+        ensures order { IfOk result (λ all. IsInPlaceOrder all.shapes records.now) }
+        ensures bounds { IfOk result (λ all. AreBounds all.shapes all.bounds) }
     {
         let from = position_in(&self.order, &self.records.at(at).value().place);
         let replaced = records.at(at);
-        let own = bounds_for(&self.order, &self.bounds, replaced.value());
-        let order = self.order.with_replaced(alloc, from, replaced.share()?)?;
-        let bounds = self.bounds.with_replaced(alloc, from, own)?;
-        let bounds = raised(alloc, records, &order, bounds, from, STEPS)?;
-        Ok(Placed { order, bounds })
+        let own = bounds_for(&self.order, replaced.value());
+        let order = self
+            .order
+            .with_replaced(alloc, from, replaced.share()?, own)?;
+        raised(alloc, records, order, from, STEPS)
     }
 
     // The document without a shape and all below it.
@@ -175,7 +181,6 @@ impl Document {
         Ok(Document {
             records: self.records.without(alloc, at)?,
             order: self.order.without(alloc, from)?,
-            bounds: self.bounds.without(alloc, from)?,
             next: self.next,
         })
     }
@@ -188,14 +193,12 @@ impl Document {
         let all = Lists {
             records: self.records.try_clone(alloc)?,
             order: self.order.try_clone(alloc)?,
-            bounds: self.bounds.try_clone(alloc)?,
         };
         let above = without_below(alloc, &self.order, STEPS + 1, &[id], all)?;
         let left = without_shape(alloc, id, above)?;
         Ok(Document {
             records: left.records,
             order: left.order,
-            bounds: left.bounds,
             next: self.next,
         })
     }
@@ -208,21 +211,12 @@ impl Document {
         let children = respaced_children(alloc, &self.order, parent, start, end)?;
         let records = with_each(alloc, &self.records, &children)?;
         let order = self.order.with_spliced(alloc, start, end, children)?;
-        let bounds = self.bounds.try_clone(alloc)?;
         Ok(Document {
             records,
             order,
-            bounds,
             next: self.next,
         })
     }
-}
-
-// The records of a document by place, and their bounds in the same positions.
-#[derive(Drop)]
-struct Placed {
-    order: Records,
-    bounds: BoundsList,
 }
 
 fn changed_by(alloc: Global, shape: &Record, change: &Change) -> Result<Record, OutOfMemory>
@@ -338,24 +332,30 @@ fn changed_id(change: &Change) -> Option<u32>
 }
 
 // The children of a parent, which stand from one position up to another, each with the index that
-// stands for its place from the back.
+// stands for its place from the back, and with its bounds.
 fn respaced_children(
     alloc: Global,
-    order: &Records,
+    order: &PlacedShapes,
     parent: Parent,
     start: usize,
     end: usize,
-) -> Result<Vec<Shared<Record>>, OutOfMemory>
-    requires rising { IsStrictlySortedBy comes_first order.now }
-    requires children { AreChildrenWithin parent order.now start end }
+) -> Result<Vec<PlacedShape>, OutOfMemory>
+    requires rising { IsStrictlySortedBy comes_first order.now.shapes }
+    requires children { AreChildrenWithin parent order.now.shapes start end }
     requires few { end ≤ start + most_records }
-    ensures { IfOk result (λ children. children.items ≡ map (respaced parent order.now) (filter (is_child parent) order.now)) }
+    ensures shapes { IfOk result (λ children. (placements_of children.items).shapes ≡ map (respaced parent order.now.shapes) (filter (is_child parent) order.now.shapes)) }
+    ensures bounds { IfOk result (λ children. (placements_of children.items).bounds ≡ take (end - start) (drop start order.now.bounds)) }
 {
+    let mut all = order.reader();
     let mut children = Vec::with_capacity(alloc, end - start)?;
     for at in start..end {
+        let placed = all.at(at);
         let rank = (end - 1 - at) as u32;
-        let respaced = respaced(alloc, order.at(at).value(), rank)?;
-        children.push(Shared::new(alloc, respaced)?)?;
+        let respaced = respaced(alloc, placed.shape.value(), rank)?;
+        children.push(PlacedShape {
+            shape: Shared::new(alloc, respaced)?,
+            bounds: placed.bounds,
+        })?;
     }
     Ok(children)
 }
@@ -381,17 +381,17 @@ fn respaced(alloc: Global, shape: &Record, rank: u32) -> Result<Record, OutOfMem
 fn with_each(
     alloc: Global,
     records: &Records,
-    others: &[Shared<Record>],
+    others: &[PlacedShape],
 ) -> Result<Records, OutOfMemory>
     requires few { length records.now ≤ most_records }
     requires rising { AreRising records.now }
-    requires once { HaveIds others.now }
-    ensures { IfOk result (λ all. all ≡ map (λ r. unwrap_or (record_of r.id others.now) r) records.now) }
+    requires once { HaveIds (placements_of others.now).shapes }
+    ensures { IfOk result (λ all. all ≡ map (λ r. unwrap_or (record_of r.id (placements_of others.now).shapes) r) records.now) }
 {
     let mut all = shares(alloc, records)?;
     for other in others {
-        if let Some(at) = position_of(records, other.value().id) {
-            all[at] = other.share()?;
+        if let Some(at) = position_of(records, other.shape.value().id) {
+            all[at] = other.shape.share()?;
         }
     }
     Records::from_vec(alloc, all)

@@ -1,6 +1,6 @@
 //! The upkeep of bounds: those of each record of a document, in its position in the order by place.
 
-ghost use Rattle.std.specs.Prelude.{◌≡◌, ◌<◌, ℕ, All, IfOk, MatchOption, false, length, true};
+ghost use Rattle.std.specs.Prelude.{◌≡◌, ◌<◌, ◌^◌, ℕ, All, IfOk, MatchOption, false, length, true};
 ghost use Rattle.std.specs.List.{slice_get};
 ghost use Rattle.std.specs.List.Sorted.{IsStrictlySortedBy};
 ghost use Rattle.std.specs.Option.{option_copied};
@@ -18,111 +18,124 @@ use crate::ancestry::STEPS;
 use crate::bounds::Bounds;
 use crate::lookup::find;
 use crate::place_order::{children_range, position_in};
+use crate::placed_shapes::{PlacedShape, PlacedShapes};
 use crate::records::{Parent, Record, Records};
 use canvas_code::OutOfMemory;
-use canvas_list::{Share, SharedList};
+use canvas_list::{Share, Shared};
 use canvas_shape::Kind;
 use std::alloc::Global;
 use std::ops::Range;
 
-/// Bounds that documents share, seen as the list of them.
-pub(crate) type BoundsList = SharedList<Bounds>;
-
-impl Share for Bounds {
-    #[inline(always)]
-    fn share(&self) -> Result<Bounds, OutOfMemory> {
-        Ok(*self)
-    }
-}
-
 // The bounds of a shape that has its place in the order, or is to have one there.
-pub(crate) fn bounds_for(order: &Records, bounds: &BoundsList, shape: &Record) -> Bounds
-    requires rising { IsStrictlySortedBy comes_first order.now }
-    requires long { length bounds.now ≡ length order.now }
+pub(crate) fn bounds_for(order: &PlacedShapes, shape: &Record) -> Bounds
+    requires rising { IsStrictlySortedBy comes_first order.now.shapes }
     requires limits { IsInLimits shape.now }
     ensures own { shape.now.hidden ≡ false → HoldsOwn shape.now.kind shape.now.pose result }
-    ensures below { (j : ℕ) (s : Record) (c : Bounds) → slice_get order.now j ≡ Some s → slice_get bounds.now j ≡ Some c → is_child (Shape shape.now.id) s ≡ true → shape.now.hidden ≡ false → shape.now.kind ≡ Group → IsCarriedWithin shape.now.pose c result }
+    ensures below { (j : ℕ) (s : Record) (c : Bounds) → slice_get order.now.shapes j ≡ Some s → slice_get order.now.bounds j ≡ Some c → is_child (Shape shape.now.id) s ≡ true → shape.now.hidden ≡ false → shape.now.kind ≡ Group → IsCarriedWithin shape.now.pose c result }
 {
     if is_group(&shape.kind) && !shape.hidden {
-        children_hull(order, bounds, shape.id).carried(&shape.pose)
+        children_hull(order, shape.id).carried(&shape.pose)
     } else {
         own_bounds(shape)
     }
 }
 
 // A box that holds what the bounds of a shape's children do.
-fn children_hull(order: &Records, bounds: &BoundsList, id: u32) -> Bounds
-    requires rising { IsStrictlySortedBy comes_first order.now }
-    requires long { length bounds.now ≡ length order.now }
-    ensures { (j : ℕ) (s : Record) (c : Bounds) → slice_get order.now j ≡ Some s → slice_get bounds.now j ≡ Some c → is_child (Shape id) s ≡ true → IsWithinBounds c result }
+fn children_hull(order: &PlacedShapes, id: u32) -> Bounds
+    requires { IsStrictlySortedBy comes_first order.now.shapes }
+    ensures { (j : ℕ) (s : Record) (c : Bounds) → slice_get order.now.shapes j ≡ Some s → slice_get order.now.bounds j ≡ Some c → is_child (Shape id) s ≡ true → IsWithinBounds c result }
 {
     let Range { start, end } = children_range(order, Parent::Shape(id));
     let mut hull = Bounds::nowhere();
-    for part in bounds.iter_range(start, end) {
-        hull = hull.hull(part);
+    for placed in order.list.iter_range(start, end) {
+        hull = hull.hull(&placed.bounds);
     }
     hull
 }
 
-// The bounds, those of the groups above a record made wide enough to hold the record's.
+// The order, the bounds of the groups above a record made wide enough to hold the record's.
 pub(crate) fn raised(
     alloc: Global,
     records: &Records,
-    order: &Records,
-    bounds: BoundsList,
+    order: PlacedShapes,
     at: usize,
     steps: u32,
-) -> Result<BoundsList, OutOfMemory>
-    requires in_order { IsInPlaceOrder order.now records.now }
+) -> Result<PlacedShapes, OutOfMemory>
+    requires in_order { IsInPlaceOrder order.shapes records.now }
     requires rising { AreRising records.now }
     requires limits { All IsInLimits records.now }
-    requires at { at < length order.now }
-    requires but { AreBoundsBut at order.now bounds }
-    requires reaches { (r : Record) → slice_get order.now at ≡ Some r → reaches_page steps records.now r.place.parent ≡ true }
-    ensures { IfOk result (AreBounds order.now) }
+    requires at { at < length order.shapes }
+    requires but { AreBoundsBut at order.shapes order.bounds }
+    requires reaches { (r : Record) → slice_get order.shapes at ≡ Some r → reaches_page steps records.now r.place.parent ≡ true }
+    ensures shapes { IfOk result (λ all. all.shapes ≡ order.shapes) }
+    ensures bounds { IfOk result (λ all. AreBounds all.shapes all.bounds) }
 {
     let Some(group) = shown_group(records, order.at(at).value().place.parent) else {
-        return Ok(bounds);
+        return Ok(order);
     };
     if steps == 0 {
-        return Ok(bounds);
+        return Ok(order);
     }
-    let up = position_in(order, &group.place);
-    let carried = bounds.at(at).carried(&group.pose);
-    let held = bounds.at(up);
+    let up = position_in(&order, &group.place);
+    let carried = order.bounds_at(at).carried(&group.pose);
+    let held = order.bounds_at(up);
     if held.contains(&carried) {
-        return Ok(bounds);
+        return Ok(order);
     }
-    let wider = bounds.with_replaced(alloc, up, held.hull(&carried))?;
-    raised(alloc, records, order, wider, up, steps - 1)
+    let wider = order.with_bounds(alloc, up, held.hull(&carried))?;
+    raised(alloc, records, wider, up, steps - 1)
 }
 
-// The bounds of all records of an order.
-pub(crate) fn made_bounds(
+// Records by place, with bounds.
+pub(crate) fn with_bounds(
     alloc: Global,
     records: &Records,
-    order: &Records,
-) -> Result<BoundsList, OutOfMemory>
-    requires in_order { IsInPlaceOrder order.now records.now }
+    order: Vec<Shared<Record>>,
+) -> Result<PlacedShapes, OutOfMemory>
+    requires in_order { IsInPlaceOrder order.items records.now }
+    requires few { length order.items < 2 ^ 32 }
     requires rising { AreRising records.now }
     requires limits { All IsInLimits records.now }
     requires grounded { All (λ r. reaches_page 31 records.now r.place.parent ≡ true) records.now }
-    ensures { IfOk result (AreBounds order.now) }
+    ensures shapes { IfOk result (λ all. all.shapes ≡ order.items) }
+    ensures bounds { IfOk result (λ all. AreBounds all.shapes all.bounds) }
 {
     let mut bounds = vec![in alloc; Bounds::nowhere(); order.len()]?;
-    raise_all(records, order, &mut bounds);
-    BoundsList::from_vec(alloc, bounds)
+    let bare = placed_with(alloc, &order, &bounds)?;
+    raise_all(records, &bare, &mut bounds);
+    placed_with(alloc, &order, &bounds)
+}
+
+// Records with bounds in the same positions.
+fn placed_with(
+    alloc: Global,
+    order: &[Shared<Record>],
+    bounds: &[Bounds],
+) -> Result<PlacedShapes, OutOfMemory>
+    requires long { length bounds.now ≡ length order.now }
+    requires few { length order.now < 2 ^ 32 }
+    ensures shapes { IfOk result (λ all. all.shapes ≡ order.now) }
+    ensures bounds { IfOk result (λ all. all.bounds ≡ bounds.now) }
+{
+    let mut all = Vec::with_capacity(alloc, order.len())?;
+    for at in 0..order.len() {
+        all.push(PlacedShape {
+            shape: order[at].share()?,
+            bounds: bounds[at],
+        })?;
+    }
+    PlacedShapes::from_vec(alloc, all)
 }
 
 // Makes bounds that hold nothing wide enough for their records, and for those below them.
-fn raise_all(records: &Records, order: &Records, bounds: &mut [Bounds])
-    requires in_order { IsInPlaceOrder order.now records.now }
+fn raise_all(records: &Records, order: &PlacedShapes, bounds: &mut [Bounds])
+    requires in_order { IsInPlaceOrder order.now.shapes records.now }
     requires rising { AreRising records.now }
     requires limits { All IsInLimits records.now }
     requires grounded { All (λ r. reaches_page 31 records.now r.place.parent ≡ true) records.now }
-    requires long { length bounds.old ≡ length order.now }
+    requires long { length bounds.old ≡ length order.now.shapes }
     requires nowhere { All (λ b. is_empty b ≡ true) bounds.old }
-    ensures { AreBounds order.now bounds.new }
+    ensures { AreBounds order.now.shapes bounds.new }
 {
     for at in 0..order.len() {
         let own = own_bounds(order.at(at).value());
@@ -144,14 +157,14 @@ fn own_bounds(shape: &Record) -> Bounds
 }
 
 // Makes the bounds of the groups above a record wide enough to hold the record's.
-fn raise(records: &Records, order: &Records, bounds: &mut [Bounds], at: usize, steps: u32)
-    requires in_order { IsInPlaceOrder order.now records.now }
+fn raise(records: &Records, order: &PlacedShapes, bounds: &mut [Bounds], at: usize, steps: u32)
+    requires in_order { IsInPlaceOrder order.now.shapes records.now }
     requires rising { AreRising records.now }
     requires limits { All IsInLimits records.now }
-    requires at { at < length order.now }
-    requires but { HoldChildrenBut at order.now bounds.old }
-    requires reaches { (r : Record) → slice_get order.now at ≡ Some r → reaches_page steps records.now r.place.parent ≡ true }
-    ensures children { HoldChildren order.now bounds.new }
+    requires at { at < length order.now.shapes }
+    requires but { HoldChildrenBut at order.now.shapes bounds.old }
+    requires reaches { (r : Record) → slice_get order.now.shapes at ≡ Some r → reaches_page steps records.now r.place.parent ≡ true }
+    ensures children { HoldChildren order.now.shapes bounds.new }
     ensures wider { AreWithin bounds.old bounds.new }
 {
     let Some(group) = shown_group(records, order.at(at).value().place.parent) else {

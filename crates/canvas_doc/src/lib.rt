@@ -20,14 +20,15 @@ mod kept_bounds;
 mod lookup;
 mod order;
 mod place_order;
+mod placed_shapes;
 mod records;
 mod refusals;
 mod restored;
 mod spots;
 
 pub use edits::{Change, Edit, Spot};
-use kept_bounds::BoundsList;
 use lookup::find;
+use placed_shapes::PlacedShapes;
 use records::Records;
 pub use records::{Parent, Place, Record};
 pub use refusals::Refusal;
@@ -44,9 +45,7 @@ pub struct Document {
     // In rising id.
     records: Records,
     // By the parent, and the children of a parent from front to back.
-    order: Records,
-    // Of the records, in the same positions as in the order.
-    bounds: BoundsList,
+    order: PlacedShapes,
     next: u32,
 }
 
@@ -58,7 +57,7 @@ impl Model for Document {
 
     ghost view = { λ d. record { records = d.records; next = d.next } };
 
-    ghost invariant = { λ d. IsKeptInOrder (record { records = d.records; next = d.next }) d.order d.bounds };
+    ghost invariant = { λ d. IsKeptInOrder (record { records = d.records; next = d.next }) d.order.shapes d.order.bounds };
 }
 
 impl Document {
@@ -70,8 +69,7 @@ impl Document {
     {
         Document {
             records: Records::empty(alloc),
-            order: Records::empty(alloc),
-            bounds: BoundsList::empty(alloc),
+            order: PlacedShapes::empty(alloc),
             next: 1,
         }
     }
@@ -95,7 +93,7 @@ impl Document {
     pub fn well_formed_law(&self)
         ensures { IsWellFormed self.now }
     {
-        let _bounds = &self.bounds;
+        let _order = &self.order;
     }
 
     /// The record of an id, if there is one.

@@ -12,7 +12,8 @@ ghost use Rattle.canvas_doc.specs.Tree.{IsInLimits};
 use crate::Document;
 use crate::bounds::Bounds;
 use crate::place_order::children_range;
-use crate::records::{Parent, Record, Records};
+use crate::placed_shapes::PlacedShapes;
+use crate::records::{Parent, Record};
 use canvas_code::OutOfMemory;
 use canvas_plane::{PageBox, Pose};
 use std::alloc::Allocator;
@@ -49,14 +50,13 @@ impl Document {
     {
         let Range { start, end } = children_range(&self.order, parent);
         let area = Bounds::of_clip(out, clip);
-        let mut shapes = self.order.reader();
+        let mut all = self.order.reader();
         let mut seen = Vec::new(alloc);
-        let mut at = start;
-        for bounds in self.bounds.iter_range(start, end) {
-            if bounds.meets(&area) {
-                seen.push(shapes.at(at).value())?;
+        for at in start..end {
+            let placed = all.at(at);
+            if placed.bounds.meets(&area) {
+                seen.push(placed.shape.value())?;
             }
-            at += 1;
         }
         Ok(seen)
     }
@@ -65,17 +65,17 @@ impl Document {
 // All children of `parent`, from front to back.
 fn children<'a, A: Allocator>(
     alloc: A,
-    order: &'a Records,
+    order: &'a PlacedShapes,
     parent: Parent,
 ) -> Result<Vec<&'a Record, A>, OutOfMemory>
-    requires { IsStrictlySortedBy comes_first order.now }
-    ensures { IfOk result (λ list. map (λ shape. shape.now) list.items ≡ filter (is_child parent) order.now) }
+    requires { IsStrictlySortedBy comes_first order.now.shapes }
+    ensures { IfOk result (λ list. map (λ shape. shape.now) list.items ≡ filter (is_child parent) order.now.shapes) }
 {
     let Range { start, end } = children_range(order, parent);
-    let mut shapes = order.reader();
+    let mut all = order.reader();
     let mut list = Vec::with_capacity(alloc, end - start)?;
     for at in start..end {
-        list.push(shapes.at(at).value())?;
+        list.push(all.at(at).shape.value())?;
     }
     Ok(list)
 }

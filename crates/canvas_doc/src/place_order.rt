@@ -8,6 +8,8 @@ ghost use Rattle.canvas_doc.specs.Listed.{holder_of};
 ghost use Rattle.canvas_doc.specs.PlaceOrder.{by_parent, by_place, comes_first, AreChildrenWithin, IsInPlaceOrder, IsPlaceOf};
 ghost use Rattle.canvas_doc.specs.Tree.{HavePlaces};
 
+use crate::bounds::Bounds;
+use crate::placed_shapes::{PlacedShape, PlacedShapes};
 use crate::records::{Parent, Place, Record, Records};
 use canvas_code::OutOfMemory;
 use canvas_list::{Share, Shared};
@@ -16,13 +18,17 @@ use std::cmp::Ordering;
 use std::ops::Range;
 
 // All records, sorted by place.
-pub(crate) fn in_place_order(alloc: Global, records: &Records) -> Result<Records, OutOfMemory>
+pub(crate) fn in_place_order(
+    alloc: Global,
+    records: &Records,
+) -> Result<Vec<Shared<Record>>, OutOfMemory>
     requires { HavePlaces records.now }
-    ensures { IfOk result (λ order. IsInPlaceOrder order records.now) }
+    ensures order { IfOk result (λ order. IsInPlaceOrder order.items records.now) }
+    ensures few { IfOk result (λ order. length order.items < 2 ^ 32) }
 {
     let mut order = shares(alloc, records)?;
     order.sort_unstable_by(|shape, other| by_place(&shape.value().place, &other.value().place));
-    Records::from_vec(alloc, order)
+    Ok(order)
 }
 
 // All records, side by side.
@@ -38,12 +44,13 @@ pub(crate) fn shares(alloc: Global, records: &Records) -> Result<Vec<Shared<Reco
 }
 
 // Where the children of a parent stand in the order, from front to back.
-pub(crate) fn children_range(order: &Records, parent: Parent) -> Range<usize>
-    requires { IsStrictlySortedBy comes_first order.now }
-    ensures { AreChildrenWithin parent order.now result.start result.end }
+pub(crate) fn children_range(order: &PlacedShapes, parent: Parent) -> Range<usize>
+    requires { IsStrictlySortedBy comes_first order.now.shapes }
+    ensures { AreChildrenWithin parent order.now.shapes result.start result.end }
 {
-    let start = order.partition_point(|shape| comes_before(shape.value(), parent));
-    let end = order.partition_point(|shape| comes_before_or_hangs(shape.value(), parent));
+    let all = &order.list;
+    let start = all.partition_point(|placed| comes_before(placed.shape.value(), parent));
+    let end = all.partition_point(|placed| comes_before_or_hangs(placed.shape.value(), parent));
     start..end
 }
 
@@ -62,11 +69,11 @@ fn comes_before_or_hangs(shape: &Record, parent: Parent) -> bool
 }
 
 // How many records of the order come before a place: where the record of that place stands, or would.
-pub(crate) fn position_in(order: &Records, place: &Place) -> usize
-    requires { IsStrictlySortedBy comes_first order.now }
-    ensures { IsPlaceOf place.now order.now result }
+pub(crate) fn position_in(order: &PlacedShapes, place: &Place) -> usize
+    requires { IsStrictlySortedBy comes_first order.now.shapes }
+    ensures { IsPlaceOf place.now order.now.shapes result }
 {
-    order.partition_point(|shape| by_place(&shape.value().place, place).is_lt())
+    order.list.partition_point(|placed| by_place(&placed.shape.value().place, place).is_lt())
 }
 
 // By the parent, and under one parent the greater index first.

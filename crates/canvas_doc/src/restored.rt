@@ -12,7 +12,7 @@ ghost use Rattle.canvas_doc.specs.Restored.{is_record, record_fault, leads_to_pa
 ghost use Rattle.canvas_doc.specs.Listed.{GivesFirsts, holder_of, has_place};
 
 use crate::ancestry::{STEPS, is_container};
-use crate::kept_bounds::made_bounds;
+use crate::kept_bounds::with_bounds;
 use crate::place_order::{holder_of, in_place_order};
 use crate::records::Records;
 use crate::{Document, Parent, Record};
@@ -117,12 +117,11 @@ impl Document {
         requires { IsWellFormed (record { records = records; next = next }) }
         ensures { IfOk result (λ document. document ≡ record { records = records; next = next }) }
     {
-        let order = in_place_order(alloc, &records)?;
-        let bounds = made_bounds(alloc, &records, &order)?;
+        let sorted = in_place_order(alloc, &records)?;
+        let order = with_bounds(alloc, &records, sorted)?;
         Ok(Document {
             records,
             order,
-            bounds,
             next,
         })
     }

@@ -13,7 +13,8 @@ use crate::Document;
 use crate::edits::Spot;
 use crate::lookup::find;
 use crate::place_order::{children_range, position_in};
-use crate::records::{Parent, Place, Record, Records};
+use crate::placed_shapes::PlacedShapes;
+use crate::records::{Parent, Place, Record};
 use crate::refusals::Refusal;
 use canvas_key::{Key, between};
 use std::ops::Range;
@@ -87,10 +88,10 @@ fn greatest_index(document: &Document, own: u32, parent: Parent) -> Option<&Key>
 }
 
 // The index of the first record from one position of the order up to another that is not the shape.
-fn first_index(order: &Records, own: u32, start: usize, end: usize) -> Option<&Key>
+fn first_index(order: &PlacedShapes, own: u32, start: usize, end: usize) -> Option<&Key>
     requires from { start ≤ end }
-    requires bound { end ≤ length order.now }
-    ensures { option_copied result ≡ first_index own (take (end - start) (drop start order.now)) }
+    requires bound { end ≤ length order.now.shapes }
+    ensures { option_copied result ≡ first_index own (take (end - start) (drop start order.now.shapes)) }
 {
     for at in start..end {
         let shape = order.at(at).value();
@@ -121,10 +122,10 @@ fn next_above<'a>(document: &'a Document, own: u32, shape: &Record) -> Option<&'
 }
 
 // The index of the last record from one position of the order up to another that is not the shape.
-fn last_index(order: &Records, own: u32, start: usize, end: usize) -> Option<&Key>
+fn last_index(order: &PlacedShapes, own: u32, start: usize, end: usize) -> Option<&Key>
     requires from { start ≤ end }
-    requires bound { end ≤ length order.now }
-    ensures { option_copied result ≡ last_index own (take (end - start) (drop start order.now)) }
+    requires bound { end ≤ length order.now.shapes }
+    ensures { option_copied result ≡ last_index own (take (end - start) (drop start order.now.shapes)) }
 {
     for at in (start..end).rev() {
         let shape = order.at(at).value();

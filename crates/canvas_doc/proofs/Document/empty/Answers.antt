@@ -6,6 +6,7 @@ use Rattle.canvas_doc.specs.declared.bounds.Bounds.{Bounds}
 use Rattle.canvas_doc.specs.declared.records.Record.{Record}
 use Rattle.canvas_doc.specs.Bounds.{AreBounds}
 use Rattle.canvas_doc.specs.Contents.{IsWellFormed, reaches_page}
+use Rattle.canvas_doc.specs.Placements.{Placements}
 use Rattle.canvas_doc.specs.PlaceOrder.{IsInPlaceOrder, IsKeptInOrder}
 use Rattle.canvas_doc.specs.Tree.{IsInLimits}
 use Rattle.canvas_doc.proofs.ByPlace.{sorted-from}
@@ -40,6 +41,5 @@ none-bounded = record {
 
 pub invariant_of-result : goal.invariant_of-result
 invariant_of-result c =
-    subst (λ (rs : List Record). IsKeptInOrder (record { records = rs; next = 1 }) c.empty-2.result c.empty-3.result) (sym c.empty.ensures)
-    (subst (λ (order : List Record). IsKeptInOrder (record { records = []; next = 1 }) order c.empty-3.result) (sym c.empty-2.ensures)
-    (subst (λ (bounds : List Bounds). IsKeptInOrder (record { records = []; next = 1 }) [] bounds) (sym c.empty-3.ensures) (record { well_formed = no-records; in_order = none-in_order; bounded = none-bounded })))
+    subst (λ (rs : List Record). IsKeptInOrder (record { records = rs; next = 1 }) c.empty-2.result.shapes c.empty-2.result.bounds) (sym c.empty.ensures)
+    (subst (λ (p : Placements). IsKeptInOrder (record { records = []; next = 1 }) p.shapes p.bounds) (sym c.empty-2.ensures) (record { well_formed = no-records; in_order = none-in_order; bounded = none-bounded }))

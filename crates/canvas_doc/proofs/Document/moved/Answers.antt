@@ -11,11 +11,17 @@ use Rattle.canvas_doc.specs.Bounds.{AreBoundsBut, HaveOneShape}
 use Rattle.canvas_doc.proofs.Rebounded as rebounded
 use Rattle.canvas_doc.proofs.Reordered.{IsMoved, leads-up, moved-from, moved-in_order, read-at, removed-sorted, seen-at}
 use Rattle.std.proofs.lemmas.List.{get_or-set_same}
+use Rattle.std.proofs.lemmas.Result.{IfOk-weaker}
 use Rattle.canvas_doc.proofs.Document.moved.Goals as goal
+
+pub bounds_at-own-requires : goal.bounds_at-own-requires
+bounds_at-own-requires c =
+    (seen-at c.self.inside.order.shapes c.self.inside.records c.args.self.now.records c.at.result.now c.value.result.now c.args.at c.position_in-from.result
+    c.self.invariant.in_order (ap (λ (d : Contents). d.records) c.self.view_is) c.requires.there c.at.ensures c.value.ensures c.position_in-from.ensures).within
 
 pub without-requires : goal.without-requires
 without-requires c =
-    (seen-at c.self.inside.order c.self.inside.records c.args.self.now.records c.at.result.now c.value.result.now c.args.at c.position_in-from.result
+    (seen-at c.self.inside.order.shapes c.self.inside.records c.args.self.now.records c.at.result.now c.value.result.now c.args.at c.position_in-from.result
     c.self.invariant.in_order (ap (λ (d : Contents). d.records) c.self.view_is) c.requires.there c.at.ensures c.value.ensures c.position_in-from.ensures).within
 
 pub at-moved-requires : goal.at-moved-requires
@@ -26,161 +32,98 @@ at-moved-requires c =
 
 pub position_in-to-requires : goal.position_in-to-requires
 position_in-to-requires c =
-    let listed = seen-at c.self.inside.order c.self.inside.records c.args.self.now.records c.at.result.now c.value.result.now c.args.at c.position_in-from.result
+    let listed = seen-at c.self.inside.order.shapes c.self.inside.records c.args.self.now.records c.at.result.now c.value.result.now c.args.at c.position_in-from.result
     c.self.invariant.in_order (ap (λ (d : Contents). d.records) c.self.view_is) c.requires.there c.at.ensures c.value.ensures c.position_in-from.ensures in
-    subst (IsStrictlySortedBy comes_first) (sym c.in_ok-others.ensures) (removed-sorted c.self.inside.order c.position_in-from.result listed.within c.self.invariant.in_order.rising)
+    subst (IsStrictlySortedBy comes_first) (sym c.in_ok-others.ensures.shapes) (removed-sorted c.self.inside.order.shapes c.position_in-from.result listed.within c.self.invariant.in_order.rising)
 
 pub with_inserted-requires-clause-few : goal.with_inserted-requires-clause-few
 with_inserted-requires-clause-few c =
-    let listed = seen-at c.self.inside.order c.self.inside.records c.args.self.now.records c.at.result.now c.value.result.now c.args.at c.position_in-from.result
+    let listed = seen-at c.self.inside.order.shapes c.self.inside.records c.args.self.now.records c.at.result.now c.value.result.now c.args.at c.position_in-from.result
     c.self.invariant.in_order (ap (λ (d : Contents). d.records) c.self.view_is) c.requires.there c.at.ensures c.value.ensures c.position_in-from.ensures in
-    let long : length c.self.inside.order ≡ length c.self.inside.records = c.self.invariant.in_order.long in
+    let long : length c.self.inside.order.shapes ≡ length c.self.inside.records = c.self.invariant.in_order.long in
     let few : length c.self.inside.records ≤ most_records = c.self.invariant.well_formed.few in
-    omega (arith, ap length c.in_ok-others.ensures, length-remove c.self.inside.order c.position_in-from.result listed.within)
-
-pub at-own-requires : goal.at-own-requires
-at-own-requires c =
-    let order : List Record = c.self.inside.order in
-    let rs : List Record = c.self.inside.records in
-    let after : List Record = c.args.records.now in
-    let r : Record = c.at.result.now in
-    let s : Record = c.at-moved.result.now in
-    let k : ℕ = c.position_in-from.result in
-    let to : ℕ = c.position_in-to.result in
-    let m : IsMoved order rs after r s c.args.at k to = moved-from c.self.inside.order c.self.inside.records c.args.self.now.records c.args.records.now c.in_ok-others.others c.at.result.now c.value.result.now c.at-moved.result.now c.value-2.result.now
-    c.args.at c.position_in-from.result c.position_in-to.result c.self.invariant.in_order (ap (λ (d : Contents). d.records) c.self.view_is) c.requires.there c.at.ensures c.value.ensures c.position_in-from.ensures
-    c.requires.one c.at-moved.ensures c.value-2.ensures c.in_ok-others.ensures c.position_in-to.ensures in
-    subst (λ n. k < n) (sym c.self.invariant.bounded.long) m.listed.within
-
-pub without-requires-2 : goal.without-requires-2
-without-requires-2 c =
-    let order : List Record = c.self.inside.order in
-    let rs : List Record = c.self.inside.records in
-    let after : List Record = c.args.records.now in
-    let r : Record = c.at.result.now in
-    let s : Record = c.at-moved.result.now in
-    let k : ℕ = c.position_in-from.result in
-    let to : ℕ = c.position_in-to.result in
-    let m : IsMoved order rs after r s c.args.at k to = moved-from c.self.inside.order c.self.inside.records c.args.self.now.records c.args.records.now c.in_ok-others.others c.at.result.now c.value.result.now c.at-moved.result.now c.value-2.result.now
-    c.args.at c.position_in-from.result c.position_in-to.result c.self.invariant.in_order (ap (λ (d : Contents). d.records) c.self.view_is) c.requires.there c.at.ensures c.value.ensures c.position_in-from.ensures
-    c.requires.one c.at-moved.ensures c.value-2.ensures c.in_ok-others.ensures c.position_in-to.ensures in
-    subst (λ n. k < n) (sym c.self.invariant.bounded.long) m.listed.within
-
-pub with_inserted-requires-2-clause-within : goal.with_inserted-requires-2-clause-within
-with_inserted-requires-2-clause-within c =
-    let order : List Record = c.self.inside.order in
-    let rs : List Record = c.self.inside.records in
-    let after : List Record = c.args.records.now in
-    let r : Record = c.at.result.now in
-    let s : Record = c.at-moved.result.now in
-    let k : ℕ = c.position_in-from.result in
-    let to : ℕ = c.position_in-to.result in
-    let m : IsMoved order rs after r s c.args.at k to = moved-from c.self.inside.order c.self.inside.records c.args.self.now.records c.args.records.now c.in_ok-others.others c.at.result.now c.value.result.now c.at-moved.result.now c.value-2.result.now
-    c.args.at c.position_in-from.result c.position_in-to.result c.self.invariant.in_order (ap (λ (d : Contents). d.records) c.self.view_is) c.requires.there c.at.ensures c.value.ensures c.position_in-from.ensures
-    c.requires.one c.at-moved.ensures c.value-2.ensures c.in_ok-others.ensures c.position_in-to.ensures in
-    let long : length c.self.inside.bounds ≡ length order = c.self.invariant.bounded.long in
-    let there : k < length order = m.listed.within in
-    let bound : to ≤ length (remove order k) = m.place.bound in
-    omega (arith, ap length c.in_ok-left.ensures, length-remove order k there, length-remove c.self.inside.bounds k (omega arith))
-
-pub with_inserted-requires-2-clause-few : goal.with_inserted-requires-2-clause-few
-with_inserted-requires-2-clause-few c =
-    let order : List Record = c.self.inside.order in
-    let rs : List Record = c.self.inside.records in
-    let after : List Record = c.args.records.now in
-    let r : Record = c.at.result.now in
-    let s : Record = c.at-moved.result.now in
-    let k : ℕ = c.position_in-from.result in
-    let to : ℕ = c.position_in-to.result in
-    let m : IsMoved order rs after r s c.args.at k to = moved-from c.self.inside.order c.self.inside.records c.args.self.now.records c.args.records.now c.in_ok-others.others c.at.result.now c.value.result.now c.at-moved.result.now c.value-2.result.now
-    c.args.at c.position_in-from.result c.position_in-to.result c.self.invariant.in_order (ap (λ (d : Contents). d.records) c.self.view_is) c.requires.there c.at.ensures c.value.ensures c.position_in-from.ensures
-    c.requires.one c.at-moved.ensures c.value-2.ensures c.in_ok-others.ensures c.position_in-to.ensures in
-    let long : length c.self.inside.bounds ≡ length order = c.self.invariant.bounded.long in
-    let all : length order ≡ length rs = c.self.invariant.in_order.long in
-    let few : length rs ≤ most_records = c.self.invariant.well_formed.few in
-    let there : k < length order = m.listed.within in
-    omega (arith, ap length c.in_ok-left.ensures, length-remove c.self.inside.bounds k (omega arith))
+    omega (arith, ap length c.in_ok-others.ensures.shapes, length-remove c.self.inside.order.shapes c.position_in-from.result listed.within)
 
 pub raised-requires-clause-in_order : goal.raised-requires-clause-in_order
 raised-requires-clause-in_order c =
-    let order : List Record = c.self.inside.order in
+    let order : List Record = c.self.inside.order.shapes in
     let rs : List Record = c.self.inside.records in
     let after : List Record = c.args.records.now in
     let r : Record = c.at.result.now in
     let s : Record = c.at-moved.result.now in
     let k : ℕ = c.position_in-from.result in
     let to : ℕ = c.position_in-to.result in
-    let m : IsMoved order rs after r s c.args.at k to = moved-from c.self.inside.order c.self.inside.records c.args.self.now.records c.args.records.now c.in_ok-others.others c.at.result.now c.value.result.now c.at-moved.result.now c.value-2.result.now
+    let m : IsMoved order rs after r s c.args.at k to = moved-from c.self.inside.order.shapes c.self.inside.records c.args.self.now.records c.args.records.now c.in_ok-others.others.shapes c.at.result.now c.value.result.now c.at-moved.result.now c.value-2.result.now
     c.args.at c.position_in-from.result c.position_in-to.result c.self.invariant.in_order (ap (λ (d : Contents). d.records) c.self.view_is) c.requires.there c.at.ensures c.value.ensures c.position_in-from.ensures
-    c.requires.one c.at-moved.ensures c.value-2.ensures c.in_ok-others.ensures c.position_in-to.ensures in
-    let made : c.in_ok-order.order ≡ insert (remove order k) to s =
-    c.in_ok-order.ensures ∙ ap (λ (l : List Record). insert l to c.in_ok-share.field-0) c.in_ok-others.ensures ∙ ap (insert (remove order k) to) c.in_ok-share.ensures in
-    let placed : IsInPlaceOrder c.in_ok-order.order after =
-    moved-in_order order rs after c.in_ok-order.order r s c.args.at k to c.self.invariant.well_formed.rising c.requires.well_formed.rising c.requires.well_formed.places c.self.invariant.in_order m made in
+    c.requires.one c.at-moved.ensures c.value-2.ensures c.in_ok-others.ensures.shapes c.position_in-to.ensures in
+    let made : c.in_ok-order.order.shapes ≡ insert (remove order k) to s =
+    c.in_ok-order.ensures.shapes ∙ ap (λ (l : List Record). insert l to c.in_ok-share.field-0) c.in_ok-others.ensures.shapes ∙ ap (insert (remove order k) to) c.in_ok-share.ensures in
+    let placed : IsInPlaceOrder c.in_ok-order.order.shapes after =
+    moved-in_order order rs after c.in_ok-order.order.shapes r s c.args.at k to c.self.invariant.well_formed.rising c.requires.well_formed.rising c.requires.well_formed.places c.self.invariant.in_order m made in
     placed
 
 pub raised-requires-clause-but : goal.raised-requires-clause-but
 raised-requires-clause-but c =
-    let order : List Record = c.self.inside.order in
+    let order : List Record = c.self.inside.order.shapes in
     let rs : List Record = c.self.inside.records in
     let after : List Record = c.args.records.now in
     let r : Record = c.at.result.now in
     let s : Record = c.at-moved.result.now in
     let k : ℕ = c.position_in-from.result in
     let to : ℕ = c.position_in-to.result in
-    let m : IsMoved order rs after r s c.args.at k to = moved-from c.self.inside.order c.self.inside.records c.args.self.now.records c.args.records.now c.in_ok-others.others c.at.result.now c.value.result.now c.at-moved.result.now c.value-2.result.now
+    let m : IsMoved order rs after r s c.args.at k to = moved-from c.self.inside.order.shapes c.self.inside.records c.args.self.now.records c.args.records.now c.in_ok-others.others.shapes c.at.result.now c.value.result.now c.at-moved.result.now c.value-2.result.now
     c.args.at c.position_in-from.result c.position_in-to.result c.self.invariant.in_order (ap (λ (d : Contents). d.records) c.self.view_is) c.requires.there c.at.ensures c.value.ensures c.position_in-from.ensures
-    c.requires.one c.at-moved.ensures c.value-2.ensures c.in_ok-others.ensures c.position_in-to.ensures in
-    let made : c.in_ok-order.order ≡ insert (remove order k) to s =
-    c.in_ok-order.ensures ∙ ap (λ (l : List Record). insert l to c.in_ok-share.field-0) c.in_ok-others.ensures ∙ ap (insert (remove order k) to) c.in_ok-share.ensures in
-    let bounds : List Bounds = c.self.inside.bounds in
-    let b : Bounds = c.at-own.result.now in
+    c.requires.one c.at-moved.ensures c.value-2.ensures c.in_ok-others.ensures.shapes c.position_in-to.ensures in
+    let made : c.in_ok-order.order.shapes ≡ insert (remove order k) to s =
+    c.in_ok-order.ensures.shapes ∙ ap (λ (l : List Record). insert l to c.in_ok-share.field-0) c.in_ok-others.ensures.shapes ∙ ap (insert (remove order k) to) c.in_ok-share.ensures in
+    let bounds : List Bounds = c.self.inside.order.bounds in
+    let b : Bounds = c.bounds_at-own.result.now in
     let long : length bounds ≡ length order = c.self.invariant.bounded.long in
     let there : k < length order = m.listed.within in
-    let kept : c.in_ok-bounds.bounds ≡ insert (remove bounds k) to b = c.in_ok-bounds.ensures ∙ ap (λ (l : List Bounds). insert l to b) c.in_ok-left.ensures in
+    let kept : c.in_ok-order.order.bounds ≡ insert (remove bounds k) to b = c.in_ok-order.ensures.bounds ∙ ap (λ (l : List Bounds). insert l to b) c.in_ok-others.ensures.bounds in
     let e : rs ≡ c.args.self.now.records = ap (λ (d : Contents). d.records) c.self.view_is in
     let old : get_or c.args.self.now.records c.args.at r ≡ r = ap (λ (l : List Record). get_or l c.args.at r) (sym e) ∙ m.listed.here in
     let new : get_or after c.args.at r ≡ s = ap (λ (l : List Record). get_or l c.args.at r) m.one ∙ get_or-set_same rs c.args.at s r m.listed.there in
     let shape : HaveOneShape r s = subst (λ (x : Record). HaveOneShape x s) old (subst (HaveOneShape (get_or c.args.self.now.records c.args.at r)) new (c.requires.shape r)) in
-    subst (λ l. AreBoundsBut to l c.in_ok-bounds.bounds) (sym made)
+    subst (λ l. AreBoundsBut to l c.in_ok-order.order.bounds) (sym made)
     (subst (AreBoundsBut to (insert (remove order k) to s)) (sym kept)
-    (rebounded.moved order bounds k to r s b c.self.invariant.bounded (read-at order k r there m.listed.is) (read-at bounds k b (omega arith) (sym c.at-own.ensures)) shape m.place.bound))
+    (rebounded.moved order bounds k to r s b c.self.invariant.bounded (read-at order k r there m.listed.is) (read-at bounds k b (omega arith) (sym c.bounds_at-own.ensures)) shape m.place.bound))
 
 pub raised-requires-clause-reaches : goal.raised-requires-clause-reaches
 raised-requires-clause-reaches c =
-    let order : List Record = c.self.inside.order in
+    let order : List Record = c.self.inside.order.shapes in
     let rs : List Record = c.self.inside.records in
     let after : List Record = c.args.records.now in
     let r : Record = c.at.result.now in
     let s : Record = c.at-moved.result.now in
     let k : ℕ = c.position_in-from.result in
     let to : ℕ = c.position_in-to.result in
-    let m : IsMoved order rs after r s c.args.at k to = moved-from c.self.inside.order c.self.inside.records c.args.self.now.records c.args.records.now c.in_ok-others.others c.at.result.now c.value.result.now c.at-moved.result.now c.value-2.result.now
+    let m : IsMoved order rs after r s c.args.at k to = moved-from c.self.inside.order.shapes c.self.inside.records c.args.self.now.records c.args.records.now c.in_ok-others.others.shapes c.at.result.now c.value.result.now c.at-moved.result.now c.value-2.result.now
     c.args.at c.position_in-from.result c.position_in-to.result c.self.invariant.in_order (ap (λ (d : Contents). d.records) c.self.view_is) c.requires.there c.at.ensures c.value.ensures c.position_in-from.ensures
-    c.requires.one c.at-moved.ensures c.value-2.ensures c.in_ok-others.ensures c.position_in-to.ensures in
-    let made : c.in_ok-order.order ≡ insert (remove order k) to s =
-    c.in_ok-order.ensures ∙ ap (λ (l : List Record). insert l to c.in_ok-share.field-0) c.in_ok-others.ensures ∙ ap (insert (remove order k) to) c.in_ok-share.ensures in
-    let placed : IsInPlaceOrder c.in_ok-order.order after =
-    moved-in_order order rs after c.in_ok-order.order r s c.args.at k to c.self.invariant.well_formed.rising c.requires.well_formed.rising c.requires.well_formed.places c.self.invariant.in_order m made in
-    λ q e. leads-up c.in_ok-order.order after to q placed c.requires.well_formed.grounded e
+    c.requires.one c.at-moved.ensures c.value-2.ensures c.in_ok-others.ensures.shapes c.position_in-to.ensures in
+    let made : c.in_ok-order.order.shapes ≡ insert (remove order k) to s =
+    c.in_ok-order.ensures.shapes ∙ ap (λ (l : List Record). insert l to c.in_ok-share.field-0) c.in_ok-others.ensures.shapes ∙ ap (insert (remove order k) to) c.in_ok-share.ensures in
+    let placed : IsInPlaceOrder c.in_ok-order.order.shapes after =
+    moved-in_order order rs after c.in_ok-order.order.shapes r s c.args.at k to c.self.invariant.well_formed.rising c.requires.well_formed.rising c.requires.well_formed.places c.self.invariant.in_order m made in
+    λ q e. leads-up c.in_ok-order.order.shapes after to q placed c.requires.well_formed.grounded e
 
 pub returns-clause-order : goal.returns-clause-order
 returns-clause-order c =
-    let order : List Record = c.self.inside.order in
+    let order : List Record = c.self.inside.order.shapes in
     let rs : List Record = c.self.inside.records in
     let after : List Record = c.args.records.now in
     let r : Record = c.at.result.now in
     let s : Record = c.at-moved.result.now in
     let k : ℕ = c.position_in-from.result in
     let to : ℕ = c.position_in-to.result in
-    let m : IsMoved order rs after r s c.args.at k to = moved-from c.self.inside.order c.self.inside.records c.args.self.now.records c.args.records.now c.in_ok-others.others c.at.result.now c.value.result.now c.at-moved.result.now c.value-2.result.now
+    let m : IsMoved order rs after r s c.args.at k to = moved-from c.self.inside.order.shapes c.self.inside.records c.args.self.now.records c.args.records.now c.in_ok-others.others.shapes c.at.result.now c.value.result.now c.at-moved.result.now c.value-2.result.now
     c.args.at c.position_in-from.result c.position_in-to.result c.self.invariant.in_order (ap (λ (d : Contents). d.records) c.self.view_is) c.requires.there c.at.ensures c.value.ensures c.position_in-from.ensures
-    c.requires.one c.at-moved.ensures c.value-2.ensures c.in_ok-others.ensures c.position_in-to.ensures in
-    let made : c.in_ok-order.order ≡ insert (remove order k) to s =
-    c.in_ok-order.ensures ∙ ap (λ (l : List Record). insert l to c.in_ok-share.field-0) c.in_ok-others.ensures ∙ ap (insert (remove order k) to) c.in_ok-share.ensures in
-    let placed : IsInPlaceOrder c.in_ok-order.order after =
-    moved-in_order order rs after c.in_ok-order.order r s c.args.at k to c.self.invariant.well_formed.rising c.requires.well_formed.rising c.requires.well_formed.places c.self.invariant.in_order m made in
-    placed
+    c.requires.one c.at-moved.ensures c.value-2.ensures c.in_ok-others.ensures.shapes c.position_in-to.ensures in
+    let made : c.in_ok-order.order.shapes ≡ insert (remove order k) to s =
+    c.in_ok-order.ensures.shapes ∙ ap (λ (l : List Record). insert l to c.in_ok-share.field-0) c.in_ok-others.ensures.shapes ∙ ap (insert (remove order k) to) c.in_ok-share.ensures in
+    let placed : IsInPlaceOrder c.in_ok-order.order.shapes after =
+    moved-in_order order rs after c.in_ok-order.order.shapes r s c.args.at k to c.self.invariant.well_formed.rising c.requires.well_formed.rising c.requires.well_formed.places c.self.invariant.in_order m made in
+    IfOk-weaker c.raised.result (λ all. all.shapes ≡ c.in_ok-order.order.shapes) (λ all. IsInPlaceOrder all.shapes after) (λ all e. subst (λ (l : List Record). IsInPlaceOrder l after) (sym e) placed) c.raised.ensures.shapes
 
 pub returns-clause-bounds : goal.returns-clause-bounds
-returns-clause-bounds c = c.in_ok-bounds-2.ensures
+returns-clause-bounds c = c.raised.ensures.bounds

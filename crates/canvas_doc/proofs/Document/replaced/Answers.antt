@@ -1,5 +1,6 @@
 use Rattle.std.proofs.Common.{◌≡◌, ◌<◌, ◌∙◌, ℕ, List, ap, arith, get_or, length, set, subst, sym}
 use Rattle.std.proofs.Math.ListN.{length-set}
+use Rattle.std.proofs.lemmas.Result.{IfOk-weaker}
 use Rattle.canvas_doc.specs.declared.bounds.Bounds.{Bounds}
 use Rattle.canvas_doc.specs.declared.records.Record.{Record}
 use Rattle.canvas_doc.specs.Bounds.{AreBoundsBut}
@@ -25,93 +26,82 @@ bounds_for-own-requires-clause-limits c =
 
 pub with_replaced-requires : goal.with_replaced-requires
 with_replaced-requires c =
-    let order : List Record = c.self.inside.order in
+    let order : List Record = c.self.inside.order.shapes in
     let rs : List Record = c.self.inside.records in
     let after : List Record = c.args.records.now in
     let s : Record = c.at-replaced.result.now in
     let k : ℕ = c.position_in-from.result in
-    let m : IsReplaced order rs after c.at.result.now s c.args.at k = replaced-from c.self.inside.order c.self.inside.records c.args.self.now.records c.args.records.now c.at.result.now c.value.result.now c.at-replaced.result.now c.args.at c.position_in-from.result
+    let m : IsReplaced order rs after c.at.result.now s c.args.at k = replaced-from c.self.inside.order.shapes c.self.inside.records c.args.self.now.records c.args.records.now c.at.result.now c.value.result.now c.at-replaced.result.now c.args.at c.position_in-from.result
     c.self.invariant.in_order (ap (λ (d : Contents). d.records) c.self.view_is) c.requires.there c.at.ensures c.value.ensures c.position_in-from.ensures c.requires.one c.at-replaced.ensures c.requires.place in
     m.listed.within
 
-pub with_replaced-requires-2 : goal.with_replaced-requires-2
-with_replaced-requires-2 c =
-    let order : List Record = c.self.inside.order in
-    let rs : List Record = c.self.inside.records in
-    let after : List Record = c.args.records.now in
-    let s : Record = c.at-replaced.result.now in
-    let k : ℕ = c.position_in-from.result in
-    let m : IsReplaced order rs after c.at.result.now s c.args.at k = replaced-from c.self.inside.order c.self.inside.records c.args.self.now.records c.args.records.now c.at.result.now c.value.result.now c.at-replaced.result.now c.args.at c.position_in-from.result
-    c.self.invariant.in_order (ap (λ (d : Contents). d.records) c.self.view_is) c.requires.there c.at.ensures c.value.ensures c.position_in-from.ensures c.requires.one c.at-replaced.ensures c.requires.place in
-    subst (λ n. k < n) (sym c.self.invariant.bounded.long) m.listed.within
-
 pub raised-requires-clause-in_order : goal.raised-requires-clause-in_order
 raised-requires-clause-in_order c =
-    let order : List Record = c.self.inside.order in
+    let order : List Record = c.self.inside.order.shapes in
     let rs : List Record = c.self.inside.records in
     let after : List Record = c.args.records.now in
     let s : Record = c.at-replaced.result.now in
     let k : ℕ = c.position_in-from.result in
-    let m : IsReplaced order rs after c.at.result.now s c.args.at k = replaced-from c.self.inside.order c.self.inside.records c.args.self.now.records c.args.records.now c.at.result.now c.value.result.now c.at-replaced.result.now c.args.at c.position_in-from.result
+    let m : IsReplaced order rs after c.at.result.now s c.args.at k = replaced-from c.self.inside.order.shapes c.self.inside.records c.args.self.now.records c.args.records.now c.at.result.now c.value.result.now c.at-replaced.result.now c.args.at c.position_in-from.result
     c.self.invariant.in_order (ap (λ (d : Contents). d.records) c.self.view_is) c.requires.there c.at.ensures c.value.ensures c.position_in-from.ensures c.requires.one c.at-replaced.ensures c.requires.place in
-    let made : c.in_ok-order.order ≡ set order k s = c.in_ok-order.ensures ∙ ap (set order k) c.in_ok-share.ensures in
-    let placed : IsInPlaceOrder c.in_ok-order.order after = replaced-in_order order rs after c.in_ok-order.order c.at.result.now s c.args.at k c.self.invariant.well_formed.rising c.self.invariant.in_order m made in
+    let made : c.in_ok-order.order.shapes ≡ set order k s = c.in_ok-order.ensures.shapes ∙ ap (set order k) c.in_ok-share.ensures in
+    let placed : IsInPlaceOrder c.in_ok-order.order.shapes after = replaced-in_order order rs after c.in_ok-order.order.shapes c.at.result.now s c.args.at k c.self.invariant.well_formed.rising c.self.invariant.in_order m made in
     placed
 
 pub raised-requires-clause-at : goal.raised-requires-clause-at
 raised-requires-clause-at c =
-    let order : List Record = c.self.inside.order in
+    let order : List Record = c.self.inside.order.shapes in
     let rs : List Record = c.self.inside.records in
     let after : List Record = c.args.records.now in
     let s : Record = c.at-replaced.result.now in
     let k : ℕ = c.position_in-from.result in
-    let m : IsReplaced order rs after c.at.result.now s c.args.at k = replaced-from c.self.inside.order c.self.inside.records c.args.self.now.records c.args.records.now c.at.result.now c.value.result.now c.at-replaced.result.now c.args.at c.position_in-from.result
+    let m : IsReplaced order rs after c.at.result.now s c.args.at k = replaced-from c.self.inside.order.shapes c.self.inside.records c.args.self.now.records c.args.records.now c.at.result.now c.value.result.now c.at-replaced.result.now c.args.at c.position_in-from.result
     c.self.invariant.in_order (ap (λ (d : Contents). d.records) c.self.view_is) c.requires.there c.at.ensures c.value.ensures c.position_in-from.ensures c.requires.one c.at-replaced.ensures c.requires.place in
     let there : k < length order = m.listed.within in
-    omega (arith, ap length c.in_ok-order.ensures, length-set order k c.in_ok-share.field-0)
+    omega (arith, ap length c.in_ok-order.ensures.shapes, length-set order k c.in_ok-share.field-0)
 
 pub raised-requires-clause-but : goal.raised-requires-clause-but
 raised-requires-clause-but c =
-    let order : List Record = c.self.inside.order in
+    let order : List Record = c.self.inside.order.shapes in
     let rs : List Record = c.self.inside.records in
     let after : List Record = c.args.records.now in
     let s : Record = c.at-replaced.result.now in
     let k : ℕ = c.position_in-from.result in
-    let m : IsReplaced order rs after c.at.result.now s c.args.at k = replaced-from c.self.inside.order c.self.inside.records c.args.self.now.records c.args.records.now c.at.result.now c.value.result.now c.at-replaced.result.now c.args.at c.position_in-from.result
+    let m : IsReplaced order rs after c.at.result.now s c.args.at k = replaced-from c.self.inside.order.shapes c.self.inside.records c.args.self.now.records c.args.records.now c.at.result.now c.value.result.now c.at-replaced.result.now c.args.at c.position_in-from.result
     c.self.invariant.in_order (ap (λ (d : Contents). d.records) c.self.view_is) c.requires.there c.at.ensures c.value.ensures c.position_in-from.ensures c.requires.one c.at-replaced.ensures c.requires.place in
-    let made : c.in_ok-order.order ≡ set order k s = c.in_ok-order.ensures ∙ ap (set order k) c.in_ok-share.ensures in
-    let bounds : List Bounds = c.self.inside.bounds in
+    let made : c.in_ok-order.order.shapes ≡ set order k s = c.in_ok-order.ensures.shapes ∙ ap (set order k) c.in_ok-share.ensures in
+    let bounds : List Bounds = c.self.inside.order.bounds in
     let b : Bounds = c.bounds_for-own.result in
     let suits : Suits order bounds s b = subst (λ (x : Record). Suits order bounds x b) c.value-2.ensures (record { own = c.bounds_for-own.ensures.own; below = c.bounds_for-own.ensures.below }) in
-    subst (λ l. AreBoundsBut k l c.in_ok-bounds.bounds) (sym made)
-    (subst (AreBoundsBut k (set order k s)) (sym c.in_ok-bounds.ensures)
+    subst (λ l. AreBoundsBut k l c.in_ok-order.order.bounds) (sym made)
+    (subst (AreBoundsBut k (set order k s)) (sym c.in_ok-order.ensures.bounds)
     (rebounded.changed order bounds k s b c.self.invariant.bounded m.listed.within suits))
 
 pub raised-requires-clause-reaches : goal.raised-requires-clause-reaches
 raised-requires-clause-reaches c =
-    let order : List Record = c.self.inside.order in
+    let order : List Record = c.self.inside.order.shapes in
     let rs : List Record = c.self.inside.records in
     let after : List Record = c.args.records.now in
     let s : Record = c.at-replaced.result.now in
     let k : ℕ = c.position_in-from.result in
-    let m : IsReplaced order rs after c.at.result.now s c.args.at k = replaced-from c.self.inside.order c.self.inside.records c.args.self.now.records c.args.records.now c.at.result.now c.value.result.now c.at-replaced.result.now c.args.at c.position_in-from.result
+    let m : IsReplaced order rs after c.at.result.now s c.args.at k = replaced-from c.self.inside.order.shapes c.self.inside.records c.args.self.now.records c.args.records.now c.at.result.now c.value.result.now c.at-replaced.result.now c.args.at c.position_in-from.result
     c.self.invariant.in_order (ap (λ (d : Contents). d.records) c.self.view_is) c.requires.there c.at.ensures c.value.ensures c.position_in-from.ensures c.requires.one c.at-replaced.ensures c.requires.place in
-    let made : c.in_ok-order.order ≡ set order k s = c.in_ok-order.ensures ∙ ap (set order k) c.in_ok-share.ensures in
-    let placed : IsInPlaceOrder c.in_ok-order.order after = replaced-in_order order rs after c.in_ok-order.order c.at.result.now s c.args.at k c.self.invariant.well_formed.rising c.self.invariant.in_order m made in
-    λ q e. leads-up c.in_ok-order.order after k q placed c.requires.well_formed.grounded e
+    let made : c.in_ok-order.order.shapes ≡ set order k s = c.in_ok-order.ensures.shapes ∙ ap (set order k) c.in_ok-share.ensures in
+    let placed : IsInPlaceOrder c.in_ok-order.order.shapes after = replaced-in_order order rs after c.in_ok-order.order.shapes c.at.result.now s c.args.at k c.self.invariant.well_formed.rising c.self.invariant.in_order m made in
+    λ q e. leads-up c.in_ok-order.order.shapes after k q placed c.requires.well_formed.grounded e
 
 pub returns-clause-order : goal.returns-clause-order
 returns-clause-order c =
-    let order : List Record = c.self.inside.order in
+    let order : List Record = c.self.inside.order.shapes in
     let rs : List Record = c.self.inside.records in
     let after : List Record = c.args.records.now in
     let s : Record = c.at-replaced.result.now in
     let k : ℕ = c.position_in-from.result in
-    let m : IsReplaced order rs after c.at.result.now s c.args.at k = replaced-from c.self.inside.order c.self.inside.records c.args.self.now.records c.args.records.now c.at.result.now c.value.result.now c.at-replaced.result.now c.args.at c.position_in-from.result
+    let m : IsReplaced order rs after c.at.result.now s c.args.at k = replaced-from c.self.inside.order.shapes c.self.inside.records c.args.self.now.records c.args.records.now c.at.result.now c.value.result.now c.at-replaced.result.now c.args.at c.position_in-from.result
     c.self.invariant.in_order (ap (λ (d : Contents). d.records) c.self.view_is) c.requires.there c.at.ensures c.value.ensures c.position_in-from.ensures c.requires.one c.at-replaced.ensures c.requires.place in
-    let made : c.in_ok-order.order ≡ set order k s = c.in_ok-order.ensures ∙ ap (set order k) c.in_ok-share.ensures in
-    let placed : IsInPlaceOrder c.in_ok-order.order after = replaced-in_order order rs after c.in_ok-order.order c.at.result.now s c.args.at k c.self.invariant.well_formed.rising c.self.invariant.in_order m made in
-    placed
+    let made : c.in_ok-order.order.shapes ≡ set order k s = c.in_ok-order.ensures.shapes ∙ ap (set order k) c.in_ok-share.ensures in
+    let placed : IsInPlaceOrder c.in_ok-order.order.shapes after = replaced-in_order order rs after c.in_ok-order.order.shapes c.at.result.now s c.args.at k c.self.invariant.well_formed.rising c.self.invariant.in_order m made in
+    IfOk-weaker c.raised.result (λ all. all.shapes ≡ c.in_ok-order.order.shapes) (λ all. IsInPlaceOrder all.shapes after) (λ all e. subst (λ (l : List Record). IsInPlaceOrder l after) (sym e) placed) c.raised.ensures.shapes
 
 pub returns-clause-bounds : goal.returns-clause-bounds
-returns-clause-bounds c = c.in_ok-bounds-2.ensures
+returns-clause-bounds c = c.raised.ensures.bounds

@@ -9,7 +9,7 @@ use Rattle.canvas_doc.specs.Effect.{changed_by, effect_of}
 use Rattle.canvas_doc.specs.PlaceOrder.{IsInPlaceOrder}
 use Rattle.canvas_doc.proofs.OneChanged.{made-whole, one-effect, place-kept, shape-kept, whole-is}
 use Rattle.canvas_doc.proofs.Document.with_one_changed.Goals as goal
-use Rattle.canvas_doc.proofs.Document.with_one_changed.Goals.{in-Move+in_ok-placed-in-Move, in_default-change+in_ok-placed-in_default-change}
+use Rattle.canvas_doc.proofs.Document.with_one_changed.Goals.{in-Move+in_ok-order-in-Move, in_default-change+in_ok-order-in_default-change}
 
 pub returns-in_default : goal.returns-in_default
 returns-in_default c =
@@ -84,12 +84,12 @@ invariant_of-result c =
     record {
       well_formed = well;
       in_order = elim c.match-change.branch [
-        | in-Move+in_ok-placed-in-Move w ↦ subst (λ p. IsInPlaceOrder p.order c.in_ok-records.records) (sym w.placed-is) w.in_ok-placed-in-Move.ensures.order
-        | in_default-change+in_ok-placed-in_default-change w ↦ subst (λ p. IsInPlaceOrder p.order c.in_ok-records.records) (sym w.placed-is) w.in_ok-placed-in_default-change.ensures.order
+        | in-Move+in_ok-order-in-Move w ↦ subst (λ p. IsInPlaceOrder p.shapes c.in_ok-records.records) (sym w.order-is) w.in_ok-order-in-Move.ensures.order
+        | in_default-change+in_ok-order-in_default-change w ↦ subst (λ p. IsInPlaceOrder p.shapes c.in_ok-records.records) (sym w.order-is) w.in_ok-order-in_default-change.ensures.order
       ];
       bounded = elim c.match-change.branch [
-        | in-Move+in_ok-placed-in-Move w ↦ subst (λ p. AreBounds p.order p.bounds) (sym w.placed-is) w.in_ok-placed-in-Move.ensures.bounds
-        | in_default-change+in_ok-placed-in_default-change w ↦ subst (λ p. AreBounds p.order p.bounds) (sym w.placed-is) w.in_ok-placed-in_default-change.ensures.bounds
+        | in-Move+in_ok-order-in-Move w ↦ subst (λ p. AreBounds p.shapes p.bounds) (sym w.order-is) w.in_ok-order-in-Move.ensures.bounds
+        | in_default-change+in_ok-order-in_default-change w ↦ subst (λ p. AreBounds p.shapes p.bounds) (sym w.order-is) w.in_ok-order-in_default-change.ensures.bounds
       ];
     }
 

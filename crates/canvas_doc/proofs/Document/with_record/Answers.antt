@@ -18,30 +18,15 @@ bounds_for-own-requires-clause-limits c = All-contains IsInLimits (c.args.self.n
 
 pub with_inserted-requires-2-clause-few : goal.with_inserted-requires-2-clause-few
 with_inserted-requires-2-clause-few c =
-    let long : length c.self.inside.order ≡ length c.self.inside.records = c.self.invariant.in_order.long in
+    let long : length c.self.inside.order.shapes ≡ length c.self.inside.records = c.self.invariant.in_order.long in
     let few : length c.self.inside.records ≤ most_records = c.self.invariant.well_formed.few in
-    let bounds : length c.self.inside.bounds ≡ length c.self.inside.order = c.self.invariant.bounded.long in
-    omega arith
-
-pub with_inserted-requires-3-clause-within : goal.with_inserted-requires-3-clause-within
-with_inserted-requires-3-clause-within c =
-    let long : length c.self.inside.order ≡ length c.self.inside.records = c.self.invariant.in_order.long in
-    let few : length c.self.inside.records ≤ most_records = c.self.invariant.well_formed.few in
-    let bounds : length c.self.inside.bounds ≡ length c.self.inside.order = c.self.invariant.bounded.long in
-    let bound : c.position_in-at.result ≤ length c.self.inside.order = c.position_in-at.ensures.bound in
-    omega arith
-
-pub with_inserted-requires-3-clause-few : goal.with_inserted-requires-3-clause-few
-with_inserted-requires-3-clause-few c =
-    let long : length c.self.inside.order ≡ length c.self.inside.records = c.self.invariant.in_order.long in
-    let few : length c.self.inside.records ≤ most_records = c.self.invariant.well_formed.few in
-    let bounds : length c.self.inside.bounds ≡ length c.self.inside.order = c.self.invariant.bounded.long in
+    let bounds : length c.self.inside.order.bounds ≡ length c.self.inside.order.shapes = c.self.invariant.bounded.long in
     omega arith
 
 pub raised-requires-clause-in_order : goal.raised-requires-clause-in_order
 raised-requires-clause-in_order c =
     let rs : List Record = c.self.inside.records in
-    let order : List Record = c.self.inside.order in
+    let order : List Record = c.self.inside.order.shapes in
     let r : Record = c.args.shape in
     let k : ℕ = c.position_in-at.result in
     let e : rs ≡ c.args.self.now.records = ap (λ (d : Contents). d.records) c.self.view_is in
@@ -50,8 +35,8 @@ raised-requires-clause-in_order c =
     c.in_ok-records.ensures ∙ ap (insert rs c.len-last.result) (c.in_ok-share.ensures ∙ c.in_ok-shape.ensures) ∙ ap (λ m. insert rs m r) c.len-last.ensures.len ∙ insert_end rs r in
     let well : IsWellFormed (record { records = c.in_ok-records.records; next = c.args.self.now.next + 1 }) =
     subst (λ (l : List Record). IsWellFormed (record { records = l; next = c.args.self.now.next + 1 })) (more ∙ sym whole) c.requires in
-    let made : c.in_ok-order.order ≡ insert order k r = c.in_ok-order.ensures ∙ ap (insert order k) c.in_ok-shape.ensures in
-    let placed : IsInPlaceOrder c.in_ok-order.order c.in_ok-records.records =
+    let made : c.in_ok-more.more.shapes ≡ insert order k r = c.in_ok-more.ensures.shapes ∙ ap (insert order k) c.in_ok-shape.ensures in
+    let placed : IsInPlaceOrder c.in_ok-more.more.shapes c.in_ok-records.records =
     subst (λ l. IsInPlaceOrder l c.in_ok-records.records) (sym made)
     (subst (IsInPlaceOrder (insert order k r)) (sym whole)
     (added order rs r k c.self.invariant.in_order c.position_in-at.ensures (added-differs rs r (subst HavePlaces more c.requires.places)))) in
@@ -60,7 +45,7 @@ raised-requires-clause-in_order c =
 pub raised-requires-clause-rising : goal.raised-requires-clause-rising
 raised-requires-clause-rising c =
     let rs : List Record = c.self.inside.records in
-    let order : List Record = c.self.inside.order in
+    let order : List Record = c.self.inside.order.shapes in
     let r : Record = c.args.shape in
     let k : ℕ = c.position_in-at.result in
     let e : rs ≡ c.args.self.now.records = ap (λ (d : Contents). d.records) c.self.view_is in
@@ -74,7 +59,7 @@ raised-requires-clause-rising c =
 pub raised-requires-clause-limits : goal.raised-requires-clause-limits
 raised-requires-clause-limits c =
     let rs : List Record = c.self.inside.records in
-    let order : List Record = c.self.inside.order in
+    let order : List Record = c.self.inside.order.shapes in
     let r : Record = c.args.shape in
     let k : ℕ = c.position_in-at.result in
     let e : rs ≡ c.args.self.now.records = ap (λ (d : Contents). d.records) c.self.view_is in
@@ -87,28 +72,28 @@ raised-requires-clause-limits c =
 
 pub raised-requires-clause-at : goal.raised-requires-clause-at
 raised-requires-clause-at c =
-    let bound : c.position_in-at.result ≤ length c.self.inside.order = c.position_in-at.ensures.bound in
-    omega (arith, ap length c.in_ok-order.ensures, length-insert c.self.inside.order c.position_in-at.result c.in_ok-shape.shape bound)
+    let bound : c.position_in-at.result ≤ length c.self.inside.order.shapes = c.position_in-at.ensures.bound in
+    omega (arith, ap length c.in_ok-more.ensures.shapes, length-insert c.self.inside.order.shapes c.position_in-at.result c.in_ok-shape.shape bound)
 
 pub raised-requires-clause-but : goal.raised-requires-clause-but
 raised-requires-clause-but c =
     let rs : List Record = c.self.inside.records in
-    let order : List Record = c.self.inside.order in
+    let order : List Record = c.self.inside.order.shapes in
     let r : Record = c.args.shape in
     let k : ℕ = c.position_in-at.result in
     let e : rs ≡ c.args.self.now.records = ap (λ (d : Contents). d.records) c.self.view_is in
     let more : c.args.self.now.records ++ r ∷ [] ≡ rs ++ r ∷ [] = ap (λ (l : List Record). l ++ r ∷ []) (sym e) in
-    let made : c.in_ok-order.order ≡ insert order k r = c.in_ok-order.ensures ∙ ap (insert order k) c.in_ok-shape.ensures in
+    let made : c.in_ok-more.more.shapes ≡ insert order k r = c.in_ok-more.ensures.shapes ∙ ap (insert order k) c.in_ok-shape.ensures in
     let b : Bounds = c.bounds_for-own.result in
-    let suits : Suits order c.self.inside.bounds r b = record { own = c.bounds_for-own.ensures.own; below = c.bounds_for-own.ensures.below } in
-    subst (λ l. AreBoundsBut k l c.in_ok-bounds.bounds) (sym made)
-    (subst (AreBoundsBut k (insert order k r)) (sym c.in_ok-bounds.ensures)
-    (rebounded.put order c.self.inside.bounds k r b c.self.invariant.bounded c.position_in-at.ensures.bound suits))
+    let suits : Suits order c.self.inside.order.bounds r b = record { own = c.bounds_for-own.ensures.own; below = c.bounds_for-own.ensures.below } in
+    subst (λ l. AreBoundsBut k l c.in_ok-more.more.bounds) (sym made)
+    (subst (AreBoundsBut k (insert order k r)) (sym c.in_ok-more.ensures.bounds)
+    (rebounded.put order c.self.inside.order.bounds k r b c.self.invariant.bounded c.position_in-at.ensures.bound suits))
 
 pub raised-requires-clause-reaches : goal.raised-requires-clause-reaches
 raised-requires-clause-reaches c =
     let rs : List Record = c.self.inside.records in
-    let order : List Record = c.self.inside.order in
+    let order : List Record = c.self.inside.order.shapes in
     let r : Record = c.args.shape in
     let k : ℕ = c.position_in-at.result in
     let e : rs ≡ c.args.self.now.records = ap (λ (d : Contents). d.records) c.self.view_is in
@@ -117,17 +102,17 @@ raised-requires-clause-reaches c =
     c.in_ok-records.ensures ∙ ap (insert rs c.len-last.result) (c.in_ok-share.ensures ∙ c.in_ok-shape.ensures) ∙ ap (λ m. insert rs m r) c.len-last.ensures.len ∙ insert_end rs r in
     let well : IsWellFormed (record { records = c.in_ok-records.records; next = c.args.self.now.next + 1 }) =
     subst (λ (l : List Record). IsWellFormed (record { records = l; next = c.args.self.now.next + 1 })) (more ∙ sym whole) c.requires in
-    let made : c.in_ok-order.order ≡ insert order k r = c.in_ok-order.ensures ∙ ap (insert order k) c.in_ok-shape.ensures in
-    let placed : IsInPlaceOrder c.in_ok-order.order c.in_ok-records.records =
+    let made : c.in_ok-more.more.shapes ≡ insert order k r = c.in_ok-more.ensures.shapes ∙ ap (insert order k) c.in_ok-shape.ensures in
+    let placed : IsInPlaceOrder c.in_ok-more.more.shapes c.in_ok-records.records =
     subst (λ l. IsInPlaceOrder l c.in_ok-records.records) (sym made)
     (subst (IsInPlaceOrder (insert order k r)) (sym whole)
     (added order rs r k c.self.invariant.in_order c.position_in-at.ensures (added-differs rs r (subst HavePlaces more c.requires.places)))) in
-    λ q f. leads-up c.in_ok-order.order c.in_ok-records.records k q placed well.grounded f
+    λ q f. leads-up c.in_ok-more.more.shapes c.in_ok-records.records k q placed well.grounded f
 
 pub invariant_of-result : goal.invariant_of-result
 invariant_of-result c =
     let rs : List Record = c.self.inside.records in
-    let order : List Record = c.self.inside.order in
+    let order : List Record = c.self.inside.order.shapes in
     let r : Record = c.args.shape in
     let k : ℕ = c.position_in-at.result in
     let e : rs ≡ c.args.self.now.records = ap (λ (d : Contents). d.records) c.self.view_is in
@@ -136,13 +121,13 @@ invariant_of-result c =
     c.in_ok-records.ensures ∙ ap (insert rs c.len-last.result) (c.in_ok-share.ensures ∙ c.in_ok-shape.ensures) ∙ ap (λ m. insert rs m r) c.len-last.ensures.len ∙ insert_end rs r in
     let well : IsWellFormed (record { records = c.in_ok-records.records; next = c.args.self.now.next + 1 }) =
     subst (λ (l : List Record). IsWellFormed (record { records = l; next = c.args.self.now.next + 1 })) (more ∙ sym whole) c.requires in
-    let made : c.in_ok-order.order ≡ insert order k r = c.in_ok-order.ensures ∙ ap (insert order k) c.in_ok-shape.ensures in
-    let placed : IsInPlaceOrder c.in_ok-order.order c.in_ok-records.records =
+    let made : c.in_ok-more.more.shapes ≡ insert order k r = c.in_ok-more.ensures.shapes ∙ ap (insert order k) c.in_ok-shape.ensures in
+    let placed : IsInPlaceOrder c.in_ok-more.more.shapes c.in_ok-records.records =
     subst (λ l. IsInPlaceOrder l c.in_ok-records.records) (sym made)
     (subst (IsInPlaceOrder (insert order k r)) (sym whole)
     (added order rs r k c.self.invariant.in_order c.position_in-at.ensures (added-differs rs r (subst HavePlaces more c.requires.places)))) in
     record {
       well_formed = subst (λ m. IsWellFormed (record { records = c.in_ok-records.records; next = m + 1 })) (ap (λ (d : Contents). d.next) (sym c.self.view_is)) well;
-      in_order = placed;
-      bounded = c.in_ok-bounds-2.ensures;
+      in_order = subst (λ (l : List Record). IsInPlaceOrder l c.in_ok-records.records) (sym c.in_ok-order.ensures.shapes) placed;
+      bounded = c.in_ok-order.ensures.bounds;
     }

@@ -13,7 +13,7 @@ without_one-requires-clause-well_formed c =
     let e : rs ≡ now.records = ap (λ (d : Contents). d.records) c.self.view_is in
     let left : filter (λ r. not (is_in_subtree c.args.id rs r)) rs ≡ remove rs c.in-Some.at =
     childless-deleted c.args.id c.in-Some.at rs c.self.invariant.well_formed.rising c.in-Some.ensures
-    (childless-from_range c.args.id c.self.inside.order rs c.children_range-below.result.start c.children_range-below.result.end c.self.invariant.in_order c.children_range-below.ensures (omega (arith, c.if-below.true))) in
+    (childless-from_range c.args.id c.self.inside.order.shapes rs c.children_range-below.result.start c.children_range-below.result.end c.self.invariant.in_order c.children_range-below.ensures (omega (arith, c.if-below.true))) in
     let same : filter (λ r. not (is_in_subtree c.args.id now.records r)) now.records ≡ remove now.records c.in-Some.at =
     subst (λ (l : List Record). filter (λ r. not (is_in_subtree c.args.id l r)) l ≡ remove l c.in-Some.at) e left in
     subst (λ (l : List Record). IsWellFormed (record { records = l; next = now.next })) same c.requires.left
@@ -25,7 +25,7 @@ returns-in-Some c =
     let e : rs ≡ now.records = ap (λ (d : Contents). d.records) c.self.view_is in
     let left : filter (λ r. not (is_in_subtree c.args.id rs r)) rs ≡ remove rs c.in-Some.at =
     childless-deleted c.args.id c.in-Some.at rs c.self.invariant.well_formed.rising c.in-Some.ensures
-    (childless-from_range c.args.id c.self.inside.order rs c.children_range-below.result.start c.children_range-below.result.end c.self.invariant.in_order c.children_range-below.ensures (omega (arith, c.if-below.true))) in
+    (childless-from_range c.args.id c.self.inside.order.shapes rs c.children_range-below.result.start c.children_range-below.result.end c.self.invariant.in_order c.children_range-below.ensures (omega (arith, c.if-below.true))) in
     let same : filter (λ r. not (is_in_subtree c.args.id now.records r)) now.records ≡ remove now.records c.in-Some.at =
     subst (λ (l : List Record). filter (λ r. not (is_in_subtree c.args.id l r)) l ≡ remove l c.in-Some.at) e left in
     subst (λ (l : List Record). IfOk c.without_one.result (λ after. after ≡ record { records = l; next = now.next })) (sym same) c.without_one.ensures

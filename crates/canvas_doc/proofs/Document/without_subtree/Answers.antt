@@ -10,7 +10,7 @@ use Rattle.canvas_doc.proofs.Document.without_subtree.Goals.{In_ok-left}
 gone : (c : In_ok-left) → c.in_ok-left.left.records ≡ filter (λ r. not (is_in_subtree c.args.id c.self.inside.records r)) c.self.inside.records
 gone c =
     let rs : List Record = c.self.inside.records in
-    let order : List Record = c.self.inside.order in
+    let order : List Record = c.self.inside.order.shapes in
     let own : Record → Bool = λ r. not (r.id == c.args.id) in
     let held : Record → Bool = λ r. not (is_held (holders_below 32 order (c.args.id ∷ [])) r) in
     c.in_ok-left.ensures.records

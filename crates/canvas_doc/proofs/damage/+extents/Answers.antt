@@ -18,7 +18,7 @@ extent_among-returns-then-levels-eq0 t c = extent-none c.args.levels c.args.docu
 
 pub extent_among-extent_of-requires : goal.extent_among-extent_of-requires
 extent_among-extent_of-requires t c =
-    let order : List Record = c.document.inside.order in
+    let order : List Record = c.document.inside.order.shapes in
     let shape : Record = c.value-shape.result.now in
     let at : ℕ = c.loop-slot.slot - 1 in
     let well : IsWellFormed c.args.document.now = subst IsWellFormed c.document.view_is c.document.invariant.well_formed in
@@ -32,13 +32,13 @@ extent_among-extent_of-requires t c =
 pub extent_among-loop-slot-preserved : goal.extent_among-loop-slot-preserved
 extent_among-loop-slot-preserved t c = record {
   from = omega arith;
-  round = round-more (extent_of (c.args.levels - 1) c.args.document.now.records (carry c.args.out.now)) c.document.inside.order c.loop-slot.slot c.children_range-start.result.end c.value-shape.result.now c.at.result.now
+  round = round-more (extent_of (c.args.levels - 1) c.args.document.now.records (carry c.args.out.now)) c.document.inside.order.shapes c.loop-slot.slot c.children_range-start.result.end c.value-shape.result.now c.at.result.now
       c.extent_of.result c.loop-slot.area c.hull-area.result (omega arith) c.loop-slot.auto.slot c.children_range-start.ensures.bound (c.value-shape.ensures ∙ c.at.ensures) c.extent_of.ensures c.loop-slot.invariant.round c.hull-area.ensures.value;
 }
 
 pub extent_among-returns : goal.extent_among-returns
 extent_among-returns t c =
-    let order : List Record = c.document.inside.order in
+    let order : List Record = c.document.inside.order.shapes in
     let end : ℕ = c.children_range-start.result.end in
     let f : Record → PageBox = extent_of (c.args.levels - 1) c.args.document.now.records (carry c.args.out.now) in
     let done : c.loop-slot.slot ≡ c.children_range-start.result.start = omega (arith, c.loop-slot.invariant.from) in

@@ -12,5 +12,5 @@ decreases-extent_of l = 2 * l.levels + 1
 abbrev pub invariant-extent_among-loop-slot : goal.invariant-extent_among-loop-slot
 invariant-extent_among-loop-slot l = record {
   from : l.start ≤ l.slot;
-  round : l.area ≡ hull_round (map (extent_of (l.levels - 1) l.document.records (carry l.out)) (take (l.end - l.slot) (drop l.slot l.document-inside.order)));
+  round : l.area ≡ hull_round (map (extent_of (l.levels - 1) l.document.records (carry l.out)) (take (l.end - l.slot) (drop l.slot l.document-inside.order.shapes)));
 }

@@ -10,12 +10,12 @@ pub loop-at-init : goal.loop-at-init
 loop-at-init c =
     let start : ℕ = c.children_range-start.result.start in
     let none : 0 ≡ start - start = omega arith in
-    sym (append-nil c.args.ids.items) ∙ ap (λ n. c.args.ids.items ++ container_ids (take n (drop start c.args.order.now))) none
+    sym (append-nil c.args.ids.items) ∙ ap (λ n. c.args.ids.items ++ container_ids (take n (drop start c.args.order.now.shapes))) none
 
 pub loop-at-preserved : goal.loop-at-preserved
 loop-at-preserved c =
     let ids : List ℕ = c.args.ids.items in
-    let order : List Record = c.args.order.now in
+    let order : List Record = c.args.order.now.shapes in
     let start : ℕ = c.children_range-start.result.start in
     let at : ℕ = c.loop-at.at in
     let s : Record = c.value-shape.result.now in
@@ -37,5 +37,5 @@ returns c =
     let start : ℕ = c.children_range-start.result.start in
     let within = c.children_range-start.ensures in
     let all : c.loop-at.at ≡ c.children_range-start.result.end = omega (arith, within.from) in
-    c.loop-at.invariant ∙ ap (λ n. c.args.ids.items ++ container_ids (take (n - start) (drop start c.args.order.now))) all
+    c.loop-at.invariant ∙ ap (λ n. c.args.ids.items ++ container_ids (take (n - start) (drop start c.args.order.now.shapes))) all
     ∙ ap (λ (l : List Record). c.args.ids.items ++ container_ids l) within.are

@@ -11,18 +11,18 @@ loop-at-init c =
     let start : ℕ = c.args.start in
     let none : 0 ≡ start - start = omega arith in
     sym (filter-none (λ r. has_id_of [] r) c.args.records (λ i d l. refl))
-    ∙ ap (λ n. filter (λ r. not (has_id_of (take n (drop start c.args.order.now)) r)) c.args.records) none
+    ∙ ap (λ n. filter (λ r. not (has_id_of (take n (drop start c.args.order.now.shapes)) r)) c.args.records) none
 
 pub without_id-requires : goal.without_id-requires
 without_id-requires c =
-    let some : List Record = take (c.loop-at.at - c.args.start) (drop c.args.start c.args.order.now) in
+    let some : List Record = take (c.loop-at.at - c.args.start) (drop c.args.start c.args.order.now.shapes) in
     subst AreRising (sym c.loop-at.invariant) (rising-filter (λ r. not (has_id_of some r)) c.args.records c.requires.rising)
 
 pub loop-at-preserved : goal.loop-at-preserved
 loop-at-preserved c =
     let start : ℕ = c.args.start in
     let at : ℕ = c.loop-at.at in
-    let order : List Record = c.args.order.now in
+    let order : List Record = c.args.order.now.shapes in
     let s : Record = c.value.result.now in
     let within : at < length order = omega (arith, c.requires.within, c.requires.from) in
     c.in_ok-left.ensures
@@ -34,4 +34,4 @@ pub returns : goal.returns
 returns c =
     let start : ℕ = c.args.start in
     let all : c.loop-at.at ≡ c.args.end = omega (arith, c.requires.from) in
-    c.loop-at.invariant ∙ ap (λ n. filter (λ r. not (has_id_of (take (n - start) (drop start c.args.order.now)) r)) c.args.records) all
+    c.loop-at.invariant ∙ ap (λ n. filter (λ r. not (has_id_of (take (n - start) (drop start c.args.order.now.shapes)) r)) c.args.records) all

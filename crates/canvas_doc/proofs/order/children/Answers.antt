@@ -1,6 +1,8 @@
-use Rattle.std.proofs.Common.{◌≡◌, ◌∙◌, ◌-◌, Bor, List, arith, drop, get_or, map, take, ap}
+use Rattle.std.proofs.Common.{◌≡◌, ◌∙◌, ◌-◌, Bor, List, arith, drop, map, take, ap}
 use Rattle.canvas_doc.specs.declared.records.Record.{Record}
+use Rattle.canvas_doc.specs.Placements.{placements_of}
 use Rattle.canvas_doc.proofs.ChildrenInOrder.{one-more-listed}
+use Rattle.canvas_doc.proofs.Placements.{shape-at}
 use Rattle.canvas_doc.proofs.Sorting.{record_of}
 use Rattle.canvas_doc.proofs.order.children.Goals as goal
 
@@ -9,17 +11,17 @@ loop-at-init g c =
     let start = c.children_range-start.result.start in
     let none : 0 ≡ start - start = omega arith in
     record {
-      shapes = c.reader-shapes.ensures;
-      list = ap (λ (bs : List (Bor Record)). map record_of bs) c.in_ok-list.ensures.items ∙ ap (λ n. take n (drop start c.args.order.now)) none;
+      all = c.reader-all.ensures;
+      list = ap (λ (bs : List (Bor Record)). map record_of bs) c.in_ok-list.ensures.items ∙ ap (λ n. take n (drop start c.args.order.now.shapes)) none;
     }
 
 pub loop-at-preserved : goal.loop-at-preserved
 loop-at-preserved g c =
-    let read : c.at.result.now ≡ get_or c.args.order.now c.loop-at.at c.at.result.now = c.at.ensures.item ∙ ap (λ (l : List Record). get_or l c.loop-at.at c.at.result.now) c.loop-at.invariant.shapes in
+    let read = shape-at c.loop-at.all c.args.order.now c.loop-at.invariant.all c.loop-at.at c.at.result.now c.at.ensures.item in
     record {
-      shapes = c.at.ensures.same ∙ c.loop-at.invariant.shapes;
+      all = ap placements_of c.at.ensures.same ∙ c.loop-at.invariant.all;
       list =
-          one-more-listed c.args.order.now c.children_range-start.result.start c.loop-at.at c.value.result c.at.result.now c.loop-at.list.items c.push.new.self.items
+          one-more-listed c.args.order.now.shapes c.children_range-start.result.start c.loop-at.at c.value.result c.at.result.now.shape c.loop-at.list.items c.push.new.self.items
           c.loop-at.auto.at (omega (arith, c.children_range-start.ensures.bound, c.children_range-start.ensures.from)) (c.value.ensures ∙ read) c.in_ok-push.ensures.items c.loop-at.invariant.list;
     }
 
@@ -28,4 +30,4 @@ returns g c =
     let start = c.children_range-start.result.start in
     let within = c.children_range-start.ensures in
     let all : c.loop-at.at ≡ c.children_range-start.result.end = omega (arith, within.from) in
-    c.loop-at.invariant.list ∙ ap (λ n. take (n - start) (drop start c.args.order.now)) all ∙ within.are
+    c.loop-at.invariant.list ∙ ap (λ n. take (n - start) (drop start c.args.order.now.shapes)) all ∙ within.are

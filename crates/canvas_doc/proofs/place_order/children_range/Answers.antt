@@ -1,13 +1,22 @@
-use Rattle.std.proofs.Common.{List, rules}
+use Rattle.std.proofs.Common.{◌≤◌, List, length, rules, subst}
 use Rattle.std.specs.Ordering.{is_le, is_lt}
 use Rattle.std.proofs.lemmas.List.Sorted.{IsPartitionPoint-from_clause}
+use Rattle.canvas_doc.specs.declared.placed_shapes.PlacedShape.{PlacedShape}
 use Rattle.canvas_doc.specs.declared.records.Record.{Record}
+use Rattle.canvas_doc.proofs.Placements.{long, point, shape_of}
 use Rattle.canvas_doc.proofs.PlacePoints.{children-within, has_parent, parted-before, parted-up_to}
 use Rattle.canvas_doc.proofs.place_order.children_range.Goals as goal
 
 pub returns : goal.returns
 returns c =
-    let order : List Record = c.args.order.now in
-    let low = IsPartitionPoint-from_clause (has_parent is_lt c.args.parent) order c.partition_point-start.result c.partition_point-start.ensures.partitioned (parted-before c.args.parent order c.requires) (λ a r f called. search rules) in
-    let high = IsPartitionPoint-from_clause (has_parent is_le c.args.parent) order c.partition_point-end.result c.partition_point-end.ensures.partitioned (parted-up_to c.args.parent order c.requires) (λ a r f called. search rules) in
-    children-within c.args.parent order c.partition_point-start.result c.partition_point-end.result c.partition_point-start.ensures.bound c.partition_point-end.ensures.bound low high
+    let order : List Record = c.args.order.now.shapes in
+    let all : List PlacedShape = c.order.inside.list in
+    let count = long all c.args.order.now c.order.view_is in
+    let low = point all c.args.order.now c.order.view_is (has_parent is_lt c.args.parent) c.partition_point-start.result c.partition_point-start.ensures.bound
+    (λ parted. IsPartitionPoint-from_clause (λ x. has_parent is_lt c.args.parent (shape_of x)) all c.partition_point-start.result c.partition_point-start.ensures.partitioned parted (λ a r f called. search rules))
+    (parted-before c.args.parent order c.requires) in
+    let high = point all c.args.order.now c.order.view_is (has_parent is_le c.args.parent) c.partition_point-end.result c.partition_point-end.ensures.bound
+    (λ parted. IsPartitionPoint-from_clause (λ x. has_parent is_le c.args.parent (shape_of x)) all c.partition_point-end.result c.partition_point-end.ensures.partitioned parted (λ a r f called. search rules))
+    (parted-up_to c.args.parent order c.requires) in
+    children-within c.args.parent order c.partition_point-start.result c.partition_point-end.result
+    (subst (λ n. c.partition_point-start.result ≤ n) count c.partition_point-start.ensures.bound) (subst (λ n. c.partition_point-end.result ≤ n) count c.partition_point-end.ensures.bound) low high

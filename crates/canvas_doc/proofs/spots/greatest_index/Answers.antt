@@ -8,5 +8,5 @@ use Rattle.canvas_doc.proofs.spots.greatest_index.Goals as goal
 pub returns : goal.returns
 returns c =
     c.first_index.ensures ∙ ap (first_index c.args.own) c.children_range-start.ensures.are
-    ∙ greatest-first c.args.own c.args.parent c.document.inside.order c.document.inside.records c.document.invariant.in_order
+    ∙ greatest-first c.args.own c.args.parent c.document.inside.order.shapes c.document.inside.records c.document.invariant.in_order
     ∙ ap (λ (d : Contents). greatest_index (siblings c.args.own c.args.parent d.records)) c.document.view_is

@@ -12,7 +12,7 @@ use Rattle.canvas_doc.proofs.spots.next_above.Goals.{After-last_index}
 pub last_index-requires : goal.last_index-requires
 last_index-requires c = record {
   from =
-      (among-children c.document.inside.order c.document.inside.records c.children_range-start.result.start c.children_range-start.result.end c.position_in-end.result c.args.shape.now c.document.invariant.in_order
+      (among-children c.document.inside.order.shapes c.document.inside.records c.children_range-start.result.start c.children_range-start.result.end c.position_in-end.result c.args.shape.now c.document.invariant.in_order
       (subst (λ (d : Contents). Contains d.records c.args.shape.now) (sym c.document.view_is) c.requires) c.children_range-start.ensures c.position_in-end.ensures).0;
   bound = c.position_in-end.ensures.bound;
 }
@@ -20,7 +20,7 @@ last_index-requires c = record {
 value : (c : After-last_index) → option_copied c.last_index.result ≡ least_above (Some c.args.shape.now.place.index) (siblings c.args.own c.args.shape.now.place.parent c.args.document.now.records)
 value c =
     c.last_index.ensures
-    ∙ next-least c.args.own c.document.inside.order c.document.inside.records c.children_range-start.result.start c.children_range-start.result.end c.position_in-end.result c.args.shape.now c.document.invariant.in_order
+    ∙ next-least c.args.own c.document.inside.order.shapes c.document.inside.records c.children_range-start.result.start c.children_range-start.result.end c.position_in-end.result c.args.shape.now c.document.invariant.in_order
     (subst (λ (d : Contents). Contains d.records c.args.shape.now) (sym c.document.view_is) c.requires) c.children_range-start.ensures c.position_in-end.ensures
     ∙ ap (λ (d : Contents). least_above (Some c.args.shape.now.place.index) (siblings c.args.own c.args.shape.now.place.parent d.records)) c.document.view_is
 

@@ -1,0 +1,101 @@
+-- Records by place and their bounds, as one list is read and changed.
+use Rattle.std.proofs.Common.{◌≡◌, ℕ, suc, ◌+◌, ◌-◌, ◌<◌, ◌≤◌, List, [], ◌∷◌, ◌++◌, Bool, true, false, ap, sym, subst, refl, ◌∙◌, arith, map, length, get_or, set, take, drop}
+use Rattle.std.specs.List.{AllWithin, insert, remove, slice_get, take-map, drop-map}
+use Rattle.std.specs.List.Sorted.{IsPartitionPoint, IsPartitionedBy}
+use Rattle.std.proofs.Math.ListN.{get_or-map}
+use Rattle.std.proofs.lemmas.List as list
+use Rattle.std.proofs.lemmas.List.{append_assoc, drop-drop, length-map, map-append, take-append-drop}
+use Rattle.canvas_doc.specs.declared.bounds.Bounds.{Bounds}
+use Rattle.canvas_doc.specs.declared.placed_shapes.PlacedShape.{PlacedShape}
+use Rattle.canvas_doc.specs.declared.records.Record.{Record}
+use Rattle.canvas_doc.specs.Placements.{Placements, placements_of}
+
+abbrev pub shape_of : PlacedShape → Record
+shape_of placed = placed.shape
+
+abbrev pub bounds_of : PlacedShape → Bounds
+bounds_of placed = placed.bounds
+
+-- ---- one list of pairs, of which each part is seen
+
+some-in : {X : Type 0} (xs : List X) (at : ℕ) → at < length xs → X
+some-in [] at h = absurd (omega arith)
+some-in (x ∷ xs) at h = x
+
+module _ {X : Type 0} {Y : Type 0} (f : X → Y) where
+  pub map-insert : (xs : List X) (at : ℕ) (x : X) → map f (insert xs at x) ≡ insert (map f xs) at (f x)
+  map-insert xs at x =
+      map-append f (take at xs) (x ∷ drop at xs)
+      ∙ ap (λ l. l ++ f x ∷ map f (drop at xs)) (sym (take-map f at xs))
+      ∙ ap (λ l. take at (map f xs) ++ f x ∷ l) (sym (drop-map f at xs))
+
+  pub map-remove : (xs : List X) (at : ℕ) → map f (remove xs at) ≡ remove (map f xs) at
+  map-remove xs at =
+      map-append f (take at xs) (drop (suc at) xs)
+      ∙ ap (λ l. l ++ map f (drop (suc at) xs)) (sym (take-map f at xs))
+      ∙ ap (λ l. take at (map f xs) ++ l) (sym (drop-map f (suc at) xs))
+
+  pub map-splice : (xs ys : List X) (first end : ℕ) → map f (take first xs ++ ys ++ drop end xs) ≡ take first (map f xs) ++ map f ys ++ drop end (map f xs)
+  map-splice xs ys first end =
+      map-append f (take first xs ++ ys) (drop end xs)
+      ∙ ap (λ l. l ++ map f (drop end xs)) (map-append f (take first xs) ys ∙ ap (λ l. l ++ map f ys) (sym (take-map f first xs)))
+      ∙ ap (λ l. take first (map f xs) ++ map f ys ++ l) (sym (drop-map f end xs))
+
+  pub map-read : (xs : List X) (at : ℕ) (x : X) → x ≡ get_or xs at x → f x ≡ get_or (map f xs) at (f x)
+  map-read xs at x e = ap f e ∙ sym (get_or-map f xs at x)
+
+  pub map-parted : (q : Y → Bool) (xs : List X) → IsPartitionedBy q (map f xs) → IsPartitionedBy (λ x. q (f x)) xs
+  map-parted q xs h i j d low b passed =
+      let long : length (map f xs) ≡ length xs = length-map xs f in
+      ap q (sym (get_or-map f xs i d)) ∙ h i j (f d) low (omega arith) (ap q (get_or-map f xs j d) ∙ passed)
+
+  -- what holds within the first list holds within the other
+  map-within : (P : Y → Type 0) (xs : List X) (low high : ℕ) → high ≤ length xs → AllWithin (λ x. P (f x)) xs low high → AllWithin P (map f xs) low high
+  map-within P xs low high b h k d from below =
+      let within : k < length xs = omega arith in
+      let x : X = some-in xs k within in
+      subst P (sym (list.get_or-map f xs k x d within)) (h k x from below)
+
+  pub map-point : (q : Y → Bool) (xs : List X) (at : ℕ) → at ≤ length xs → IsPartitionPoint (λ x. q (f x) ≡ true) (λ x. q (f x) ≡ false) xs at → IsPartitionPoint (λ y. q y ≡ true) (λ y. q y ≡ false) (map f xs) at
+  map-point q xs at b h = (
+    map-within (λ y. q y ≡ true) xs 0 at b h.0,
+    subst (λ n. AllWithin (λ y. q y ≡ false) (map f xs) at n) (sym (length-map xs f)) (map-within (λ y. q y ≡ false) xs at (length xs) (omega arith) h.1),
+  )
+
+-- a list in three parts
+pub parts-whole : {A : Type 0} (xs : List A) (first end : ℕ) → first ≤ end → take first xs ++ take (end - first) (drop first xs) ++ drop end xs ≡ xs
+parts-whole xs first end h =
+    let all : first + (end - first) ≡ end = omega arith in
+    ap (λ l. take first xs ++ take (end - first) (drop first xs) ++ l) (ap (λ n. drop n xs) (sym all) ∙ sym (drop-drop (end - first) first xs))
+    ∙ append_assoc (take first xs) (take (end - first) (drop first xs)) (drop (end - first) (drop first xs))
+    ∙ ap (λ l. take first xs ++ l) (take-append-drop (end - first) (drop first xs))
+    ∙ take-append-drop first xs
+
+-- ---- records by place and their bounds
+
+module _ (all : List PlacedShape) (p : Placements) (is : placements_of all ≡ p) where
+  pub shapes-are : map shape_of all ≡ p.shapes
+  shapes-are = ap (λ (q : Placements). q.shapes) is
+
+  pub bounds-are : map bounds_of all ≡ p.bounds
+  bounds-are = ap (λ (q : Placements). q.bounds) is
+
+  pub long : length all ≡ length p.shapes
+  long = sym (length-map all shape_of) ∙ ap length shapes-are
+
+  pub long-bounds : length p.bounds ≡ length p.shapes
+  long-bounds = ap length (sym bounds-are) ∙ length-map all bounds_of ∙ long
+
+  -- what is read at a position
+  pub shape-at : (at : ℕ) (x : PlacedShape) → x ≡ get_or all at x → x.shape ≡ get_or p.shapes at x.shape
+  shape-at at x e = map-read shape_of all at x e ∙ ap (λ l. get_or l at x.shape) shapes-are
+
+  pub bounds-at : (at : ℕ) (x : PlacedShape) → x ≡ get_or all at x → x.bounds ≡ get_or p.bounds at x.bounds
+  bounds-at at x e = map-read bounds_of all at x e ∙ ap (λ l. get_or l at x.bounds) bounds-are
+
+  -- where a test of records parts them
+  pub point : (q : Record → Bool) (at : ℕ) → at ≤ length all → (IsPartitionedBy (λ x. q (shape_of x)) all → IsPartitionPoint (λ x. q (shape_of x) ≡ true) (λ x. q (shape_of x) ≡ false) all at)
+      → IsPartitionedBy q p.shapes → IsPartitionPoint (λ r. q r ≡ true) (λ r. q r ≡ false) p.shapes at
+  point q at b found parted =
+      subst (λ l. IsPartitionPoint (λ r. q r ≡ true) (λ r. q r ≡ false) l at) shapes-are
+      (map-point shape_of q all at b (found (map-parted shape_of q all (subst (IsPartitionedBy q) (sym shapes-are) parted))))

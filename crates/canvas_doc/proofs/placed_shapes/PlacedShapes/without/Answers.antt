@@ -1,0 +1,12 @@
+use Rattle.std.proofs.Common.{◌∙◌, ap, map}
+use Rattle.std.specs.List.{remove}
+use Rattle.canvas_doc.proofs.Placements.{bounds-are, bounds_of, map-remove, shape_of, shapes-are}
+use Rattle.canvas_doc.proofs.placed_shapes.PlacedShapes.without.Goals as goal
+
+pub returns-clause-shapes : goal.returns-clause-shapes
+returns-clause-shapes c =
+    ap (map shape_of) c.in_ok-without.ensures ∙ map-remove shape_of c.self.inside.list c.args.at ∙ ap (λ l. remove l c.args.at) (shapes-are c.self.inside.list c.args.self.now c.self.view_is)
+
+pub returns-clause-bounds : goal.returns-clause-bounds
+returns-clause-bounds c =
+    ap (map bounds_of) c.in_ok-without.ensures ∙ map-remove bounds_of c.self.inside.list c.args.at ∙ ap (λ l. remove l c.args.at) (bounds-are c.self.inside.list c.args.self.now c.self.view_is)

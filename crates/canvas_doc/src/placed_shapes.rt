@@ -1,0 +1,207 @@
+//! The records of a document by place, each with its bounds.
+
+ghost use Rattle.std.specs.Prelude.{◌≡◌, ◌≤◌, ◌<◌, ◌+◌, ◌++◌, ◌^◌, [], IfOk, drop, length, map, slice_index_or, slice_set, take};
+ghost use Rattle.std.specs.List.{insert, remove, slice_get};
+ghost use Rattle.std.specs.Option.{option_copied};
+ghost use Rattle.canvas_doc.specs.Placements.{placements_of};
+
+use crate::bounds::Bounds;
+use crate::records::Record;
+use canvas_code::OutOfMemory;
+use canvas_list::{Reader, Share, Shared, SharedList};
+use std::alloc::Global;
+use std::marker::Model;
+
+/// A record, and bounds of what it and all below it may show.
+#[derive(Drop)]
+pub(crate) struct PlacedShape {
+    pub(crate) shape: Shared<Record>,
+    pub(crate) bounds: Bounds,
+}
+
+impl Share for PlacedShape {
+    #[inline(always)]
+    fn share(&self) -> Result<PlacedShape, OutOfMemory> {
+        Ok(PlacedShape {
+            shape: self.shape.share()?,
+            bounds: self.bounds,
+        })
+    }
+}
+
+/// Records by place with their bounds, which documents share, seen as the list of the records and that
+/// of the bounds, in the same positions. A call that answers want of memory leaves them as they were.
+#[derive(Drop)]
+pub(crate) struct PlacedShapes {
+    pub(crate) list: SharedList<PlacedShape>,
+}
+
+impl Model for PlacedShapes {
+    ghost use Rattle.canvas_doc.specs.Placements.{Placements, placements_of};
+
+    ghost Value = { Placements };
+
+    ghost view = { λ placed. placements_of placed.list };
+}
+
+impl PlacedShapes {
+    /// No records.
+    pub(crate) fn empty(alloc: Global) -> PlacedShapes
+        ensures { result ≡ record { shapes = []; bounds = [] } }
+    {
+        PlacedShapes {
+            list: SharedList::empty(alloc),
+        }
+    }
+
+    /// The records of a `Vec`.
+    pub(crate) fn from_vec(
+        alloc: Global,
+        placed: Vec<PlacedShape>,
+    ) -> Result<PlacedShapes, OutOfMemory>
+        requires { length placed.items < 2 ^ 32 }
+        ensures { IfOk result (λ all. all ≡ placements_of placed.items) }
+    {
+        Ok(PlacedShapes {
+            list: SharedList::from_vec(alloc, placed)?,
+        })
+    }
+
+    /// The same records.
+    pub(crate) fn try_clone(&self, alloc: Global) -> Result<PlacedShapes, OutOfMemory>
+        ensures { IfOk result (λ all. all ≡ self.now) }
+    {
+        Ok(PlacedShapes {
+            list: self.list.try_clone(alloc)?,
+        })
+    }
+
+    /// How many records there are.
+    #[inline(always)]
+    pub(crate) fn len(&self) -> usize
+        ensures len { result ≡ length self.now.shapes }
+        ensures few { result < 2 ^ 32 }
+    {
+        self.list.len()
+    }
+
+    /// The record at a position.
+    #[inline(always)]
+    pub(crate) fn at(&self, at: usize) -> &Shared<Record>
+        requires { at < length self.now.shapes }
+        ensures { result.now ≡ slice_index_or self.now.shapes at result.now }
+    {
+        &self.list.at(at).shape
+    }
+
+    /// The record at a position, if there is one.
+    #[inline(always)]
+    pub(crate) fn get(&self, at: usize) -> Option<&Shared<Record>>
+        ensures { option_copied result ≡ slice_get self.now.shapes at }
+    {
+        if at < self.len() {
+            Some(self.at(at))
+        } else {
+            None
+        }
+    }
+
+    /// The bounds at a position.
+    #[inline(always)]
+    pub(crate) fn bounds_at(&self, at: usize) -> &Bounds
+        requires { at < length self.now.shapes }
+        ensures { result.now ≡ slice_index_or self.now.bounds at result.now }
+    {
+        &self.list.at(at).bounds
+    }
+
+    /// A reader of the records and their bounds.
+    #[inline(always)]
+    pub(crate) fn reader(&self) -> Reader<'_, PlacedShape>
+        ensures { placements_of result ≡ self.now }
+    {
+        self.list.reader()
+    }
+
+    /// The same with another record and other bounds at a position.
+    pub(crate) fn with_replaced(
+        &self,
+        alloc: Global,
+        at: usize,
+        shape: Shared<Record>,
+        bounds: Bounds,
+    ) -> Result<PlacedShapes, OutOfMemory>
+        requires { at < length self.now.shapes }
+        ensures shapes { IfOk result (λ all. all.shapes ≡ slice_set self.now.shapes at shape) }
+        ensures bounds { IfOk result (λ all. all.bounds ≡ slice_set self.now.bounds at bounds) }
+    {
+        let placed = PlacedShape { shape, bounds };
+        Ok(PlacedShapes {
+            list: self.list.with_replaced(alloc, at, placed)?,
+        })
+    }
+
+    /// The same with other bounds at a position.
+    pub(crate) fn with_bounds(
+        &self,
+        alloc: Global,
+        at: usize,
+        bounds: Bounds,
+    ) -> Result<PlacedShapes, OutOfMemory>
+        requires { at < length self.now.shapes }
+        ensures shapes { IfOk result (λ all. all.shapes ≡ self.now.shapes) }
+        ensures bounds { IfOk result (λ all. all.bounds ≡ slice_set self.now.bounds at bounds) }
+    {
+        let shape = self.at(at).share()?;
+        self.with_replaced(alloc, at, shape, bounds)
+    }
+
+    /// The same with one more record before the one at a position, or at the end.
+    pub(crate) fn with_inserted(
+        &self,
+        alloc: Global,
+        at: usize,
+        shape: Shared<Record>,
+        bounds: Bounds,
+    ) -> Result<PlacedShapes, OutOfMemory>
+        requires within { at ≤ length self.now.shapes }
+        requires few { length self.now.shapes + 1 < 2 ^ 32 }
+        ensures shapes { IfOk result (λ all. all.shapes ≡ insert self.now.shapes at shape) }
+        ensures bounds { IfOk result (λ all. all.bounds ≡ insert self.now.bounds at bounds) }
+    {
+        let placed = PlacedShape { shape, bounds };
+        Ok(PlacedShapes {
+            list: self.list.with_inserted(alloc, at, placed)?,
+        })
+    }
+
+    /// The same without the record at a position.
+    pub(crate) fn without(&self, alloc: Global, at: usize) -> Result<PlacedShapes, OutOfMemory>
+        requires { at < length self.now.shapes }
+        ensures shapes { IfOk result (λ all. all.shapes ≡ remove self.now.shapes at) }
+        ensures bounds { IfOk result (λ all. all.bounds ≡ remove self.now.bounds at) }
+    {
+        Ok(PlacedShapes {
+            list: self.list.without(alloc, at)?,
+        })
+    }
+
+    /// The same with others in place of those from `first` up to `end`, which itself stays.
+    pub(crate) fn with_spliced(
+        &self,
+        alloc: Global,
+        first: usize,
+        end: usize,
+        placed: Vec<PlacedShape>,
+    ) -> Result<PlacedShapes, OutOfMemory>
+        requires order { first ≤ end }
+        requires within { end ≤ length self.now.shapes }
+        requires few { length self.now.shapes + length placed.items < 2 ^ 32 }
+        ensures shapes { IfOk result (λ all. all.shapes ≡ take first self.now.shapes ++ (placements_of placed.items).shapes ++ drop end self.now.shapes) }
+        ensures bounds { IfOk result (λ all. all.bounds ≡ take first self.now.bounds ++ (placements_of placed.items).bounds ++ drop end self.now.bounds) }
+    {
+        Ok(PlacedShapes {
+            list: self.list.with_spliced(alloc, first, end, placed)?,
+        })
+    }
+}
