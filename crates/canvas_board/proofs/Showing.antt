@@ -17,7 +17,7 @@ use Rattle.canvas_line.specs.declared.fault.LineFault.TheVariants as line
 use Rattle.canvas_line.specs.Lines.{Sight, with_front}
 use Rattle.canvas_line.specs.Seats.{EditAccepted, EditRefused, Looks}
 use Rattle.canvas_line.proofs.Prefixes.{prefix_self, prefix_trans, prefix_length, take_more_same, take_all}
-use Rattle.canvas_line.specs.declared.version.Damage.{Damage}
+use Rattle.canvas_line.specs.declared.recent.Damage.{Damage}
 use Rattle.canvas_line.specs.Recent.{recent_of}
 use Rattle.canvas_board.specs.declared.answers.Picture.{Picture}
 use Rattle.canvas_board.specs.declared.kept.WindowKey.{WindowKey}
@@ -153,17 +153,17 @@ pub within-on : (s t : Sight) (known : ℕ) → GoesOnTo s t → known ≤ lengt
 within-on s t known on le = omega (arith, le, prefix_length s.front t.front on.0)
 
 -- the recent damage of a version that was looked at is that of its history
-pub looks-recent : (s t : Sight) (v : Version) → Looks s t v → v.recent.items ≡ recent_of t.opening t.front
+pub looks-recent : (s t : Sight) (v : Version) → Looks s t v → v.recent ≡ recent_of t.opening t.front
 looks-recent s t v l = l.1.recent ∙ ap (λ (x : Sight). recent_of x.opening t.front) (sym l.0.2)
 
 -- what is answered of the kept pictures shows the version
-pub answer-shows : (s t : Sight) (v : Version) → Looks s t v → (entries : List (WindowKey × Picture)) (window : Window) (p : Picture) → AreRight t entries → TellsOfKept entries window v.number v.recent.items p → ShowsAt v window p
-answer-shows s t v l entries window p all told = (told.version, kept-shows damage-keeps s t v v.recent.items l (looks-recent s t v l) entries window p all told)
+pub answer-shows : (s t : Sight) (v : Version) → Looks s t v → (entries : List (WindowKey × Picture)) (window : Window) (p : Picture) → AreRight t entries → TellsOfKept entries window v.number v.recent p → ShowsAt v window p
+answer-shows s t v l entries window p all told = (told.version, kept-shows damage-keeps s t v v.recent l (looks-recent s t v l) entries window p all told)
 
 -- after an answer all that is kept is right
-pub answer-right : (s t : Sight) (v : Version) → Looks s t v → (old new : List (WindowKey × Picture)) (window : Window) → AreRight t old → BringsIn old window (TellsOfKept old window v.number v.recent.items) new → AreRight t new
+pub answer-right : (s t : Sight) (v : Version) → Looks s t v → (old new : List (WindowKey × Picture)) (window : Window) → AreRight t old → BringsIn old window (TellsOfKept old window v.number v.recent) new → AreRight t new
 answer-right s t v l old new window all brings =
-    are-right-more t old new window (TellsOfKept old window v.number v.recent.items) all (λ p told. kept-right damage-keeps s t v v.recent.items l (looks-recent s t v l) old window p all told) brings
+    are-right-more t old new window (TellsOfKept old window v.number v.recent) all (λ p told. kept-right damage-keeps s t v v.recent l (looks-recent s t v l) old window p all told) brings
 
 -- and after a painted picture is kept
 pub keep-right : (s t : Sight) (v : Version) → Looks s t v → (old new : List (WindowKey × Picture)) (window : Window) (p : Picture) → IsWellFormed v.document → ShowsAt v window p → AreRight t old → BringsIn old window (IsCopyOf p) new → AreRight t new

@@ -20,7 +20,7 @@ use Rattle.canvas_scene.specs.Pictures.{raster_of}
 use Rattle.canvas_paint.proofs.Joined.{joined-picture}
 use Rattle.canvas_line.proofs.Prefixes.{length_take_within}
 use Rattle.canvas_board.specs.Raster.{file_of}
-use Rattle.canvas_line.specs.declared.version.Damage.{Damage}
+use Rattle.canvas_line.specs.declared.recent.Damage.{Damage}
 use Rattle.canvas_board.specs.declared.kept.WindowKey.{WindowKey}
 use Rattle.canvas_line.specs.Recent.{damages_from, recent_of}
 use Rattle.canvas_board.specs.Kept.{key_of, misses, IsStillRight}

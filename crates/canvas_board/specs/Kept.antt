@@ -10,7 +10,7 @@ use Rattle.canvas_doc.specs.Contents.{IsWellFormed}
 use Rattle.canvas_doc.specs.History.{replay_of}
 use Rattle.canvas_line.specs.Lines.{Sight}
 use Rattle.canvas_line.specs.declared.version.Version.{Version}
-use Rattle.canvas_line.specs.declared.version.Damage.{Damage}
+use Rattle.canvas_line.specs.declared.recent.Damage.{Damage}
 use Rattle.canvas_board.specs.declared.answers.Picture.{Picture}
 use Rattle.canvas_board.specs.declared.kept.WindowKey.{WindowKey}
 use Rattle.canvas_board.specs.Raster.{file_of}

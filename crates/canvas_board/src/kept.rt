@@ -4,7 +4,7 @@ ghost use Rattle.canvas_plane.specs.Page.{is_empty_box, meet_of};
 ghost use Rattle.canvas_board.specs.Kept.{entries_of, key_of, BringsIn, IsCopyOf, IsStillRight, TellsOfKept};
 
 use crate::answers::Picture;
-use canvas_line::{Damage, MOST_RECENT};
+use canvas_line::{MOST_RECENT, Recent};
 use canvas_plane::{PageBox, Window};
 use lru::LruCache;
 use std::alloc::Global;
@@ -43,7 +43,7 @@ impl KeptPictures {
         &mut self,
         window: &Window,
         number: u64,
-        recent: &[Damage],
+        recent: &Recent,
     ) -> Option<Picture>
         ensures answered { IfSome result (TellsOfKept (entries_of self.old.cache) window.now number recent.now) }
         ensures kept { BringsIn (entries_of self.old.cache) window.now (TellsOfKept (entries_of self.old.cache) window.now number recent.now) (entries_of self.new.cache) }
@@ -89,7 +89,7 @@ fn answered(
     cache: &mut LruCache<WindowKey, Picture>,
     window: &Window,
     number: u64,
-    recent: &[Damage],
+    recent: &Recent,
 ) -> Option<Picture>
     ensures answered { IfSome result (TellsOfKept cache.old.entries window.now number recent.now) }
     ensures kept { BringsIn cache.old.entries window.now (TellsOfKept cache.old.entries window.now number recent.now) cache.new.entries }
@@ -146,14 +146,16 @@ fn key_of(window: &Window) -> WindowKey
 }
 
 // Whether the picture of a window at one version is that at a later one, as the damage of the changes in between tells.
-fn still_right(recent: &[Damage], kept_at: u64, number: u64, window: &Window) -> bool
+fn still_right(recent: &Recent, kept_at: u64, number: u64, window: &Window) -> bool
     ensures { IsTrue result → IsStillRight recent.now kept_at number window.now }
 {
     if number.saturating_sub(kept_at) > MOST_RECENT as u64 {
         return false;
     }
     let covered = window.covered();
-    recent.iter().all(|damage| damage.number <= kept_at || misses(&damage.area, &covered))
+    let (older, newer) = recent.as_slices();
+    older.iter().chain(newer).all(|damage| damage.number <= kept_at
+        || misses(&damage.area, &covered))
 }
 
 fn misses(area: &PageBox, covered: &PageBox) -> bool

@@ -10,7 +10,7 @@ use Rattle.canvas_doc.specs.Contents.{Contents}
 use Rattle.canvas_doc.specs.Damage.{damage_of}
 use Rattle.canvas_doc.specs.Effect.{effect_of}
 use Rattle.canvas_doc.specs.History.{replay_of}
-use Rattle.canvas_line.specs.declared.version.Damage.{Damage}
+use Rattle.canvas_line.specs.declared.recent.Damage.{Damage}
 use Rattle.canvas_line.specs.Recent.{damages_from, last_64, recent_of}
 
 -- the damage of a change after others of an opening document

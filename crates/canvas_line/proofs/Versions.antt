@@ -12,7 +12,7 @@ use Rattle.canvas_line.proofs.Recently.{recent-snoc}
 
 pub version_more : (opening : Contents) (limit : ℕ) (changes : List Change) (c : Change) (v w : Version) → IsVersionOf opening limit changes v → Fits c v.document → v.number < limit
     → w.number ≡ v.number + 1 → w.change ≡ Some c → w.document ≡ effect_of c v.document
-    → w.recent.items ≡ last_64 (v.recent.items ++ record { number = v.number + 1; area = damage_of c v.document } ∷ []) → IsVersionOf opening limit (changes ++ c ∷ []) w
+    → w.recent ≡ last_64 (v.recent ++ record { number = v.number + 1; area = damage_of c v.document } ∷ []) → IsVersionOf opening limit (changes ++ c ∷ []) w
 version_more opening limit changes c v w is fits room number change document recent = record {
   number = number ∙ omega (arith, is.number, length-append changes (c ∷ []));
   change = change ∙ sym (last-snoc changes c);

@@ -46,7 +46,7 @@ abbrev pub Follows : Version → ℕ → Edit → Change → Version → Type 0
 Follows v limit e c w =
     (decision_of e v.document ≡ Ok c) × Fits c v.document × (v.number < limit)
     × (w.number ≡ v.number + 1) × (w.change ≡ Some c) × (w.document ≡ effect_of c v.document)
-    × (w.recent.items ≡ last_64 (v.recent.items ++ record { number = v.number + 1; area = damage_of c v.document } ∷ []))
+    × (w.recent ≡ last_64 (v.recent ++ record { number = v.number + 1; area = damage_of c v.document } ∷ []))
 
 -- what is decided of an edit at a document: a change that fits, or a refusal; memory is wanted only in place of a change
 abbrev pub Decides : Contents → Edit → Result Change LineFault → Type 0

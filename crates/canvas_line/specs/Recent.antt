@@ -4,7 +4,7 @@ use Rattle.canvas_doc.specs.declared.edits.Change.{Change}
 use Rattle.canvas_doc.specs.Contents.{Contents}
 use Rattle.canvas_doc.specs.Damage.{damage_of}
 use Rattle.canvas_doc.specs.Effect.{effect_of}
-use Rattle.canvas_line.specs.declared.version.Damage.{Damage}
+use Rattle.canvas_line.specs.declared.recent.Damage.{Damage}
 
 -- the damage of each of some changes made one after another of a document, the first of which makes the version after n
 abbrev pub damages_from : ℕ → Contents → List Change → List Damage

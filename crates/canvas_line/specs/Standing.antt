@@ -20,4 +20,4 @@ pub record IsVersionOf (opening : Contents) (limit : ℕ) (changes : List Change
   pub document : v.document ≡ replay_of opening changes
   pub fits : AllFit opening changes
   pub within : length changes ≤ limit
-  pub recent : v.recent.items ≡ recent_of opening changes
+  pub recent : v.recent ≡ recent_of opening changes

@@ -11,6 +11,7 @@ use crate::fault::LineFault;
 use crate::front::{Lines, Opened, Trace};
 use crate::perch::Perch;
 use crate::published::Published;
+use crate::recent::Recent;
 use crate::seat::Seat;
 use crate::version::Version;
 use crate::writer::{LineWriter, publish};
@@ -82,11 +83,12 @@ fn first_writer<R: Wait>(
     ensures facts { IfOk result (λ w. w.desk.shown.value.facts ≡ record { book = trace.now.book; opening = document; limit = limit }) }
     ensures changes { IfOk result (λ w. w.desk.shown.value.changes ≡ []) }
 {
+    let recent = Recent::none(alloc)?;
     let version = Version {
         number: 0,
         change: None,
         document,
-        recent: Vec::new(alloc),
+        recent,
     };
     let Ok(version) = Arc::new(alloc, version) else {
         return Err(OutOfMemory);

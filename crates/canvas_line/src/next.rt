@@ -1,15 +1,14 @@
 //! What an edit leads to.
-ghost use Rattle.std.specs.Prelude.{◌≡◌, ◌≤◌, ◌++◌, ◌∷◌, [], IfOk, MatchResult};
+ghost use Rattle.std.specs.Prelude.{◌≡◌, ◌≤◌, IfOk, MatchResult};
 ghost use Rattle.std.specs.Arc.{arc_value};
 ghost use Rattle.canvas_doc.specs.Effect.{new_id};
-ghost use Rattle.canvas_line.specs.Recent.{last_64};
 ghost use Rattle.canvas_line.specs.Lines.{Decides, Follows, Next, RefusedAt, Rightly};
 
 use crate::fault::{Edited, LineFault};
 use crate::front::Head;
 use crate::published::Published;
-use crate::version::{Damage, MOST_RECENT, Version};
-use canvas_code::OutOfMemory;
+use crate::recent::Damage;
+use crate::version::Version;
 use canvas_doc::{Change, Document, Edit, Refusal};
 use std::alloc::Global;
 use std::snapshot::Snapshot;
@@ -34,21 +33,6 @@ fn decided(alloc: Global, document: &Document, edit: &Edit) -> Result<Change, Li
     }
 }
 
-// The damage of the last changes after one more. Where there are as many as are kept, the oldest is left out.
-fn recent_after(
-    alloc: Global,
-    recent: &[Damage],
-    newest: Damage,
-) -> Result<Vec<Damage>, OutOfMemory>
-    ensures { IfOk result (λ all. all.items ≡ last_64 (recent.now ++ newest ∷ [])) }
-{
-    let kept = &recent[recent.len().saturating_sub(MOST_RECENT - 1)..];
-    let mut all = Vec::with_capacity(alloc, kept.len() + 1)?;
-    all.extend_from_slice(kept)?;
-    all.push(newest)?;
-    Ok(all)
-}
-
 // The version that an edit leads to, unless the line has accepted all that it may.
 #[tactic(auto, using(crate::proofs::Refusals::refused_at))]
 fn next_version(
@@ -67,7 +51,7 @@ fn next_version(
     let document = version.document.with(alloc, &change)?;
     let number = version.number + 1;
     let area = version.document.damage(&change);
-    let recent = recent_after(alloc, &version.recent, Damage { number, area })?;
+    let recent = version.recent.with(alloc, Damage { number, area })?;
     let id = change.new_id();
     let added = Snapshot::of(&change);
     let next = Version {
