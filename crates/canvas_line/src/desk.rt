@@ -1,17 +1,17 @@
 //! What lies under the lock: the writer, and the head of the history.
 ghost use Rattle.std.specs.Prelude.{◌≡◌, ◌≤◌, length, IfOk, IfSome, MatchBool, MatchResult};
 ghost use Rattle.canvas_doc.specs.History.{AllFit};
-ghost use Rattle.canvas_line.specs.Lines.{Accepts, Rightly, Next, with_history, line_of, sight_of};
+ghost use Rattle.canvas_line.specs.Lines.{Accepts, Rightly, Next, with_history, line_of};
 ghost use Rattle.canvas_line.specs.Rule.{Knows};
 ghost use Rattle.left_right.specs.Sides.{view as seat_view};
 
 use crate::fault::{Edited, LineFault};
 use crate::front::{Head, Lines, Trace};
 use crate::next::next_published;
-use crate::perch::Perch;
 use crate::published::Published;
 use crate::rule::Note;
 use crate::version::Version;
+use crate::viewer::Viewer;
 use crate::writer::{LineWriter, publish};
 use canvas_doc::Edit;
 use core::mem::replace_with;
@@ -99,16 +99,15 @@ impl<B: Lines> Desk<B> {
         drop(ManuallyDrop::into_inner(writer).take(rt));
     }
 
-    // A perch at the line, whose front is this beginning of its history, if there is a place for it.
-    pub(crate) fn perch(&mut self, trace: Trace) -> Option<Perch<B>>
-        requires { trace.book ≡ (B.line self.old.name).book }
+    // One more viewer of the line, if there is a place for it.
+    pub(crate) fn viewer(&mut self) -> Option<Viewer<B>>
         ensures same { self.new ≡ self.old }
-        ensures perch { IfSome result (λ p. p ≡ sight_of self.old.name (B.line self.old.name) trace.changes) }
+        ensures viewer { IfSome result (λ v. v ≡ self.old.name) }
     {
         let writer = &mut *self.writer;
         let mut reader = writer.factory().reader().ok()?;
         reader.learn::<Note>(writer.tell::<Note>());
-        Some(Perch::new(reader, trace, self.name))
+        Some(Viewer::new(reader, self.name))
     }
 
     // The line's name, by which its facts are known.

@@ -12,6 +12,7 @@ mod recent;
 mod rule;
 mod seat;
 mod version;
+mod viewer;
 mod writer;
 
 pub use desk::Desk;

@@ -1,5 +1,5 @@
 //! Opening a line.
-ghost use Rattle.std.specs.Prelude.{◌≡◌, ◌<◌, ◌≤◌, [], All, IfOk, IfSome, MatchResult, true, vec_len};
+ghost use Rattle.std.specs.Prelude.{◌≡◌, ◌<◌, ◌≤◌, ◌^◌, [], All, IfOk, MatchResult, true, vec_len};
 ghost use Rattle.canvas_line.specs.Lines.{sight_of};
 ghost use Rattle.canvas_line.specs.Seats.{OpenRefused, is_setting};
 ghost use Rattle.canvas_line.specs.Rule.{Knows};
@@ -14,6 +14,7 @@ use crate::published::Published;
 use crate::recent::Recent;
 use crate::seat::Seat;
 use crate::version::Version;
+use crate::viewer::{MOST_VIEWERS, Viewers};
 use crate::writer::{LineWriter, publish};
 use canvas_code::OutOfMemory;
 use canvas_doc::Document;
@@ -47,16 +48,21 @@ impl Line {
             return Err(LineFault::BadSetting);
         }
         let Opened { head, trace } = opened;
-        let Ok(writer) = first_writer(rt, alloc, &trace, document, seats, limit) else {
+        let viewers = (seats as usize).min(MOST_VIEWERS);
+        let Ok(writer) = first_writer(rt, alloc, &trace, document, viewers, limit) else {
             return Err(LineFault::OutOfMemory);
         };
         let desk: Desk<B> = Desk::new(alloc, name, head, writer);
         let Ok(desk) = Arc::new(alloc, Mutex::new(desk)) else {
             return Err(LineFault::OutOfMemory);
         };
-        match seated(rt, alloc, &desk, &trace, name, seats) {
-            Ok(Some(seats)) => Ok(seats),
-            Ok(None) => Err(LineFault::NoSeats),
+        let viewers = match viewers_of(rt, alloc, &desk, name, viewers) {
+            Ok(Some(viewers)) => viewers,
+            Ok(None) => return Err(LineFault::NoSeats),
+            Err(_) => return Err(LineFault::OutOfMemory),
+        };
+        match seated(alloc, &desk, &viewers, &trace, name, seats) {
+            Ok(seats) => Ok(seats),
             Err(_) => Err(LineFault::OutOfMemory),
         }
     }
@@ -74,11 +80,11 @@ fn first_writer<R: Wait>(
     alloc: Global,
     trace: &Trace,
     document: Document,
-    seats: u32,
+    viewers: usize,
     limit: u64,
 ) -> Result<LineWriter, OutOfMemory>
     requires trace { trace.now.changes ≡ [] }
-    requires seats { 0 < seats }
+    requires viewers { (0 < viewers) × (viewers < 2 ^ 32) }
     ensures view { IfOk result (λ w. Knows (seat_view w.desk.place) (record { book = trace.now.book; opening = document; limit = limit })) }
     ensures facts { IfOk result (λ w. w.desk.shown.value.facts ≡ record { book = trace.now.book; opening = document; limit = limit }) }
     ensures changes { IfOk result (λ w. w.desk.shown.value.changes ≡ []) }
@@ -101,7 +107,7 @@ fn first_writer<R: Wait>(
     };
     let second = first.copied()?;
     let third = first.copied()?;
-    let writer = LineWriter::new(alloc, first, second, seats as usize)?;
+    let writer = LineWriter::new(alloc, first, second, viewers)?;
     let (writer, done) = publish(rt, writer, third);
     if !done {
         drop(writer.take(rt));
@@ -110,47 +116,55 @@ fn first_writer<R: Wait>(
     Ok(writer)
 }
 
-// So many seats at the desk, if there is a place for each.
-fn seated<B: Lines, R: Wait>(
+// So many viewers of the line, if there is a place for each.
+fn viewers_of<B: Lines, R: Wait>(
     rt: &R,
     alloc: Global,
-    desk: &Arc<Mutex<Desk<B>>, Global>,
-    trace: &Trace,
+    desk: &Mutex<Desk<B>>,
     name: u64,
-    seats: u32,
-) -> Result<Option<Vec<Seat<B>>>, OutOfMemory>
-    requires { trace.now.book ≡ (B.line name).book }
-    ensures count { IfOk result (λ o. IfSome o (λ v. vec_len v ≡ seats)) }
-    ensures each { IfOk result (λ o. IfSome o (λ v. All (λ s. s ≡ sight_of name (B.line name) trace.now.changes) v.items)) }
-{
-    let mut all = Vec::with_capacity(alloc, seats as usize)?;
-    for _seat in 0..seats {
-        let Some(perch) = new_perch(rt, desk, trace, name) else {
+    count: usize,
+) -> Result<Option<Arc<Viewers<B>, Global>>, OutOfMemory> {
+    let mut all = Vec::with_capacity(alloc, count)?;
+    for _viewer in 0..count {
+        let mut guard = desk.lock(rt);
+        let desk = &mut *guard;
+        // A lock does not say which desk it holds. It is always the line's own.
+        if desk.name() != name {
+            return Ok(None);
+        }
+        let Some(viewer) = desk.viewer() else {
             return Ok(None);
         };
-        let seat = Seat::new(Arc::try_clone(desk)?, perch);
-        if all.push(seat).is_err() {
+        if all.push(Mutex::new(viewer)).is_err() {
             return Err(OutOfMemory);
         }
     }
-    Ok(Some(all))
+    let Ok(viewers) = Arc::new(alloc, Viewers { all }) else {
+        return Err(OutOfMemory);
+    };
+    Ok(Some(viewers))
 }
 
-// A perch at the line, with nothing seen but this beginning, if there is a place for it.
-fn new_perch<B: Lines, R: Wait>(
-    rt: &R,
-    desk: &Mutex<Desk<B>>,
+// So many seats at the desk. Those that try one viewer first are as few as may be.
+fn seated<B: Lines>(
+    alloc: Global,
+    desk: &Arc<Mutex<Desk<B>>, Global>,
+    viewers: &Arc<Viewers<B>, Global>,
     trace: &Trace,
     name: u64,
-) -> Option<Perch<B>>
+    seats: u32,
+) -> Result<Vec<Seat<B>>, OutOfMemory>
     requires { trace.now.book ≡ (B.line name).book }
-    ensures { IfSome result (λ p. p ≡ sight_of name (B.line name) trace.now.changes) }
+    ensures count { IfOk result (λ v. vec_len v ≡ seats) }
+    ensures each { IfOk result (λ v. All (λ s. s ≡ sight_of name (B.line name) trace.now.changes) v.items) }
 {
-    let mut guard = desk.lock(rt);
-    let desk = &mut *guard;
-    // A lock does not say which desk it holds. It is always the line's own.
-    if desk.name() != name {
-        return None;
+    let mut all = Vec::with_capacity(alloc, seats as usize)?;
+    for seat in 0..seats {
+        let home = seat as usize % MOST_VIEWERS;
+        let perch = Perch::new(Arc::try_clone(viewers)?, home, trace.again(), name);
+        if all.push(Seat::new(Arc::try_clone(desk)?, perch)).is_err() {
+            return Err(OutOfMemory);
+        }
     }
-    desk.perch(trace.again())
+    Ok(all)
 }

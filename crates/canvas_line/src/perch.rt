@@ -1,10 +1,6 @@
-//! A seat's place at the line, without the lock: its reader, and the beginning of the history that it has seen.
-ghost use Rattle.std.specs.Prelude.{◌≡◌, length, IfOk, IfSome, MatchResult};
+//! A seat's place at the line, without the lock: the viewers of the line, and the beginning of the history that it has seen.
+ghost use Rattle.std.specs.Prelude.{◌≡◌, length, IfOk, MatchResult};
 ghost use Rattle.std.specs.Arc.{arc_value};
-ghost use Rattle.left_right.specs.Sides.{view as seat_view};
-ghost use Rattle.canvas_line.specs.Trails.{Facts};
-ghost use Rattle.canvas_line.specs.Rule.{Knows};
-ghost use Rattle.canvas_line.specs.Standing.{IsVersionOf};
 ghost use Rattle.canvas_line.specs.Seats.{Looks, IsAt, IsHistoryOf, Apart, EditAccepted, EditRefused, Meets, MeetRefused};
 ghost use Rattle.canvas_line.specs.Lines.{with_front, sight_of};
 ghost use Rattle.canvas_line.specs.declared.fault.LineFault.TheVariants as fault;
@@ -12,35 +8,20 @@ ghost use Rattle.canvas_line.specs.declared.fault.LineFault.TheVariants as fault
 use crate::desk::Desk;
 use crate::fault::{Edited, LineFault};
 use crate::front::{Lines, Trace};
-use crate::published::{Latest, Published};
-use crate::rule::{Constant, Sees, View};
+use crate::published::Latest;
 use crate::version::Version;
+use crate::viewer::Viewers;
 use canvas_doc::Edit;
-use core::mem::replace_with;
-use left_right::reader::Reader;
 use std::alloc::Global;
 use std::marker::{Model, PhantomData};
 use std::sync::{Arc, Wait};
 
-pub(crate) type LineReader = Reader<Published, View, Constant, Global>;
-
-// What is published now, unless there is no view of it.
-fn read(reader: LineReader) -> (LineReader, Option<Latest>)
-    ensures { (f : Facts) → Knows (seat_view reader.place) f → Knows (seat_view result.0.place) f × IfSome result.1 (λ l. (l.trace.book ≡ f.book) × IsVersionOf f.opening f.limit l.trace.changes (arc_value l.version)) }
-{
-    match reader.enter_as::<Sees>() {
-        Ok(reading) => {
-            let latest = reading.get().latest().ok();
-            return (reading.leave(), latest);
-        }
-        Err(reader) => return (reader, None),
-    }
-}
-
 /// A seat's place at the line, without the lock.
 #[derive(Drop)]
 pub struct Perch<B: Lines> {
-    reader: LineReader,
+    viewers: Arc<Viewers<B>, Global>,
+    // The viewer that it tries first.
+    home: usize,
     trace: Trace,
     name: u64,
     of: PhantomData<B>,
@@ -48,63 +29,54 @@ pub struct Perch<B: Lines> {
 
 impl<B: Lines> Model for Perch<B> {
     ghost use Rattle.std.specs.Prelude.{◌≡◌};
-    ghost use Rattle.left_right.specs.Sides.{view as seat_view};
-    ghost use Rattle.canvas_line.specs.Rule.{Knows};
     ghost use Rattle.canvas_line.specs.Lines.{Sight, sight_of};
 
     ghost Value = { Sight };
 
     ghost view = { λ p. sight_of p.name (B.line p.name) p.trace.changes };
 
-    ghost invariant = { λ p. (p.trace.book ≡ (B.line p.name).book) × Knows (seat_view p.reader.place) (B.line p.name) };
+    ghost invariant = { λ p. p.trace.book ≡ (B.line p.name).book };
 }
 
 impl<B: Lines> Perch<B> {
-    pub(crate) fn new(reader: LineReader, trace: Trace, name: u64) -> Perch<B>
-        requires book { trace.book ≡ (B.line name).book }
-        requires view { Knows (seat_view reader.place) (B.line name) }
+    pub(crate) fn new(
+        viewers: Arc<Viewers<B>, Global>,
+        home: usize,
+        trace: Trace,
+        name: u64,
+    ) -> Perch<B>
+        requires { trace.book ≡ (B.line name).book }
         ensures { result ≡ sight_of name (B.line name) trace.changes }
     {
         Perch {
-            reader,
+            viewers,
+            home,
             trace,
             name,
             of: PhantomData,
         }
     }
 
-    fn looked(self) -> (Perch<B>, Result<Arc<Version, Global>, LineFault>)
-        ensures { MatchResult result.1 (λ v. Looks self result.0 (arc_value v)) (λ f. (f ≡ fault.NoView) × (result.0 ≡ self)) }
+    /// The published version. Its history begins with the front, and becomes it.
+    pub(crate) fn look(&mut self) -> Result<Arc<Version, Global>, LineFault>
+        ensures { MatchResult result (λ v. Looks self.old self.new (arc_value v)) (λ f. (f ≡ fault.NoView) × (self.new ≡ self.old)) }
     {
-        let Perch {
-            reader,
-            trace,
-            name,
-            of: _,
-        } = self;
-        let (reader, latest) = read(reader);
         let Some(
             Latest {
                 version,
                 trace: newer,
             },
-        ) = latest
+        ) = self.viewers.latest(self.home, self.name)
         else {
-            return (Perch::new(reader, trace, name), Err(LineFault::NoView));
+            return Err(LineFault::NoView);
         };
         // What is published never goes back, so this does not happen.
-        if newer.len() < trace.len() {
-            return (Perch::new(reader, trace, name), Err(LineFault::NoView));
+        if newer.len() < self.trace.len() {
+            return Err(LineFault::NoView);
         }
-        trace.compare(&newer);
-        (Perch::new(reader, newer, name), Ok(version))
-    }
-
-    /// The published version. Its history begins with the front, and becomes it.
-    pub(crate) fn look(&mut self) -> Result<Arc<Version, Global>, LineFault>
-        ensures { MatchResult result (λ v. Looks self.old self.new (arc_value v)) (λ f. (f ≡ fault.NoView) × (self.new ≡ self.old)) }
-    {
-        replace_with(self, (), |perch: Perch<B>, _| perch.looked())
+        self.trace.compare(&newer);
+        self.trace = newer;
+        Ok(version)
     }
 
     /// How many changes the front has.

@@ -5,7 +5,7 @@ use Rattle.canvas_line.specs.Trails.{Facts}
 use Rattle.canvas_line.specs.Standing.{Shown, IsVersionOf}
 use Rattle.canvas_line.proofs.Knowing.{facts_seen, knows_next, knows_same, ok_some}
 use Rattle.canvas_line.proofs.Turns.{turns}
-use Rattle.canvas_line.proofs.perch.read.Goals as goal
+use Rattle.canvas_line.proofs.viewer.read.Goals as goal
 
 pub enter_as-requires : goal.enter_as-requires
 enter_as-requires c x = turns _ _ x x refl

@@ -3,7 +3,7 @@ use Rattle.std.specs.Mem.{manually_drop_value}
 use Rattle.left_right.specs.Sides.{view as seat_view}
 use Rattle.canvas_line.proofs.Knowing.{knows_same}
 use Rattle.canvas_line.proofs.Turns.{admits, forks, merges}
-use Rattle.canvas_line.proofs.desk.Desk.perch.Goals as goal
+use Rattle.canvas_line.proofs.desk.Desk.viewer.Goals as goal
 
 pub reader-requires : goal.reader-requires
 reader-requires g c = admits
@@ -23,8 +23,8 @@ invariant_of-self g c =
     let same = ap (λ w. seat_view w.desk.place) c.deref_mut-writer.ensures.value in
     (knows_same own here line same i.0, ap (λ w. w.desk.shown.value.facts) c.deref_mut-writer.ensures.value ∙ i.1, i.2, i.3)
 
-pub new-requires-clause-view : goal.new-requires-clause-view
-new-requires-clause-view g c =
+pub new-requires : goal.new-requires
+new-requires g c =
     let line = g.B.Lines.line c.self.inside.name in
     let own = seat_view (manually_drop_value c.self.inside.writer).desk.place in
     let told = c.tell.ensures.given.1 ∙ ap (λ w. seat_view w.desk.place) c.deref_mut-writer.ensures.value in
