@@ -42,7 +42,8 @@ fn tells<B: Lines, R: Abort>(
 ) -> Result<(), Fail> {
     let version = seen(seat).map_err(failed)?;
     assert_eq!(rt; version.recent.len(), areas.len());
-    for (place, told) in version.recent.iter().enumerate() {
+    let (older, newer) = version.recent.as_slices();
+    for (place, told) in older.iter().chain(newer).enumerate() {
         assert!(rt; first.checked_add(place as u64) == Some(told.number));
         assert!(rt; areas.get(place) == Some(&told.area));
     }
