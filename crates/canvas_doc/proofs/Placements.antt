@@ -1,6 +1,6 @@
 -- Records by place and their bounds, as one list is read and changed.
-use Rattle.std.proofs.Common.{◌≡◌, ℕ, suc, ◌+◌, ◌-◌, ◌<◌, ◌≤◌, List, [], ◌∷◌, ◌++◌, Bool, true, false, ap, sym, subst, refl, ◌∙◌, arith, map, length, get_or, set, take, drop}
-use Rattle.std.specs.List.{AllWithin, insert, remove, slice_get, take-map, drop-map}
+use Rattle.std.proofs.Common.{◌≡◌, ℕ, suc, ◌+◌, ◌-◌, ◌<◌, ◌≤◌, List, [], ◌∷◌, ◌++◌, Bool, true, false, ap, sym, subst, ◌∙◌, arith, map, length, get_or, take, drop}
+use Rattle.std.specs.List.{AllWithin, insert, remove, take-map, drop-map}
 use Rattle.std.specs.List.Sorted.{IsPartitionPoint, IsPartitionedBy}
 use Rattle.std.proofs.Math.ListN.{get_or-map}
 use Rattle.std.proofs.lemmas.List as list

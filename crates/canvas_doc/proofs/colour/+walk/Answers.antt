@@ -1,4 +1,4 @@
-use Rattle.std.proofs.Common.{◌≡◌, ℕ, List, Option, ◌∙◌, refl, sym, ap, subst, arith, true, false, ◌+◌, ◌-◌, ◌<◌, ◌≤◌, get_or, length, drop, map, rules, take}
+use Rattle.std.proofs.Common.{◌≡◌, ℕ, List, Option, ◌∙◌, refl, sym, ap, subst, arith, true, false, ◌+◌, ◌-◌, ◌<◌, get_or, length, drop, map, rules, take}
 use Rattle.std.specs.Option.{is_some}
 use Rattle.std.proofs.lemmas.Option.{get_or_from_slice_get, slice_get_within}
 use Rattle.canvas_plane.specs.Motion.{carry}
@@ -11,7 +11,7 @@ use Rattle.canvas_doc.specs.Picture.{answer_of, first_answer}
 use Rattle.canvas_doc.specs.PlaceOrder.{IsKeptInOrder}
 use Rattle.canvas_doc.specs.Tree.{IsInLimits}
 use Rattle.canvas_doc.proofs.ChildrenInOrder.{all-in_order, children-are, first-and-rest}
-use Rattle.canvas_doc.proofs.InSight.{out-of-sight, pixel-held, stands-there, StandsThere}
+use Rattle.canvas_doc.proofs.InSight.{out-of-sight, pixel-held, stands-there}
 use Rattle.canvas_doc.proofs.Placements.{shape_of, shapes-are}
 use Rattle.canvas_doc.proofs.Walk.{answer-by, answer-children, answer-none, first-answer, silent-rest}
 use Rattle.canvas_doc.proofs.colour.+walk.Goals as goal
