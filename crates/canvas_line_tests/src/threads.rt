@@ -1,4 +1,4 @@
-//! Eight threads at one line: four edit, four look and paint.
+//! Twenty-four threads at one line, more than it has readers: four edit, twenty look and paint.
 ghost use Rattle.std.specs.Prelude.{◌≡◌};
 
 use crate::editor::{Accepted, Edits, make_edits};
@@ -22,7 +22,13 @@ const LINES: u32 = 20;
 const EDITS: u32 = 4_000;
 
 /// How many looks each viewer takes at a line.
-const LOOKS: u32 = 100_000;
+const LOOKS: u32 = 20_000;
+
+/// How many seats a line has: a thread for each.
+const SEATS: u32 = 24;
+
+/// One in so many seats edits, the others look.
+const TURN: usize = 6;
 
 /// A thread's work at its seat.
 #[derive(Drop)]
@@ -39,7 +45,7 @@ struct Done {
 }
 
 #[test]
-fn four_threads_edit_and_four_look(rt: HostRuntime) -> Result<(), Fail> {
+fn four_threads_edit_and_twenty_look(rt: HostRuntime) -> Result<(), Fail> {
     for _ in 0..LINES {
         crowd_at_a_line(&rt, rt.alloc())?;
     }
@@ -59,10 +65,10 @@ fn crowd<B: Lines + Send + Sync, R: Threads + Wait + Abort + Sync>(
 ) -> Result<(), Fail>
     requires { B.line 1 ≡ record { book = opened.head.word.book; opening = document; limit = 1000000 } }
 {
-    let opened = Line::open::<B, R>(rt, alloc, opened, 1, document, 8, 1_000_000);
+    let opened = Line::open::<B, R>(rt, alloc, opened, 1, document, SEATS, 1_000_000);
     let mut jobs = Vec::new(alloc);
     for seat in opened.map_err(failed)? {
-        let edits = jobs.len() % 2 == 0;
+        let edits = jobs.len() % TURN == 0;
         jobs.push(Job { seat, edits })?;
     }
     let done = thread::map_vec(rt, jobs, &|job: Job<B>| work(rt, alloc, job))?;
