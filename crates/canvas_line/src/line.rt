@@ -18,6 +18,7 @@ use crate::viewer::{MOST_VIEWERS, Viewers};
 use crate::writer::{LineWriter, publish};
 use canvas_code::OutOfMemory;
 use canvas_doc::Document;
+use crossbeam_utils::CachePadded;
 use std::alloc::Global;
 use std::sync::{Arc, Mutex, Wait};
 
@@ -135,7 +136,7 @@ fn viewers_of<B: Lines, R: Wait>(
         let Some(viewer) = desk.viewer() else {
             return Ok(None);
         };
-        if all.push(Mutex::new(viewer)).is_err() {
+        if all.push(CachePadded::new(Mutex::new(viewer))).is_err() {
             return Err(OutOfMemory);
         }
     }

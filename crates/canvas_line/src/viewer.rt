@@ -11,6 +11,7 @@ use crate::published::{Latest, Published};
 use crate::rule::{Constant, Sees, View};
 use core::mem::replace_with;
 use core::sync::yield_now;
+use crossbeam_utils::CachePadded;
 use left_right::reader::Reader;
 use std::alloc::Global;
 use std::hint::spin_loop;
@@ -97,10 +98,10 @@ impl<B: Lines> Viewer<B> {
     }
 }
 
-/// The viewers that the seats of a line share.
+/// The viewers that the seats of a line share, each on cache lines of its own.
 #[derive(Drop)]
 pub(crate) struct Viewers<B: Lines> {
-    pub(crate) all: Vec<Mutex<Viewer<B>>>,
+    pub(crate) all: Vec<CachePadded<Mutex<Viewer<B>>>>,
 }
 
 impl<B: Lines> Viewers<B> {
