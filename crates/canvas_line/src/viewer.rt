@@ -106,7 +106,7 @@ pub(crate) struct Viewers<B: Lines> {
 
 impl<B: Lines> Viewers<B> {
     /// What is published now, by the first viewer from the place `home` on that no other seat has in hand. It takes no lock that
-    /// an editor holds, and waits for none.
+    /// an editor holds, and tries on while other seats have all of them in hand.
     pub(crate) fn latest(&self, home: usize, name: u64) -> Option<Latest>
         ensures { IfSome result (λ l. (l.trace.book ≡ (B.line name).book) × IsVersionOf (B.line name).opening (B.line name).limit l.trace.changes (arc_value l.version)) }
     {
