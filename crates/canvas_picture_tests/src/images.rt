@@ -1,56 +1,67 @@
 //! P6 images read and written by hand.
 
 use canvas_ppm::{header, read, start, write};
+use std::alloc::Global;
 use std::test::Fail;
+
+const SIX: &[u8] = b"\x00\x01\x02\xfd\xfe\xff";
+
+// A head, samples, and the sides or the number of the fault.
+const ROWS: [(&[u8], &[u8], Result<(u32, u32), u16>); 34] = [
+    (b"P6\n2 1\n255\n", SIX, Ok((2, 1))),
+    (b"P6\n1 2\n255\n", SIX, Ok((1, 2))),
+    (b"P6\n2 1\n255\n", b"12345", Err(42)),
+    (b"P6\n2 1\n255\n", b"1234567", Err(43)),
+    (b"P6 2 1 255 ", SIX, Ok((2, 1))),
+    (b"P6\t2\r1\r\n255\t", SIX, Ok((2, 1))),
+    (b"P6 \t\r\n2 \t\r\n1 \t\r\n255\r", SIX, Ok((2, 1))),
+    (b"P6 002 01 0255 ", SIX, Ok((2, 1))),
+    (b"P6 000000002 1 000000255 ", SIX, Ok((2, 1))),
+    (b"P6 0000000002 1 255 ", SIX, Err(41)),
+    (b"P6 2 0000000001 255 ", SIX, Err(41)),
+    (b"P6 2 1 0000000255 ", SIX, Err(41)),
+    (b"P6 2 1 255\n\n", SIX, Err(43)),
+    (b"P6 2 1 255\n\n", b"12345", Ok((2, 1))),
+    (b"", b"", Err(40)),
+    (b"P", b"", Err(40)),
+    (b"P5", b"", Err(40)),
+    (b"p6 2 1 255 ", SIX, Err(40)),
+    (b" P6 2 1 255 ", SIX, Err(40)),
+    (b"P6", b"", Err(41)),
+    (b"P62 1 255 ", SIX, Err(41)),
+    (b"P6 2", b"", Err(41)),
+    (b"P6 2 1 255", b"", Err(41)),
+    (b"P6 2 1 255x", SIX, Err(41)),
+    (b"P6 # 2 by 1\n2 1 255 ", SIX, Err(41)),
+    (b"P6\x0b2 1 255 ", SIX, Err(41)),
+    (b"P6 +2 1 255 ", SIX, Err(41)),
+    (b"P6\n2 0\n255\n", b"", Err(41)),
+    (b"P6 0 1 255 ", b"", Err(41)),
+    (b"P6 65536 1 255 ", b"", Err(41)),
+    (b"P6 1 65536 255 ", b"", Err(41)),
+    (b"P6 65535 65535 255 ", b"", Err(42)),
+    (b"P6 2 1 254 ", SIX, Err(41)),
+    (b"P6 2 1 65535 ", SIX, Err(41)),
+];
+
+fn rows() -> &'static [(&'static [u8], &'static [u8], Result<(u32, u32), u16>)] {
+    &ROWS
+}
+
+// The sides of the image in some bytes, or the number of the fault.
+fn sides(alloc: Global, bytes: &[u8]) -> Result<(u32, u32), u16> {
+    match read(alloc, bytes) {
+        Ok(image) => Ok((image.w, image.h)),
+        Err(fault) => Err(fault.code()),
+    }
+}
 
 #[test]
 fn reads_files_by_hand(rt: HostRuntime) -> Result<(), Fail> {
-    let six = b"\x00\x01\x02\xfd\xfe\xff";
-    let rows: [(&[u8], &[u8], Result<(u32, u32), u16>); 34] = [
-        (b"P6\n2 1\n255\n", six, Ok((2, 1))),
-        (b"P6\n1 2\n255\n", six, Ok((1, 2))),
-        (b"P6\n2 1\n255\n", b"12345", Err(42)),
-        (b"P6\n2 1\n255\n", b"1234567", Err(43)),
-        (b"P6 2 1 255 ", six, Ok((2, 1))),
-        (b"P6\t2\r1\r\n255\t", six, Ok((2, 1))),
-        (b"P6 \t\r\n2 \t\r\n1 \t\r\n255\r", six, Ok((2, 1))),
-        (b"P6 002 01 0255 ", six, Ok((2, 1))),
-        (b"P6 000000002 1 000000255 ", six, Ok((2, 1))),
-        (b"P6 0000000002 1 255 ", six, Err(41)),
-        (b"P6 2 0000000001 255 ", six, Err(41)),
-        (b"P6 2 1 0000000255 ", six, Err(41)),
-        (b"P6 2 1 255\n\n", six, Err(43)),
-        (b"P6 2 1 255\n\n", b"12345", Ok((2, 1))),
-        (b"", b"", Err(40)),
-        (b"P", b"", Err(40)),
-        (b"P5", b"", Err(40)),
-        (b"p6 2 1 255 ", six, Err(40)),
-        (b" P6 2 1 255 ", six, Err(40)),
-        (b"P6", b"", Err(41)),
-        (b"P62 1 255 ", six, Err(41)),
-        (b"P6 2", b"", Err(41)),
-        (b"P6 2 1 255", b"", Err(41)),
-        (b"P6 2 1 255x", six, Err(41)),
-        (b"P6 # 2 by 1\n2 1 255 ", six, Err(41)),
-        (b"P6\x0b2 1 255 ", six, Err(41)),
-        (b"P6 +2 1 255 ", six, Err(41)),
-        (b"P6\n2 0\n255\n", b"", Err(41)),
-        (b"P6 0 1 255 ", b"", Err(41)),
-        (b"P6 65536 1 255 ", b"", Err(41)),
-        (b"P6 1 65536 255 ", b"", Err(41)),
-        (b"P6 65535 65535 255 ", b"", Err(42)),
-        (b"P6 2 1 254 ", six, Err(41)),
-        (b"P6 2 1 65535 ", six, Err(41)),
-    ];
-    for (head, samples, wanted) in rows {
+    for (head, samples, wanted) in rows() {
         let mut bytes = Vec::from_slice(rt.alloc(), head)?;
         bytes.extend_from_slice(samples)?;
-        let answer = read(rt.alloc(), &bytes);
-        let found = match &answer {
-            Ok(image) => Ok((image.w, image.h)),
-            Err(fault) => Err(fault.code()),
-        };
-        assert_eq!(rt; found, wanted, "at {head:?}");
+        assert_eq!(rt; sides(rt.alloc(), &bytes), *wanted, "at {head:?}");
     }
     Ok(())
 }

@@ -1,13 +1,13 @@
-//! Scenes, pictures, images and lists of events for which memory may be refused: run with each allocation refused in
-//! turn, each call answers want of memory and leaves all as it was, or answers what it answers with ample memory.
+//! Scenes, pictures and images for which memory may be refused: run with each allocation refused in turn, each call
+//! answers want of memory and leaves all as it was, or answers what it answers with ample memory.
 
-use crate::events::{a_tile, transcript};
-use crate::painting::{nested, red_rectangle, span};
+use crate::painting::span;
+use crate::shapes::{nested, page_box, red_rectangle};
 use bumpalo::Bump;
 use canvas_code::OutOfMemory;
 use canvas_doc::Document;
 use canvas_paint::{FreeGate, FreeRow, Gate, PaintFault, paint, paint_strip};
-use canvas_plane::{PageBox, Window};
+use canvas_plane::Window;
 use canvas_ppm::{PpmFault, read, write};
 use canvas_scene::Scene;
 use canvas_shape::Span;
@@ -31,12 +31,7 @@ fn are_right(first: Result<bool, OutOfMemory>, again: Result<bool, OutOfMemory>)
 fn is_built(alloc: Global, document: &Document, window: &Window) -> Result<bool, OutOfMemory> {
     let bump = Bump::new(alloc);
     let scene = Scene::build(&bump, document, window)?;
-    let clip = PageBox {
-        left: 0,
-        top: 0,
-        right: 4,
-        bottom: 2,
-    };
+    let clip = page_box(0, 0, 4, 2);
     let items = scene.display_list();
     Ok(items.len() == 1 && items.iter().all(|item| item.clip == clip))
 }
@@ -190,19 +185,5 @@ fn files_with_little_memory(rt: HostRuntime) -> Result<(), Fail> {
     for file in [first, again] {
         assert!(rt; file.is_err() || file.is_ok_and(|bytes| bytes.as_slice() == wanted));
     }
-    Ok(())
-}
-
-fn is_told(alloc: Global, window: Window) -> Result<bool, OutOfMemory> {
-    let (events, wanted) = a_tile(window);
-    Ok(transcript(alloc, 1, &events)?.as_str() == wanted)
-}
-
-#[test]
-fn events_with_little_memory(rt: HostRuntime) -> Result<(), Fail> {
-    let alloc = rt.alloc();
-    let window = Window::new(0, 0, 1, 2)?;
-    let first = is_told(alloc, window);
-    assert!(rt; are_right(first, is_told(alloc, window)));
     Ok(())
 }

@@ -1,31 +1,18 @@
 //! Which items make a display list: what lies wholly behind one rectangle is left out. The window
 //! has no more than one cell here.
 
+use crate::shapes::{BLUE, GREEN, RED, frame, page_box, rect, right, with};
 use bumpalo::Bump;
 use canvas_code::OutOfMemory;
-use canvas_doc::{Document, Edit, Parent, Spot};
+use canvas_doc::{Document, Parent};
 use canvas_paint::paint_strip;
-use canvas_plane::{PageBox, Pose, Window};
+use canvas_plane::{PageBox, Window};
 use canvas_scene::{Node, Scene};
-use canvas_shape::{Colour, Kind};
+use canvas_shape::Kind;
 use std::alloc::Global;
 use std::test::Fail;
 
-const RED: Colour = Colour([255, 0, 0]);
-
-const GREEN: Colour = Colour([0, 255, 0]);
-
-const BLUE: Colour = Colour([0, 0, 255]);
-
-fn rect(w: u32, h: u32, fill: Colour) -> Kind {
-    Kind::Rect { w, h, fill }
-}
-
-fn frame(w: u32, h: u32, fill: Option<Colour>) -> Kind {
-    Kind::Frame { w, h, fill }
-}
-
-// The document with a shape put in front of a parent's children, `dx` to the right.
+// The document with a shape in front of a parent's children, `dx` to the right.
 fn after(
     alloc: Global,
     document: Document,
@@ -33,30 +20,15 @@ fn after(
     dx: i64,
     parent: Parent,
 ) -> Result<Document, OutOfMemory> {
-    let edit = Edit::Create {
-        kind,
-        pose: Pose {
-            dx,
-            dy: 0,
-            quarter: 0,
-            flip: false,
-        },
-        hidden: false,
-        parent,
-        spot: Spot::Front,
-    };
-    match document.decide(alloc, &edit) {
-        Ok(change) => Ok(document.with(alloc, &change)?),
-        Err(_) => Ok(document),
-    }
+    with(alloc, document, kind, right(dx), parent)
 }
 
-// How many items the window 0, 0, 4, 4 has.
-fn count(alloc: Global, document: &Document) -> Result<usize, Fail> {
+// How many shapes a document has, and how many items it makes in the window 0, 0, 4, 4.
+fn counts(alloc: Global, document: &Document) -> Result<(usize, usize), Fail> {
     let window = Window::new(0, 0, 4, 4)?;
     let bump = Bump::new(alloc);
     let scene = Scene::build(&bump, document, &window)?;
-    Ok(scene.display_list().len())
+    Ok((document.count(), scene.display_list().len()))
 }
 
 #[test]
@@ -66,24 +38,32 @@ fn one_rectangle_hides_another(rt: HostRuntime) -> Result<(), Fail> {
     let document = Document::empty(alloc);
     let document = after(alloc, document, rect(2, 2, RED), 0, page)?;
     let document = after(alloc, document, rect(4, 4, GREEN), 0, page)?;
-    assert_eq!(rt; document.count(), 2);
-    assert_eq!(rt; count(alloc, &document)?, 1);
+    assert_eq!(rt; counts(alloc, &document)?, (2, 1));
     Ok(())
+}
+
+// A rectangle, and a frame that cuts one in front of it.
+fn clipped(alloc: Global) -> Result<Document, OutOfMemory> {
+    let document = Document::empty(alloc);
+    let document = after(alloc, document, rect(2, 2, RED), 0, Parent::Page)?;
+    let document = after(alloc, document, frame(1, 4, None), 0, Parent::Page)?;
+    after(alloc, document, rect(4, 4, GREEN), 0, Parent::Shape(2))
+}
+
+// The top row of a document in the window 0, 0, 4, 4.
+fn top_row(alloc: Global, document: &Document) -> Result<Vec<u8>, Fail> {
+    let window = Window::new(0, 0, 4, 4)?;
+    let bump = Bump::new(alloc);
+    let scene = Scene::build(&bump, document, &window)?;
+    Ok(paint_strip(alloc, scene.display_list(), &window, 0, 1)?)
 }
 
 #[test]
 fn clipped_rectangle_hides_what_its_clip_leaves(rt: HostRuntime) -> Result<(), Fail> {
     let alloc = rt.alloc();
-    let document = Document::empty(alloc);
-    let document = after(alloc, document, rect(2, 2, RED), 0, Parent::Page)?;
-    let document = after(alloc, document, frame(1, 4, None), 0, Parent::Page)?;
-    let document = after(alloc, document, rect(4, 4, GREEN), 0, Parent::Shape(2))?;
-    assert_eq!(rt; document.count(), 3);
-    assert_eq!(rt; count(alloc, &document)?, 2);
-    let window = Window::new(0, 0, 4, 4)?;
-    let bump = Bump::new(alloc);
-    let scene = Scene::build(&bump, &document, &window)?;
-    let row = paint_strip(alloc, scene.display_list(), &window, 0, 1)?;
+    let document = clipped(alloc)?;
+    assert_eq!(rt; counts(alloc, &document)?, (3, 2));
+    let row = top_row(alloc, &document)?;
     let want = [0, 255, 0, 255, 0, 0, 255, 255, 255, 255, 255, 255];
     assert_eq!(rt; row.as_slice(), want.as_slice());
     Ok(())
@@ -97,7 +77,7 @@ fn two_halves_of_a_cell_hide_nothing_that_lies_behind_both(rt: HostRuntime) -> R
     let document = after(alloc, document, rect(4, 4, RED), 0, page)?;
     let document = after(alloc, document, rect(2, 4, GREEN), 0, page)?;
     let document = after(alloc, document, rect(2, 4, BLUE), 2, page)?;
-    assert_eq!(rt; count(alloc, &document)?, 3);
+    assert_eq!(rt; counts(alloc, &document)?, (3, 3));
     Ok(())
 }
 
@@ -113,7 +93,7 @@ fn an_ellipse_hides_nothing(rt: HostRuntime) -> Result<(), Fail> {
     let document = Document::empty(alloc);
     let document = after(alloc, document, rect(2, 2, RED), 0, page)?;
     let document = after(alloc, document, wide, -100, page)?;
-    assert_eq!(rt; count(alloc, &document)?, 2);
+    assert_eq!(rt; counts(alloc, &document)?, (2, 2));
     Ok(())
 }
 
@@ -124,13 +104,12 @@ fn frames_and_groups_are_hidden_whole(rt: HostRuntime) -> Result<(), Fail> {
     let document = Document::empty(alloc);
     let document = after(alloc, document, frame(9, 9, Some(BLUE)), 0, page)?;
     let document = after(alloc, document, rect(3, 3, RED), 0, Parent::Shape(1))?;
-    assert_eq!(rt; count(alloc, &document)?, 2);
+    assert_eq!(rt; counts(alloc, &document)?, (2, 2));
     let document = after(alloc, document, rect(9, 9, GREEN), 0, Parent::Shape(1))?;
-    assert_eq!(rt; count(alloc, &document)?, 1);
+    assert_eq!(rt; counts(alloc, &document)?, (3, 1));
     let document = after(alloc, document, Kind::Group, 0, page)?;
     let document = after(alloc, document, frame(5, 5, Some(RED)), 0, Parent::Shape(4))?;
-    assert_eq!(rt; document.count(), 5);
-    assert_eq!(rt; count(alloc, &document)?, 1);
+    assert_eq!(rt; counts(alloc, &document)?, (5, 1));
     Ok(())
 }
 
@@ -139,12 +118,25 @@ fn what_misses_the_window_or_its_frame_makes_no_item(rt: HostRuntime) -> Result<
     let alloc = rt.alloc();
     let document = Document::empty(alloc);
     let document = after(alloc, document, rect(2, 2, RED), 4, Parent::Page)?;
-    assert_eq!(rt; count(alloc, &document)?, 0);
+    assert_eq!(rt; counts(alloc, &document)?, (1, 0));
     let document = after(alloc, document, frame(1, 4, None), 0, Parent::Page)?;
     let document = after(alloc, document, rect(2, 2, GREEN), 1, Parent::Shape(2))?;
-    assert_eq!(rt; document.count(), 3);
-    assert_eq!(rt; count(alloc, &document)?, 0);
+    assert_eq!(rt; counts(alloc, &document)?, (3, 0));
     Ok(())
+}
+
+// The clip of a branch without a shape of its own, and how many nodes lie below it.
+fn branch(node: Option<&Node<'_>>) -> Option<(PageBox, usize)> {
+    match node {
+        Some(
+            Node::Branch {
+                clip,
+                back: None,
+                children,
+            },
+        ) => Some((*clip, children.len())),
+        _ => None,
+    }
 }
 
 #[test]
@@ -157,24 +149,7 @@ fn tree_has_a_branch_for_a_frame(rt: HostRuntime) -> Result<(), Fail> {
     let bump = Bump::new(alloc);
     let scene = Scene::build(&bump, &document, &window)?;
     assert_eq!(rt; scene.root().len(), 1);
-    let Some(
-        Node::Branch {
-            clip,
-            back,
-            children,
-        },
-    ) = scene.root().first()
-    else {
-        return Err(Fail::from("no branch"));
-    };
-    assert!(rt; back.is_none());
-    let left = PageBox {
-        left: 0,
-        top: 0,
-        right: 1,
-        bottom: 4,
-    };
-    assert!(rt; *clip == left);
-    assert_eq!(rt; children.len(), 1);
+    let wanted = Some((page_box(0, 0, 1, 4), 1));
+    assert!(rt; branch(scene.root().first()) == wanted);
     Ok(())
 }

@@ -1,14 +1,15 @@
 //! Pictures of more shapes than are painted at once, compared with the walk pixel by pixel.
 
-use crate::levels::{create, random_kind};
-use crate::random::{Dice, after, agrees};
+use crate::levels::random_kind;
+use crate::shapes::{Dice, away, rect, with};
+use crate::walk::agrees;
 use bumpalo::Bump;
 use canvas_code::OutOfMemory;
 use canvas_doc::{Document, Parent};
 use canvas_paint::append_strip;
 use canvas_plane::Window;
 use canvas_scene::{Item, Scene};
-use canvas_shape::{Colour, Kind};
+use canvas_shape::Colour;
 use std::alloc::Global;
 use std::process::Abort;
 use std::test::Fail;
@@ -21,31 +22,19 @@ fn scaled(pixels: u32, level: u8) -> u32 {
     pixels.wrapping_shl(u32::from(level))
 }
 
-// A place of the page from 8 pixels of a window before the origin on.
-fn place(dice: &mut Dice, pixels: u32, level: u8) -> i64 {
-    let before = 0_i64.saturating_sub(i64::from(scaled(8, level)));
-    dice.within(before, scaled(pixels, level))
-}
-
 // Small shapes over one another, among them some large ones, and a rectangle in front that hides some.
 fn crowd(alloc: Global, dice: &mut Dice, level: u8) -> Result<Document, OutOfMemory> {
     let mut document = Document::empty(alloc);
+    let low = 0_i64.saturating_sub(i64::from(scaled(8, level)));
     for _ in 0..SHAPES {
         let reach = if dice.below(12) == 0 { 40 } else { 6 };
         let kind = random_kind(alloc, dice, scaled(reach, level))?;
-        let dx = place(dice, 90, level);
-        let dy = place(dice, 60, level);
-        let quarter = dice.below(4).min(3) as u8;
-        let edit = create(kind, dx, dy, quarter, Parent::Page);
-        document = after(alloc, document, &edit)?;
+        let pose = dice.turned(low, scaled(90, level), scaled(60, level));
+        document = with(alloc, document, kind, pose, Parent::Page)?;
     }
-    let front = Kind::Rect {
-        w: scaled(20, level),
-        h: scaled(16, level),
-        fill: Colour([1, 2, 3]),
-    };
+    let front = rect(scaled(20, level), scaled(16, level), Colour([1, 2, 3]));
     let at = i64::from(scaled(10, level));
-    after(alloc, document, &create(front, at, at, 0, Parent::Page))
+    with(alloc, document, front, away(at, at), Parent::Page)
 }
 
 // The picture of a window in two strips, of which the second begins at a row.

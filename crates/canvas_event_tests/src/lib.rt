@@ -1,0 +1,9 @@
+//! Tests of lists of events.
+#![tactic(auto)]
+
+#[cfg(test)]
+mod events;
+#[cfg(test)]
+mod memory;
+#[cfg(test)]
+mod replays;

@@ -1,0 +1,159 @@
+//! What several rectangles hide together: the cells of 8 by 8 pixels of the window that lie in one of them each.
+
+use crate::shapes::{Dice, away, ellipse, frame, rect, small_polygon, with};
+use crate::walk::is_walk;
+use bumpalo::Bump;
+use canvas_code::OutOfMemory;
+use canvas_doc::{Document, Parent};
+use canvas_plane::Window;
+use canvas_scene::Scene;
+use canvas_shape::{Colour, Kind};
+use std::alloc::Global;
+use std::process::Abort;
+use std::test::Fail;
+
+const RED: Colour = Colour([255, 0, 0]);
+
+const GREEN: Colour = Colour([0, 255, 0]);
+
+// The document with a shape in front at a place.
+fn at(
+    alloc: Global,
+    document: Document,
+    kind: Kind,
+    x: i64,
+    y: i64,
+) -> Result<Document, OutOfMemory> {
+    with(alloc, document, kind, away(x, y), Parent::Page)
+}
+
+// The document with four rectangles in front that tile `w` by `h` pixels, parted at column and row 128.
+fn tiled(alloc: Global, document: Document, w: u32, h: u32) -> Result<Document, OutOfMemory> {
+    let wide = w.saturating_sub(128);
+    let high = h.saturating_sub(128);
+    let mut document = document;
+    for (x, y, w, h) in [
+        (0, 0, 128, 128),
+        (128, 0, wide, 128),
+        (0, 128, 128, high),
+        (128, 128, wide, high),
+    ] {
+        document = at(alloc, document, rect(w, h, GREEN), x, y)?;
+    }
+    Ok(document)
+}
+
+// From the back a frame, a rectangle, an ellipse and a polygon, all of which show something.
+fn behind(alloc: Global) -> Result<Document, OutOfMemory> {
+    let document = Document::empty(alloc);
+    let document = at(alloc, document, frame(300, 300, Some(RED)), 0, 0)?;
+    let document = at(alloc, document, rect(250, 250, RED), 0, 0)?;
+    let document = at(alloc, document, ellipse(200, 90, RED), 30, 40)?;
+    let polygon = small_polygon(alloc, &mut Dice(5), RED)?;
+    at(alloc, document, polygon, 120, 120)
+}
+
+// How many items a window has.
+fn count(alloc: Global, document: &Document, window: &Window) -> Result<usize, OutOfMemory> {
+    let bump = Bump::new(alloc);
+    let scene = Scene::build(&bump, document, window)?;
+    Ok(scene.display_list().len())
+}
+
+// How many items a window has of the shapes behind, with four rectangles in front that tile so many pixels.
+fn count_tiled(alloc: Global, window: &Window, w: u32, h: u32) -> Result<usize, OutOfMemory> {
+    let document = tiled(alloc, behind(alloc)?, w, h)?;
+    count(alloc, &document, window)
+}
+
+#[test]
+fn four_rectangles_that_tile_the_window_hide_all(rt: HostRuntime) -> Result<(), Fail> {
+    let alloc = rt.alloc();
+    let tile = Window::tile(0, 0)?;
+    let document = behind(alloc)?;
+    assert_eq!(rt; count(alloc, &document, &tile)?, 4);
+    let document = tiled(alloc, document, 256, 256)?;
+    assert_eq!(rt; (document.count(), count(alloc, &document, &tile)?), (8, 4));
+    Ok(())
+}
+
+#[test]
+fn cells_at_the_right_and_bottom_edges_are_cut(rt: HostRuntime) -> Result<(), Fail> {
+    let alloc = rt.alloc();
+    let window = Window::new(0, 0, 201, 131)?;
+    assert_eq!(rt; count_tiled(alloc, &window, 201, 131)?, 4);
+    assert!(rt; count_tiled(alloc, &window, 200, 131)? > 4);
+    Ok(())
+}
+
+#[test]
+fn a_window_of_a_level_has_greater_cells(rt: HostRuntime) -> Result<(), Fail> {
+    let alloc = rt.alloc();
+    let window = Window::at_level(2, 0, 0, 201, 131)?;
+    for (w, wanted) in [(804, 4), (803, 5)] {
+        let behind = at(alloc, Document::empty(alloc), rect(1000, 1000, RED), 0, 0)?;
+        let document = tiled(alloc, behind, w, 524)?;
+        assert_eq!(rt; (w, count(alloc, &document, &window)?), (w, wanted));
+    }
+    Ok(())
+}
+
+#[test]
+fn a_polygon_behind_a_part_of_the_tiles_alone_makes_an_item(rt: HostRuntime) -> Result<(), Fail> {
+    let alloc = rt.alloc();
+    let tile = Window::tile(0, 0)?;
+    let polygon = small_polygon(alloc, &mut Dice(6), RED)?;
+    let mut document = at(alloc, Document::empty(alloc), polygon, 128, 128)?;
+    for x in [0, 128] {
+        document = at(alloc, document, rect(128, 256, GREEN), x, 0)?;
+        assert_eq!(rt; (x, count(alloc, &document, &tile)?), (x, 2));
+    }
+    Ok(())
+}
+
+// A shape with sides up to 140, most often a rectangle.
+fn random_kind(alloc: Global, dice: &mut Dice) -> Result<Kind, OutOfMemory> {
+    let w = dice.below(140).saturating_add(1);
+    let h = dice.below(140).saturating_add(1);
+    let fill = Colour([dice.byte(256), 90, 7]);
+    Ok(match dice.below(6) {
+        0 => ellipse(w, h, fill),
+        1 => small_polygon(alloc, dice, fill)?,
+        _ => rect(w, h, fill),
+    })
+}
+
+// A document of shapes that lie over one another, most of them rectangles.
+fn random_document(alloc: Global, dice: &mut Dice) -> Result<Document, OutOfMemory> {
+    let mut document = Document::empty(alloc);
+    for _ in 0..24u32 {
+        let kind = random_kind(alloc, dice)?;
+        let pose = dice.turned(-40, 290, 290);
+        document = with(alloc, document, kind, pose, Parent::Page)?;
+    }
+    Ok(document)
+}
+
+// Compares random documents with their pictures in a window.
+fn compare(rt: &impl Abort, alloc: Global, seed: u64, window: &Window) -> Result<(), OutOfMemory> {
+    let mut dice = Dice(seed);
+    for _ in 0..3u32 {
+        let document = random_document(alloc, &mut dice)?;
+        assert!(rt; is_walk(alloc, &document, window)?, "{seed}");
+    }
+    Ok(())
+}
+
+#[test]
+fn pictures_of_many_rectangles_are_the_walk(rt: HostRuntime) -> Result<(), Fail> {
+    for (seed, x, y, w, h) in [
+        (21, 70, 60, 1, 1),
+        (22, 3, -7, 33, 256),
+        (23, -2, 90, 255, 17),
+        (24, 5, 5, 9, 8),
+        (25, 31, 18, 97, 130),
+    ] {
+        compare(&rt, rt.alloc(), seed, &Window::new(x, y, w, h)?)?;
+    }
+    Ok(())
+}
