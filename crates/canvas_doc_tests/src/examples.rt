@@ -1,12 +1,11 @@
 //! Worked examples.
 
-use crate::shapes::{
-    BLUE, GREEN, RED, WHITE, create, edited, edited_by_all, frame, index_of, moved, polygon,
-    record, rectangle, restored,
-};
 use canvas_doc::{Document, Edit, Parent, Refusal, Spot};
 use canvas_key::{Key, fresh};
 use canvas_plane::Pose;
+use canvas_samples::{
+    BLUE, GREEN, RED, WHITE, create, edited, frame, index_of, polygon, record, rectangle, restored,
+};
 use canvas_shape::{Colour, Kind};
 use std::alloc::Global;
 use std::process::Abort;
@@ -33,63 +32,85 @@ fn row_looks_like(document: &Document, left: i32, y: i32, row: &str) -> bool {
     true
 }
 
-// Whether the pixels from a corner on have these colours, row by row.
-fn looks_like(document: &Document, left: i32, top: i32, rows: &[&str]) -> bool {
-    let mut y = top;
+// Asserts that the pixels from a corner on have these colours, row by row.
+fn assert_looks_like(rt: &impl Abort, document: &Document, corner: i32, rows: &[&str]) {
+    let mut y = corner;
     for row in rows {
-        if !row_looks_like(document, left, y, row) {
-            return false;
-        }
+        assert!(rt; row_looks_like(document, corner, y, row), "{row} at {y}");
         y = y.saturating_add(1);
     }
-    true
+}
+
+fn assert_index(rt: &impl Abort, document: &Document, id: u32, index: &[u8]) {
+    assert!(rt; index_of(document, id) == index, "shape {id}");
 }
 
 fn refusal(alloc: Global, document: &Document, edit: &Edit) -> Option<Refusal> {
     document.decide(alloc, edit).err()
 }
 
-fn to_front(id: u32, parent: Parent) -> Edit {
-    Edit::Move {
-        id,
-        parent,
-        spot: Spot::Front,
-    }
+// The document with a new shape in front of its siblings.
+fn with_shape(
+    alloc: Global,
+    document: &Document,
+    kind: Kind,
+    parent: Parent,
+) -> Result<Document, Refusal> {
+    edited(alloc, document, &create(kind, parent, Spot::Front))
 }
 
-// Groups each of which holds the next, from id 1 on.
-fn nested_groups(alloc: Global, levels: u32) -> Result<Document, Refusal> {
+// The document with a rectangle of this size and colour in front of its siblings.
+fn with_rectangle(
+    alloc: Global,
+    document: &Document,
+    (w, h, fill): (u32, u32, Colour),
+    parent: Parent,
+) -> Result<Document, Refusal> {
+    with_shape(alloc, document, rectangle(w, h, fill), parent)
+}
+
+fn moved_to(id: u32, parent: Parent, spot: Spot) -> Edit {
+    Edit::Move { id, parent, spot }
+}
+
+fn to_front(id: u32, parent: Parent) -> Edit {
+    moved_to(id, parent, Spot::Front)
+}
+
+// Groups under these parents, in turn.
+fn groups(alloc: Global, parents: &[Parent]) -> Result<Document, Refusal> {
     let mut document = Document::empty(alloc);
-    for parent in 0..levels {
-        let parent = if parent == 0 {
-            Parent::Page
-        } else {
-            Parent::Shape(parent)
-        };
-        document = edited(alloc, &document, &create(Kind::Group, parent, Spot::Front))?;
+    for parent in parents {
+        document = with_shape(alloc, &document, Kind::Group, *parent)?;
     }
     Ok(document)
+}
+
+// A red rectangle, and a blue one behind it.
+fn red_over_blue(alloc: Global) -> Result<Document, Refusal> {
+    let red = with_rectangle(alloc, &Document::empty(alloc), (2, 1, RED), Parent::Page)?;
+    edited(
+        alloc,
+        &red,
+        &create(rectangle(2, 1, BLUE), Parent::Page, Spot::Back),
+    )
 }
 
 #[test]
 fn a_rectangle_comes_from_the_back_to_the_front(rt: HostRuntime) -> Result<(), Fail> {
     let alloc = rt.alloc();
-    let red = create(rectangle(2, 1, RED), Parent::Page, Spot::Front);
-    let blue = create(rectangle(2, 1, BLUE), Parent::Page, Spot::Back);
-    let both = edited_by_all(alloc, Document::empty(alloc), &[red, blue])?;
+    let both = red_over_blue(alloc)?;
     assert_eq!(rt; both.next_id(), 3);
-    assert!(rt; index_of(&both, 1) == b"a0".as_slice());
-    assert!(rt; index_of(&both, 2) == b"Zz".as_slice());
-    assert!(rt; looks_like(&both, -1, -1, &["....", ".rr.", "...."]));
+    assert_index(&rt, &both, 1, b"a0");
+    assert_index(&rt, &both, 2, b"Zz");
+    assert_looks_like(&rt, &both, -1, &["....", ".rr.", "...."]);
     let turned = edited(alloc, &both, &to_front(2, Parent::Page))?;
-    assert!(rt; index_of(&turned, 2) == b"a1".as_slice());
-    assert!(rt; looks_like(&turned, -1, -1, &["....", ".bb.", "...."]));
+    assert_index(&rt, &turned, 2, b"a1");
+    assert_looks_like(&rt, &turned, -1, &["....", ".bb.", "...."]);
     Ok(())
 }
 
-#[test]
-fn a_turned_frame_clips_its_child(rt: HostRuntime) -> Result<(), Fail> {
-    let alloc = rt.alloc();
+fn turned_frame(alloc: Global) -> Result<Document, Refusal> {
     let turned = Edit::Create {
         kind: frame(2, 1),
         pose: Pose {
@@ -102,69 +123,81 @@ fn a_turned_frame_clips_its_child(rt: HostRuntime) -> Result<(), Fail> {
         parent: Parent::Page,
         spot: Spot::Front,
     };
-    let inner = create(rectangle(5, 5, GREEN), Parent::Shape(1), Spot::Front);
-    let document = edited_by_all(alloc, Document::empty(alloc), &[turned, inner])?;
+    edited(alloc, &Document::empty(alloc), &turned)
+}
+
+#[test]
+fn a_turned_frame_clips_its_child(rt: HostRuntime) -> Result<(), Fail> {
+    let alloc = rt.alloc();
+    let turned = turned_frame(alloc)?;
+    let document = with_rectangle(alloc, &turned, (5, 5, GREEN), Parent::Shape(1))?;
     let rows = ["......", ".g....", ".g....", "......", "......", "......"];
-    assert!(rt; looks_like(&document, -1, -1, &rows));
+    assert_looks_like(&rt, &document, -1, &rows);
     Ok(())
+}
+
+// Frames on the page, each but the first in the one before it.
+fn frames(alloc: Global, sides: &[(u32, u32)]) -> Result<Document, Refusal> {
+    let mut document = Document::empty(alloc);
+    let mut parent = Parent::Page;
+    for (w, h) in sides {
+        let id = document.next_id();
+        document = with_shape(alloc, &document, frame(*w, *h), parent)?;
+        parent = Parent::Shape(id);
+    }
+    Ok(document)
 }
 
 #[test]
 fn frames_clip_and_hide(rt: HostRuntime) -> Result<(), Fail> {
     let alloc = rt.alloc();
-    let edits = [
-        create(frame(4, 4), Parent::Page, Spot::Front),
-        create(frame(8, 2), Parent::Shape(1), Spot::Front),
-        create(rectangle(6, 2, GREEN), Parent::Shape(2), Spot::Front),
-    ];
-    let shown = edited_by_all(alloc, Document::empty(alloc), &edits)?;
-    assert!(rt; looks_like(&shown, 0, 0, &["gggg..", "gggg..", "......"]));
-    let hide = Edit::Show {
-        id: 1,
-        hidden: true,
-    };
-    let hidden = edited(alloc, &shown, &hide)?;
-    assert!(rt; looks_like(&hidden, 0, 0, &["......", "......", "......"]));
+    let two = frames(alloc, &[(4, 4), (8, 2)])?;
+    let shown = with_rectangle(alloc, &two, (6, 2, GREEN), Parent::Shape(2))?;
+    assert_looks_like(&rt, &shown, 0, &["gggg..", "gggg..", "......"]);
+    let (id, hidden) = (1, true);
+    let hidden = edited(alloc, &shown, &Edit::Show { id, hidden })?;
+    assert_looks_like(&rt, &hidden, 0, &["......", "......", "......"]);
     Ok(())
 }
 
 #[test]
 fn a_filled_frame_stands_behind_its_children(rt: HostRuntime) -> Result<(), Fail> {
     let alloc = rt.alloc();
-    let filled = Kind::Frame {
-        w: 3,
-        h: 2,
-        fill: Some(BLUE),
-    };
-    let edits = [
-        create(filled, Parent::Page, Spot::Front),
-        create(rectangle(2, 5, RED), Parent::Shape(1), Spot::Front),
-    ];
-    let document = edited_by_all(alloc, Document::empty(alloc), &edits)?;
-    assert!(rt; looks_like(&document, 0, 0, &["rrb.", "rrb.", "...."]));
+    let (w, h, fill) = (3, 2, Some(BLUE));
+    let filled = Kind::Frame { w, h, fill };
+    let frame = with_shape(alloc, &Document::empty(alloc), filled, Parent::Page)?;
+    let document = with_rectangle(alloc, &frame, (2, 5, RED), Parent::Shape(1))?;
+    assert_looks_like(&rt, &document, 0, &["rrb.", "rrb.", "...."]);
     Ok(())
 }
 
 #[test]
-fn cycles_and_depths_are_refused(rt: HostRuntime) -> Result<(), Fail> {
+fn cycles_are_refused(rt: HostRuntime) -> Result<(), Fail> {
     let alloc = rt.alloc();
-    let edits = [
-        create(frame(4, 4), Parent::Page, Spot::Front),
-        create(frame(3, 3), Parent::Shape(1), Spot::Front),
-        create(frame(2, 2), Parent::Shape(2), Spot::Front),
-    ];
-    let frames = edited_by_all(alloc, Document::empty(alloc), &edits)?;
+    let three = frames(alloc, &[(4, 4), (3, 3), (2, 2)])?;
     let round = to_front(1, Parent::Shape(3));
-    assert!(rt; refusal(alloc, &frames, &round) == Some(Refusal::Cycle));
-    let groups = nested_groups(alloc, 32)?;
-    let leaf = create(rectangle(1, 1, RED), Parent::Page, Spot::Front);
-    let document = edited(alloc, &groups, &leaf)?;
+    assert_eq!(rt; refusal(alloc, &three, &round), Some(Refusal::Cycle));
+    Ok(())
+}
+
+// Groups 1 to 32, each of which holds the next, and a leaf 33 on the page.
+fn leaf_beside_groups(alloc: Global) -> Result<Document, Refusal> {
+    let mut groups = groups(alloc, &[Parent::Page])?;
+    for parent in 1..32u32 {
+        groups = with_shape(alloc, &groups, Kind::Group, Parent::Shape(parent))?;
+    }
+    with_rectangle(alloc, &groups, (1, 1, RED), Parent::Page)
+}
+
+#[test]
+fn depths_are_refused(rt: HostRuntime) -> Result<(), Fail> {
+    let alloc = rt.alloc();
+    let document = leaf_beside_groups(alloc)?;
     let down = to_front(33, Parent::Shape(32));
-    assert!(rt; refusal(alloc, &document, &down) == Some(Refusal::TooDeep));
+    assert_eq!(rt; refusal(alloc, &document, &down), Some(Refusal::TooDeep));
     let there = create(rectangle(1, 1, RED), Parent::Shape(32), Spot::Front);
-    assert!(rt; refusal(alloc, &document, &there) == Some(Refusal::TooDeep));
-    let above = to_front(33, Parent::Shape(31));
-    let lower = edited(alloc, &document, &above)?;
+    assert_eq!(rt; refusal(alloc, &document, &there), Some(Refusal::TooDeep));
+    let lower = edited(alloc, &document, &to_front(33, Parent::Shape(31)))?;
     assert!(rt; lower.colour_at(0, 0) == RED);
     Ok(())
 }
@@ -173,107 +206,135 @@ fn group(spot: Spot) -> Edit {
     create(Kind::Group, Parent::Page, spot)
 }
 
+// Two groups on the page, and one in the first of them.
+fn three_groups(alloc: Global) -> Result<Document, Refusal> {
+    groups(alloc, &[Parent::Page, Parent::Page, Parent::Shape(1)])
+}
+
 #[test]
 fn spots_name_siblings(rt: HostRuntime) -> Result<(), Fail> {
     let alloc = rt.alloc();
-    let inner = create(Kind::Group, Parent::Shape(1), Spot::Front);
-    let edits = [group(Spot::Front), group(Spot::Front), inner];
-    let document = edited_by_all(alloc, Document::empty(alloc), &edits)?;
-    assert!(rt; index_of(&document, 2) == b"a1".as_slice());
+    let document = three_groups(alloc)?;
+    assert_index(&rt, &document, 2, b"a1");
     let taken = group(Spot::At(Key::read(b"a1")?));
-    assert!(rt; refusal(alloc, &document, &taken) == Some(Refusal::IndexTaken));
+    assert_eq!(rt;
+        refusal(alloc, &document, &taken),
+        Some(Refusal::IndexTaken)
+    );
     let stranger = group(Spot::Over(3));
-    assert!(rt; refusal(alloc, &document, &stranger) == Some(Refusal::SpotNotSibling));
-    let over_itself = Edit::Move {
-        id: 2,
-        parent: Parent::Page,
-        spot: Spot::Over(2),
-    };
-    assert!(rt; refusal(alloc, &document, &over_itself) == Some(Refusal::SpotNotSibling));
-    let own_place = Edit::Move {
-        id: 2,
-        parent: Parent::Page,
-        spot: Spot::At(Key::read(b"a1")?),
-    };
+    assert_eq!(rt;
+        refusal(alloc, &document, &stranger),
+        Some(Refusal::SpotNotSibling)
+    );
+    let over_itself = moved_to(2, Parent::Page, Spot::Over(2));
+    assert_eq!(rt;
+        refusal(alloc, &document, &over_itself),
+        Some(Refusal::SpotNotSibling)
+    );
+    Ok(())
+}
+
+#[test]
+fn a_shape_keeps_its_own_index(rt: HostRuntime) -> Result<(), Fail> {
+    let alloc = rt.alloc();
+    let document = three_groups(alloc)?;
+    let own_place = moved_to(2, Parent::Page, Spot::At(Key::read(b"a1")?));
     let same = edited(alloc, &document, &own_place)?;
     assert!(rt; same.get(2) == document.get(2));
+    Ok(())
+}
+
+#[test]
+fn spent_ids_are_refused(rt: HostRuntime) -> Result<(), Fail> {
+    let alloc = rt.alloc();
     let spent = restored(alloc, Vec::new(alloc), 4_294_967_295)?;
-    assert!(rt; refusal(alloc, &spent, &group(Spot::Front)) == Some(Refusal::IdsSpent));
+    let front = group(Spot::Front);
+    assert_eq!(rt; refusal(alloc, &spent, &front), Some(Refusal::IdsSpent));
     Ok(())
 }
 
 // Three rectangles on the page, the second and the third with indexes close to one another.
 fn crowded_page(alloc: Global) -> Result<Document, Fail> {
     let mut records = Vec::new(alloc);
-    for (id, index, kind) in [
-        (1, b"b00".as_slice(), rectangle(1, 1, RED)),
-        (2, b"a0V".as_slice(), rectangle(3, 1, BLUE)),
-        (3, b"a0l".as_slice(), rectangle(2, 1, GREEN)),
+    for (id, index, w, fill) in [
+        (1, b"b00", 1, RED),
+        (2, b"a0V", 3, BLUE),
+        (3, b"a0l", 2, GREEN),
     ] {
-        records.push(record(id, Parent::Page, Key::read(index)?, kind))?;
+        let index = Key::read(index)?;
+        records.push(record(id, Parent::Page, index, rectangle(w, 1, fill)))?;
     }
     Ok(restored(alloc, records, 6)?)
 }
 
-fn respace(parent: Parent) -> Edit {
-    Edit::Respace { parent }
+fn respaced(alloc: Global, document: &Document, parent: Parent) -> Result<Document, Refusal> {
+    edited(alloc, document, &Edit::Respace { parent })
 }
 
 #[test]
 fn respaced_children_keep_their_order(rt: HostRuntime) -> Result<(), Fail> {
     let alloc = rt.alloc();
     let document = crowded_page(alloc)?;
-    assert!(rt; looks_like(&document, 0, 0, &["rgb."]));
-    let spaced = edited(alloc, &document, &respace(Parent::Page))?;
+    assert_looks_like(&rt, &document, 0, &["rgb."]);
+    let spaced = respaced(alloc, &document, Parent::Page)?;
     for (id, index) in [(2, b"a0"), (3, b"a1"), (1, b"a2")] {
-        assert!(rt; index_of(&spaced, id) == index.as_slice(), "shape {id}");
+        assert_index(&rt, &spaced, id, index);
     }
-    assert!(rt; looks_like(&spaced, 0, 0, &["rgb."]));
+    assert_looks_like(&rt, &spaced, 0, &["rgb."]);
     Ok(())
+}
+
+// The crowded page with a group 6 in front.
+fn crowded_page_and_group(alloc: Global) -> Result<Document, Fail> {
+    let document = crowded_page(alloc)?;
+    Ok(edited(alloc, &document, &group(Spot::Front))?)
 }
 
 #[test]
 fn a_group_without_children_is_respaced(rt: HostRuntime) -> Result<(), Fail> {
     let alloc = rt.alloc();
-    let document = crowded_page(alloc)?;
-    let with_group = edited(alloc, &document, &group(Spot::Front))?;
-    let spaced = edited(alloc, &with_group, &respace(Parent::Shape(6)))?;
+    let with_group = crowded_page_and_group(alloc)?;
+    let spaced = respaced(alloc, &with_group, Parent::Shape(6))?;
     assert!(rt; spaced.get(6) == with_group.get(6));
     Ok(())
+}
+
+fn triangle(alloc: Global) -> Result<Document, Refusal> {
+    let triangle = polygon(alloc, &[(0, 0), (4, 0), (0, 4)])?;
+    with_shape(alloc, &Document::empty(alloc), triangle, Parent::Page)
 }
 
 #[test]
 fn a_triangle_is_cloned(rt: HostRuntime) -> Result<(), Fail> {
     let alloc = rt.alloc();
-    let triangle = polygon(alloc, &[(0, 0), (4, 0), (0, 4)])?;
-    let edit = create(triangle, Parent::Page, Spot::Front);
-    let document = edited(alloc, &Document::empty(alloc), &edit)?;
+    let document = triangle(alloc)?;
     let clone = document.try_clone(alloc)?;
     for document in [&document, &clone] {
         assert_eq!(rt; document.next_id(), 2);
-        assert!(rt; looks_like(document, 0, 0, &["rrr.", "rr..", "r...", "...."]));
+        assert_looks_like(&rt, document, 0, &["rrr.", "rr..", "r...", "...."]);
     }
     assert!(rt; document.get(1) == clone.get(1));
     Ok(())
 }
 
+// Three rectangles on the page, each in front of the one before it.
+fn three_rectangles(rt: &impl Abort, alloc: Global) -> Result<Document, Refusal> {
+    let mut document = Document::empty(alloc);
+    for rank in 0..3u32 {
+        document = with_rectangle(alloc, &document, (1, 1, RED), Parent::Page)?;
+        assert_index(rt, &document, rank + 1, fresh(rank).bytes());
+    }
+    Ok(document)
+}
+
 #[test]
 fn an_index_over_a_sibling(rt: HostRuntime) -> Result<(), Fail> {
     let alloc = rt.alloc();
-    let mut document = Document::empty(alloc);
-    for rank in 0..3u32 {
-        let edit = create(rectangle(1, 1, RED), Parent::Page, Spot::Front);
-        document = edited(alloc, &document, &edit)?;
-        assert!(rt; index_of(&document, rank + 1) == fresh(rank).bytes());
-    }
+    let mut document = three_rectangles(&rt, alloc)?;
     for (id, over, index) in [(3, 1, b"a0V".as_slice()), (1, 2, b"a2".as_slice())] {
-        let edit = Edit::Move {
-            id,
-            parent: Parent::Page,
-            spot: Spot::Over(over),
-        };
+        let edit = moved_to(id, Parent::Page, Spot::Over(over));
         document = edited(alloc, &document, &edit)?;
-        assert!(rt; index_of(&document, id) == index, "shape {id}");
+        assert_index(&rt, &document, id, index);
     }
     Ok(())
 }
@@ -282,13 +343,9 @@ fn an_index_over_a_sibling(rt: HostRuntime) -> Result<(), Fail> {
 #[test]
 fn ellipse_lacks_its_corners_alone(rt: HostRuntime) -> Result<(), Fail> {
     let alloc = rt.alloc();
-    let ellipse = Kind::Ellipse {
-        w: 4,
-        h: 4,
-        fill: RED,
-    };
-    let edit = create(ellipse, Parent::Page, Spot::Front);
-    let document = edited(alloc, &Document::empty(alloc), &edit)?;
-    assert!(rt; looks_like(&document, 0, 0, &["wrrw", "rrrr", "rrrr", "wrrw"]));
+    let (w, h, fill) = (4, 4, RED);
+    let ellipse = Kind::Ellipse { w, h, fill };
+    let document = with_shape(alloc, &Document::empty(alloc), ellipse, Parent::Page)?;
+    assert_looks_like(&rt, &document, 0, &["wrrw", "rrrr", "rrrr", "wrrw"]);
     Ok(())
 }

@@ -1,11 +1,10 @@
 //! Long histories: documents that share their records stay apart.
 
-use crate::dice::Dice;
-use crate::shapes::{BLUE, GREEN, RED, create, edited, moved, record, rectangle, restored};
 use canvas_code::OutOfMemory;
 use canvas_doc::{Document, Edit, Parent, Record, Refusal, Spot};
 use canvas_key::{Key, fresh};
 use canvas_plane::Pose;
+use canvas_samples::{BLUE, Dice, GREEN, RED, create, edited, moved, record, rectangle, restored};
 use canvas_shape::{Colour, Kind};
 use std::alloc::Global;
 use std::process::Abort;
@@ -20,28 +19,36 @@ fn creation(id: u32) -> Edit {
     create(rectangle(id, 1, RED), parent, Spot::At(fresh(id)))
 }
 
-// The edits of the history. The first 13 put shapes at the end.
-fn edits(alloc: Global) -> Result<Vec<Edit>, OutOfMemory> {
-    let mut edits = Vec::new(alloc);
-    for id in 190..203u32 {
-        edits.push(creation(id))?;
+// The edit that is made after so many. The first 13 put shapes at the end.
+fn edit_after(made: u32) -> Edit {
+    match made {
+        0..=12 => creation(made.saturating_add(190)),
+        13 => Edit::Respace { parent: GROUP },
+        14 => turn(69, moved(7, 0)),
+        15 => Edit::Show {
+            id: 140,
+            hidden: true,
+        },
+        16 => Edit::Reshape {
+            id: 128,
+            kind: rectangle(1, 9, BLUE),
+        },
+        17 => Edit::Move {
+            id: 2,
+            parent: GROUP,
+            spot: Spot::At(fresh(900)),
+        },
+        18 => Edit::Delete { id: 1 },
+        19 => turn(70, moved(9, 0)),
+        20 => Edit::Respace {
+            parent: Parent::Page,
+        },
+        _ => creation(203),
     }
-    edits.push(Edit::Respace { parent: GROUP })?;
-    let (id, pose) = (69, moved(7, 0));
-    edits.push(Edit::Pose { id, pose })?;
-    let (id, hidden) = (140, true);
-    edits.push(Edit::Show { id, hidden })?;
-    let (id, kind) = (128, rectangle(1, 9, BLUE));
-    edits.push(Edit::Reshape { id, kind })?;
-    let (id, parent, spot) = (2, GROUP, Spot::At(fresh(900)));
-    edits.push(Edit::Move { id, parent, spot })?;
-    edits.push(Edit::Delete { id: 1 })?;
-    let (id, pose) = (70, moved(9, 0));
-    edits.push(Edit::Pose { id, pose })?;
-    let parent = Parent::Page;
-    edits.push(Edit::Respace { parent })?;
-    edits.push(creation(203))?;
-    Ok(edits)
+}
+
+fn turn(id: u32, pose: Pose) -> Edit {
+    Edit::Pose { id, pose }
 }
 
 // Whether a shape is there after so many edits: with the group go 2 and every third shape.
@@ -105,16 +112,26 @@ fn all_have_records(rt: &impl Abort, alloc: Global, documents: &[Document]) -> R
     Ok(())
 }
 
+// The documents with the one after the next edit.
+fn push_next(alloc: Global, documents: &mut Vec<Document>, made: u32) -> Result<(), Fail> {
+    if let Some(last) = documents.last() {
+        let after = edited(alloc, last, &edit_after(made))?;
+        documents.push(after)?;
+    }
+    Ok(())
+}
+
+fn first_document(alloc: Global) -> Result<Document, Fail> {
+    Ok(restored(alloc, records_after(alloc, 0)?, 190)?)
+}
+
 #[test]
 fn a_long_history_keeps_its_documents_apart(rt: HostRuntime) -> Result<(), Fail> {
     let alloc = rt.alloc();
     let mut documents = Vec::new(alloc);
-    documents.push(restored(alloc, records_after(alloc, 0)?, 190)?)?;
-    for edit in &edits(alloc)? {
-        if let Some(last) = documents.last() {
-            let after = edited(alloc, last, edit)?;
-            documents.push(after)?;
-        }
+    documents.push(first_document(alloc)?)?;
+    for made in 0..22u32 {
+        push_next(alloc, &mut documents, made)?;
         all_have_records(&rt, alloc, &documents)?;
     }
     assert_eq!(rt; documents.len(), 23);
@@ -254,18 +271,35 @@ fn colours_of(alloc: Global, document: &Document) -> Result<Vec<Colour>, OutOfMe
     Ok(colours)
 }
 
+type Version = (Told, Document);
+
+// The crowd, and as many versions more.
+fn versions(alloc: Global, more: u32) -> Result<Vec<Version>, Fail> {
+    let mut dice = Dice::new(4);
+    let mut versions = Vec::new(alloc);
+    push_version(alloc, &mut versions, restored(alloc, crowd(alloc)?, 701)?)?;
+    for number in 0..more {
+        if let Some((_, last)) = versions.last() {
+            let next = next_version(alloc, &mut dice, last, number)?;
+            push_version(alloc, &mut versions, next)?;
+        }
+    }
+    Ok(versions)
+}
+
+fn push_version(
+    alloc: Global,
+    versions: &mut Vec<Version>,
+    document: Document,
+) -> Result<(), OutOfMemory> {
+    versions.push((tell(alloc, &document)?, document))?;
+    Ok(())
+}
+
 #[test]
 fn many_versions_stay_what_they_were(rt: HostRuntime) -> Result<(), Fail> {
     let alloc = rt.alloc();
-    let mut dice = Dice { state: 4 };
-    let first = restored(alloc, crowd(alloc)?, 701)?;
-    let mut versions = vec![in alloc; (tell(alloc, &first)?, first)]?;
-    for number in 0..64u32 {
-        if let Some((_, last)) = versions.last() {
-            let next = next_version(alloc, &mut dice, last, number)?;
-            versions.push((tell(alloc, &next)?, next))?;
-        }
-    }
+    let versions = versions(alloc, 64)?;
     assert_eq!(rt; versions.len(), 65);
     for (was, version) in &versions {
         assert!(rt; tell(alloc, version)? == *was);

@@ -1,52 +1,69 @@
 //! Edits of which a growth may be refused: run with each allocation refused in turn, they answer want of
 //! memory or what they answer with ample memory, and leave the document as it was.
 
-use crate::shapes::{
-    BLUE, RED, create, edited, edited_by_all, moved, polygon, record, rectangle, restored,
-};
+use canvas_code::OutOfMemory;
 use canvas_doc::{Document, Edit, Parent, Record, Refusal, Spot, TreeFault};
 use canvas_key::fresh;
+use canvas_samples::{BLUE, RED, create, edited, moved, polygon, record, rectangle, restored};
 use canvas_shape::Kind;
 use std::alloc::{AllocError, Global};
 use std::process::Abort;
 use std::test::Fail;
 
-// A group with a triangle and a rectangle in it.
-fn document(alloc: Global) -> Result<Document, Fail> {
-    let triangle = polygon(alloc, &[(0, 0), (4, 0), (0, 4)])?;
-    let edits = [
-        create(Kind::Group, Parent::Page, Spot::Front),
-        create(triangle, Parent::Shape(1), Spot::Front),
-        create(rectangle(1, 1, RED), Parent::Shape(1), Spot::Front),
-    ];
-    Ok(edited_by_all(alloc, Document::empty(alloc), &edits)?)
+// The edits that make a group with a triangle and a rectangle in it.
+fn first_edit(alloc: Global, number: u32) -> Result<Edit, OutOfMemory> {
+    Ok(match number {
+        0 => create(Kind::Group, Parent::Page, Spot::Front),
+        1 => create(triangle(alloc)?, Parent::Shape(1), Spot::Front),
+        _ => create(rectangle(1, 1, RED), Parent::Shape(1), Spot::Front),
+    })
 }
 
-// One edit of each sort.
-fn edits(alloc: Global) -> Result<[Edit; 7], Fail> {
-    let square = polygon(alloc, &[(0, 0), (4, 0), (4, 4), (0, 4)])?;
-    let same = square.try_clone(alloc)?;
-    Ok([
-        create(square, Parent::Shape(1), Spot::Back),
-        Edit::Move {
+fn triangle(alloc: Global) -> Result<Kind, OutOfMemory> {
+    polygon(alloc, &[(0, 0), (4, 0), (0, 4)])
+}
+
+fn square(alloc: Global) -> Result<Kind, OutOfMemory> {
+    polygon(alloc, &[(0, 0), (4, 0), (4, 4), (0, 4)])
+}
+
+// A group with a triangle and a rectangle in it.
+fn document(alloc: Global) -> Result<Document, Refusal> {
+    let mut document = Document::empty(alloc);
+    for number in 0..3u32 {
+        document = edited(alloc, &document, &first_edit(alloc, number)?)?;
+    }
+    Ok(document)
+}
+
+const EDITS: u32 = 7;
+
+// One edit of each sort, by its number.
+fn edit(alloc: Global, number: u32) -> Result<Edit, OutOfMemory> {
+    Ok(match number {
+        0 => create(square(alloc)?, Parent::Shape(1), Spot::Back),
+        1 => Edit::Move {
             id: 2,
             parent: Parent::Page,
             spot: Spot::Over(1),
         },
-        Edit::Pose {
+        2 => Edit::Pose {
             id: 3,
             pose: moved(3, 4),
         },
-        Edit::Reshape { id: 2, kind: same },
-        Edit::Show {
+        3 => Edit::Reshape {
+            id: 2,
+            kind: square(alloc)?.try_clone(alloc)?,
+        },
+        4 => Edit::Show {
             id: 1,
             hidden: true,
         },
-        Edit::Delete { id: 1 },
-        Edit::Respace {
+        5 => Edit::Delete { id: 1 },
+        _ => Edit::Respace {
             parent: Parent::Shape(1),
         },
-    ])
+    })
 }
 
 fn are_same(document: &Document, other: &Document) -> bool {
@@ -80,42 +97,45 @@ fn edits_with_little_memory(rt: HostRuntime) -> Result<(), Fail> {
     let alloc = rt.alloc();
     let document = document(alloc)?;
     let copy = document.try_clone(alloc)?;
-    for edit in &edits(alloc)? {
-        assert!(rt; is_made_once_there_is_memory(alloc, &document, edit)?);
-        assert!(rt; are_same(&document, &copy));
+    for number in 0..EDITS {
+        let edit = edit(alloc, number)?;
+        assert!(rt;
+            is_made_once_there_is_memory(alloc, &document, &edit)?,
+            "edit {number}"
+        );
+        assert!(rt; are_same(&document, &copy), "edit {number}");
     }
     Ok(())
+}
+
+// An edit that is refused, by its number.
+fn refused_edit(alloc: Global, number: u32) -> Result<Edit, OutOfMemory> {
+    Ok(match number {
+        0 => create(square(alloc)?, Parent::Shape(3), Spot::Back),
+        1 => Edit::Move {
+            id: 2,
+            parent: Parent::Shape(1),
+            spot: Spot::At(fresh(1)),
+        },
+        _ => Edit::Reshape {
+            id: 2,
+            kind: rectangle(1, 1, BLUE),
+        },
+    })
 }
 
 #[test]
 fn refusals_with_little_memory(rt: HostRuntime) -> Result<(), Fail> {
     let alloc = rt.alloc();
     let document = document(alloc)?;
-    let square = polygon(alloc, &[(0, 0), (4, 0), (4, 4), (0, 4)])?;
-    let edits = [
-        (
-            create(square, Parent::Shape(3), Spot::Back),
-            Refusal::NotAContainer,
-        ),
-        (
-            Edit::Move {
-                id: 2,
-                parent: Parent::Shape(1),
-                spot: Spot::At(fresh(1)),
-            },
-            Refusal::IndexTaken,
-        ),
-        (
-            Edit::Reshape {
-                id: 2,
-                kind: rectangle(1, 1, BLUE),
-            },
-            Refusal::WrongKind,
-        ),
-    ];
-    for (edit, refusal) in &edits {
+    for (number, refusal) in [
+        (0, Refusal::NotAContainer),
+        (1, Refusal::IndexTaken),
+        (2, Refusal::WrongKind),
+    ] {
+        let edit = refused_edit(alloc, number)?;
         assert!(rt;
-            document.decide(alloc, edit).err() == Some(*refusal),
+            document.decide(alloc, &edit).err() == Some(refusal),
             "{refusal:?}"
         );
     }

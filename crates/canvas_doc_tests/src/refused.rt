@@ -1,12 +1,12 @@
 //! Every refusal of every edit, and each pair of refusals that can meet in one edit, in its order.
 
-use crate::shapes::{
-    RED, create, frame, last_index_below_a1, moved, polygon, record, rectangle, restored,
-};
 use canvas_code::OutOfMemory;
 use canvas_doc::{Document, Edit, Parent, Record, Refusal, Spot};
 use canvas_key::{Key, fresh};
 use canvas_plane::Pose;
+use canvas_samples::{
+    RED, create, edited, frame, last_index_below_a1, moved, polygon, record, rectangle, restored,
+};
 use canvas_shape::Kind;
 use std::alloc::Global;
 use std::process::Abort;
@@ -59,23 +59,57 @@ fn push_pair(records: &mut Vec<Record>, id: u32, parent: u32) -> Result<(), Fail
     Ok(())
 }
 
+// A group on the page (`above` 0) or under a shape, at a fresh index.
+fn push_group(
+    records: &mut Vec<Record>,
+    id: u32,
+    above: u32,
+    rank: u32,
+) -> Result<(), OutOfMemory> {
+    let parent = if above == 0 {
+        Parent::Page
+    } else {
+        Parent::Shape(above)
+    };
+    records.push(record(id, parent, fresh(rank), Kind::Group))?;
+    Ok(())
+}
+
+// The group, its two children and the leaf.
+fn push_group_and_leaf(records: &mut Vec<Record>) -> Result<(), Fail> {
+    push_group(records, GROUP, 0, 0)?;
+    push_pair(records, 2, GROUP)?;
+    records.push(record(LEAF, Parent::Page, fresh(1), rectangle(1, 1, RED)))?;
+    Ok(())
+}
+
+// The groups each of which holds the next, and the two leaves at depth 32.
+fn push_deep(records: &mut Vec<Record>) -> Result<(), Fail> {
+    push_group(records, UPPERMOST, 0, 2)?;
+    for above in UPPERMOST..LOWEST {
+        push_group(records, above.saturating_add(1), above, 0)?;
+    }
+    push_pair(records, DEEP_LEAF, AT_DEPTH_31)
+}
+
+// The group of height 3 with all below it.
+fn push_tall(records: &mut Vec<Record>) -> Result<(), Fail> {
+    push_group(records, TALL, 0, 3)?;
+    records.push(record(IN_TALL, Parent::Shape(TALL), fresh(0), frame(1, 1)))?;
+    push_pair(records, IN_BOTH, IN_TALL)
+}
+
+fn triangle(alloc: Global) -> Result<Kind, OutOfMemory> {
+    polygon(alloc, &[(0, 0), (4, 0), (0, 4)])
+}
+
 // The records that the constants name.
 fn records(alloc: Global) -> Result<Vec<Record>, Fail> {
     let mut records = Vec::new(alloc);
-    records.push(record(GROUP, Parent::Page, fresh(0), Kind::Group))?;
-    push_pair(&mut records, 2, GROUP)?;
-    records.push(record(LEAF, Parent::Page, fresh(1), rectangle(1, 1, RED)))?;
-    records.push(record(UPPERMOST, Parent::Page, fresh(2), Kind::Group))?;
-    for above in UPPERMOST..LOWEST {
-        let below = above.saturating_add(1);
-        records.push(record(below, Parent::Shape(above), fresh(0), Kind::Group))?;
-    }
-    push_pair(&mut records, DEEP_LEAF, AT_DEPTH_31)?;
-    records.push(record(TALL, Parent::Page, fresh(3), Kind::Group))?;
-    records.push(record(IN_TALL, Parent::Shape(TALL), fresh(0), frame(1, 1)))?;
-    push_pair(&mut records, IN_BOTH, IN_TALL)?;
-    let triangle = polygon(alloc, &[(0, 0), (4, 0), (0, 4)])?;
-    records.push(record(POLYGON, Parent::Page, fresh(4), triangle))?;
+    push_group_and_leaf(&mut records)?;
+    push_deep(&mut records)?;
+    push_tall(&mut records)?;
+    records.push(record(POLYGON, Parent::Page, fresh(4), triangle(alloc)?))?;
     Ok(records)
 }
 
@@ -137,6 +171,32 @@ fn poses() -> [(Pose, Option<Refusal>); 2] {
     ]
 }
 
+// New shapes with a flaw and a pose at every kind of spot under a parent, which are refused so before the spot is looked at.
+fn check_new_shapes_at_spots(
+    rt: &impl Abort,
+    alloc: Global,
+    document: &Document,
+    parent: Parent,
+    (flaw, pose): (Flaw, Pose),
+    first: Option<Refusal>,
+) -> Result<(), Fail> {
+    for (spot, placed) in spots(2)? {
+        let edit = Edit::Create {
+            kind: kind_with(alloc, flaw)?,
+            pose,
+            hidden: false,
+            parent,
+            spot,
+        };
+        let expected = first.or(placed);
+        assert!(rt;
+            document.decide(alloc, &edit).err() == expected,
+            "{expected:?}"
+        );
+    }
+    Ok(())
+}
+
 // New shapes of every kind of flaw, pose and spot under a parent, of which `first` is refused before.
 fn check_new_shapes(
     rt: &impl Abort,
@@ -148,21 +208,28 @@ fn check_new_shapes(
     for flaw in [Flaw::None, Flaw::Side, Flaw::Vertices] {
         let (side, vertices) = refusal_of(flaw);
         for (pose, far) in poses() {
-            for (spot, placed) in spots(2)? {
-                let edit = Edit::Create {
-                    kind: kind_with(alloc, flaw)?,
-                    pose,
-                    hidden: false,
-                    parent,
-                    spot,
-                };
-                let expected = first.or(side).or(far).or(vertices).or(placed);
-                assert!(rt;
-                    document.decide(alloc, &edit).err() == expected,
-                    "{expected:?}"
-                );
-            }
+            let before = first.or(side).or(far).or(vertices);
+            check_new_shapes_at_spots(rt, alloc, document, parent, (flaw, pose), before)?;
         }
+    }
+    Ok(())
+}
+
+// New shapes under every sort of parent in a document, of which `spent` is refused after the parent.
+fn check_creations(
+    rt: &impl Abort,
+    alloc: Global,
+    document: &Document,
+    spent: Option<Refusal>,
+) -> Result<(), Fail> {
+    for (parent, hung) in [
+        (GROUP, None),
+        (MISSING, Some(Refusal::NoSuchParent)),
+        (LEAF, Some(Refusal::NotAContainer)),
+        (DEEP_LEAF, Some(Refusal::NotAContainer)),
+        (LOWEST, Some(Refusal::TooDeep)),
+    ] {
+        check_new_shapes(rt, alloc, document, Parent::Shape(parent), hung.or(spent))?;
     }
     Ok(())
 }
@@ -170,30 +237,14 @@ fn check_new_shapes(
 #[test]
 fn refusals_of_create(rt: HostRuntime) -> Result<(), Fail> {
     let alloc = rt.alloc();
-    let documents = [
-        (document(alloc, false, 20_000)?, None),
-        (document(alloc, true, 20_000)?, Some(Refusal::TooMany)),
-        (
-            document(alloc, false, 4_294_967_295)?,
-            Some(Refusal::IdsSpent),
-        ),
-        (
-            document(alloc, true, 4_294_967_295)?,
-            Some(Refusal::TooMany),
-        ),
-    ];
-    let parents = [
-        (GROUP, None),
-        (MISSING, Some(Refusal::NoSuchParent)),
-        (LEAF, Some(Refusal::NotAContainer)),
-        (DEEP_LEAF, Some(Refusal::NotAContainer)),
-        (LOWEST, Some(Refusal::TooDeep)),
-    ];
-    for (document, spent) in &documents {
-        for (parent, hung) in parents {
-            let first = hung.or(*spent);
-            check_new_shapes(&rt, alloc, document, Parent::Shape(parent), first)?;
-        }
+    for (is_full, next, spent) in [
+        (false, 20_000, None),
+        (true, 20_000, Some(Refusal::TooMany)),
+        (false, 4_294_967_295, Some(Refusal::IdsSpent)),
+        (true, 4_294_967_295, Some(Refusal::TooMany)),
+    ] {
+        let document = document(alloc, is_full, next)?;
+        check_creations(&rt, alloc, &document, spent)?;
     }
     Ok(())
 }
@@ -349,35 +400,38 @@ fn refusals_of_the_others(rt: HostRuntime) -> Result<(), Fail> {
     Ok(())
 }
 
+// An edit of the polygon to what it is, by its number.
+fn edit_to_the_same(alloc: Global, number: u32) -> Result<Edit, OutOfMemory> {
+    let id = POLYGON;
+    Ok(match number {
+        0 => Edit::Move {
+            id,
+            parent: Parent::Page,
+            spot: Spot::At(fresh(4)),
+        },
+        1 => Edit::Pose {
+            id,
+            pose: Pose::STILL,
+        },
+        2 => Edit::Reshape {
+            id,
+            kind: triangle(alloc)?,
+        },
+        _ => Edit::Show { id, hidden: false },
+    })
+}
+
 #[test]
 fn edits_to_what_is_there(rt: HostRuntime) -> Result<(), Fail> {
     let alloc = rt.alloc();
     let document = document(alloc, false, NEXT)?;
-    let triangle = polygon(alloc, &[(0, 0), (4, 0), (0, 4)])?;
-    let edits = [
-        Edit::Move {
-            id: POLYGON,
-            parent: Parent::Page,
-            spot: Spot::At(fresh(4)),
-        },
-        Edit::Pose {
-            id: POLYGON,
-            pose: Pose::STILL,
-        },
-        Edit::Reshape {
-            id: POLYGON,
-            kind: triangle,
-        },
-        Edit::Show {
-            id: POLYGON,
-            hidden: false,
-        },
-    ];
-    for edit in &edits {
-        let change = document.decide(alloc, edit)?;
-        let after = document.with(alloc, &change)?;
-        assert!(rt; after.get(POLYGON) == document.get(POLYGON));
-        assert_eq!(rt; after.count(), document.count());
+    for number in 0..4u32 {
+        let after = edited(alloc, &document, &edit_to_the_same(alloc, number)?)?;
+        assert!(rt;
+            after.get(POLYGON) == document.get(POLYGON),
+            "edit {number}"
+        );
+        assert_eq!(rt; after.count(), document.count(), "edit {number}");
     }
     Ok(())
 }

@@ -1,10 +1,13 @@
 //! Lists of records that are documents, and the positions of the faults of others.
 
 use canvas_code::OutOfMemory;
-use canvas_doc::{Document, Edit, MOST_RECORDS, Parent, Place, Record, Refusal, Spot, TreeFault};
+use canvas_doc::{Document, Edit, Parent, Record, Refusal, Spot, TreeFault};
 use canvas_key::fresh;
-use canvas_plane::{Point, Pose};
-use canvas_shape::{Colour, Kind, Points};
+use canvas_plane::Pose;
+use canvas_samples::{
+    RED, create, edited, frame, index_of, moved, polygon, record, rectangle, restored,
+};
+use canvas_shape::Kind;
 use std::alloc::Global;
 use std::process::Abort;
 use std::test::Fail;
@@ -16,14 +19,10 @@ const GROUP: bool = false;
 
 const LEAF: bool = true;
 
-fn record(row: &Row) -> Record {
+fn record_of(row: &Row) -> Record {
     let (id, parent, rank, is_leaf) = *row;
     let kind = if is_leaf {
-        Kind::Rect {
-            w: 2,
-            h: 1,
-            fill: Colour([255, 0, 0]),
-        }
+        rectangle(2, 1, RED)
     } else {
         Kind::Group
     };
@@ -32,32 +31,15 @@ fn record(row: &Row) -> Record {
     } else {
         Parent::Shape(parent)
     };
-    Record {
-        id,
-        kind,
-        place: Place {
-            parent,
-            index: fresh(rank),
-        },
-        pose: Pose::STILL,
-        hidden: false,
-    }
+    record(id, parent, fresh(rank), kind)
 }
 
 fn records(alloc: Global, rows: &[Row]) -> Result<Vec<Record>, OutOfMemory> {
     let mut records = Vec::new(alloc);
     for row in rows {
-        records.push(record(row))?;
+        records.push(record_of(row))?;
     }
     Ok(records)
-}
-
-// `restore`, where its conditions hold.
-fn restored(alloc: Global, records: Vec<Record>, next: u32) -> Result<Document, TreeFault> {
-    if next == 0 || records.len() > MOST_RECORDS {
-        return Err(TreeFault::OutOfMemory);
-    }
-    Document::restore(alloc, records, next)
 }
 
 // What `restore` answers of a list that is no document.
@@ -86,7 +68,7 @@ fn chain(alloc: Global, levels: u32) -> Result<Vec<Row>, OutOfMemory> {
 fn row_of_groups(alloc: Global, count: u32, step: u32) -> Result<Vec<Record>, OutOfMemory> {
     let mut records = Vec::new(alloc);
     for rank in 0..count {
-        records.push(record(&(rank + 1, 0, rank.wrapping_mul(step), GROUP)))?;
+        records.push(record_of(&(rank + 1, 0, rank.wrapping_mul(step), GROUP)))?;
     }
     Ok(records)
 }
@@ -120,58 +102,67 @@ fn ids_outside_their_range(rt: HostRuntime) -> Result<(), Fail> {
     Ok(())
 }
 
+// What `restore` answers of a group and a second record in it.
+fn fault_of_second(alloc: Global, shape: Record) -> Result<Option<TreeFault>, OutOfMemory> {
+    let mut list = records(alloc, &[(1, 0, 0, GROUP)])?;
+    list.push(shape)?;
+    Ok(restored(alloc, list, 3).err())
+}
+
+fn fault_of_pose(alloc: Global, pose: Pose) -> Result<Option<TreeFault>, OutOfMemory> {
+    let mut shape = record_of(&(2, 1, 0, LEAF));
+    shape.pose = pose;
+    fault_of_second(alloc, shape)
+}
+
+fn fault_of_kind(alloc: Global, kind: Kind) -> Result<Option<TreeFault>, OutOfMemory> {
+    let shape = record(2, Parent::Shape(1), fresh(0), kind);
+    fault_of_second(alloc, shape)
+}
+
 #[test]
-fn poses_and_kinds_outside_their_limits(rt: HostRuntime) -> Result<(), Fail> {
+fn poses_outside_their_limits(rt: HostRuntime) -> Result<(), Fail> {
     let alloc = rt.alloc();
-    let least = Pose {
-        dx: -1_048_576,
-        dy: 1_048_576,
-        quarter: 3,
-        flip: true,
-    };
-    let far = Pose {
-        dx: 0,
-        dy: -1_048_577,
-        quarter: 0,
-        flip: false,
-    };
-    let turned = Pose {
-        dx: 0,
-        dy: 0,
-        quarter: 4,
-        flip: false,
-    };
+    let mut least = moved(-1_048_576, 1_048_576);
+    least.quarter = 3;
+    least.flip = true;
+    let far = moved(0, -1_048_577);
+    let mut turned = Pose::STILL;
+    turned.quarter = 4;
     for (pose, expected) in [(least, None), (far, bad_record(1)), (turned, bad_record(1))] {
-        let mut list = records(alloc, &[(1, 0, 0, GROUP)])?;
-        let mut shape = record(&(2, 1, 0, LEAF));
-        shape.pose = pose;
-        list.push(shape)?;
-        assert_eq!(rt; restored(alloc, list, 3).err(), expected);
+        assert_eq!(rt; fault_of_pose(alloc, pose)?, expected, "{pose:?}");
     }
+    Ok(())
+}
+
+#[test]
+fn sides_outside_their_limits(rt: HostRuntime) -> Result<(), Fail> {
+    let alloc = rt.alloc();
     for (w, h, expected) in [
         (65_536, 1, None),
         (0, 1, bad_record(1)),
         (1, 65_537, bad_record(1)),
     ] {
-        let mut list = records(alloc, &[(1, 0, 0, GROUP)])?;
-        let mut shape = record(&(2, 1, 0, LEAF));
-        shape.kind = Kind::Frame { w, h, fill: None };
-        list.push(shape)?;
-        assert_eq!(rt; restored(alloc, list, 3).err(), expected);
+        assert_eq!(rt; fault_of_kind(alloc, frame(w, h))?, expected, "{w}, {h}");
     }
-    for (vertices, expected) in [(3, None), (2, bad_record(1)), (257, bad_record(1))] {
-        let mut points = Points::new(alloc);
-        for x in 0..vertices {
-            points.push(Point { x, y: 0 })?;
-        }
-        let mut list = records(alloc, &[(1, 0, 0, GROUP)])?;
-        let mut shape = record(&(2, 1, 0, LEAF));
-        shape.kind = Kind::Polygon {
-            points,
-            fill: Colour([0, 0, 0]),
-        };
-        list.push(shape)?;
-        assert_eq!(rt; restored(alloc, list, 3).err(), expected);
+    Ok(())
+}
+
+// A polygon with so many vertices.
+fn polygon_of(alloc: Global, count: i64) -> Result<Kind, OutOfMemory> {
+    let mut vertices = Vec::new(alloc);
+    for x in 0..count {
+        vertices.push((x, 0i64))?;
+    }
+    polygon(alloc, &vertices)
+}
+
+#[test]
+fn vertices_outside_their_limits(rt: HostRuntime) -> Result<(), Fail> {
+    let alloc = rt.alloc();
+    for (count, expected) in [(3, None), (2, bad_record(1)), (257, bad_record(1))] {
+        let kind = polygon_of(alloc, count)?;
+        assert_eq!(rt; fault_of_kind(alloc, kind)?, expected, "{count}");
     }
     Ok(())
 }
@@ -254,46 +245,70 @@ fn places_and_two_faults(rt: HostRuntime) -> Result<(), Fail> {
     Ok(())
 }
 
+// What `restore` answers of a chain, from the page down or from below up.
+fn fault_of_chain(
+    alloc: Global,
+    levels: u32,
+    is_upward: bool,
+) -> Result<Option<TreeFault>, OutOfMemory> {
+    let mut rows = chain(alloc, levels)?;
+    if is_upward {
+        rows.reverse();
+    }
+    fault(alloc, &rows, 99)
+}
+
 #[test]
 fn depth(rt: HostRuntime) -> Result<(), Fail> {
     let alloc = rt.alloc();
-    let mut rows = chain(alloc, 32)?;
-    assert_eq!(rt; fault(alloc, &rows, 99)?, None);
-    rows.reverse();
-    assert_eq!(rt; fault(alloc, &rows, 99)?, None);
-    let mut rows = chain(alloc, 33)?;
-    assert_eq!(rt; fault(alloc, &rows, 99)?, bad_tree(32));
-    rows.reverse();
-    assert_eq!(rt; fault(alloc, &rows, 99)?, bad_tree(0));
+    for (levels, is_upward, expected) in [
+        (32, false, None),
+        (32, true, None),
+        (33, false, bad_tree(32)),
+        (33, true, bad_tree(0)),
+    ] {
+        let found = fault_of_chain(alloc, levels, is_upward)?;
+        assert_eq!(rt; found, expected, "{levels} {is_upward}");
+    }
+    Ok(())
+}
+
+fn unordered(alloc: Global) -> Result<Document, TreeFault> {
+    let rows = [
+        (7, 5, 0, LEAF),
+        (2, 0, 1, GROUP),
+        (5, 2, 3, GROUP),
+        (3, 0, 0, LEAF),
+    ];
+    restored(alloc, records(alloc, &rows)?, 8)
+}
+
+fn ids_of(alloc: Global, document: &Document) -> Result<Vec<u32>, OutOfMemory> {
+    let mut ids = Vec::new(alloc);
+    for shape in document.records_in_order(alloc)? {
+        ids.push(shape.id)?;
+    }
+    Ok(ids)
+}
+
+// Asserts that a document has the four records.
+fn check_ordered(rt: &impl Abort, alloc: Global, document: &Document) -> Result<(), Fail> {
+    assert_eq!(rt; document.next_id(), 8);
+    let ids = ids_of(alloc, document)?;
+    assert_eq!(rt; ids.as_slice(), [2, 3, 5, 7].as_slice());
+    let found = document.get(7).ok_or("the leaf")?;
+    assert!(rt; found.place.parent == Parent::Shape(5));
+    assert!(rt; document.colour_at(1, 0) == RED);
     Ok(())
 }
 
 #[test]
 fn any_order_is_restored_in_rising_id(rt: HostRuntime) -> Result<(), Fail> {
     let alloc = rt.alloc();
-    let list = records(
-        alloc,
-        &[
-            (7, 5, 0, LEAF),
-            (2, 0, 1, GROUP),
-            (5, 2, 3, GROUP),
-            (3, 0, 0, LEAF),
-        ],
-    )?;
-    let document = restored(alloc, list, 8)?;
+    let document = unordered(alloc)?;
     let copy = document.try_clone(alloc)?;
-    for document in [&document, &copy] {
-        assert_eq!(rt; document.next_id(), 8);
-        let mut ids = Vec::new(alloc);
-        for shape in document.records_in_order(alloc)? {
-            ids.push(shape.id)?;
-        }
-        assert_eq!(rt; ids.as_slice(), [2, 3, 5, 7].as_slice());
-        let found = document.get(7).ok_or("the leaf")?;
-        assert!(rt; found.place.parent == Parent::Shape(5));
-        assert!(rt; document.colour_at(1, 0) == Colour([255, 0, 0]));
-    }
-    Ok(())
+    check_ordered(&rt, alloc, &document)?;
+    check_ordered(&rt, alloc, &copy)
 }
 
 // A document with as many groups on the page as may be.
@@ -303,13 +318,7 @@ fn full_page(alloc: Global, step: u32) -> Result<Document, TreeFault> {
 }
 
 fn new_group() -> Edit {
-    Edit::Create {
-        kind: Kind::Group,
-        pose: Pose::STILL,
-        hidden: false,
-        parent: Parent::Page,
-        spot: Spot::Front,
-    }
+    create(Kind::Group, Parent::Page, Spot::Front)
 }
 
 #[test]
@@ -322,12 +331,16 @@ fn as_many_as_may_be(rt: HostRuntime) -> Result<(), Fail> {
     Ok(())
 }
 
+// The full page without its first group, and with a new one.
+fn full_page_again(alloc: Global) -> Result<Document, Fail> {
+    let full = full_page(alloc, 1)?;
+    let less = edited(alloc, &full, &Edit::Delete { id: 1 })?;
+    Ok(edited(alloc, &less, &new_group())?)
+}
+
 #[test]
 fn room_for_one_after_a_deletion(rt: HostRuntime) -> Result<(), Fail> {
-    let alloc = rt.alloc();
-    let full = full_page(alloc, 1)?;
-    let less = full.with(alloc, &full.decide(alloc, &Edit::Delete { id: 1 })?)?;
-    let again = less.with(alloc, &less.decide(alloc, &new_group())?)?;
+    let again = full_page_again(rt.alloc())?;
     assert_eq!(rt; again.count(), 16_384);
     assert!(rt; again.get(16_385).is_some());
     assert!(rt; again.get(1).is_none());
@@ -338,13 +351,9 @@ fn room_for_one_after_a_deletion(rt: HostRuntime) -> Result<(), Fail> {
 fn a_full_page_is_respaced(rt: HostRuntime) -> Result<(), Fail> {
     let alloc = rt.alloc();
     let full = full_page(alloc, 3)?;
-    let page = Edit::Respace {
-        parent: Parent::Page,
-    };
-    let spaced = full.with(alloc, &full.decide(alloc, &page)?)?;
-    let back = spaced.get(1).ok_or("the first")?;
-    assert!(rt; back.place.index.bytes() == b"a0".as_slice());
-    let front = spaced.get(16_384).ok_or("the last")?;
-    assert!(rt; front.place.index.bytes() == b"c3FF".as_slice());
+    let parent = Parent::Page;
+    let spaced = edited(alloc, &full, &Edit::Respace { parent })?;
+    assert!(rt; index_of(&spaced, 1) == b"a0".as_slice());
+    assert!(rt; index_of(&spaced, 16_384) == b"c3FF".as_slice());
     Ok(())
 }

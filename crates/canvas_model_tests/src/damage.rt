@@ -1,13 +1,13 @@
 //! Damage of changes: worked boxes, and random changes beside the boxes that looking at every record gives.
 
-use crate::dice::Dice;
+use crate::both::Both;
 use crate::plain::{Plain, position_in};
-use crate::random::{edit, id, nested, pose};
-use crate::shapes::{RED, create, edited_by_all, frame, moved, polygon, rectangle, restored};
+use crate::random::{edit, id, pose};
 use crate::viewed::{carried, corners};
 use canvas_code::OutOfMemory;
 use canvas_doc::{Change, Document, Edit, Parent, Record, Refusal, Spot};
 use canvas_plane::{PageBox, Point, Pose};
+use canvas_samples::{Dice, RED, create, edited_by_all, frame, moved, polygon, rectangle};
 use canvas_shape::Kind;
 use std::alloc::Global;
 use std::process::Abort;
@@ -308,34 +308,43 @@ fn some_edit(
     Ok(turn(id(dice, plain), pose(dice)))
 }
 
-// Edits at random, the damage of each beside that of the plain model.
-fn damages_agree(rt: &impl Abort, alloc: Global, dice: &mut Dice, levels: u32) -> Result<(), Fail> {
-    let next = levels.saturating_add(1);
-    let mut plain = Plain {
-        records: nested(alloc, levels)?,
-        next,
+// The damage of an edit that is allowed, beside that of the plain model.
+fn damage_agrees(
+    rt: &impl Abort,
+    alloc: Global,
+    dice: &mut Dice,
+    both: &mut Both,
+    asked: &Edit,
+    (levels, number): (u32, u32),
+) -> Result<(), Fail> {
+    let Ok(change) = &both.document.decide(alloc, asked) else {
+        return Ok(());
     };
-    let mut document = restored(alloc, nested(alloc, levels)?, next)?;
+    let area = both.document.damage(change);
+    let after = both.document.with(alloc, change)?;
+    let wanted = plain_damage(alloc, &mut both.plain, change)?;
+    assert_eq!(rt; area, wanted, "{levels} levels, edit {number}");
+    assert!(rt;
+        keeps_colours(dice, &area, &both.document, &after),
+        "{levels} levels, edit {number}"
+    );
+    both.document = after;
+    Ok(())
+}
+
+// Edits at random of nested groups.
+fn damages_agree(rt: &impl Abort, alloc: Global, dice: &mut Dice, levels: u32) -> Result<(), Fail> {
+    let mut both = Both::nested(alloc, levels)?;
     for number in 0..60u32 {
-        let asked = some_edit(alloc, dice, &plain, number)?;
-        if let Ok(change) = &document.decide(alloc, &asked) {
-            let area = document.damage(change);
-            let wanted = plain_damage(alloc, &mut plain, change)?;
-            assert_eq!(rt; area, wanted, "{levels} levels, edit {number}");
-            let after = document.with(alloc, change)?;
-            assert!(rt;
-                keeps_colours(dice, &area, &document, &after),
-                "{levels} levels, edit {number}"
-            );
-            document = after;
-        }
+        let asked = some_edit(alloc, dice, &both.plain, number)?;
+        damage_agrees(rt, alloc, dice, &mut both, &asked, (levels, number))?;
     }
     Ok(())
 }
 
 #[test]
 fn damage_of_random_edits(rt: HostRuntime) -> Result<(), Fail> {
-    let mut dice = Dice { state: 4 };
+    let mut dice = Dice::new(4);
     for levels in 0..31u32 {
         damages_agree(&rt, rt.alloc(), &mut dice, levels)?;
     }

@@ -1,11 +1,11 @@
 //! The colour of a pixel by a plain model: of all that holds the pixel, what lies furthest in front.
 
 use crate::plain::{Plain, position_in};
-use crate::shapes::WHITE;
 use canvas_code::OutOfMemory;
 use canvas_doc::{Parent, Record};
 use canvas_key::Key;
 use canvas_plane::{Point, Pose};
+use canvas_samples::WHITE;
 use canvas_shape::{Colour, Kind};
 use std::alloc::Global;
 

@@ -4,11 +4,16 @@ ghost use Rattle.std.specs.Prelude.{◌<◌, ◌^◌};
 
 /// A plain congruential generator.
 #[derive(Drop)]
-pub(crate) struct Dice {
-    pub(crate) state: u64,
+pub struct Dice {
+    state: u64,
 }
 
 impl Dice {
+    /// The generator that begins with a seed.
+    pub fn new(seed: u64) -> Dice {
+        Dice { state: seed }
+    }
+
     fn roll(&mut self) -> u64
         ensures { result < 2 ^ 32 }
     {
@@ -20,7 +25,7 @@ impl Dice {
     }
 
     /// A number below a bound.
-    pub(crate) fn below(&mut self, sides: u64) -> u64
+    pub fn below(&mut self, sides: u64) -> u64
         requires { 0 < sides }
         ensures { result < sides }
     {
@@ -28,21 +33,12 @@ impl Dice {
     }
 
     /// True once in two times.
-    pub(crate) fn coin(&mut self) -> bool {
+    pub fn coin(&mut self) -> bool {
         self.below(2) == 1
     }
 
     /// A number from -20 to 20.
-    pub(crate) fn near(&mut self) -> i64 {
+    pub fn near(&mut self) -> i64 {
         self.below(41) as i64 - 20
-    }
-
-    /// A side, now and then one that is refused.
-    pub(crate) fn side(&mut self) -> u32 {
-        match self.below(30) {
-            0 => 0,
-            1 => 65_537,
-            _ => self.below(30) as u32 + 1,
-        }
     }
 }

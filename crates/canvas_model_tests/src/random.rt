@@ -2,14 +2,14 @@
 
 ghost use Rattle.std.specs.Prelude.{◌<◌};
 
-use crate::dice::Dice;
+use crate::both::Both;
 use crate::plain::Plain;
-use crate::shapes::{record, restored};
 use crate::viewed::{Pixel, colour_at};
 use canvas_code::OutOfMemory;
-use canvas_doc::{Change, Document, Edit, Parent, Record, Refusal, Spot};
+use canvas_doc::{Change, Edit, Parent, Record, Refusal, Spot};
 use canvas_key::fresh;
 use canvas_plane::{Point, Pose};
+use canvas_samples::Dice;
 use canvas_shape::{Colour, Kind, Points};
 use std::alloc::Global;
 use std::process::Abort;
@@ -81,6 +81,15 @@ pub(crate) fn pose(dice: &mut Dice) -> Pose {
     }
 }
 
+// A side, now and then one that is refused.
+fn side(dice: &mut Dice) -> u32 {
+    match dice.below(30) {
+        0 => 0,
+        1 => 65_537,
+        _ => dice.below(30) as u32 + 1,
+    }
+}
+
 fn colour(dice: &mut Dice) -> Colour {
     let red = dice.below(200) as u8;
     let green = dice.below(200) as u8;
@@ -102,8 +111,8 @@ fn kind(alloc: Global, dice: &mut Dice) -> Result<Kind, OutOfMemory> {
     Ok(match dice.below(8) {
         0 | 1 | 2 => Kind::Group,
         3 | 4 => Kind::Frame {
-            w: dice.side(),
-            h: dice.side(),
+            w: side(dice),
+            h: side(dice),
             fill: if dice.coin() {
                 Some(colour(dice))
             } else {
@@ -111,13 +120,13 @@ fn kind(alloc: Global, dice: &mut Dice) -> Result<Kind, OutOfMemory> {
             },
         },
         5 => Kind::Rect {
-            w: dice.side(),
-            h: dice.side(),
+            w: side(dice),
+            h: side(dice),
             fill: colour(dice),
         },
         6 => Kind::Ellipse {
-            w: dice.side(),
-            h: dice.side(),
+            w: side(dice),
+            h: side(dice),
             fill: colour(dice),
         },
         _ => Kind::Polygon {
@@ -182,7 +191,8 @@ fn are_same(own: &Result<Change, Refusal>, plain: &Result<Change, Refusal>) -> b
 }
 
 // Whether a document has the records and the next id of the plain one.
-fn agree(alloc: Global, document: &Document, plain: &Plain) -> Result<bool, OutOfMemory> {
+fn agree(alloc: Global, both: &Both) -> Result<bool, OutOfMemory> {
+    let Both { document, plain } = both;
     let records = document.records_in_order(alloc)?;
     let mut same = document.next_id() == plain.next
         && document.count() == plain.records.len()
@@ -194,12 +204,7 @@ fn agree(alloc: Global, document: &Document, plain: &Plain) -> Result<bool, OutO
 }
 
 // Whether a document shows some pixels as the plain one does.
-fn look_alike(
-    alloc: Global,
-    dice: &mut Dice,
-    document: &Document,
-    plain: &Plain,
-) -> Result<bool, OutOfMemory> {
+fn look_alike(alloc: Global, dice: &mut Dice, both: &Both) -> Result<bool, OutOfMemory> {
     let mut same = true;
     for _ in 0..6u32 {
         let x = dice.below(50) as i32 - 25;
@@ -208,35 +213,44 @@ fn look_alike(
             x: x as i64,
             y: y as i64,
         };
-        same = same && document.colour_at(x, y) == colour_at(alloc, plain, at)?;
+        same = same && both.document.colour_at(x, y) == colour_at(alloc, &both.plain, at)?;
     }
     Ok(same)
 }
 
-/// Groups and a few frames, each of which holds the next.
-pub(crate) fn nested(alloc: Global, levels: u32) -> Result<Vec<Record>, OutOfMemory> {
-    let mut records = Vec::new(alloc);
-    for above in 0..levels {
-        let parent = if above == 0 {
-            Parent::Page
-        } else {
-            Parent::Shape(above)
-        };
-        let kind = if above % 8 == 7 {
-            Kind::Frame {
-                w: 30,
-                h: 30,
-                fill: None,
-            }
-        } else {
-            Kind::Group
-        };
-        records.push(record(above.saturating_add(1), parent, fresh(2), kind))?;
+// Judges an edit by both, and makes it in both.
+fn answers_agree(
+    rt: &impl Abort,
+    alloc: Global,
+    both: &mut Both,
+    asked: &Edit,
+    number: u32,
+) -> Result<(), Fail> {
+    let own = both.document.decide(alloc, asked);
+    let judged = both.plain.decide(alloc, asked);
+    assert!(rt; are_same(&own, &judged), "answer {number}");
+    if let Ok(change) = &own {
+        assert!(rt; both.document.fits(change), "fits {number}");
+        both.make(alloc, change)?;
     }
-    Ok(records)
+    Ok(())
 }
 
-// Edits at random, each judged and made beside the plain model.
+// An edit at random, judged and made beside the plain model.
+fn edit_agrees(
+    rt: &impl Abort,
+    alloc: Global,
+    dice: &mut Dice,
+    both: &mut Both,
+    number: u32,
+) -> Result<(), Fail> {
+    let asked = edit(alloc, dice, &both.plain)?;
+    answers_agree(rt, alloc, both, &asked, number)?;
+    assert!(rt; agree(alloc, both)?, "records {number}");
+    assert!(rt; look_alike(alloc, dice, both)?, "colours {number}");
+    Ok(())
+}
+
 fn edits_agree(
     rt: &impl Abort,
     alloc: Global,
@@ -244,35 +258,16 @@ fn edits_agree(
     levels: u32,
     edits: u32,
 ) -> Result<(), Fail> {
-    let next = levels.saturating_add(1);
-    let mut plain = Plain {
-        records: nested(alloc, levels)?,
-        next,
-    };
-    let mut document = restored(alloc, nested(alloc, levels)?, next)?;
+    let mut both = Both::nested(alloc, levels)?;
     for number in 0..edits {
-        let asked = edit(alloc, dice, &plain)?;
-        let own = document.decide(alloc, &asked);
-        let judged = plain.decide(alloc, &asked);
-        assert!(rt; are_same(&own, &judged), "answer {number}");
-        if let Ok(change) = &own {
-            assert!(rt; document.fits(change), "fits {number}");
-            let after = document.with(alloc, change)?;
-            document = after;
-            plain.make(alloc, change)?;
-        }
-        assert!(rt; agree(alloc, &document, &plain)?, "records {number}");
-        assert!(rt;
-            look_alike(alloc, dice, &document, &plain)?,
-            "colours {number}"
-        );
+        edit_agrees(rt, alloc, dice, &mut both, number)?;
     }
     Ok(())
 }
 
 #[test]
 fn random_edits_from_an_empty_document(rt: HostRuntime) -> Result<(), Fail> {
-    let mut dice = Dice { state: 1 };
+    let mut dice = Dice::new(1);
     for _ in 0..30u32 {
         edits_agree(&rt, rt.alloc(), &mut dice, 0, 80)?;
     }
@@ -281,7 +276,7 @@ fn random_edits_from_an_empty_document(rt: HostRuntime) -> Result<(), Fail> {
 
 #[test]
 fn random_edits_of_nested_groups(rt: HostRuntime) -> Result<(), Fail> {
-    let mut dice = Dice { state: 2 };
+    let mut dice = Dice::new(2);
     for levels in 0..30u32 {
         edits_agree(&rt, rt.alloc(), &mut dice, levels.saturating_add(2), 60)?;
     }

@@ -1,15 +1,15 @@
 //! Children that may show in a box of the page: those that are left out show nothing there, they nor
 //! what lies below them.
 
-use crate::dice::Dice;
+use crate::both::Both;
 use crate::plain::Plain;
-use crate::random::{edit, id, nested, parent, pose};
-use crate::shapes::restored;
+use crate::random::{edit, id, parent, pose};
 use crate::viewed::{Pixel, shows};
 use canvas_code::OutOfMemory;
 use canvas_doc::{Document, Edit, Parent, Record};
 use canvas_key::Key;
 use canvas_plane::{PageBox, Pose};
+use canvas_samples::Dice;
 use std::alloc::Global;
 use std::process::Abort;
 use std::test::Fail;
@@ -126,13 +126,8 @@ fn show_nothing(alloc: Global, plain: &Plain, ids: &[u32], at: Pixel) -> Result<
 }
 
 // Looks at a box from some parent, and counts the children that were left out.
-fn look(
-    rt: &impl Abort,
-    alloc: Global,
-    dice: &mut Dice,
-    document: &Document,
-    plain: &Plain,
-) -> Result<usize, Fail> {
+fn look(rt: &impl Abort, alloc: Global, dice: &mut Dice, both: &Both) -> Result<usize, Fail> {
+    let Both { document, plain } = both;
     let parent = parent(dice, plain);
     let path = plain.path(alloc, parent)?;
     let Some(out) = pose_of(plain, &path) else {
@@ -168,35 +163,34 @@ fn some_edit(
     })
 }
 
-// Edits at random, after each of which some boxes are looked at.
+// Makes an edit in both where it is allowed.
+fn make(alloc: Global, both: &mut Both, asked: &Edit) -> Result<(), OutOfMemory> {
+    if let Ok(change) = &both.document.decide(alloc, asked) {
+        both.make(alloc, change)?;
+    }
+    Ok(())
+}
+
+// Edits at random, after each of which a box is looked at: how many children were left out.
 fn looks_agree(
     rt: &impl Abort,
     alloc: Global,
     dice: &mut Dice,
     levels: u32,
 ) -> Result<usize, Fail> {
-    let next = levels.saturating_add(1);
-    let mut plain = Plain {
-        records: nested(alloc, levels)?,
-        next,
-    };
-    let mut document = restored(alloc, nested(alloc, levels)?, next)?;
+    let mut both = Both::nested(alloc, levels)?;
     let mut left_out: usize = 0;
     for number in 0..60u32 {
-        let asked = some_edit(alloc, dice, &plain, number)?;
-        if let Ok(change) = &document.decide(alloc, &asked) {
-            let after = document.with(alloc, change)?;
-            document = after;
-            plain.make(alloc, change)?;
-        }
-        left_out = left_out.saturating_add(look(rt, alloc, dice, &document, &plain)?);
+        let asked = some_edit(alloc, dice, &both.plain, number)?;
+        make(alloc, &mut both, &asked)?;
+        left_out = left_out.saturating_add(look(rt, alloc, dice, &both)?);
     }
     Ok(left_out)
 }
 
 #[test]
 fn what_is_left_out_shows_nothing(rt: HostRuntime) -> Result<(), Fail> {
-    let mut dice = Dice { state: 3 };
+    let mut dice = Dice::new(3);
     let mut left_out: usize = 0;
     for levels in 0..20u32 {
         let more = looks_agree(&rt, rt.alloc(), &mut dice, levels)?;

@@ -1,0 +1,15 @@
+//! Tests of documents beside a slow, plain model: random edits, what walks leave out, and the damage of changes.
+#![tactic(auto)]
+
+#[cfg(test)]
+mod both;
+#[cfg(test)]
+mod damage;
+#[cfg(test)]
+mod plain;
+#[cfg(test)]
+mod random;
+#[cfg(test)]
+mod sight;
+#[cfg(test)]
+mod viewed;
