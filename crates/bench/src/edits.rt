@@ -12,6 +12,9 @@ use std::time::{Clock, Duration, Instant};
 /// How often each call is timed.
 const ROUNDS: u32 = 401;
 
+/// How many edits are made in turn for the time of a whole one, so that reading the clock adds little to it.
+const IN_TURN: u32 = 8;
+
 /// How many records a document has of which each layout is timed.
 const MANY: u32 = 4_096;
 
@@ -56,7 +59,7 @@ fn time_edits<R: Clock + Print>(
     Ok(())
 }
 
-/// Times `decide`, `with` and the drop of one of the two documents.
+/// Times `decide`, and `with` behind it, and both with the drop of the document that they made.
 fn time_edit<R: Clock + Print>(
     rt: &R,
     alloc: Global,
@@ -74,7 +77,9 @@ fn time_edit<R: Clock + Print>(
         let after = document.with(alloc, &change)?;
         made = made.min(start.elapsed(rt)?);
         drop(after);
-        whole.push(start.elapsed(rt)?)?;
+        let start = Instant::now(rt)?;
+        edit_in_turn(alloc, document, edit)?;
+        whole.push(start.elapsed(rt)? / IN_TURN)?;
     }
     let (least, middle) = least_and_middle(whole)?;
     println!(rt;
@@ -83,6 +88,15 @@ fn time_edit<R: Clock + Print>(
         document.count(),
         names.1
     )?;
+    Ok(())
+}
+
+/// Decides an edit, makes it and drops the document that it made, some times in turn.
+fn edit_in_turn(alloc: Global, document: &Document, edit: &Edit) -> anyhow::Result<()> {
+    for _ in 0..IN_TURN {
+        let change = document.decide(alloc, edit)?;
+        drop(document.with(alloc, &change)?);
+    }
     Ok(())
 }
 
