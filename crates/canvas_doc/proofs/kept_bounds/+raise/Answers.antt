@@ -10,13 +10,13 @@ use Rattle.canvas_doc.proofs.Widened.{IsStep, done-above, done-held, group-at, g
 use Rattle.canvas_doc.proofs.kept_bounds.+raise.Goals as goal
 use Rattle.canvas_doc.proofs.kept_bounds.+raise.Goals.{After-contains, After-value}
 
-shape-at : (t : ℕ) (c : After-value t) → slice_get c.args.order.now.shapes c.args.at ≡ Some c.value.result.now
-shape-at t c = slice_get_read c.args.order.now.shapes (length c.args.order.now.shapes) c.args.at c.at.result.now refl c.requires.at c.at.ensures ∙ ap Some (sym c.value.ensures)
+shape-at : (t : ℕ) (c : After-value t) → slice_get c.args.order.now c.args.at ≡ Some c.value.result.now
+shape-at t c = slice_get_read c.args.order.now (length c.args.order.now) c.args.at c.index-order-at.result refl c.requires.at c.index-order-at.is ∙ ap Some (sym c.value.ensures)
 
-step : (t : ℕ) (c : After-contains t) → IsStep c.args.order.now.shapes c.args.records.now c.args.bounds.now c.args.at c.position_in-up.result c.value.result.now c.in-Some.group.now c.index-bounds-at.result c.index-bounds-up.result
+step : (t : ℕ) (c : After-contains t) → IsStep c.args.order.now c.args.records.now c.args.bounds.now c.args.at c.position_among-up.result c.value.result.now c.in-Some.group.now c.index-bounds-at.result c.index-bounds-up.result
 step t c =
-    step-from c.args.order.now.shapes c.args.records.now c.requires.in_order c.requires.rising c.args.bounds.now c.args.at c.position_in-up.result c.at.result.now c.value.result.now c.in-Some.group.now c.index-bounds-at.result c.index-bounds-up.result
-    c.requires.limits c.requires.but.long c.requires.at c.at.ensures c.value.ensures c.in-Some.ensures c.position_in-up.ensures c.index-bounds-at.is c.index-bounds-up.is
+    step-from c.args.order.now c.args.records.now c.requires.in_order c.requires.rising c.args.bounds.now c.args.at c.position_among-up.result c.index-order-at.result c.value.result.now c.in-Some.group.now c.index-bounds-at.result c.index-bounds-up.result
+    c.requires.limits c.requires.but.long c.requires.at c.index-order-at.is c.value.ensures c.in-Some.ensures c.position_among-up.ensures c.index-bounds-at.is c.index-bounds-up.is
 
 -- the child's bounds, carried, lie within what holds them
 carried : (t : ℕ) (c : After-contains t) (b : Bounds) → IsWithinBounds c.carried-carried.result b → IsCarriedWithin c.in-Some.group.now.pose c.index-bounds-at.result b
@@ -27,7 +27,7 @@ carried t c b within =
 
 pub returns-in_default-clause-children : goal.returns-in_default-clause-children
 returns-in_default-clause-children t c =
-    done-above c.args.order.now.shapes c.args.records.now c.requires.in_order c.requires.rising c.args.bounds.now c.args.at c.value.result.now (shape-at t (goal.at.returns-in_default-clause-children t c).After-value) c.requires.but c.in_default.ensures
+    done-above c.args.order.now c.args.records.now c.requires.in_order c.requires.rising c.args.bounds.now c.args.at c.value.result.now (shape-at t (goal.at.returns-in_default-clause-children t c).After-value) c.requires.but c.in_default.ensures
 
 pub returns-then-steps-eq0-clause-children : goal.returns-then-steps-eq0-clause-children
 returns-then-steps-eq0-clause-children t c =
@@ -35,26 +35,26 @@ returns-then-steps-eq0-clause-children t c =
     (c.requires.reaches c.value.result.now (shape-at t (goal.at.returns-then-steps-eq0-clause-children t c).After-value)))
 
 pub carried-carried-requires-clause-quarter : goal.carried-carried-requires-clause-quarter
-carried-carried-requires-clause-quarter t c = (group-limits c.args.order.now.shapes c.args.records.now c.requires.in_order c.requires.rising c.value.result.now.place.parent c.in-Some.group.now c.requires.limits c.in-Some.ensures).quarter
+carried-carried-requires-clause-quarter t c = (group-limits c.args.order.now c.args.records.now c.requires.in_order c.requires.rising c.value.result.now.place.parent c.in-Some.group.now c.requires.limits c.in-Some.ensures).quarter
 
 pub carried-carried-requires-clause-reach : goal.carried-carried-requires-clause-reach
-carried-carried-requires-clause-reach t c = (group-limits c.args.order.now.shapes c.args.records.now c.requires.in_order c.requires.rising c.value.result.now.place.parent c.in-Some.group.now c.requires.limits c.in-Some.ensures).reach
+carried-carried-requires-clause-reach t c = (group-limits c.args.order.now c.args.records.now c.requires.in_order c.requires.rising c.value.result.now.place.parent c.in-Some.group.now c.requires.limits c.in-Some.ensures).reach
 
 pub bounds-bounds-up : goal.bounds-bounds-up
 bounds-bounds-up t c =
-    let there = group-at c.args.order.now.shapes c.args.records.now c.requires.in_order c.requires.rising c.value.result.now.place.parent c.in-Some.group.now c.position_in-up.result c.in-Some.ensures c.position_in-up.ensures in
-    subst (λ n. c.position_in-up.result < n) (sym c.requires.but.long) (slice_get_within c.args.order.now.shapes c.position_in-up.result c.in-Some.group.now there)
+    let there = group-at c.args.order.now c.args.records.now c.requires.in_order c.requires.rising c.value.result.now.place.parent c.in-Some.group.now c.position_among-up.result c.in-Some.ensures c.position_among-up.ensures in
+    subst (λ n. c.position_among-up.result < n) (sym c.requires.but.long) (slice_get_within c.args.order.now c.position_among-up.result c.in-Some.group.now there)
 
 pub returns-then-contains-clause-children : goal.returns-then-contains-clause-children
 returns-then-contains-clause-children t c =
     let k = (goal.at.returns-then-contains-clause-children t c).After-contains in
-    done-held c.args.order.now.shapes c.args.records.now c.requires.in_order c.requires.rising c.args.bounds.now c.args.at c.position_in-up.result c.value.result.now c.in-Some.group.now c.index-bounds-at.result c.index-bounds-up.result (step t k)
+    done-held c.args.order.now c.args.records.now c.requires.in_order c.requires.rising c.args.bounds.now c.args.at c.position_among-up.result c.value.result.now c.in-Some.group.now c.index-bounds-at.result c.index-bounds-up.result (step t k)
     c.requires.but (carried t k c.index-bounds-up.result (c.contains.ensures c.if-contains.true))
 
 pub bounds-bounds-up-2 : goal.bounds-bounds-up-2
 bounds-bounds-up-2 t c =
-    let there = group-at c.args.order.now.shapes c.args.records.now c.requires.in_order c.requires.rising c.value.result.now.place.parent c.in-Some.group.now c.position_in-up.result c.in-Some.ensures c.position_in-up.ensures in
-    subst (λ n. c.position_in-up.result < n) (sym c.requires.but.long) (slice_get_within c.args.order.now.shapes c.position_in-up.result c.in-Some.group.now there)
+    let there = group-at c.args.order.now c.args.records.now c.requires.in_order c.requires.rising c.value.result.now.place.parent c.in-Some.group.now c.position_among-up.result c.in-Some.ensures c.position_among-up.ensures in
+    subst (λ n. c.position_among-up.result < n) (sym c.requires.but.long) (slice_get_within c.args.order.now c.position_among-up.result c.in-Some.group.now there)
 
 pub raise-requires : goal.raise-requires
 raise-requires t c =
@@ -70,11 +70,11 @@ raise-requires t c =
           (
             c.requires.limits,
             (
-              slice_get_within c.args.order.now.shapes c.position_in-up.result c.in-Some.group.now s.there,
+              slice_get_within c.args.order.now c.position_among-up.result c.in-Some.group.now s.there,
               (
-                widened c.args.order.now.shapes c.args.records.now c.requires.in_order c.requires.rising c.args.bounds.now c.args.at c.position_in-up.result c.value.result.now c.in-Some.group.now c.index-bounds-at.result c.index-bounds-up.result c.hull.result s
+                widened c.args.order.now c.args.records.now c.requires.in_order c.requires.rising c.args.bounds.now c.args.at c.position_among-up.result c.value.result.now c.in-Some.group.now c.index-bounds-at.result c.index-bounds-up.result c.hull.result s
                     c.requires.but (carried t k c.hull.result c.hull.ensures.second) c.hull.ensures.first,
-                reached c.args.order.now.shapes c.position_in-up.result s.there,
+                reached c.args.order.now c.position_among-up.result s.there,
               ),
             ),
           ),
@@ -85,5 +85,5 @@ raise-requires t c =
 pub returns-clause-wider : goal.returns-clause-wider
 returns-clause-wider t c =
     let s = step t (goal.at.returns-clause-wider t c).After-contains in
-    within-steps c.args.bounds.now (set c.args.bounds.now c.position_in-up.result c.hull.result) c.raise.new.bounds
-    (within-set c.args.bounds.now c.position_in-up.result c.index-bounds-up.result c.hull.result s.held c.hull.ensures.first) c.raise.ensures.wider
+    within-steps c.args.bounds.now (set c.args.bounds.now c.position_among-up.result c.hull.result) c.raise.new.bounds
+    (within-set c.args.bounds.now c.position_among-up.result c.index-bounds-up.result c.hull.result s.held c.hull.ensures.first) c.raise.ensures.wider
