@@ -1,5 +1,5 @@
 -- Bounds of groups, made wide enough to hold those of their children.
-use Rattle.std.proofs.Common.{◌≡◌, ◌≢◌, ℕ, zero, suc, ◌+◌, ◌-◌, ◌<◌, ◌≤◌, ◌==◌, List, [], ◌∷◌, true, false, Some, refl, sym, ap, subst, ◌∙◌, arith, inl, inr, length, get_or, set, All, ◌||◌, ℤ}
+use Rattle.std.proofs.Common.{◌≡◌, ◌≢◌, ℕ, zero, suc, ◌+◌, ◌-◌, ◌<◌, ◌≤◌, ◌==◌, List, [], ◌∷◌, true, false, Option, Some, refl, sym, ap, subst, ◌∙◌, arith, inl, inr, length, get_or, set, All, ◌||◌, ℤ}
 use Rattle.std.specs.List.{Contains, slice_get}
 use Rattle.std.proofs.Math.ListN.{length-set}
 use Rattle.std.proofs.lemmas.Bool.{cases_Bool, eq-eqb, eqb-true, true≢false}
@@ -15,7 +15,7 @@ use Rattle.canvas_doc.specs.declared.bounds.Bounds.{Bounds}
 use Rattle.canvas_doc.specs.declared.records.Parent.{Parent}
 use Rattle.canvas_doc.specs.declared.records.Parent.TheVariants.{Page, Shape}
 use Rattle.canvas_doc.specs.declared.records.Record.{Record}
-use Rattle.canvas_doc.specs.Bounds.{holds_on_page, is_empty, is_group, is_whole, left_top, right_bottom, AreBounds, AreBoundsBut, AreWithin, HoldChildren, HoldChildrenBut, HoldsOwn, IsCarriedWithin, IsGroupAt, IsWithinBounds}
+use Rattle.canvas_doc.specs.Bounds.{holds_on_page, is_empty, is_group, is_whole, left_top, right_bottom, AreBounds, AreBoundsBut, AreWithin, HoldChildren, HoldChildrenBut, HoldsOwn, IsCarriedWithin, IsGroupAt, IsGroupPosition, IsWithinBounds}
 use Rattle.canvas_doc.specs.Children.{is_child, same_parent}
 use Rattle.canvas_doc.specs.Contents.{AreRising, reaches_page, record_of}
 use Rattle.canvas_doc.specs.PlaceOrder.{IsInPlaceOrder, IsPlaceOf}
@@ -48,7 +48,7 @@ differ : (a b : ℕ) → (a == b) ≡ false → a ≢ b
 differ a b f e = true≢false (sym (eq-eqb a b e) ∙ f)
 
 -- two items at one position
-one-item : {X : Type 0} (xs : List X) (k : ℕ) (x y : X) → slice_get xs k ≡ Some x → slice_get xs k ≡ Some y → x ≡ y
+pub one-item : {X : Type 0} (xs : List X) (k : ℕ) (x y : X) → slice_get xs k ≡ Some x → slice_get xs k ≡ Some y → x ≡ y
 one-item xs k x y e f = sym (get_or_from_slice_get xs k x x e) ∙ get_or_from_slice_get xs k y x f
 
 pub same-at : {X : Type 0} (xs : List X) (j k : ℕ) (x y : X) → j ≡ k → slice_get xs j ≡ Some x → slice_get xs k ≡ Some y → x ≡ y
@@ -61,14 +61,17 @@ position-of xs i k x once e b f = elim (cases_Bool (i == k)) [
   | inr n ↦ absurd (apart xs i k x once (differ i k n) (slice_get_within xs i x e) b (get_or_from_slice_get xs i x x e ∙ sym f))
 ]
 
+pub item-at : {X : Type 0} (xs : List X) (k : ℕ) → k < length xs → (x : X) × (slice_get xs k ≡ Some x)
+item-at xs k below = elim (slice_get_cases xs k).1 [
+  | inl here ↦ (here.0, here.2)
+  | inr past ↦ let le : length xs ≤ k = past.0 in absurd (omega arith)
+]
+
 -- a list as long has an item there, too
 item-in : {X Y : Type 0} (xs : List X) (ys : List Y) (k : ℕ) (x : X) → length ys ≡ length xs → slice_get xs k ≡ Some x → (y : Y) × (slice_get ys k ≡ Some y)
 item-in xs ys k x long e =
     let below : k < length xs = slice_get_within xs k x e in
-    elim (slice_get_cases ys k).1 [
-      | inl here ↦ (here.0, here.2)
-      | inr past ↦ let le : length ys ≤ k = past.0 in absurd (omega arith)
-    ]
+    item-at ys k (omega arith)
 
 -- ---- empty bounds
 
@@ -171,6 +174,15 @@ one-group p rs r g h k =
     let ids : r.id ≡ g.id = cc in
     let found : Some r ≡ Some g = sym h.there ∙ ap (λ n. record_of n rs) ids ∙ k.there in
     cc
+
+pub page-no-group : (rs : List Record) (g : Record) → ¬ IsGroupAt Page rs g
+page-no-group rs g h = let e : Page ≡ Shape g.id = h.is in cc
+
+-- a record, and where the shown group stands that is its parent
+pub above-at : (order rs : List Record) (at k : ℕ) (up : Option ℕ) → at < length order → ((s : Record) → slice_get order at ≡ Some s → IsGroupPosition s.place.parent rs order up) → up ≡ Some k → (s : Record) × (slice_get order at ≡ Some s) × IsGroupPosition s.place.parent rs order (Some k)
+above-at order rs at k up within above is =
+    let s = item-at order at within in
+    (s.0, s.1, subst (IsGroupPosition s.0.place.parent rs order) is (above s.0 s.1))
 
 -- the page is reached from that group, a step up
 pub reaches-group : (n : ℕ) (rs : List Record) (s g : Record) → IsGroupAt s.place.parent rs g → reaches_page n rs s.place.parent ≡ true → (order : List Record) (k : ℕ) → slice_get order k ≡ Some g → (r : Record) → slice_get order k ≡ Some r → reaches_page (n - 1) rs r.place.parent ≡ true
@@ -304,19 +316,30 @@ module _ (order rs : List Record) (o : IsInPlaceOrder order rs) (rising : AreRis
       let there : Contains rs r = subst (Contains rs) (get_or_from_slice_get order k r r e) (o.listed k r (slice_get_within order k r e)) in
       All-contains (λ s. reaches_page 31 rs s.place.parent ≡ true) rs r grounded there
 
+  -- the group that is read where one stands
+  pub above-read : (at k : ℕ) (up : Option ℕ) (r g : Record) → at < length order → ((s : Record) → slice_get order at ≡ Some s → IsGroupPosition s.place.parent rs order up) → up ≡ Some k → r ≡ get_or order k r → g ≡ r → (s : Record) × (slice_get order at ≡ Some s) × (slice_get order k ≡ Some g) × IsGroupAt s.place.parent rs g
+  above-read at k up r g within above is here same =
+      let p = above-at order rs at k up within above is in
+      let there : slice_get order k ≡ Some g = slice_get_read order (length order) k r refl (slice_get_within order k p.2.0 p.2.1) here ∙ ap Some (sym same) in
+      (p.0, p.1, there, subst (IsGroupAt p.0.place.parent rs) (one-item order k p.2.0 g p.2.1 there) p.2.2)
+
   -- what the code reads
-  pub step-from : (bounds : List Bounds) (at k : ℕ) (s v g : Record) (c h : Bounds) → All IsInLimits rs → length bounds ≡ length order → at < length order → s ≡ get_or order at s → v ≡ s → IsGroupAt v.place.parent rs g → IsPlaceOf g.place order k → c ≡ get_or bounds at c → h ≡ get_or bounds k h → IsStep order rs bounds at k v g c h
-  step-from bounds at k s v g c h limits long within here same group place e f =
-      let there : slice_get order k ≡ Some g = group-at v.place.parent g k group place in
+  pub step-read : (bounds : List Bounds) (at k : ℕ) (s g : Record) (c h : Bounds) → All IsInLimits rs → length bounds ≡ length order → slice_get order at ≡ Some s → slice_get order k ≡ Some g → IsGroupAt s.place.parent rs g → c ≡ get_or bounds at c → h ≡ get_or bounds k h → IsStep order rs bounds at k s g c h
+  step-read bounds at k s g c h limits long shape there group e f =
+      let within : at < length order = slice_get_within order at s shape in
       let below : k < length order = slice_get_within order k g there in
       record {
-        shape = slice_get_read order (length order) at s refl within here ∙ ap Some (sym same);
+        shape = shape;
         own = slice_get_read bounds (length bounds) at c refl (omega arith) e;
         group = group;
         there = there;
         held = slice_get_read bounds (length bounds) k h refl (omega arith) f;
-        quarter = (group-limits v.place.parent g limits group).quarter;
+        quarter = (group-limits s.place.parent g limits group).quarter;
       }
+
+  pub step-from : (bounds : List Bounds) (at k : ℕ) (s v g : Record) (c h : Bounds) → All IsInLimits rs → length bounds ≡ length order → at < length order → s ≡ get_or order at s → v ≡ s → IsGroupAt v.place.parent rs g → IsPlaceOf g.place order k → c ≡ get_or bounds at c → h ≡ get_or bounds k h → IsStep order rs bounds at k v g c h
+  step-from bounds at k s v g c h limits long within here same group place e f =
+      step-read bounds at k v g c h limits long (slice_get_read order (length order) at s refl within here ∙ ap Some (sym same)) (group-at v.place.parent g k group place) group e f
 
 -- ---- bounds of all records
 

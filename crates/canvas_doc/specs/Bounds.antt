@@ -1,5 +1,5 @@
 -- Bounds of shapes: where a shape and all below it may show, in the plane of its parent.
-use Rattle.std.specs.Prelude.{◌≡◌, ◌≢◌, ◌≤◌, ◌^◌, ◌||◌, ℕ, ℤ, pos, List, Some, Bool, true, false, int_le, length}
+use Rattle.std.specs.Prelude.{◌≡◌, ◌≢◌, ◌≤◌, ◌^◌, ◌||◌, ℕ, ℤ, pos, List, Option, MatchOption, Some, Bool, true, false, int_le, length}
 use Rattle.std.specs.List.{slice_get}
 use lib.IntN.{neg_ℤ}
 use Rattle.canvas_plane.specs.declared.PageBox.{PageBox}
@@ -89,6 +89,10 @@ pub record IsGroupAt (p : Parent) (rs : List Record) (g : Record) : Type 0 where
   pub there : record_of g.id rs ≡ Some g
   pub group : g.kind ≡ Group
   pub shown : g.hidden ≡ false
+
+-- where in the order the shown group stands that the parent is, or that there is no such group
+abbrev pub IsGroupPosition : Parent → List Record → List Record → Option ℕ → Type 0
+IsGroupPosition p rs order at = MatchOption at ((g : Record) → ¬ IsGroupAt p rs g) (λ k. (g : Record) × (slice_get order k ≡ Some g) × IsGroupAt p rs g)
 
 -- a shown group's bounds hold what those of its children do
 pub record HoldChildren (order : List Record) (bounds : List Bounds) : Type 0 where

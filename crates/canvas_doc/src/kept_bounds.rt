@@ -8,7 +8,7 @@ ghost use Rattle.canvas_shape.specs.declared.Kind.TheVariants.{Group};
 ghost use Rattle.canvas_doc.specs.declared.bounds.Bounds.{Bounds};
 ghost use Rattle.canvas_doc.specs.declared.records.Parent.TheVariants.{Shape};
 ghost use Rattle.canvas_doc.specs.declared.records.Record.{Record};
-ghost use Rattle.canvas_doc.specs.Bounds.{is_empty, is_group, AreBounds, AreBoundsBut, AreWithin, HoldChildren, HoldChildrenBut, HoldsOwn, IsCarriedWithin, IsGroupAt, IsWithinBounds};
+ghost use Rattle.canvas_doc.specs.Bounds.{is_empty, is_group, AreBounds, AreBoundsBut, AreWithin, HoldChildren, HoldChildrenBut, HoldsOwn, IsCarriedWithin, IsGroupAt, IsGroupPosition, IsWithinBounds};
 ghost use Rattle.canvas_doc.specs.Children.{is_child};
 ghost use Rattle.canvas_doc.specs.Contents.{reaches_page, AreRising};
 ghost use Rattle.canvas_doc.specs.PlaceOrder.{comes_first, IsInPlaceOrder};
@@ -17,11 +17,11 @@ ghost use Rattle.canvas_doc.specs.Tree.{IsInLimits};
 use crate::ancestry::STEPS;
 use crate::bounds::Bounds;
 use crate::lookup::find;
-use crate::place_order::{children_range, position_in};
+use crate::place_order::{children_range, position_among, position_in};
 use crate::placed_shapes::{PlacedShape, PlacedShapes};
 use crate::records::{Parent, Record, Records};
 use canvas_code::OutOfMemory;
-use canvas_list::{Share, Shared};
+use canvas_list::Shared;
 use canvas_shape::Kind;
 use std::alloc::Global;
 use std::ops::Range;
@@ -87,7 +87,7 @@ pub(crate) fn raised(
 }
 
 // Records by place, with bounds.
-pub(crate) fn with_bounds(
+pub(crate) fn bounded(
     alloc: Global,
     records: &Records,
     order: Vec<Shared<Record>>,
@@ -101,47 +101,86 @@ pub(crate) fn with_bounds(
     ensures bounds { IfOk result (λ all. AreBounds all.shapes all.bounds) }
 {
     let mut bounds = vec![in alloc; Bounds::nowhere(); order.len()]?;
-    let bare = placed_with(alloc, &order, &bounds)?;
-    raise_all(records, &bare, &mut bounds);
-    placed_with(alloc, &order, &bounds)
+    raise_all(records, &order, &mut bounds);
+    placed_with(alloc, order, &bounds)
 }
 
 // Records with bounds in the same positions.
 fn placed_with(
     alloc: Global,
-    order: &[Shared<Record>],
+    order: Vec<Shared<Record>>,
     bounds: &[Bounds],
 ) -> Result<PlacedShapes, OutOfMemory>
-    requires long { length bounds.now ≡ length order.now }
-    requires few { length order.now < 2 ^ 32 }
-    ensures shapes { IfOk result (λ all. all.shapes ≡ order.now) }
+    requires long { length bounds.now ≡ length order.items }
+    requires few { length order.items < 2 ^ 32 }
+    ensures shapes { IfOk result (λ all. all.shapes ≡ order.items) }
     ensures bounds { IfOk result (λ all. all.bounds ≡ bounds.now) }
 {
     let mut all = Vec::with_capacity(alloc, order.len())?;
-    for at in 0..order.len() {
+    for (shape, held) in order.into_iter().zip(bounds) {
         all.push(PlacedShape {
-            shape: order[at].share()?,
-            bounds: bounds[at],
+            shape,
+            bounds: *held,
         })?;
     }
     PlacedShapes::from_vec(alloc, all)
 }
 
 // Makes bounds that hold nothing wide enough for their records, and for those below them.
-fn raise_all(records: &Records, order: &PlacedShapes, bounds: &mut [Bounds])
-    requires in_order { IsInPlaceOrder order.now.shapes records.now }
+fn raise_all(records: &Records, order: &[Shared<Record>], bounds: &mut [Bounds])
+    requires in_order { IsInPlaceOrder order.now records.now }
     requires rising { AreRising records.now }
     requires limits { All IsInLimits records.now }
     requires grounded { All (λ r. reaches_page 31 records.now r.place.parent ≡ true) records.now }
-    requires long { length bounds.old ≡ length order.now.shapes }
+    requires long { length bounds.old ≡ length order.now }
     requires nowhere { All (λ b. is_empty b ≡ true) bounds.old }
-    ensures { AreBounds order.now.shapes bounds.new }
+    ensures { AreBounds order.now bounds.new }
 {
+    let mut above = Above {
+        parent: Parent::Page,
+        group: None,
+    };
     for at in 0..order.len() {
-        let own = own_bounds(order.at(at).value());
+        let shape = order[at].value();
+        let own = own_bounds(shape);
         bounds[at] = bounds[at].hull(&own);
-        raise(records, order, bounds, at, STEPS);
+        above = above_for(records, order, shape.place.parent, above);
+        raise(records, order, bounds, at, above.group, STEPS);
     }
+}
+
+// A parent, and where it stands in the order if it is a shown group.
+#[derive(Clone, Copy)]
+struct Above {
+    parent: Parent,
+    group: Option<usize>,
+}
+
+// The same of another parent. It is sought only where it is not the last one: siblings stand side by side.
+fn above_for(records: &Records, order: &[Shared<Record>], parent: Parent, last: Above) -> Above
+    requires in_order { IsInPlaceOrder order.now records.now }
+    requires rising { AreRising records.now }
+    requires last { IsGroupPosition last.parent records.now order.now last.group }
+    ensures parent { result.parent ≡ parent }
+    ensures group { IsGroupPosition parent records.now order.now result.group }
+{
+    if last.parent == parent {
+        return last;
+    }
+    Above {
+        parent,
+        group: group_position(records, order, parent),
+    }
+}
+
+// Where in the order the group stands that a parent is, if it is one that is shown.
+fn group_position(records: &Records, order: &[Shared<Record>], parent: Parent) -> Option<usize>
+    requires in_order { IsInPlaceOrder order.now records.now }
+    requires rising { AreRising records.now }
+    ensures { IsGroupPosition parent records.now order.now result }
+{
+    let group = shown_group(records, parent)?;
+    Some(position_among(order, &group.place))
 }
 
 // What a shape shows of its own.
@@ -156,31 +195,41 @@ fn own_bounds(shape: &Record) -> Bounds
     }
 }
 
-// Makes the bounds of the groups above a record wide enough to hold the record's.
-fn raise(records: &Records, order: &PlacedShapes, bounds: &mut [Bounds], at: usize, steps: u32)
-    requires in_order { IsInPlaceOrder order.now.shapes records.now }
+// Makes the bounds of the groups above a record, the first of which stands at `above`, wide enough to
+// hold the record's.
+fn raise(
+    records: &Records,
+    order: &[Shared<Record>],
+    bounds: &mut [Bounds],
+    at: usize,
+    above: Option<usize>,
+    steps: u32,
+)
+    requires in_order { IsInPlaceOrder order.now records.now }
     requires rising { AreRising records.now }
     requires limits { All IsInLimits records.now }
-    requires at { at < length order.now.shapes }
-    requires but { HoldChildrenBut at order.now.shapes bounds.old }
-    requires reaches { (r : Record) → slice_get order.now.shapes at ≡ Some r → reaches_page steps records.now r.place.parent ≡ true }
-    ensures children { HoldChildren order.now.shapes bounds.new }
+    requires at { at < length order.now }
+    requires above { (r : Record) → slice_get order.now at ≡ Some r → IsGroupPosition r.place.parent records.now order.now above }
+    requires but { HoldChildrenBut at order.now bounds.old }
+    requires reaches { (r : Record) → slice_get order.now at ≡ Some r → reaches_page steps records.now r.place.parent ≡ true }
+    ensures children { HoldChildren order.now bounds.new }
     ensures wider { AreWithin bounds.old bounds.new }
 {
-    let Some(group) = shown_group(records, order.at(at).value().place.parent) else {
+    let Some(up) = above else {
         return;
     };
     if steps == 0 {
         return;
     }
-    let up = position_in(order, &group.place);
+    let group = order[up].value();
     let carried = bounds[at].carried(&group.pose);
     let held = bounds[up];
     if held.contains(&carried) {
         return;
     }
     bounds[up] = held.hull(&carried);
-    raise(records, order, bounds, up, steps - 1);
+    let higher = group_position(records, order, group.place.parent);
+    raise(records, order, bounds, up, higher, steps - 1);
 }
 
 // The group that a parent is, where it is shown.

@@ -76,6 +76,14 @@ pub(crate) fn position_in(order: &PlacedShapes, place: &Place) -> usize
     order.list.partition_point(|placed| by_place(&placed.shape.value().place, place).is_lt())
 }
 
+// The same of an order whose records stand side by side in memory.
+pub(crate) fn position_among(order: &[Shared<Record>], place: &Place) -> usize
+    requires { IsStrictlySortedBy comes_first order.now }
+    ensures { IsPlaceOf place.now order.now result }
+{
+    order.partition_point(|shape| by_place(&shape.value().place, place).is_lt())
+}
+
 // By the parent, and under one parent the greater index first.
 fn by_place(place: &Place, other: &Place) -> Ordering
     ensures { result ≡ by_place place.now other.now }

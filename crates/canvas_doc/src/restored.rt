@@ -12,7 +12,7 @@ ghost use Rattle.canvas_doc.specs.Restored.{is_record, record_fault, leads_to_pa
 ghost use Rattle.canvas_doc.specs.Listed.{GivesFirsts, holder_of, has_place};
 
 use crate::ancestry::{STEPS, is_container};
-use crate::kept_bounds::with_bounds;
+use crate::kept_bounds::bounded;
 use crate::place_order::{holder_of, in_place_order};
 use crate::records::Records;
 use crate::{Document, Parent, Record};
@@ -118,7 +118,7 @@ impl Document {
         ensures { IfOk result (λ document. document ≡ record { records = records; next = next }) }
     {
         let sorted = in_place_order(alloc, &records)?;
-        let order = with_bounds(alloc, &records, sorted)?;
+        let order = bounded(alloc, &records, sorted)?;
         Ok(Document {
             records,
             order,
