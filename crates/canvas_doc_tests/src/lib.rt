@@ -1,9 +1,7 @@
-//! Tests of documents, which stand apart since `canvas_doc` is large: worked examples, every refusal
-//! of every edit, lists of records, long histories and want of memory.
+//! Tests of documents, which stand apart since `canvas_doc` is large: every refusal of every edit,
+//! lists of records, long histories and want of memory.
 #![tactic(auto)]
 
-#[cfg(test)]
-mod examples;
 #[cfg(test)]
 mod histories;
 #[cfg(test)]

@@ -1,12 +1,6 @@
-//! Tests of boards and sessions, and of the texts of all refusals.
+//! Tests of sessions.
 #![tactic(auto)]
 
-#[cfg(test)]
-mod boards;
-#[cfg(test)]
-mod faults;
-#[cfg(test)]
-mod kept;
 #[cfg(test)]
 mod memory;
 #[cfg(test)]

@@ -1,7 +1,9 @@
 //! Sessions for which memory may be refused: run with each allocation refused in turn, nothing is read, or one line is answered by
 //! want of memory and all others as they should be; what was refused is asked again, and answered in full.
 
-use crate::sessions::{RED, RED_ANSWERS, board};
+use crate::sessions::{RED, RED_ANSWERS};
+use canvas_board::Alone;
+use canvas_doc::Document;
 use canvas_session::{Cause, Served, SessionFault, serve};
 use std::alloc::Global;
 use std::process::Abort;
@@ -97,6 +99,13 @@ fn is_counted(served: &Result<Served, SessionFault>, counts: Served, is_unread: 
                 && counts.written == 0
                 && is_unread
         }
+    }
+}
+
+fn board(alloc: Global) -> Result<Alone, Fail> {
+    match Alone::new(alloc, Document::empty(alloc), 1_000_000) {
+        Ok(board) => Ok(board),
+        Err(_) => Err(Fail::from("no board")),
     }
 }
 

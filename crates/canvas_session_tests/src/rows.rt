@@ -3,12 +3,11 @@
 
 use crate::sessions::check;
 use canvas_board::Alone;
-use canvas_code::OutOfMemory;
 use canvas_doc::Document;
 use canvas_session::serve;
 use std::alloc::Global;
+use std::process::Abort;
 use std::sync::Wait;
-use std::test::Fail;
 use std::thread::Threads;
 
 const RECTANGLE: &str = r#"{"verb":"create","shape":{"kind":"rect","w":2,"h":1,"fill":"ff0000"}}"#;
@@ -31,72 +30,68 @@ impl Session {
     }
 
     /// A request, and the line of its answer.
-    fn line(&mut self, request: &str, answer: &str) -> Result<(), OutOfMemory> {
-        self.requests.push(String::from_str(self.alloc, request)?)?;
-        self.answers.extend_from_slice(answer.as_bytes())?;
-        self.answers.push(b'\n')?;
-        Ok(())
+    fn line(&mut self, rt: &impl Abort, request: &str, answer: &str) {
+        let request = String::from_str(self.alloc, request).expect(rt, "memory");
+        self.requests.push(request).expect(rt, "memory");
+        self.body(rt, answer.as_bytes());
+        self.body(rt, b"\n");
+    }
+
+    /// Bytes of an answer behind its line.
+    fn body(&mut self, rt: &impl Abort, bytes: &[u8]) {
+        self.answers.extend_from_slice(bytes).expect(rt, "memory");
     }
 
     /// A request that makes a shape.
-    fn creates(&mut self, request: &str, id: u32, version: u32) -> Result<(), OutOfMemory> {
+    fn creates(&mut self, rt: &impl Abort, request: &str, id: u32, version: u32) {
         let answer = format!(in self.alloc;
             r#"{{"body":0,"id":{id},"ok":true,"version":{version}}}"#
-        )?;
-        self.line(request, &answer)
+        );
+        self.line(rt, request, &answer.expect(rt, "memory"));
     }
 
     /// A request that makes another edit.
-    fn edits(&mut self, request: &str, version: u32) -> Result<(), OutOfMemory> {
-        let answer = format!(in self.alloc; r#"{{"body":0,"ok":true,"version":{version}}}"#)?;
-        self.line(request, &answer)
+    fn edits(&mut self, rt: &impl Abort, request: &str, version: u32) {
+        let answer = format!(in self.alloc; r#"{{"body":0,"ok":true,"version":{version}}}"#);
+        self.line(rt, request, &answer.expect(rt, "memory"));
     }
 
     /// A request that is refused.
-    fn refuses(&mut self, request: &str, code: u16, name: &str) -> Result<(), OutOfMemory> {
+    fn refuses(&mut self, rt: &impl Abort, request: &str, code: u16, name: &str) {
         let answer = format!(in self.alloc;
             r#"{{"body":0,"code":{code},"name":"{name}","ok":false}}"#
-        )?;
-        self.line(request, &answer)
+        );
+        self.line(rt, request, &answer.expect(rt, "memory"));
     }
 
     /// A request for a picture, with its header and a letter for each pixel.
-    fn paints(
-        &mut self,
-        request: &str,
-        version: u32,
-        header: &str,
-        pixels: &str,
-    ) -> Result<(), OutOfMemory> {
+    fn paints(&mut self, rt: &impl Abort, request: &str, version: u32, header: &str, pixels: &str) {
         let body = header.len().saturating_add(pixels.len().saturating_mul(3));
-        let answer = format!(in self.alloc; r#"{{"body":{body},"ok":true,"version":{version}}}"#)?;
-        self.line(request, &answer)?;
-        self.answers.extend_from_slice(header.as_bytes())?;
+        let answer = format!(in self.alloc; r#"{{"body":{body},"ok":true,"version":{version}}}"#);
+        self.line(rt, request, &answer.expect(rt, "memory"));
+        self.body(rt, header.as_bytes());
         for letter in pixels.as_bytes() {
-            self.answers.extend_from_slice(&colour_of(*letter))?;
+            self.body(rt, &colour_of(*letter));
         }
-        Ok(())
     }
 
     /// The bytes of the requests, each line ended as it is said.
-    fn input(&self, end: &str) -> Result<String, OutOfMemory> {
+    fn input(&self, rt: &impl Abort, end: &str) -> String {
         let mut input = String::new(self.alloc);
         for request in self.requests.iter() {
-            input.push_str(request)?;
-            input.push_str(end)?;
+            input.push_str(request).expect(rt, "memory");
+            input.push_str(end).expect(rt, "memory");
         }
-        Ok(input)
+        input
     }
 
     /// Serves it in each way.
-    fn check<H: Threads + Wait + Sync>(&self, rt: &H) -> Result<(), Fail> {
+    fn check<H: Threads + Wait + Sync + Abort>(&self, rt: &H) {
         let requests = self.requests.len() as u64;
         for end in ["\n", "\r\n"] {
-            let input = self.input(end)?;
-            let answers = self.answers.as_slice();
-            check(rt, self.alloc, input.as_bytes(), answers, requests)?;
+            let input = self.input(rt, end);
+            check(rt, self.alloc, input.as_bytes(), &self.answers, requests);
         }
-        Ok(())
     }
 }
 
@@ -160,66 +155,76 @@ const REFUSED: [(&str, u16, &str); 17] = [
 ];
 
 #[test]
-fn lines_on_an_empty_document(rt: HostRuntime) -> Result<(), Fail> {
+fn lines_on_an_empty_document(rt: HostRuntime) {
     for (line, code, name) in REFUSED {
         let mut session = Session::new(rt.alloc());
-        session.refuses(line, code, name)?;
-        session.check(&rt)?;
+        session.refuses(&rt, line, code, name);
+        session.check(&rt);
     }
-    Ok(())
 }
 
 #[test]
-fn deep_nesting_is_no_json(rt: HostRuntime) -> Result<(), Fail> {
+fn deep_nesting_is_no_json(rt: HostRuntime) {
     let alloc = rt.alloc();
     let mut line = String::new(alloc);
     for bracket in ["[", "]"] {
         for _ in 0..200 {
-            line.push_str(bracket)?;
+            line.push_str(bracket).expect(&rt, "memory");
         }
     }
     let mut session = Session::new(alloc);
-    session.refuses(&line, 50, "BadJson")?;
-    session.check(&rt)
+    session.refuses(&rt, &line, 50, "BadJson");
+    session.check(&rt);
 }
 
 #[test]
-fn lines_on_one_rectangle(rt: HostRuntime) -> Result<(), Fail> {
+fn lines_on_one_rectangle(rt: HostRuntime) {
     let mut session = Session::new(rt.alloc());
-    session.creates(RECTANGLE, 1, 1)?;
+    session.creates(&rt, RECTANGLE, 1, 1);
     session.refuses(
+        &rt,
         r#"{"verb":"create","shape":{"kind":"group"},"parent":1}"#,
         4,
         "NotAContainer",
-    )?;
+    );
     session.refuses(
+        &rt,
         r#"{"verb":"move","id":1,"parent":1,"spot":"front"}"#,
         4,
         "NotAContainer",
-    )?;
+    );
     session.refuses(
+        &rt,
         r#"{"verb":"reshape","id":1,"shape":{"kind":"group"}}"#,
         14,
         "WrongKind",
-    )?;
+    );
     session.refuses(
+        &rt,
         r#"{"verb":"create","shape":{"kind":"group"},"spot":{"at":"a0"}}"#,
         12,
         "IndexTaken",
-    )?;
+    );
     session.edits(
+        &rt,
         r#"{"verb":"move","id":1,"parent":null,"spot":{"at":"a0"}}"#,
         2,
-    )?;
-    session.edits(r#"{"verb":"move","id":1,"parent":null,"spot":"front"}"#, 3)?;
+    );
+    session.edits(
+        &rt,
+        r#"{"verb":"move","id":1,"parent":null,"spot":"front"}"#,
+        3,
+    );
     session.line(
+        &rt,
         r#"{"verb":"export"}"#,
         r#"{"body":193,"ok":true,"version":3}"#,
-    )?;
-    session.answers.extend_from_slice(
+    );
+    session.body(
+        &rt,
         br#"{"format":2,"next":2,"shapes":[{"hidden":false,"id":1,"place":{"index":"a0","parent":null},"pose":{"dx":0,"dy":0,"flip":false,"quarter":0},"shape":{"fill":"ff0000","h":1,"kind":"rect","w":2}}]}"#,
-    )?;
-    session.check(&rt)
+    );
+    session.check(&rt);
 }
 
 /// Windows that are refused by their level before all else.
@@ -267,247 +272,265 @@ const REFUSED_LEVELS: [(&str, u16, &str); 8] = [
 ];
 
 #[test]
-fn levels_that_are_refused(rt: HostRuntime) -> Result<(), Fail> {
+fn levels_that_are_refused(rt: HostRuntime) {
     for (line, code, name) in REFUSED_LEVELS {
         let mut session = Session::new(rt.alloc());
-        session.refuses(line, code, name)?;
-        session.check(&rt)?;
+        session.refuses(&rt, line, code, name);
+        session.check(&rt);
     }
-    Ok(())
 }
 
 #[test]
-fn patches_of_a_level(rt: HostRuntime) -> Result<(), Fail> {
+fn patches_of_a_level(rt: HostRuntime) {
     let mut session = Session::new(rt.alloc());
     session.creates(
+        &rt,
         r#"{"verb":"create","shape":{"kind":"rect","w":10,"h":10,"fill":"ff0000"}}"#,
         1,
         1,
-    )?;
+    );
     session.paints(
+        &rt,
         r#"{"verb":"patch","x":0,"y":0,"w":3,"h":1,"level":3}"#,
         1,
         "P6\n3 1\n255\n",
         "rrw",
-    )?;
+    );
     session.paints(
+        &rt,
         r#"{"verb":"patch","x":-1,"y":0,"w":2,"h":1,"level":3}"#,
         1,
         "P6\n2 1\n255\n",
         "wr",
-    )?;
+    );
     session.paints(
+        &rt,
         r#"{"verb":"patch","x":32767,"y":-32768,"w":1,"h":1,"level":6}"#,
         1,
         "P6\n1 1\n255\n",
         "w",
-    )?;
-    session.check(&rt)
+    );
+    session.check(&rt);
 }
 
 #[test]
-fn a_pixel_between_those_of_a_level_is_not_seen(rt: HostRuntime) -> Result<(), Fail> {
+fn a_pixel_between_those_of_a_level_is_not_seen(rt: HostRuntime) {
     let mut session = Session::new(rt.alloc());
     session.creates(
+        &rt,
         r#"{"verb":"create","shape":{"kind":"rect","w":1,"h":1,"fill":"ff0000"},"pose":{"dx":1}}"#,
         1,
         1,
-    )?;
+    );
     session.paints(
+        &rt,
         r#"{"verb":"patch","x":0,"y":0,"w":2,"h":1,"level":1}"#,
         1,
         "P6\n2 1\n255\n",
         "ww",
-    )?;
+    );
     session.paints(
+        &rt,
         r#"{"verb":"patch","x":0,"y":0,"w":2,"h":1,"level":0}"#,
         1,
         "P6\n2 1\n255\n",
         "wr",
-    )?;
-    session.check(&rt)
+    );
+    session.check(&rt);
 }
 
 #[test]
-fn a_turned_frame_cuts_what_it_holds(rt: HostRuntime) -> Result<(), Fail> {
+fn a_turned_frame_cuts_what_it_holds(rt: HostRuntime) {
     let mut session = Session::new(rt.alloc());
     session.creates(
+        &rt,
         r#"{"verb":"create","shape":{"kind":"frame","w":2,"h":1},"pose":{"dx":1,"quarter":1}}"#,
         1,
         1,
-    )?;
+    );
     session.creates(
+        &rt,
         r#"{"verb":"create","shape":{"kind":"rect","w":5,"h":5,"fill":"00ff00"},"parent":1}"#,
         2,
         2,
-    )?;
+    );
     session.paints(
+        &rt,
         r#"{"verb":"patch","x":-1,"y":-1,"w":3,"h":4}"#,
         2,
         "P6\n3 4\n255\n",
         "wwwwgwwgwwww",
-    )?;
-    session.check(&rt)
+    );
+    session.check(&rt);
 }
 
 #[test]
-fn frames_in_frames_cut_and_hide(rt: HostRuntime) -> Result<(), Fail> {
+fn frames_in_frames_cut_and_hide(rt: HostRuntime) {
     let mut session = Session::new(rt.alloc());
     session.creates(
+        &rt,
         r#"{"verb":"create","shape":{"kind":"frame","w":4,"h":4}}"#,
         1,
         1,
-    )?;
+    );
     session.creates(
+        &rt,
         r#"{"verb":"create","shape":{"kind":"frame","w":8,"h":2},"parent":1}"#,
         2,
         2,
-    )?;
+    );
     session.creates(
+        &rt,
         r#"{"verb":"create","shape":{"kind":"rect","w":6,"h":2,"fill":"00ff00"},"parent":2}"#,
         3,
         3,
-    )?;
+    );
     let patch = r#"{"verb":"patch","x":0,"y":0,"w":6,"h":2}"#;
-    session.paints(patch, 3, "P6\n6 2\n255\n", "ggggwwggggww")?;
-    session.edits(r#"{"verb":"show","id":1,"hidden":true}"#, 4)?;
-    session.paints(patch, 4, "P6\n6 2\n255\n", "wwwwwwwwwwww")?;
-    session.check(&rt)
+    session.paints(&rt, patch, 3, "P6\n6 2\n255\n", "ggggwwggggww");
+    session.edits(&rt, r#"{"verb":"show","id":1,"hidden":true}"#, 4);
+    session.paints(&rt, patch, 4, "P6\n6 2\n255\n", "wwwwwwwwwwww");
+    session.check(&rt);
 }
 
 #[test]
-fn no_shape_goes_below_itself(rt: HostRuntime) -> Result<(), Fail> {
+fn no_shape_goes_below_itself(rt: HostRuntime) {
     let mut session = Session::new(rt.alloc());
     session.creates(
+        &rt,
         r#"{"verb":"create","shape":{"kind":"frame","w":3,"h":1,"fill":"ff0000"}}"#,
         1,
         1,
-    )?;
+    );
     session.creates(
+        &rt,
         r#"{"verb":"create","shape":{"kind":"frame","w":2,"h":1,"fill":"00ff00"},"parent":1}"#,
         2,
         2,
-    )?;
+    );
     session.creates(
+        &rt,
         r#"{"verb":"create","shape":{"kind":"frame","w":1,"h":1,"fill":"0000ff"},"parent":2}"#,
         3,
         3,
-    )?;
+    );
     let patch = r#"{"verb":"patch","x":0,"y":0,"w":4,"h":1}"#;
-    session.paints(patch, 3, "P6\n4 1\n255\n", "bgrw")?;
+    session.paints(&rt, patch, 3, "P6\n4 1\n255\n", "bgrw");
     session.refuses(
+        &rt,
         r#"{"verb":"move","id":1,"parent":3,"spot":"front"}"#,
         5,
         "Cycle",
-    )?;
-    session.paints(patch, 3, "P6\n4 1\n255\n", "bgrw")?;
-    session.check(&rt)
+    );
+    session.paints(&rt, patch, 3, "P6\n4 1\n255\n", "bgrw");
+    session.check(&rt);
 }
 
 #[test]
-fn no_shape_lies_below_thirty_two(rt: HostRuntime) -> Result<(), Fail> {
+fn no_shape_lies_below_thirty_two(rt: HostRuntime) {
     let alloc = rt.alloc();
     let mut session = Session::new(alloc);
-    session.creates(r#"{"verb":"create","shape":{"kind":"group"}}"#, 1, 1)?;
+    session.creates(&rt, r#"{"verb":"create","shape":{"kind":"group"}}"#, 1, 1);
     for parent in 1..32u32 {
         let request = format!(in alloc;
             r#"{{"verb":"create","shape":{{"kind":"group"}},"parent":{parent}}}"#
-        )?;
-        session.creates(&request, parent + 1, parent + 1)?;
+        ).expect(&rt, "memory");
+        session.creates(&rt, &request, parent + 1, parent + 1);
     }
-    session.creates(RECTANGLE, 33, 33)?;
+    session.creates(&rt, RECTANGLE, 33, 33);
     session.refuses(
+        &rt,
         r#"{"verb":"move","id":33,"parent":32,"spot":"front"}"#,
         6,
         "TooDeep",
-    )?;
+    );
     session.refuses(
+        &rt,
         r#"{"verb":"create","shape":{"kind":"group"},"parent":32}"#,
         6,
         "TooDeep",
-    )?;
-    session.check(&rt)
+    );
+    session.check(&rt);
 }
 
 #[test]
-fn spots_among_siblings(rt: HostRuntime) -> Result<(), Fail> {
+fn spots_among_siblings(rt: HostRuntime) {
     let mut session = Session::new(rt.alloc());
-    session.creates(RECTANGLE, 1, 1)?;
-    session.creates(RECTANGLE, 2, 2)?;
-    session.creates(r#"{"verb":"create","shape":{"kind":"group"}}"#, 3, 3)?;
+    session.creates(&rt, RECTANGLE, 1, 1);
+    session.creates(&rt, RECTANGLE, 2, 2);
+    session.creates(&rt, r#"{"verb":"create","shape":{"kind":"group"}}"#, 3, 3);
     session.creates(
+        &rt,
         r#"{"verb":"create","shape":{"kind":"group"},"parent":3}"#,
         4,
         4,
-    )?;
+    );
     session.refuses(
+        &rt,
         r#"{"verb":"create","shape":{"kind":"group"},"spot":{"at":"a1"}}"#,
         12,
         "IndexTaken",
-    )?;
+    );
     session.refuses(
+        &rt,
         r#"{"verb":"move","id":1,"parent":null,"spot":{"over":4}}"#,
         11,
         "SpotNotSibling",
-    )?;
+    );
     session.refuses(
+        &rt,
         r#"{"verb":"move","id":1,"parent":null,"spot":{"over":1}}"#,
         11,
         "SpotNotSibling",
-    )?;
-    session.check(&rt)
+    );
+    session.check(&rt);
 }
 
 #[test]
-fn respacing_shows_the_same(rt: HostRuntime) -> Result<(), Fail> {
+fn respacing_shows_the_same(rt: HostRuntime) {
     let mut session = Session::new(rt.alloc());
     session.creates(
+        &rt,
         r#"{"verb":"create","shape":{"kind":"rect","w":3,"h":1,"fill":"ff0000"},"spot":{"at":"a0V"}}"#,
         1,
         1,
-    )?;
+    );
     session.creates(
+        &rt,
         r#"{"verb":"create","shape":{"kind":"rect","w":2,"h":1,"fill":"00ff00"},"spot":{"at":"a0l"}}"#,
         2,
         2,
-    )?;
+    );
     session.creates(
+        &rt,
         r#"{"verb":"create","shape":{"kind":"rect","w":1,"h":1,"fill":"0000ff"},"spot":{"at":"b00"}}"#,
         3,
         3,
-    )?;
+    );
     let patch = r#"{"verb":"patch","x":0,"y":0,"w":4,"h":1}"#;
-    session.paints(patch, 3, "P6\n4 1\n255\n", "bgrw")?;
-    session.edits(r#"{"verb":"respace","parent":null}"#, 4)?;
-    session.paints(patch, 4, "P6\n4 1\n255\n", "bgrw")?;
+    session.paints(&rt, patch, 3, "P6\n4 1\n255\n", "bgrw");
+    session.edits(&rt, r#"{"verb":"respace","parent":null}"#, 4);
+    session.paints(&rt, patch, 4, "P6\n4 1\n255\n", "bgrw");
     for (index, version) in [("a0", 4u32), ("a1", 4), ("a2", 4)] {
         let request = format!(in rt.alloc();
             r#"{{"verb":"create","shape":{{"kind":"group"}},"spot":{{"at":"{index}"}}}}"#
-        )?;
-        session.refuses(&request, 12, "IndexTaken")?;
-        session.paints(patch, version, "P6\n4 1\n255\n", "bgrw")?;
+        ).expect(&rt, "memory");
+        session.refuses(&rt, &request, 12, "IndexTaken");
+        session.paints(&rt, patch, version, "P6\n4 1\n255\n", "bgrw");
     }
-    session.creates(r#"{"verb":"create","shape":{"kind":"group"}}"#, 4, 5)?;
-    session.edits(r#"{"verb":"respace","parent":4}"#, 6)?;
-    session.check(&rt)
+    session.creates(&rt, r#"{"verb":"create","shape":{"kind":"group"}}"#, 4, 5);
+    session.edits(&rt, r#"{"verb":"respace","parent":4}"#, 6);
+    session.check(&rt);
 }
 
 #[test]
-fn ids_are_spent(rt: HostRuntime) -> Result<(), Fail> {
+fn ids_are_spent(rt: HostRuntime) {
     let alloc = rt.alloc();
-    let document = match Document::restore(alloc, Vec::new(alloc), u32::MAX) {
-        Ok(document) => document,
-        Err(_) => return Err(Fail::from("no document")),
-    };
-    let mut board = match Alone::new(alloc, document, 10) {
-        Ok(board) => board,
-        Err(_) => return Err(Fail::from("no board")),
-    };
+    let spent = Document::restore(alloc, Vec::new(alloc), u32::MAX).expect(&rt, "a document");
+    let mut board = Alone::new(alloc, spent, 10).expect(&rt, "a board");
     let mut out = Vec::new(alloc);
     let mut reader: &[u8] = b"{\"verb\":\"create\",\"shape\":{\"kind\":\"group\"}}\n";
     let served = serve(&rt, alloc, &mut board, 1, &mut reader, &mut out);
     assert!(rt; served.is_ok());
     let spent: &[u8] = b"{\"body\":0,\"code\":15,\"name\":\"IdsSpent\",\"ok\":false}\n";
     assert!(rt; out.as_slice() == spent);
-    Ok(())
 }

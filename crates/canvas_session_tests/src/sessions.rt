@@ -2,12 +2,12 @@
 
 use canvas_board::Alone;
 use canvas_doc::Document;
-use canvas_session::{Cause, Served, answer_line, serve};
+use canvas_session::{Cause, Served, SessionFault, answer_line, serve};
 use std::alloc::Global;
 use std::io;
 use std::io::{ErrorKind, Read, Write};
+use std::process::Abort;
 use std::sync::Wait;
-use std::test::Fail;
 use std::thread::Threads;
 
 /// A reader that gives one byte a read, and fails once it has given some reads.
@@ -100,31 +100,71 @@ impl Write for Counting<'_> {
     }
 }
 
-pub(crate) fn board(alloc: Global) -> Result<Alone, Fail> {
-    match Alone::new(alloc, Document::empty(alloc), 1_000_000) {
-        Ok(board) => Ok(board),
-        Err(_) => Err(Fail::from("no board")),
-    }
+// Serves a session over an empty document, by one worker.
+fn served<H: Threads + Wait + Sync + Abort, R: Read, W: Write>(
+    rt: &H,
+    alloc: Global,
+    reader: &mut R,
+    writer: &mut W,
+) -> Result<Served, SessionFault> {
+    let mut board = board(rt, alloc);
+    serve(rt, alloc, &mut board, 1, reader, writer)
 }
 
-/// Checks what a session writes, in one piece and byte by byte.
-pub(crate) fn check<H: Threads + Wait + Sync>(
+fn board(rt: &impl Abort, alloc: Global) -> Alone {
+    Alone::new(alloc, Document::empty(alloc), 1_000_000).expect(rt, "a board")
+}
+
+// The fault that such a session ends with.
+fn fault_of<H: Threads + Wait + Sync + Abort, R: Read, W: Write>(
+    rt: &H,
+    alloc: Global,
+    reader: &mut R,
+    writer: &mut W,
+) -> SessionFault {
+    served(rt, alloc, reader, writer).expect_err(rt, "a fault")
+}
+
+/// Asserts what a session writes, in one piece and byte by byte.
+pub(crate) fn check<H: Threads + Wait + Sync + Abort>(
     rt: &H,
     alloc: Global,
     input: &[u8],
     output: &[u8],
     requests: u64,
-) -> Result<(), Fail> {
+) {
     let wanted = Served {
         requests,
         written: output.len() as u64,
     };
-    let mut whole = Vec::new(alloc);
+    assert!(rt; is_served(rt, alloc, input, output, wanted), "in one piece");
+    assert!(rt;
+        is_dripped(rt, alloc, input, output, wanted),
+        "byte by byte"
+    );
+}
+
+// Whether a session in one piece writes this.
+fn is_served<H: Threads + Wait + Sync + Abort>(
+    rt: &H,
+    alloc: Global,
+    input: &[u8],
+    output: &[u8],
+    wanted: Served,
+) -> bool {
     let mut reader = input;
-    let served = serve(rt, alloc, &mut board(alloc)?, 1, &mut reader, &mut whole);
-    if served != Ok(wanted) || whole.as_slice() != output {
-        return Err(Fail::from("in one piece"));
-    }
+    let mut whole = Vec::new(alloc);
+    served(rt, alloc, &mut reader, &mut whole) == Ok(wanted) && whole.as_slice() == output
+}
+
+// Whether a session byte by byte writes this.
+fn is_dripped<H: Threads + Wait + Sync + Abort>(
+    rt: &H,
+    alloc: Global,
+    input: &[u8],
+    output: &[u8],
+    wanted: Served,
+) -> bool {
     let mut drip = Drip {
         rest: input,
         reads_left: usize::MAX,
@@ -134,11 +174,7 @@ pub(crate) fn check<H: Threads + Wait + Sync>(
         step: 1,
         room: usize::MAX,
     };
-    let served = serve(rt, alloc, &mut board(alloc)?, 1, &mut drip, &mut narrow);
-    if served != Ok(wanted) || narrow.out.as_slice() != output {
-        return Err(Fail::from("byte by byte"));
-    }
-    Ok(())
+    served(rt, alloc, &mut drip, &mut narrow) == Ok(wanted) && narrow.out.as_slice() == output
 }
 
 pub(crate) const RED: &[u8] =
@@ -157,80 +193,80 @@ const TOO_MANY_REQUESTS: &[u8] =
     b"{\"body\":0,\"code\":73,\"name\":\"TooManyRequests\",\"ok\":false}\n";
 
 #[test]
-fn an_empty_document_is_white(rt: HostRuntime) -> Result<(), Fail> {
+fn an_empty_document_is_white(rt: HostRuntime) {
     check(
         &rt,
         rt.alloc(),
         b"{\"verb\":\"patch\",\"x\":0,\"y\":0,\"w\":2,\"h\":1}\n",
         b"{\"body\":17,\"ok\":true,\"version\":0}\nP6\n2 1\n255\n\xff\xff\xff\xff\xff\xff",
         1,
-    )
+    );
 }
 
 #[test]
-fn a_red_rectangle_is_painted(rt: HostRuntime) -> Result<(), Fail> {
-    check(&rt, rt.alloc(), RED, RED_ANSWERS, 2)
+fn a_red_rectangle_is_painted(rt: HostRuntime) {
+    check(&rt, rt.alloc(), RED, RED_ANSWERS, 2);
 }
 
 #[test]
-fn a_rectangle_behind_comes_to_the_front(rt: HostRuntime) -> Result<(), Fail> {
+fn a_rectangle_behind_comes_to_the_front(rt: HostRuntime) {
     check(
         &rt,
         rt.alloc(),
         b"{\"verb\":\"create\",\"shape\":{\"kind\":\"rect\",\"w\":2,\"h\":1,\"fill\":\"ff0000\"}}\n{\"verb\":\"create\",\"shape\":{\"kind\":\"rect\",\"w\":2,\"h\":1,\"fill\":\"0000ff\"},\"spot\":\"back\"}\n{\"verb\":\"point\",\"x\":0,\"y\":0}\n{\"verb\":\"move\",\"id\":2,\"parent\":null,\"spot\":\"front\"}\n{\"verb\":\"point\",\"x\":0,\"y\":0}\n",
         b"{\"body\":0,\"id\":1,\"ok\":true,\"version\":1}\n{\"body\":0,\"id\":2,\"ok\":true,\"version\":2}\n{\"body\":0,\"colour\":\"ff0000\",\"ok\":true,\"version\":2}\n{\"body\":0,\"ok\":true,\"version\":3}\n{\"body\":0,\"colour\":\"0000ff\",\"ok\":true,\"version\":3}\n",
         5,
-    )
+    );
 }
 
 #[test]
-fn a_point_is_asked(rt: HostRuntime) -> Result<(), Fail> {
+fn a_point_is_asked(rt: HostRuntime) {
     check(
         &rt,
         rt.alloc(),
         b"{\"verb\":\"create\",\"shape\":{\"kind\":\"rect\",\"w\":2,\"h\":1,\"fill\":\"ff0000\"}}\r\n{\"verb\":\"point\",\"x\":1,\"y\":0}\r\n",
         b"{\"body\":0,\"id\":1,\"ok\":true,\"version\":1}\n{\"body\":0,\"colour\":\"ff0000\",\"ok\":true,\"version\":1}\n",
         2,
-    )
+    );
 }
 
 #[test]
-fn the_document_is_exported(rt: HostRuntime) -> Result<(), Fail> {
+fn the_document_is_exported(rt: HostRuntime) {
     check(
         &rt,
         rt.alloc(),
         b"{\"verb\":\"export\"}\n",
         b"{\"body\":33,\"ok\":true,\"version\":0}\n{\"format\":2,\"next\":1,\"shapes\":[]}",
         1,
-    )
+    );
 }
 
 #[test]
-fn what_is_refused_has_its_code(rt: HostRuntime) -> Result<(), Fail> {
+fn what_is_refused_has_its_code(rt: HostRuntime) {
     check(
         &rt,
         rt.alloc(),
         b"[]\n{\n\n{\"verb\":\"paint\"}\n{\"verb\":\"delete\",\"id\":1}\n{\"verb\":\"patch\",\"x\":0,\"y\":0,\"w\":257,\"h\":1}\n{\"verb\":\"tile\",\"col\":8192,\"row\":0}\n",
         b"{\"body\":0,\"code\":51,\"name\":\"NotObject\",\"ok\":false}\n{\"body\":0,\"code\":50,\"name\":\"BadJson\",\"ok\":false}\n{\"body\":0,\"code\":50,\"name\":\"BadJson\",\"ok\":false}\n{\"body\":0,\"code\":52,\"name\":\"BadVerb\",\"ok\":false}\n{\"body\":0,\"code\":2,\"name\":\"NoSuchShape\",\"ok\":false}\n{\"body\":0,\"code\":30,\"name\":\"BadWindow\",\"ok\":false}\n{\"body\":0,\"code\":30,\"name\":\"BadWindow\",\"ok\":false}\n",
         7,
-    )
+    );
 }
 
 #[test]
-fn a_picture_by_seventeen_workers(rt: HostRuntime) -> Result<(), Fail> {
+fn a_picture_by_seventeen_workers(rt: HostRuntime) {
     let alloc = rt.alloc();
     let mut out = Vec::new(alloc);
     let mut reader: &[u8] = b"{\"verb\":\"tile\",\"col\":0,\"row\":0}\n";
-    let served = serve(&rt, alloc, &mut board(alloc)?, 17, &mut reader, &mut out);
+    let mut board = board(&rt, alloc);
+    let served = serve(&rt, alloc, &mut board, 17, &mut reader, &mut out);
     assert!(rt; served.is_ok());
     assert!(rt; out.as_slice() == BAD_WORKERS);
-    Ok(())
 }
 
 #[test]
-fn a_line_is_answered_alone(rt: HostRuntime) -> Result<(), Fail> {
+fn a_line_is_answered_alone(rt: HostRuntime) {
     let alloc = rt.alloc();
-    let mut board = board(alloc)?;
+    let mut board = board(&rt, alloc);
     let answer = answer_line(
         &rt,
         alloc,
@@ -243,11 +279,10 @@ fn a_line_is_answered_alone(rt: HostRuntime) -> Result<(), Fail> {
         "{\"body\":196623,\"ok\":true,\"version\":0}\n"
     );
     assert_eq!(rt; answer.body().len(), 196_623);
-    Ok(())
 }
 
 #[test]
-fn a_writer_that_fails(rt: HostRuntime) -> Result<(), Fail> {
+fn a_writer_that_fails(rt: HostRuntime) {
     let alloc = rt.alloc();
     assert_eq!(rt; RED_ANSWERS.len(), 94);
     for room in 0..94usize {
@@ -257,21 +292,17 @@ fn a_writer_that_fails(rt: HostRuntime) -> Result<(), Fail> {
             step: 10,
             room,
         };
-        let served = serve(&rt, alloc, &mut board(alloc)?, 1, &mut reader, &mut writer);
-        let Err(fault) = served else {
-            return Err(Fail::from("no fault"));
-        };
+        let fault = fault_of(&rt, alloc, &mut reader, &mut writer);
         assert!(rt; fault.cause == Cause::WriteFault);
         assert_eq!(rt; fault.code(), 72);
         assert_eq!(rt; fault.written, room as u64);
         assert_eq!(rt; fault.answered, (room >= 40) as u64);
         assert_eq!(rt; writer.out.as_slice(), &RED_ANSWERS[..room]);
     }
-    Ok(())
 }
 
 #[test]
-fn a_writer_that_takes_nothing(rt: HostRuntime) -> Result<(), Fail> {
+fn a_writer_that_takes_nothing(rt: HostRuntime) {
     let alloc = rt.alloc();
     let mut reader = RED;
     let mut writer = Narrow {
@@ -279,29 +310,23 @@ fn a_writer_that_takes_nothing(rt: HostRuntime) -> Result<(), Fail> {
         step: 0,
         room: 100,
     };
-    let Err(fault) = serve(&rt, alloc, &mut board(alloc)?, 1, &mut reader, &mut writer) else {
-        return Err(Fail::from("no fault"));
-    };
+    let fault = fault_of(&rt, alloc, &mut reader, &mut writer);
     assert_eq!(rt; fault.code(), 72);
     assert_eq!(rt; fault.written, 0);
-    Ok(())
 }
 
 #[test]
-fn a_writer_that_cannot_be_flushed(rt: HostRuntime) -> Result<(), Fail> {
+fn a_writer_that_cannot_be_flushed(rt: HostRuntime) {
     let alloc = rt.alloc();
     let mut reader = RED;
     let mut writer = Flushed {
         out: Vec::new(alloc),
         flushes_left: 0,
     };
-    let Err(fault) = serve(&rt, alloc, &mut board(alloc)?, 1, &mut reader, &mut writer) else {
-        return Err(Fail::from("no fault"));
-    };
+    let fault = fault_of(&rt, alloc, &mut reader, &mut writer);
     assert_eq!(rt; fault.code(), 72);
     assert_eq!(rt; fault.answered, 0);
     assert!(rt; reader == RED);
-    Ok(())
 }
 
 // What is written where so many lines are answered.
@@ -314,32 +339,29 @@ fn answers_to(lines: usize) -> &'static [u8] {
 }
 
 #[test]
-fn an_input_that_is_cut(rt: HostRuntime) -> Result<(), Fail> {
+fn an_input_that_is_cut(rt: HostRuntime) {
     let alloc = rt.alloc();
     for end in 0..=RED.len() {
         let (mut reader, rest) = RED.split_at(end);
         let before = RED.len() - rest.len();
         let mut out = Vec::new(alloc);
         let lines = reader.iter().filter(|byte| **byte == b'\n').count();
-        let served = serve(&rt, alloc, &mut board(alloc)?, 1, &mut reader, &mut out);
+        let served = served(&rt, alloc, &mut reader, &mut out);
         let requests = lines as u64;
         let written = out.len() as u64;
         assert_eq!(rt; out.as_slice(), answers_to(lines));
         if before == 0 || RED[before - 1] == b'\n' {
             assert!(rt; served == Ok(Served { requests, written }));
         } else {
-            let Err(fault) = served else {
-                return Err(Fail::from("no fault"));
-            };
+            let fault = served.expect_err(&rt, "a fault");
             assert_eq!(rt; fault.name(), "CutLine");
             assert_eq!(rt; (fault.answered, fault.written), (requests, written));
         }
     }
-    Ok(())
 }
 
 #[test]
-fn a_reader_that_fails(rt: HostRuntime) -> Result<(), Fail> {
+fn a_reader_that_fails(rt: HostRuntime) {
     let alloc = rt.alloc();
     for reads_left in 0..=RED.len() {
         let mut reader = Drip {
@@ -351,54 +373,45 @@ fn a_reader_that_fails(rt: HostRuntime) -> Result<(), Fail> {
             .iter()
             .filter(|byte| **byte == b'\n')
             .count();
-        let Err(fault) = serve(&rt, alloc, &mut board(alloc)?, 1, &mut reader, &mut out) else {
-            return Err(Fail::from("no fault"));
-        };
+        let fault = fault_of(&rt, alloc, &mut reader, &mut out);
         assert_eq!(rt; fault.code(), 71);
         assert_eq!(rt; fault.answered, lines as u64);
         assert_eq!(rt; fault.written, out.len() as u64);
         assert_eq!(rt; out.as_slice(), answers_to(lines));
     }
-    Ok(())
 }
 
 #[test]
-fn a_line_that_is_too_long(rt: HostRuntime) -> Result<(), Fail> {
+fn a_line_that_is_too_long(rt: HostRuntime) {
     let alloc = rt.alloc();
     let mut reader = Same {
         byte: b' ',
         left: usize::MAX,
     };
     let mut out = Vec::new(alloc);
-    let Err(fault) = serve(&rt, alloc, &mut board(alloc)?, 1, &mut reader, &mut out) else {
-        return Err(Fail::from("no fault"));
-    };
+    let fault = fault_of(&rt, alloc, &mut reader, &mut out);
     assert_eq!(rt; fault.code(), 70);
     assert_eq!(rt; fault.answered, 0);
     assert_eq!(rt; fault.written, out.len() as u64);
     assert!(rt; out.as_slice() == LINE_TOO_LONG);
     assert_eq!(rt; usize::MAX.saturating_sub(reader.left), 65_537);
-    Ok(())
 }
 
 #[test]
-fn the_longest_line_is_read(rt: HostRuntime) -> Result<(), Fail> {
+fn the_longest_line_is_read(rt: HostRuntime) {
     let alloc = rt.alloc();
-    let mut input = vec![in alloc; b' '; 65_536]?;
-    input.push(b'\n')?;
-    check(&rt, rt.alloc(), input.as_slice(), BAD_JSON, 1)?;
-    input.insert(0, b' ')?;
+    let mut input = vec![in alloc; b' '; 65_536].expect(&rt, "memory");
+    input.push(b'\n').expect(&rt, "memory");
+    check(&rt, alloc, &input, BAD_JSON, 1);
+    input.insert(0, b' ').expect(&rt, "memory");
     let mut reader = input.as_slice();
     let mut out = Vec::new(alloc);
-    let Err(fault) = serve(&rt, alloc, &mut board(alloc)?, 1, &mut reader, &mut out) else {
-        return Err(Fail::from("no fault"));
-    };
+    let fault = fault_of(&rt, alloc, &mut reader, &mut out);
     assert!(rt; fault.cause == Cause::LineTooLong);
-    Ok(())
 }
 
 #[test]
-fn one_line_too_many(rt: HostRuntime) -> Result<(), Fail> {
+fn one_line_too_many(rt: HostRuntime) {
     let alloc = rt.alloc();
     let mut reader = Same {
         byte: b'\n',
@@ -409,15 +422,12 @@ fn one_line_too_many(rt: HostRuntime) -> Result<(), Fail> {
         count: 0,
         others: Vec::new(alloc),
     };
-    let Err(fault) = serve(&rt, alloc, &mut board(alloc)?, 1, &mut reader, &mut writer) else {
-        return Err(Fail::from("no fault"));
-    };
+    let fault = fault_of(&rt, alloc, &mut reader, &mut writer);
     assert_eq!(rt; fault.code(), 73);
     assert_eq!(rt; fault.answered, 1_000_000);
     assert_eq!(rt; fault.written, 49_000_057);
     assert_eq!(rt; writer.count, 1_000_000);
     assert!(rt; writer.others.as_slice() == TOO_MANY_REQUESTS);
-    Ok(())
 }
 
 /// A writer that can be flushed so many times.
@@ -444,25 +454,22 @@ impl Write for Flushed {
 
 // The first flush comes before anything is read, the second once all lines that were read have their answers.
 #[test]
-fn a_writer_whose_second_flush_fails(rt: HostRuntime) -> Result<(), Fail> {
+fn a_writer_whose_second_flush_fails(rt: HostRuntime) {
     let alloc = rt.alloc();
     let mut reader = RED;
     let mut writer = Flushed {
         out: Vec::new(alloc),
         flushes_left: 1,
     };
-    let Err(fault) = serve(&rt, alloc, &mut board(alloc)?, 1, &mut reader, &mut writer) else {
-        return Err(Fail::from("no fault"));
-    };
+    let fault = fault_of(&rt, alloc, &mut reader, &mut writer);
     assert_eq!(rt; fault.code(), 72);
     assert_eq!(rt; (fault.answered, fault.written), (2, 94));
     assert_eq!(rt; writer.out.as_slice(), RED_ANSWERS);
-    Ok(())
 }
 
 // The closing reply to a line that is too long is flushed too.
 #[test]
-fn a_writer_whose_last_flush_fails(rt: HostRuntime) -> Result<(), Fail> {
+fn a_writer_whose_last_flush_fails(rt: HostRuntime) {
     let alloc = rt.alloc();
     for (flushes_left, code, written) in [(0, 72, 0), (1, 72, 53), (2, 70, 53)] {
         let mut reader = Same {
@@ -473,21 +480,16 @@ fn a_writer_whose_last_flush_fails(rt: HostRuntime) -> Result<(), Fail> {
             out: Vec::new(alloc),
             flushes_left,
         };
-        let Err(fault) = serve(&rt, alloc, &mut board(alloc)?, 1, &mut reader, &mut writer) else {
-            return Err(Fail::from("no fault"));
-        };
+        let fault = fault_of(&rt, alloc, &mut reader, &mut writer);
         assert_eq!(rt; (fault.code(), fault.written), (code, written));
         assert_eq!(rt; writer.out.len() as u64, written);
     }
-    Ok(())
 }
 
 #[test]
-fn versions_have_a_limit(rt: HostRuntime) -> Result<(), Fail> {
+fn versions_have_a_limit(rt: HostRuntime) {
     let alloc = rt.alloc();
-    let Ok(mut board) = Alone::new(alloc, Document::empty(alloc), 2) else {
-        return Err(Fail::from("no board"));
-    };
+    let mut board = Alone::new(alloc, Document::empty(alloc), 2).expect(&rt, "a board");
     let mut reader: &[u8] =
         b"{\"verb\":\"respace\",\"parent\":null}\n{\"verb\":\"respace\",\"parent\":1}\n{\"verb\":\"respace\",\"parent\":null}\n{\"verb\":\"respace\",\"parent\":null}\n{\"verb\":\"respace\",\"parent\":1}\n";
     let answers: &[u8] =
@@ -496,5 +498,4 @@ fn versions_have_a_limit(rt: HostRuntime) -> Result<(), Fail> {
     let served = serve(&rt, alloc, &mut board, 1, &mut reader, &mut out);
     assert!(rt; served.is_ok());
     assert_eq!(rt; out.as_slice(), answers);
-    Ok(())
 }

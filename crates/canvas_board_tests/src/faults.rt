@@ -11,23 +11,28 @@ use canvas_session::{Cause, SessionFault};
 use canvas_shape::KindFault;
 use canvas_store::StoreFault;
 use canvas_wire::WireFault;
-use std::alloc::{AllocError, Global};
+use std::alloc::Global;
 use std::fmt::Display;
-use std::test::Fail;
+use std::process::Abort;
 
-// Whether a fault reads as its name, and its number and name are these.
-fn is_told<T: Display>(
+// Asserts that a fault reads as its name, and that its number and name are these.
+fn assert_told<T: Display>(
+    rt: &impl Abort,
     alloc: Global,
     fault: &T,
     found: (u16, &str),
     wanted: (u16, &str),
-) -> Result<bool, AllocError> {
-    let text = format!(in alloc; "{fault}")?;
-    Ok(found == wanted && text.as_str() == wanted.1)
+) {
+    let text = format!(in alloc; "{fault}").expect(rt, "memory");
+    assert!(rt;
+        found == wanted && text.as_str() == wanted.1,
+        "{}",
+        wanted.1
+    );
 }
 
 #[test]
-fn faults_of_keys(rt: HostRuntime) -> Result<(), Fail> {
+fn faults_of_keys(rt: HostRuntime) {
     for (fault, code, name) in [
         (KeyFault::NoRoom, 13, "NoRoom"),
         (KeyFault::BadHead, 20, "BadHead"),
@@ -38,37 +43,41 @@ fn faults_of_keys(rt: HostRuntime) -> Result<(), Fail> {
         (KeyFault::KeyTooLong, 25, "KeyTooLong"),
     ] {
         let found = (fault.code(), fault.name());
-        assert!(rt; is_told(rt.alloc(), &fault, found, (code, name))?, "{name}");
+        assert_told(&rt, rt.alloc(), &fault, found, (code, name));
     }
-    Ok(())
 }
 
 #[test]
-fn faults_of_values(rt: HostRuntime) -> Result<(), Fail> {
+fn faults_of_values(rt: HostRuntime) {
     let alloc = rt.alloc();
     let memory = (OutOfMemory.code(), OutOfMemory.name());
-    assert!(rt; is_told(alloc, &OutOfMemory, memory, (1, "OutOfMemory"))?);
+    assert_told(&rt, alloc, &OutOfMemory, memory, (1, "OutOfMemory"));
     let pose = PoseFault::BadPose;
-    assert!(rt; is_told(alloc, &pose, (pose.code(), pose.name()), (9, "BadPose"))?);
+    assert_told(
+        &rt,
+        alloc,
+        &pose,
+        (pose.code(), pose.name()),
+        (9, "BadPose"),
+    );
     for (fault, code, name) in [
         (WindowFault::BadLevel, 34, "BadLevel"),
         (WindowFault::BadWindow, 30, "BadWindow"),
     ] {
         let found = (fault.code(), fault.name());
-        assert!(rt; is_told(alloc, &fault, found, (code, name))?, "{name}");
+        assert_told(&rt, alloc, &fault, found, (code, name));
     }
     for (fault, code, name) in [
         (KindFault::BadSize, 8, "BadSize"),
         (KindFault::BadPolygon, 10, "BadPolygon"),
     ] {
         let found = (fault.code(), fault.name());
-        assert!(rt; is_told(alloc, &fault, found, (code, name))?, "{name}");
+        assert_told(&rt, alloc, &fault, found, (code, name));
     }
-    Ok(())
 }
 
 #[test]
-fn refusals_of_edits(rt: HostRuntime) -> Result<(), Fail> {
+fn refusals_of_edits(rt: HostRuntime) {
     for (fault, code, name) in [
         (Refusal::OutOfMemory, 1, "OutOfMemory"),
         (Refusal::NoSuchShape, 2, "NoSuchShape"),
@@ -88,19 +97,15 @@ fn refusals_of_edits(rt: HostRuntime) -> Result<(), Fail> {
     ] {
         let alloc = rt.alloc();
         let found = (fault.code(), fault.name());
-        assert!(rt; is_told(alloc, &fault, found, (code, name))?, "{name}");
+        assert_told(&rt, alloc, &fault, found, (code, name));
         let board = BoardFault::Refused(fault);
         let found = (board.code(), board.name());
-        assert!(rt;
-            is_told(alloc, &board, found, (code, name))?,
-            "{name} of a board"
-        );
+        assert_told(&rt, alloc, &board, found, (code, name));
     }
-    Ok(())
 }
 
 #[test]
-fn faults_of_boards(rt: HostRuntime) -> Result<(), Fail> {
+fn faults_of_boards(rt: HostRuntime) {
     for (fault, code, name) in [
         (BoardFault::OutOfMemory, 1, "OutOfMemory"),
         (BoardFault::VersionsSpent, 16, "VersionsSpent"),
@@ -111,20 +116,19 @@ fn faults_of_boards(rt: HostRuntime) -> Result<(), Fail> {
         (BoardFault::NoView, 33, "NoView"),
     ] {
         let found = (fault.code(), fault.name());
-        assert!(rt; is_told(rt.alloc(), &fault, found, (code, name))?, "{name}");
+        assert_told(&rt, rt.alloc(), &fault, found, (code, name));
     }
-    Ok(())
 }
 
 #[test]
-fn faults_of_pictures(rt: HostRuntime) -> Result<(), Fail> {
+fn faults_of_pictures(rt: HostRuntime) {
     let alloc = rt.alloc();
     for (fault, code, name) in [
         (PaintFault::BadWorkers, 31, "BadWorkers"),
         (PaintFault::OutOfMemory, 1, "OutOfMemory"),
     ] {
         let found = (fault.code(), fault.name());
-        assert!(rt; is_told(alloc, &fault, found, (code, name))?, "{name}");
+        assert_told(&rt, alloc, &fault, found, (code, name));
     }
     for (fault, code, name) in [
         (PpmFault::NotP6, 40, "NotP6"),
@@ -134,13 +138,12 @@ fn faults_of_pictures(rt: HostRuntime) -> Result<(), Fail> {
         (PpmFault::OutOfMemory, 1, "OutOfMemory"),
     ] {
         let found = (fault.code(), fault.name());
-        assert!(rt; is_told(alloc, &fault, found, (code, name))?, "{name}");
+        assert_told(&rt, alloc, &fault, found, (code, name));
     }
-    Ok(())
 }
 
 #[test]
-fn faults_of_saved_documents(rt: HostRuntime) -> Result<(), Fail> {
+fn faults_of_saved_documents(rt: HostRuntime) {
     let alloc = rt.alloc();
     for (fault, code, name) in [
         (TreeFault::OutOfMemory, 1, "OutOfMemory"),
@@ -148,7 +151,7 @@ fn faults_of_saved_documents(rt: HostRuntime) -> Result<(), Fail> {
         (TreeFault::BadTree { position: 3 }, 62, "BadTree"),
     ] {
         let found = (fault.code(), fault.name());
-        assert!(rt; is_told(alloc, &fault, found, (code, name))?, "{name}");
+        assert_told(&rt, alloc, &fault, found, (code, name));
     }
     for (fault, code, name) in [
         (StoreFault::OutOfMemory, 1, "OutOfMemory"),
@@ -158,13 +161,12 @@ fn faults_of_saved_documents(rt: HostRuntime) -> Result<(), Fail> {
         (StoreFault::BadTree { position: 3 }, 62, "BadTree"),
     ] {
         let found = (fault.code(), fault.name());
-        assert!(rt; is_told(alloc, &fault, found, (code, name))?, "{name}");
+        assert_told(&rt, alloc, &fault, found, (code, name));
     }
-    Ok(())
 }
 
 #[test]
-fn faults_of_requests(rt: HostRuntime) -> Result<(), Fail> {
+fn faults_of_requests(rt: HostRuntime) {
     for (fault, code, name) in &[
         (WireFault::OutOfMemory, 1, "OutOfMemory"),
         (WireFault::BadJson, 50, "BadJson"),
@@ -174,16 +176,12 @@ fn faults_of_requests(rt: HostRuntime) -> Result<(), Fail> {
         (WireFault::ExtraField, 54, "ExtraField"),
     ] {
         let found = (fault.code(), fault.name());
-        assert!(rt;
-            is_told(rt.alloc(), fault, found, (*code, *name))?,
-            "{name}"
-        );
+        assert_told(&rt, rt.alloc(), fault, found, (*code, *name));
     }
-    Ok(())
 }
 
 #[test]
-fn causes_that_end_a_session(rt: HostRuntime) -> Result<(), Fail> {
+fn causes_that_end_a_session(rt: HostRuntime) {
     for (cause, code, name) in [
         (Cause::OutOfMemory, 1, "OutOfMemory"),
         (Cause::LineTooLong, 70, "LineTooLong"),
@@ -194,17 +192,13 @@ fn causes_that_end_a_session(rt: HostRuntime) -> Result<(), Fail> {
     ] {
         let alloc = rt.alloc();
         let found = (cause.code(), cause.name());
-        assert!(rt; is_told(alloc, &cause, found, (code, name))?, "{name}");
+        assert_told(&rt, alloc, &cause, found, (code, name));
         let fault = SessionFault {
             cause,
             answered: 1,
             written: 2,
         };
         let found = (fault.code(), fault.name());
-        assert!(rt;
-            is_told(alloc, &fault, found, (code, name))?,
-            "{name} of a session"
-        );
+        assert_told(&rt, alloc, &fault, found, (code, name));
     }
-    Ok(())
 }

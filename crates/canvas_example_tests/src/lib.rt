@@ -1,0 +1,5 @@
+//! Worked examples of documents.
+#![tactic(auto)]
+
+#[cfg(test)]
+mod examples;
