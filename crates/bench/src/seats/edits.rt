@@ -34,15 +34,25 @@ pub fn time_alone<R: Clock + Print>(
     let mut times: Vec<Duration> = Vec::with_capacity(alloc, ROUNDS as usize)?;
     for round in 0..ROUNDS {
         let edit = pose_edit(records, round);
-        let start = Instant::now(rt)?;
-        let change = document.decide(alloc, &edit)?;
-        document = document.with(alloc, &change)?;
-        times.push(start.elapsed(rt)?)?;
+        times.push(time_edit(rt, alloc, &mut document, &edit)?)?;
     }
     print_times(rt, "alone", records, times)
 }
 
-/// Times an edit through the first of these seats.
+/// The time in which a document becomes the one after an edit.
+fn time_edit<R: Clock>(
+    rt: &R,
+    alloc: Global,
+    document: &mut Document,
+    edit: &Edit,
+) -> anyhow::Result<Duration> {
+    let start = Instant::now(rt)?;
+    let change = document.decide(alloc, edit)?;
+    *document = document.with(alloc, &change)?;
+    Ok(start.elapsed(rt)?)
+}
+
+/// Times an edit through each of these seats in turn.
 pub fn time_through_seats<B: Lines, R: Clock + Print + Wait>(
     rt: &R,
     alloc: Global,
@@ -51,15 +61,26 @@ pub fn time_through_seats<B: Lines, R: Clock + Print + Wait>(
 ) -> anyhow::Result<()> {
     let mut times: Vec<Duration> = Vec::with_capacity(alloc, ROUNDS as usize)?;
     for mut seat in seats {
-        for round in 0..ROUNDS {
-            let edit = pose_edit(records, round);
-            let start = Instant::now(rt)?;
-            seat.edit(rt, &edit)?;
-            times.push(start.elapsed(rt)?)?;
-        }
+        time_seat(rt, &mut seat, records, &mut times)?;
         seat.close(rt);
     }
     print_times(rt, "by a seat", records, times)
+}
+
+/// Times edits through a seat.
+fn time_seat<B: Lines, R: Clock + Wait>(
+    rt: &R,
+    seat: &mut Seat<B>,
+    records: usize,
+    times: &mut Vec<Duration>,
+) -> anyhow::Result<()> {
+    for round in 0..ROUNDS {
+        let edit = pose_edit(records, round);
+        let start = Instant::now(rt)?;
+        seat.edit(rt, &edit)?;
+        times.push(start.elapsed(rt)?)?;
+    }
+    Ok(())
 }
 
 fn print_times<R: Print>(
