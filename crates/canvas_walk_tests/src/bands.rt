@@ -4,7 +4,6 @@ use crate::levels::random_kind;
 use crate::shapes::{Dice, away, rect, with};
 use crate::walk::agrees;
 use bumpalo::Bump;
-use canvas_code::OutOfMemory;
 use canvas_doc::{Document, Parent};
 use canvas_paint::append_strip;
 use canvas_plane::Window;
@@ -12,7 +11,6 @@ use canvas_scene::{Item, Scene};
 use canvas_shape::Colour;
 use std::alloc::Global;
 use std::process::Abort;
-use std::test::Fail;
 
 // How many shapes a document has. A strip paints up to 128 at once.
 const SHAPES: u32 = 320;
@@ -23,54 +21,69 @@ fn scaled(pixels: u32, level: u8) -> u32 {
 }
 
 // Small shapes over one another, among them some large ones, and a rectangle in front that hides some.
-fn crowd(alloc: Global, dice: &mut Dice, level: u8) -> Result<Document, OutOfMemory> {
+fn crowd(rt: &impl Abort, alloc: Global, dice: &mut Dice, level: u8) -> Document {
     let mut document = Document::empty(alloc);
     let low = 0_i64.saturating_sub(i64::from(scaled(8, level)));
     for _ in 0..SHAPES {
         let reach = if dice.below(12) == 0 { 40 } else { 6 };
-        let kind = random_kind(alloc, dice, scaled(reach, level))?;
+        let kind = random_kind(rt, alloc, dice, scaled(reach, level));
         let pose = dice.turned(low, scaled(90, level), scaled(60, level));
-        document = with(alloc, document, kind, pose, Parent::Page)?;
+        document = with(alloc, document, kind, pose, Parent::Page).expect(rt, "memory");
     }
     let front = rect(scaled(20, level), scaled(16, level), Colour([1, 2, 3]));
     let at = i64::from(scaled(10, level));
-    with(alloc, document, front, away(at, at), Parent::Page)
+    with(alloc, document, front, away(at, at), Parent::Page).expect(rt, "memory")
 }
 
 // The picture of a window in two strips, of which the second begins at a row.
 fn in_two(
+    rt: &impl Abort,
     alloc: Global,
     items: &[Item<'_>],
     window: &Window,
     row: u32,
-) -> Result<Vec<u8>, OutOfMemory> {
+) -> Vec<u8> {
     let middle = row.min(window.h());
     let mut bytes = Vec::new(alloc);
-    append_strip(alloc, items, window, 0, middle, &mut bytes)?;
-    append_strip(alloc, items, window, middle, window.h(), &mut bytes)?;
-    Ok(bytes)
+    append_strip(alloc, items, window, 0, middle, &mut bytes).expect(rt, "memory");
+    append_strip(alloc, items, window, middle, window.h(), &mut bytes).expect(rt, "memory");
+    bytes
+}
+
+// Compares a picture with those in two strips.
+fn compare_strips(
+    rt: &impl Abort,
+    alloc: Global,
+    items: &[Item<'_>],
+    window: &Window,
+    whole: &[u8],
+) {
+    for row in [1, 15, 16, 17, 33, 42_u32] {
+        let parts = in_two(rt, alloc, items, window, row);
+        assert!(rt; parts.as_slice() == whole, "{} {row}", window.level());
+    }
 }
 
 // Compares a random document with its picture in a window of a level.
-fn compare(rt: &impl Abort, alloc: Global, level: u8) -> Result<(), Fail> {
-    let mut dice = Dice(u64::from(level).wrapping_add(77));
-    let document = crowd(alloc, &mut dice, level)?;
-    let window = Window::at_level(level, -3, -2, 70, 43)?;
+fn compare(rt: &impl Abort, alloc: Global, level: u8) {
+    let document = crowd(
+        rt,
+        alloc,
+        &mut Dice(u64::from(level).wrapping_add(77)),
+        level,
+    );
+    let window = Window::at_level(level, -3, -2, 70, 43).expect(rt, "a window");
     let bump = Bump::new(alloc);
-    let scene = Scene::build(&bump, &document, &window)?;
+    let scene = Scene::build(&bump, &document, &window).expect(rt, "memory");
     let items = scene.display_list();
     assert!(rt; items.len() > 128, "{level}: {}", items.len());
-    let whole = in_two(alloc, items, &window, 0)?;
+    let whole = in_two(rt, alloc, items, &window, 0);
     assert!(rt; agrees(&document, &window, whole.as_slice()), "{level}");
-    for row in [1, 15, 16, 17, 33, 42_u32] {
-        let parts = in_two(alloc, items, &window, row)?;
-        assert!(rt; parts.as_slice() == whole.as_slice(), "{level} {row}");
-    }
-    Ok(())
+    compare_strips(rt, alloc, items, &window, whole.as_slice());
 }
 
 #[test]
-fn pictures_of_many_shapes_are_the_walk(rt: HostRuntime) -> Result<(), Fail> {
-    compare(&rt, rt.alloc(), 0)?;
-    compare(&rt, rt.alloc(), 3)
+fn pictures_of_many_shapes_are_the_walk(rt: HostRuntime) {
+    compare(&rt, rt.alloc(), 0);
+    compare(&rt, rt.alloc(), 3);
 }

@@ -3,32 +3,24 @@
 use crate::shapes::{Dice, away, ellipse, frame, rect, small_polygon, with};
 use crate::walk::is_walk;
 use bumpalo::Bump;
-use canvas_code::OutOfMemory;
 use canvas_doc::{Document, Parent};
 use canvas_plane::Window;
 use canvas_scene::Scene;
 use canvas_shape::{Colour, Kind};
 use std::alloc::Global;
 use std::process::Abort;
-use std::test::Fail;
 
 const RED: Colour = Colour([255, 0, 0]);
 
 const GREEN: Colour = Colour([0, 255, 0]);
 
 // The document with a shape in front at a place.
-fn at(
-    alloc: Global,
-    document: Document,
-    kind: Kind,
-    x: i64,
-    y: i64,
-) -> Result<Document, OutOfMemory> {
-    with(alloc, document, kind, away(x, y), Parent::Page)
+fn at(rt: &impl Abort, alloc: Global, document: Document, kind: Kind, x: i64, y: i64) -> Document {
+    with(alloc, document, kind, away(x, y), Parent::Page).expect(rt, "memory")
 }
 
 // The document with four rectangles in front that tile `w` by `h` pixels, parted at column and row 128.
-fn tiled(alloc: Global, document: Document, w: u32, h: u32) -> Result<Document, OutOfMemory> {
+fn tiled(rt: &impl Abort, alloc: Global, document: Document, w: u32, h: u32) -> Document {
     let wide = w.saturating_sub(128);
     let high = h.saturating_sub(128);
     let mut document = document;
@@ -38,114 +30,119 @@ fn tiled(alloc: Global, document: Document, w: u32, h: u32) -> Result<Document, 
         (0, 128, 128, high),
         (128, 128, wide, high),
     ] {
-        document = at(alloc, document, rect(w, h, GREEN), x, y)?;
+        document = at(rt, alloc, document, rect(w, h, GREEN), x, y);
     }
-    Ok(document)
+    document
 }
 
 // From the back a frame, a rectangle, an ellipse and a polygon, all of which show something.
-fn behind(alloc: Global) -> Result<Document, OutOfMemory> {
+fn behind(rt: &impl Abort, alloc: Global) -> Document {
     let document = Document::empty(alloc);
-    let document = at(alloc, document, frame(300, 300, Some(RED)), 0, 0)?;
-    let document = at(alloc, document, rect(250, 250, RED), 0, 0)?;
-    let document = at(alloc, document, ellipse(200, 90, RED), 30, 40)?;
-    let polygon = small_polygon(alloc, &mut Dice(5), RED)?;
-    at(alloc, document, polygon, 120, 120)
+    let document = at(rt, alloc, document, frame(300, 300, Some(RED)), 0, 0);
+    let document = at(rt, alloc, document, rect(250, 250, RED), 0, 0);
+    let document = at(rt, alloc, document, ellipse(200, 90, RED), 30, 40);
+    let polygon = small_polygon(rt, alloc, &mut Dice(5), RED);
+    at(rt, alloc, document, polygon, 120, 120)
 }
 
 // How many items a window has.
-fn count(alloc: Global, document: &Document, window: &Window) -> Result<usize, OutOfMemory> {
+fn count(rt: &impl Abort, alloc: Global, document: &Document, window: &Window) -> usize {
     let bump = Bump::new(alloc);
-    let scene = Scene::build(&bump, document, window)?;
-    Ok(scene.display_list().len())
+    let scene = Scene::build(&bump, document, window).expect(rt, "memory");
+    scene.display_list().len()
 }
 
 // How many items a window has of the shapes behind, with four rectangles in front that tile so many pixels.
-fn count_tiled(alloc: Global, window: &Window, w: u32, h: u32) -> Result<usize, OutOfMemory> {
-    let document = tiled(alloc, behind(alloc)?, w, h)?;
-    count(alloc, &document, window)
+fn count_tiled(rt: &impl Abort, alloc: Global, window: &Window, w: u32, h: u32) -> usize {
+    let document = tiled(rt, alloc, behind(rt, alloc), w, h);
+    count(rt, alloc, &document, window)
 }
 
 #[test]
-fn four_rectangles_that_tile_the_window_hide_all(rt: HostRuntime) -> Result<(), Fail> {
+fn four_rectangles_that_tile_the_window_hide_all(rt: HostRuntime) {
     let alloc = rt.alloc();
-    let tile = Window::tile(0, 0)?;
-    let document = behind(alloc)?;
-    assert_eq!(rt; count(alloc, &document, &tile)?, 4);
-    let document = tiled(alloc, document, 256, 256)?;
-    assert_eq!(rt; (document.count(), count(alloc, &document, &tile)?), (8, 4));
-    Ok(())
+    let tile = Window::tile(0, 0).expect(&rt, "a window");
+    let document = behind(&rt, alloc);
+    assert_eq!(rt; count(&rt, alloc, &document, &tile), 4);
+    let document = tiled(&rt, alloc, document, 256, 256);
+    assert_eq!(rt;
+        (document.count(), count(&rt, alloc, &document, &tile)),
+        (8, 4)
+    );
 }
 
 #[test]
-fn cells_at_the_right_and_bottom_edges_are_cut(rt: HostRuntime) -> Result<(), Fail> {
+fn cells_at_the_right_and_bottom_edges_are_cut(rt: HostRuntime) {
     let alloc = rt.alloc();
-    let window = Window::new(0, 0, 201, 131)?;
-    assert_eq!(rt; count_tiled(alloc, &window, 201, 131)?, 4);
-    assert!(rt; count_tiled(alloc, &window, 200, 131)? > 4);
-    Ok(())
+    let window = Window::new(0, 0, 201, 131).expect(&rt, "a window");
+    assert_eq!(rt; count_tiled(&rt, alloc, &window, 201, 131), 4);
+    assert!(rt; count_tiled(&rt, alloc, &window, 200, 131) > 4);
+}
+
+// How many items a window has of one rectangle with four in front that tile so many pixels.
+fn count_of_one_tiled(rt: &impl Abort, alloc: Global, window: &Window, w: u32, h: u32) -> usize {
+    let document = Document::empty(alloc);
+    let document = at(rt, alloc, document, rect(1000, 1000, RED), 0, 0);
+    let document = tiled(rt, alloc, document, w, h);
+    count(rt, alloc, &document, window)
 }
 
 #[test]
-fn a_window_of_a_level_has_greater_cells(rt: HostRuntime) -> Result<(), Fail> {
+fn a_window_of_a_level_has_greater_cells(rt: HostRuntime) {
     let alloc = rt.alloc();
-    let window = Window::at_level(2, 0, 0, 201, 131)?;
+    let window = Window::at_level(2, 0, 0, 201, 131).expect(&rt, "a window");
     for (w, wanted) in [(804, 4), (803, 5)] {
-        let behind = at(alloc, Document::empty(alloc), rect(1000, 1000, RED), 0, 0)?;
-        let document = tiled(alloc, behind, w, 524)?;
-        assert_eq!(rt; (w, count(alloc, &document, &window)?), (w, wanted));
+        let found = count_of_one_tiled(&rt, alloc, &window, w, 524);
+        assert_eq!(rt; (w, found), (w, wanted));
     }
-    Ok(())
 }
 
 #[test]
-fn a_polygon_behind_a_part_of_the_tiles_alone_makes_an_item(rt: HostRuntime) -> Result<(), Fail> {
+fn a_polygon_behind_a_part_of_the_tiles_alone_makes_an_item(rt: HostRuntime) {
     let alloc = rt.alloc();
-    let tile = Window::tile(0, 0)?;
-    let polygon = small_polygon(alloc, &mut Dice(6), RED)?;
-    let mut document = at(alloc, Document::empty(alloc), polygon, 128, 128)?;
+    let tile = Window::tile(0, 0).expect(&rt, "a window");
+    let polygon = small_polygon(&rt, alloc, &mut Dice(6), RED);
+    let mut document = at(&rt, alloc, Document::empty(alloc), polygon, 128, 128);
     for x in [0, 128] {
-        document = at(alloc, document, rect(128, 256, GREEN), x, 0)?;
-        assert_eq!(rt; (x, count(alloc, &document, &tile)?), (x, 2));
+        document = at(&rt, alloc, document, rect(128, 256, GREEN), x, 0);
+        assert_eq!(rt; (x, count(&rt, alloc, &document, &tile)), (x, 2));
     }
-    Ok(())
 }
 
 // A shape with sides up to 140, most often a rectangle.
-fn random_kind(alloc: Global, dice: &mut Dice) -> Result<Kind, OutOfMemory> {
+fn random_kind(rt: &impl Abort, alloc: Global, dice: &mut Dice) -> Kind {
     let w = dice.below(140).saturating_add(1);
     let h = dice.below(140).saturating_add(1);
     let fill = Colour([dice.byte(256), 90, 7]);
-    Ok(match dice.below(6) {
+    match dice.below(6) {
         0 => ellipse(w, h, fill),
-        1 => small_polygon(alloc, dice, fill)?,
+        1 => small_polygon(rt, alloc, dice, fill),
         _ => rect(w, h, fill),
-    })
+    }
 }
 
 // A document of shapes that lie over one another, most of them rectangles.
-fn random_document(alloc: Global, dice: &mut Dice) -> Result<Document, OutOfMemory> {
+fn random_document(rt: &impl Abort, alloc: Global, dice: &mut Dice) -> Document {
     let mut document = Document::empty(alloc);
     for _ in 0..24u32 {
-        let kind = random_kind(alloc, dice)?;
+        let kind = random_kind(rt, alloc, dice);
         let pose = dice.turned(-40, 290, 290);
-        document = with(alloc, document, kind, pose, Parent::Page)?;
+        document = with(alloc, document, kind, pose, Parent::Page).expect(rt, "memory");
     }
-    Ok(document)
+    document
 }
 
 // Compares random documents with their pictures in a window.
-fn compare(rt: &impl Abort, alloc: Global, seed: u64, window: &Window) -> Result<(), OutOfMemory> {
+fn compare(rt: &impl Abort, alloc: Global, seed: u64, window: &Window) {
     let mut dice = Dice(seed);
     for _ in 0..3u32 {
-        let document = random_document(alloc, &mut dice)?;
-        assert!(rt; is_walk(alloc, &document, window)?, "{seed}");
+        let document = random_document(rt, alloc, &mut dice);
+        assert!(rt; is_walk(rt, alloc, &document, window), "{seed}");
     }
-    Ok(())
 }
 
 #[test]
-fn pictures_of_many_rectangles_are_the_walk(rt: HostRuntime) -> Result<(), Fail> {
+fn pictures_of_many_rectangles_are_the_walk(rt: HostRuntime) {
     for (seed, x, y, w, h) in [
         (21, 70, 60, 1, 1),
         (22, 3, -7, 33, 256),
@@ -153,7 +150,7 @@ fn pictures_of_many_rectangles_are_the_walk(rt: HostRuntime) -> Result<(), Fail>
         (24, 5, 5, 9, 8),
         (25, 31, 18, 97, 130),
     ] {
-        compare(&rt, rt.alloc(), seed, &Window::new(x, y, w, h)?)?;
+        let window = Window::new(x, y, w, h).expect(&rt, "a window");
+        compare(&rt, rt.alloc(), seed, &window);
     }
-    Ok(())
 }

@@ -5,6 +5,7 @@ use canvas_doc::{Document, Edit, Parent, Spot};
 use canvas_plane::{Point, Pose};
 use canvas_shape::{Colour, Kind, Points};
 use std::alloc::Global;
+use std::process::Abort;
 
 /// Numbers that look random.
 #[derive(Drop)]
@@ -73,30 +74,27 @@ pub(crate) fn frame(w: u32, h: u32, fill: Option<Colour>) -> Kind {
 
 /// A polygon that mostly crosses itself, with so many vertices in a square.
 pub(crate) fn polygon(
+    rt: &impl Abort,
     alloc: Global,
     dice: &mut Dice,
     count: u32,
     low: i64,
     size: u32,
     fill: Colour,
-) -> Result<Kind, OutOfMemory> {
+) -> Kind {
     let mut points = Points::new(alloc);
     for _ in 0..count {
         let x = dice.within(low, size);
         let y = dice.within(low, size);
-        points.push(Point { x, y })?;
+        points.push(Point { x, y }).expect(rt, "memory");
     }
-    Ok(Kind::Polygon { points, fill })
+    Kind::Polygon { points, fill }
 }
 
 /// A polygon of 3 to 11 vertices.
-pub(crate) fn small_polygon(
-    alloc: Global,
-    dice: &mut Dice,
-    fill: Colour,
-) -> Result<Kind, OutOfMemory> {
+pub(crate) fn small_polygon(rt: &impl Abort, alloc: Global, dice: &mut Dice, fill: Colour) -> Kind {
     let count = dice.below(9).saturating_add(3);
-    polygon(alloc, dice, count, -12, 40, fill)
+    polygon(rt, alloc, dice, count, -12, 40, fill)
 }
 
 /// An edit that puts a shape in front of a parent's children.
@@ -156,10 +154,10 @@ pub(crate) fn with(
 }
 
 /// Two groups that lie `far` from the origin, one in the other.
-pub(crate) fn far_groups(alloc: Global, far: i64) -> Result<Document, OutOfMemory> {
+pub(crate) fn far_groups(rt: &impl Abort, alloc: Global, far: i64) -> Document {
     let back = 0 - far.min(1_048_576).max(-1_048_576);
     let pose = away(far, back);
     let document = Document::empty(alloc);
-    let document = with(alloc, document, Kind::Group, pose, Parent::Page)?;
-    with(alloc, document, Kind::Group, pose, Parent::Shape(1))
+    let outer = with(alloc, document, Kind::Group, pose, Parent::Page).expect(rt, "memory");
+    with(alloc, outer, Kind::Group, pose, Parent::Shape(1)).expect(rt, "memory")
 }

@@ -2,13 +2,13 @@
 
 use crate::shapes::Dice;
 use bumpalo::Bump;
-use canvas_code::OutOfMemory;
 use canvas_doc::Document;
 use canvas_paint::paint_strip;
 use canvas_plane::Window;
 use canvas_scene::Scene;
 use canvas_shape::Colour;
 use std::alloc::Global;
+use std::process::Abort;
 
 // The place of the page that a window shows so many pixels from its edge.
 fn shown(window: &Window, edge: i32, at: u32) -> i32 {
@@ -37,14 +37,16 @@ pub(crate) fn agrees(document: &Document, window: &Window, bytes: &[u8]) -> bool
 
 /// Whether a document's picture in a window has its colour at each pixel.
 pub(crate) fn is_walk(
+    rt: &impl Abort,
     alloc: Global,
     document: &Document,
     window: &Window,
-) -> Result<bool, OutOfMemory> {
+) -> bool {
     let bump = Bump::new(alloc);
-    let scene = Scene::build(&bump, document, window)?;
-    let bytes = paint_strip(alloc, scene.display_list(), window, 0, window.h())?;
-    Ok(agrees(document, window, bytes.as_slice()))
+    let scene = Scene::build(&bump, document, window).expect(rt, "memory");
+    let items = scene.display_list();
+    let bytes = paint_strip(alloc, items, window, 0, window.h()).expect(rt, "memory");
+    agrees(document, window, bytes.as_slice())
 }
 
 // A place near another.
