@@ -112,12 +112,13 @@ fn frames_in_frames_cut_by_both(rt: HostRuntime) {
 }
 
 // The picture of a document in a window of 256 by 2, in two strips of a row each.
-fn joined(rt: &impl Abort, alloc: Global, document: &Document, window: &Window) -> Vec<u8> {
+fn joined(rt: &impl Abort, alloc: Global, document: &Document) -> Vec<u8> {
+    let window = Window::new(0, 0, 256, 2).expect(rt, "a window");
     let bump = Bump::new(alloc);
-    let scene = Scene::build(&bump, document, window).expect(rt, "memory");
+    let scene = Scene::build(&bump, document, &window).expect(rt, "memory");
     let items = scene.display_list();
-    let mut joined = paint_strip(alloc, items, window, 0, 1).expect(rt, "memory");
-    let second = paint_strip(alloc, items, window, 1, 2).expect(rt, "memory");
+    let mut joined = paint_strip(alloc, items, &window, 0, 1).expect(rt, "memory");
+    let second = paint_strip(alloc, items, &window, 1, 2).expect(rt, "memory");
     joined.extend_from_slice(&second).expect(rt, "memory");
     joined
 }
@@ -133,7 +134,7 @@ fn strips_joined_are_the_picture(rt: HostRuntime) {
         (strip_rows(2, 0, 2), strip_rows(2, 1, 2)),
         ((0, 1), (1, 2))
     );
-    assert!(rt; joined(&rt, alloc, &document, &window) == whole);
+    assert!(rt; joined(&rt, alloc, &document) == whole);
 }
 
 // The picture of a red rectangle in a window of so many columns and two rows, by so many workers.
@@ -152,10 +153,9 @@ fn by_workers<R: Threads + Sync + Abort>(
 
 // Two red pixels, and the others of a window of 256 by 2.
 fn red_corner(rt: &impl Abort, alloc: Global) -> Vec<u8> {
-    let mut pixels = vec![in alloc; 255u8; 1536].expect(rt, "memory");
-    for place in [1, 2, 4, 5] {
-        pixels[place] = 0;
-    }
+    let white = vec![in alloc; 255u8; 1530].expect(rt, "memory");
+    let mut pixels = Vec::from_slice(alloc, b"\xff\x00\x00\xff\x00\x00").expect(rt, "memory");
+    pixels.extend_from_slice(&white).expect(rt, "memory");
     pixels
 }
 
