@@ -1,10 +1,10 @@
 //! A thread that edits.
 use crate::lines::rectangle;
-use canvas_code::OutOfMemory;
 use canvas_doc::Edit;
-use canvas_line::{Lines, Seat};
+use canvas_line::{Edited, Lines, Seat};
 use canvas_plane::Pose;
 use std::alloc::Global;
+use std::process::Abort;
 use std::sync::Wait;
 
 /// An edit that was accepted, and its number.
@@ -24,33 +24,38 @@ pub(crate) struct Edits {
 }
 
 /// So many edits: new rectangles, moved, hidden and shown, and some of them deleted.
-pub(crate) fn make_edits<B: Lines, R: Wait>(
+pub(crate) fn make_edits<B: Lines, R: Wait + Abort>(
     rt: &R,
     alloc: Global,
     seat: &mut Seat<B>,
     count: u32,
-) -> Result<Edits, OutOfMemory> {
+) -> Edits {
     let mut own: Vec<u32> = Vec::new(alloc);
     let mut accepted = Vec::new(alloc);
     let mut wrong = 0u32;
     for step in 0..count {
-        let edit = next_edit(&mut own, step);
-        let before = seat.number();
-        match seat.edit(rt, &edit) {
-            Ok(edited) if before < edited.number && seat.number() == edited.number => {
-                if let Some(id) = edited.id {
-                    own.push(id)?;
+        match make(rt, seat, next_edit(&mut own, step)) {
+            Some(made) => {
+                if let Some(id) = made.id {
+                    own.push(id).expect(rt, "memory");
                 }
-                accepted.push(Accepted {
-                    number: edited.number,
-                    id: edited.id,
-                    edit,
-                })?;
+                accepted.push(made).expect(rt, "memory");
             }
-            _ => wrong = wrong.saturating_add(1),
+            None => wrong = wrong.saturating_add(1),
         }
     }
-    Ok(Edits { accepted, wrong })
+    Edits { accepted, wrong }
+}
+
+// Makes an edit, if it is accepted and raises the seat's number to its own.
+fn make<B: Lines, R: Wait>(rt: &R, seat: &mut Seat<B>, edit: Edit) -> Option<Accepted> {
+    let before = seat.number();
+    let Edited { number, id } = seat.edit(rt, &edit).ok()?;
+    if before < number && seat.number() == number {
+        Some(Accepted { number, id, edit })
+    } else {
+        None
+    }
 }
 
 // The next edit of an editor that has made these shapes.

@@ -56,6 +56,12 @@ fn opened<B: Lines, P: Play, R: Wait + Abort>(
     }
 }
 
+/// The only seat of a line.
+pub(crate) fn only<B: Lines, R: Abort>(rt: &R, mut seats: Vec<Seat<B>>) -> Seat<B> {
+    assert_eq!(rt; seats.len(), 1);
+    seats.pop().expect(rt, "a seat")
+}
+
 /// The failure of a test that a refusal ends.
 pub(crate) fn failed(fault: LineFault) -> Fail {
     Fail::from(fault.name())

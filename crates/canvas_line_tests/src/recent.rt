@@ -1,5 +1,5 @@
 //! The damage of the last changes.
-use crate::lines::{Play, Setting, at_a_line, edited, failed, rectangle, seen};
+use crate::lines::{Play, Setting, at_a_line, edited, only, rectangle, seen};
 use canvas_doc::{Document, Edit};
 use canvas_line::{Lines, Seat};
 use canvas_plane::PageBox;
@@ -9,45 +9,50 @@ use std::sync::Wait;
 use std::test::Fail;
 
 // The damage of the change that an edit makes of a document.
-fn area_of(alloc: Global, document: &Document, edit: &Edit) -> Result<PageBox, Fail> {
-    match document.decide(alloc, edit) {
-        Ok(change) => Ok(document.damage(&change)),
-        Err(why) => Err(Fail::from(why.name())),
-    }
+fn area_of<R: Abort>(rt: &R, alloc: Global, document: &Document, edit: &Edit) -> PageBox {
+    let change = document
+        .decide(alloc, edit)
+        .expect(rt, "an edit that is accepted");
+    document.damage(&change)
+}
+
+// The damage of the change that an edit makes of the document that a seat sees, which is then edited.
+fn area_made<B: Lines, R: Wait + Abort>(
+    rt: &R,
+    alloc: Global,
+    seat: &mut Seat<B>,
+    edit: &Edit,
+) -> PageBox {
+    let before = seen(seat).expect(rt, "a version");
+    let area = area_of(rt, alloc, &before.document, edit);
+    edited(rt, seat, edit).expect(rt, "an edit that is accepted");
+    area
 }
 
 // Makes so many rectangles, each one pixel to the right of the one before. Answers the damage of each.
-fn areas_of<B: Lines, R: Wait>(
+fn areas_of<B: Lines, R: Wait + Abort>(
     rt: &R,
     alloc: Global,
     seat: &mut Seat<B>,
     count: i64,
-) -> Result<Vec<PageBox>, Fail> {
+) -> Vec<PageBox> {
     let mut areas = Vec::new(alloc);
     for place in 0..count {
-        let edit = rectangle(1, 1, place);
-        let before = seen(seat).map_err(failed)?;
-        areas.push(area_of(alloc, &before.document, &edit)?)?;
-        edited(rt, seat, &edit).map_err(failed)?;
+        let area = area_made(rt, alloc, seat, &rectangle(1, 1, place));
+        areas.push(area).expect(rt, "memory");
     }
-    Ok(areas)
+    areas
 }
 
-// Whether a version tells of these areas, as those of the changes from this number on.
-fn tells<B: Lines, R: Abort>(
-    rt: &R,
-    seat: &mut Seat<B>,
-    first: u64,
-    areas: &[PageBox],
-) -> Result<(), Fail> {
-    let version = seen(seat).map_err(failed)?;
+// Asserts that a version tells of these areas, as those of the changes from this number on.
+fn assert_told<B: Lines, R: Abort>(rt: &R, seat: &mut Seat<B>, first: u64, areas: &[PageBox]) {
+    let version = seen(seat).expect(rt, "a version");
     assert_eq!(rt; version.recent.len(), areas.len());
     let (older, newer) = version.recent.as_slices();
     for (place, told) in older.iter().chain(newer).enumerate() {
         assert!(rt; first.checked_add(place as u64) == Some(told.number));
         assert!(rt; areas.get(place) == Some(&told.area));
     }
-    Ok(())
 }
 
 /// Each of three changes is told of.
@@ -57,12 +62,13 @@ impl Play for Three {
     fn play<B: Lines, R: Wait + Abort>(
         rt: &R,
         alloc: Global,
-        mut seats: Vec<Seat<B>>,
+        seats: Vec<Seat<B>>,
     ) -> Result<(), Fail> {
-        let mut seat = seats.pop().ok_or("no seat")?;
-        tells(rt, &mut seat, 1, &[])?;
-        let areas = areas_of(rt, alloc, &mut seat, 3)?;
-        tells(rt, &mut seat, 1, &areas)
+        let mut seat = only(rt, seats);
+        assert_told(rt, &mut seat, 1, &[]);
+        let areas = areas_of(rt, alloc, &mut seat, 3);
+        assert_told(rt, &mut seat, 1, &areas);
+        Ok(())
     }
 }
 
@@ -83,13 +89,13 @@ impl Play for Seventy {
     fn play<B: Lines, R: Wait + Abort>(
         rt: &R,
         alloc: Global,
-        mut seats: Vec<Seat<B>>,
+        seats: Vec<Seat<B>>,
     ) -> Result<(), Fail> {
-        let mut seat = seats.pop().ok_or("no seat")?;
-        let areas = areas_of(rt, alloc, &mut seat, 70)?;
-        let last = areas.get(6..).ok_or("too few")?;
-        assert_eq!(rt; last.len(), 64);
-        tells(rt, &mut seat, 7, last)
+        let mut seat = only(rt, seats);
+        let areas = areas_of(rt, alloc, &mut seat, 70);
+        assert_eq!(rt; areas.len(), 70);
+        assert_told(rt, &mut seat, 7, &areas[6..]);
+        Ok(())
     }
 }
 

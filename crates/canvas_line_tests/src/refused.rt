@@ -1,5 +1,5 @@
 //! Edits that the document refuses, on the only seat of a line.
-use crate::lines::{Play, RED, Setting, at_a_line, create, edited, failed, rectangle};
+use crate::lines::{Play, RED, Setting, at_a_line, create, edited, only, rectangle, seen};
 use canvas_doc::{Document, Edit, Parent, Refusal, Spot};
 use canvas_key::Key;
 use canvas_line::{LineFault, Lines, Seat};
@@ -14,11 +14,8 @@ fn to(id: u32, parent: Parent, spot: Spot) -> Edit {
 }
 
 /// Makes an edit that is to be accepted.
-fn accept<B: Lines, R: Wait>(rt: &R, seat: &mut Seat<B>, edit: &Edit) -> Result<(), Fail> {
-    match edited(rt, seat, edit) {
-        Ok(_) => Ok(()),
-        Err(fault) => Err(failed(fault)),
-    }
+fn accept<B: Lines, R: Wait + Abort>(rt: &R, seat: &mut Seat<B>, edit: &Edit) {
+    edited(rt, seat, edit).expect(rt, "an edit that is accepted");
 }
 
 /// Makes an edit that is to be refused, after which the seat has the same number.
@@ -35,20 +32,20 @@ impl Play for Frames {
     fn play<B: Lines, R: Wait + Abort>(
         rt: &R,
         _alloc: Global,
-        mut seats: Vec<Seat<B>>,
+        seats: Vec<Seat<B>>,
     ) -> Result<(), Fail> {
-        let mut seat = seats.pop().ok_or("no seat")?;
+        let mut seat = only(rt, seats);
         for parent in [Parent::Page, Parent::Shape(1), Parent::Shape(2)] {
             let frame = Kind::Frame {
                 w: 4,
                 h: 4,
                 fill: Some(RED),
             };
-            accept(rt, &mut seat, &create(frame, 0, parent, Spot::Front))?;
+            accept(rt, &mut seat, &create(frame, 0, parent, Spot::Front));
         }
         let under_itself = to(1, Parent::Shape(3), Spot::Front);
         refuse(rt, &mut seat, &under_itself, Refusal::Cycle);
-        let version = seat.look().map_err(failed)?;
+        let version = seen(&mut seat).expect(rt, "a version");
         assert_eq!(rt; version.number, 3);
         assert!(rt; version.document.colour_at(0, 0) == RED);
         Ok(())
@@ -72,15 +69,15 @@ impl Play for Groups {
     fn play<B: Lines, R: Wait + Abort>(
         rt: &R,
         _alloc: Global,
-        mut seats: Vec<Seat<B>>,
+        seats: Vec<Seat<B>>,
     ) -> Result<(), Fail> {
-        let mut seat = seats.pop().ok_or("no seat")?;
+        let mut seat = only(rt, seats);
         let mut parent = Parent::Page;
         for id in 1..33u32 {
-            accept(rt, &mut seat, &create(Kind::Group, 0, parent, Spot::Front))?;
+            accept(rt, &mut seat, &create(Kind::Group, 0, parent, Spot::Front));
             parent = Parent::Shape(id);
         }
-        accept(rt, &mut seat, &rectangle(1, 1, 0))?;
+        accept(rt, &mut seat, &rectangle(1, 1, 0));
         let under_all = to(33, parent, Spot::Front);
         refuse(rt, &mut seat, &under_all, Refusal::TooDeep);
         let new = create(Kind::Group, 0, parent, Spot::Front);
@@ -106,24 +103,22 @@ impl Play for Spots {
     fn play<B: Lines, R: Wait + Abort>(
         rt: &R,
         _alloc: Global,
-        mut seats: Vec<Seat<B>>,
+        seats: Vec<Seat<B>>,
     ) -> Result<(), Fail> {
-        let mut seat = seats.pop().ok_or("no seat")?;
-        accept(rt, &mut seat, &rectangle(1, 1, 0))?;
-        accept(rt, &mut seat, &rectangle(1, 1, 1))?;
+        let mut seat = only(rt, seats);
+        accept(rt, &mut seat, &rectangle(1, 1, 0));
+        accept(rt, &mut seat, &rectangle(1, 1, 1));
         accept(
             rt,
             &mut seat,
             &create(Kind::Group, 0, Parent::Page, Spot::Front),
-        )?;
+        );
         accept(
             rt,
             &mut seat,
             &create(Kind::Group, 0, Parent::Shape(3), Spot::Front),
-        )?;
-        let Ok(taken) = Key::read(b"a1") else {
-            return Err(Fail::from("no key"));
-        };
+        );
+        let taken = Key::read(b"a1").expect(rt, "a key");
         let at_another = to(1, Parent::Page, Spot::At(taken));
         refuse(rt, &mut seat, &at_another, Refusal::IndexTaken);
         for id in [4, 1] {
@@ -151,9 +146,9 @@ impl Play for Ids {
     fn play<B: Lines, R: Wait + Abort>(
         rt: &R,
         _alloc: Global,
-        mut seats: Vec<Seat<B>>,
+        seats: Vec<Seat<B>>,
     ) -> Result<(), Fail> {
-        let mut seat = seats.pop().ok_or("no seat")?;
+        let mut seat = only(rt, seats);
         refuse(rt, &mut seat, &rectangle(1, 1, 0), Refusal::IdsSpent);
         Ok(())
     }
@@ -162,9 +157,7 @@ impl Play for Ids {
 #[test]
 fn ids_are_spent(rt: HostRuntime) -> Result<(), Fail> {
     let alloc = rt.alloc();
-    let Ok(document) = Document::restore(alloc, Vec::new(alloc), u32::MAX) else {
-        return Err(Fail::from("no document"));
-    };
+    let document = Document::restore(alloc, Vec::new(alloc), u32::MAX).expect(&rt, "a document");
     let setting = Setting {
         seats: 1,
         limit: 10,

@@ -1,14 +1,13 @@
 //! Settings of a line, and seats of two lines.
 ghost use Rattle.std.specs.Prelude.{◌≡◌};
 
-use crate::lines::failed;
+use crate::lines::only;
 use canvas_doc::Document;
-use canvas_line::{Line, LineFault, Lines, Opened};
+use canvas_line::{Line, LineFault, Lines, Opened, Seat};
 use std::alloc::Global;
 use std::marker::Brand;
 use std::process::Abort;
 use std::sync::Wait;
-use std::test::Fail;
 
 #[test]
 fn settings_outside_the_ranges(rt: HostRuntime) {
@@ -63,11 +62,11 @@ fn refused<B: Lines, R: Wait + Abort>(
 }
 
 #[test]
-fn seats_of_two_lines_are_strangers(rt: HostRuntime) -> Result<(), Fail> {
+fn seats_of_two_lines_are_strangers(rt: HostRuntime) {
     let alloc = rt.alloc();
     let one = Document::empty(alloc);
     let two = Document::empty(alloc);
-    apart::<Brand, _>(&rt, alloc, Opened::new(), one, Opened::new(), two)
+    apart::<Brand, _>(&rt, alloc, Opened::new(), one, Opened::new(), two);
 }
 
 fn apart<B: Lines, R: Wait + Abort>(
@@ -77,16 +76,17 @@ fn apart<B: Lines, R: Wait + Abort>(
     one: Document,
     second: Opened,
     two: Document,
-) -> Result<(), Fail>
+)
     requires first { B.line 1 ≡ record { book = first.head.word.book; opening = one; limit = 10 } }
     requires second { B.line 2 ≡ record { book = second.head.word.book; opening = two; limit = 10 } }
 {
-    let mut ones = Line::open::<B, R>(rt, alloc, first, 1, one, 1, 10).map_err(failed)?;
-    let mut twos = Line::open::<B, R>(rt, alloc, second, 2, two, 1, 10).map_err(failed)?;
-    let mut a = ones.pop().ok_or("no seat")?;
-    let mut b = twos.pop().ok_or("no seat")?;
+    let ones = Line::open::<B, R>(rt, alloc, first, 1, one, 1, 10).expect(rt, "a line");
+    let twos = Line::open::<B, R>(rt, alloc, second, 2, two, 1, 10).expect(rt, "a line");
     let strangers = LineFault::Strangers { own: 1, found: 2 };
-    assert!(rt; a.meet(rt, &mut b) == Err(strangers));
+    assert!(rt; met(rt, only(rt, ones), only(rt, twos)) == Err(strangers));
     assert_eq!(rt; strangers.code(), 18);
-    Ok(())
+}
+
+fn met<B: Lines, R: Wait>(rt: &R, mut one: Seat<B>, mut other: Seat<B>) -> Result<(), LineFault> {
+    one.meet(rt, &mut other)
 }

@@ -2,17 +2,14 @@
 ghost use Rattle.std.specs.Prelude.{◌≡◌};
 
 use crate::editor::{Accepted, Edits, make_edits};
-use crate::lines::failed;
 use crate::replayed::{by_number, is_right, replayed};
 use crate::viewer::{Sight, Sights, take_looks};
-use canvas_code::OutOfMemory;
 use canvas_doc::Document;
 use canvas_line::{Line, Lines, Opened, Seat};
 use std::alloc::Global;
 use std::marker::Brand;
 use std::process::Abort;
 use std::sync::Wait;
-use std::test::Fail;
 use std::thread::{self, Threads};
 
 /// At how many lines the threads meet, one after another.
@@ -39,22 +36,21 @@ struct Job<B: Lines> {
 
 /// What a thread gives back.
 #[derive(Drop)]
-struct Done {
-    edits: Option<Edits>,
-    sights: Option<Sights>,
+enum Done {
+    Edits(Edits),
+    Sights(Sights),
 }
 
 #[test]
-fn four_threads_edit_and_twenty_look(rt: HostRuntime) -> Result<(), Fail> {
+fn four_threads_edit_and_twenty_look(rt: HostRuntime) {
     for _ in 0..LINES {
-        crowd_at_a_line(&rt, rt.alloc())?;
+        crowd_at_a_line(&rt, rt.alloc());
     }
-    Ok(())
 }
 
-fn crowd_at_a_line<R: Threads + Wait + Abort + Sync>(rt: &R, alloc: Global) -> Result<(), Fail> {
+fn crowd_at_a_line<R: Threads + Wait + Abort + Sync>(rt: &R, alloc: Global) {
     let document = Document::empty(alloc);
-    crowd::<Brand, R>(rt, alloc, Opened::new(), document)
+    crowd::<Brand, R>(rt, alloc, Opened::new(), document);
 }
 
 fn crowd<B: Lines + Send + Sync, R: Threads + Wait + Abort + Sync>(
@@ -62,69 +58,59 @@ fn crowd<B: Lines + Send + Sync, R: Threads + Wait + Abort + Sync>(
     alloc: Global,
     opened: Opened,
     document: Document,
-) -> Result<(), Fail>
+)
     requires { B.line 1 ≡ record { book = opened.head.word.book; opening = document; limit = 1000000 } }
 {
-    let opened = Line::open::<B, R>(rt, alloc, opened, 1, document, SEATS, 1_000_000);
+    let seats = Line::open::<B, R>(rt, alloc, opened, 1, document, SEATS, 1_000_000);
+    let jobs = jobs_of(rt, alloc, seats.expect(rt, "a line"));
+    let done = thread::map_vec(rt, jobs, &|job: Job<B>| work(rt, alloc, job));
+    let (accepted, seen) = gathered(rt, alloc, done.expect(rt, "threads"));
+    check(rt, alloc, accepted, &seen);
+}
+
+fn jobs_of<B: Lines, R: Abort>(rt: &R, alloc: Global, seats: Vec<Seat<B>>) -> Vec<Job<B>> {
     let mut jobs = Vec::new(alloc);
-    for seat in opened.map_err(failed)? {
+    for seat in seats {
         let edits = jobs.len() % TURN == 0;
-        jobs.push(Job { seat, edits })?;
+        jobs.push(Job { seat, edits }).expect(rt, "memory");
     }
-    let done = thread::map_vec(rt, jobs, &|job: Job<B>| work(rt, alloc, job))?;
+    jobs
+}
+
+fn work<B: Lines, R: Threads + Wait + Abort + Sync>(rt: &R, alloc: Global, job: Job<B>) -> Done {
+    let Job { mut seat, edits } = job;
+    if edits {
+        Done::Edits(make_edits(rt, alloc, &mut seat, EDITS))
+    } else {
+        Done::Sights(take_looks(rt, alloc, &mut seat, LOOKS))
+    }
+}
+
+// What all threads gave back, of which nothing was wrong.
+fn gathered<R: Abort>(rt: &R, alloc: Global, done: Vec<Done>) -> (Vec<Accepted>, Vec<Sight>) {
     let mut accepted = Vec::new(alloc);
     let mut seen = Vec::new(alloc);
     for one in done {
-        let Ok(Done { edits, sights }) = one else {
-            return Err(Fail::from("no memory"));
-        };
-        gather(rt, edits, sights, &mut accepted, &mut seen)?;
+        match one {
+            Done::Edits(edits) => add_edits(rt, edits, &mut accepted),
+            Done::Sights(sights) => add_sights(rt, sights, &mut seen),
+        }
     }
-    check(rt, alloc, accepted, &seen)
+    (accepted, seen)
 }
 
-fn work<B: Lines, R: Threads + Wait + Sync>(
-    rt: &R,
-    alloc: Global,
-    job: Job<B>,
-) -> Result<Done, OutOfMemory> {
-    let Job {
-        mut seat,
-        edits: is_editor,
-    } = job;
-    if is_editor {
-        Ok(Done {
-            edits: Some(make_edits(rt, alloc, &mut seat, EDITS)?),
-            sights: None,
-        })
-    } else {
-        Ok(Done {
-            edits: None,
-            sights: Some(take_looks(rt, alloc, &mut seat, LOOKS)?),
-        })
+fn add_edits<R: Abort>(rt: &R, edits: Edits, accepted: &mut Vec<Accepted>) {
+    assert_eq!(rt; edits.wrong, 0);
+    for one in edits.accepted {
+        accepted.push(one).expect(rt, "memory");
     }
 }
 
-fn gather<R: Abort>(
-    rt: &R,
-    edits: Option<Edits>,
-    sights: Option<Sights>,
-    accepted: &mut Vec<Accepted>,
-    seen: &mut Vec<Sight>,
-) -> Result<(), OutOfMemory> {
-    if let Some(edits) = edits {
-        assert_eq!(rt; edits.wrong, 0);
-        for one in edits.accepted {
-            accepted.push(one)?;
-        }
+fn add_sights<R: Abort>(rt: &R, sights: Sights, seen: &mut Vec<Sight>) {
+    assert_eq!(rt; sights.wrong, 0);
+    for one in sights.seen {
+        seen.push(one).expect(rt, "memory");
     }
-    if let Some(sights) = sights {
-        assert_eq!(rt; sights.wrong, 0);
-        for one in sights.seen {
-            seen.push(one)?;
-        }
-    }
-    Ok(())
 }
 
 fn check<R: Threads + Abort + Sync>(
@@ -132,15 +118,12 @@ fn check<R: Threads + Abort + Sync>(
     alloc: Global,
     accepted: Vec<Accepted>,
     seen: &[Sight],
-) -> Result<(), Fail> {
+) {
     assert_eq!(rt; accepted.len(), 4 * EDITS as usize);
-    let documents = replayed(alloc, &by_number(alloc, accepted)?)?;
+    let edits = by_number(rt, alloc, accepted);
+    let documents = replayed(rt, alloc, &edits);
     for sight in seen {
-        assert!(rt;
-            is_right(rt, alloc, &documents, sight)?,
-            "version {}",
-            sight.version.number
-        );
+        let number = sight.version.number;
+        assert!(rt; is_right(rt, alloc, &documents, sight), "version {number}");
     }
-    Ok(())
 }

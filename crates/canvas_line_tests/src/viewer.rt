@@ -1,11 +1,11 @@
 //! A thread that looks and paints.
 use bumpalo::Bump;
-use canvas_code::OutOfMemory;
 use canvas_doc::Document;
 use canvas_line::{Lines, Seat, Version};
 use canvas_paint::append_picture;
 use canvas_plane::Window;
 use std::alloc::Global;
+use std::process::Abort;
 use std::sync::Arc;
 use std::thread::Threads;
 
@@ -26,12 +26,12 @@ pub(crate) struct Sights {
 }
 
 /// So many looks, each version painted where it is another than the last one.
-pub(crate) fn take_looks<B: Lines, R: Threads + Sync>(
+pub(crate) fn take_looks<B: Lines, R: Threads + Sync + Abort>(
     rt: &R,
     alloc: Global,
     seat: &mut Seat<B>,
     count: u32,
-) -> Result<Sights, OutOfMemory> {
+) -> Sights {
     let mut seen: Vec<Sight> = Vec::new(alloc);
     let mut wrong = 0u32;
     for _ in 0..count {
@@ -39,27 +39,25 @@ pub(crate) fn take_looks<B: Lines, R: Threads + Sync>(
         match seat.look() {
             Ok(version) if before <= version.number && seat.number() == version.number => {
                 if before < version.number {
-                    let raster = raster(rt, alloc, &version.document)?;
-                    seen.push(Sight { version, raster })?;
+                    let raster = raster(rt, alloc, &version.document);
+                    seen.push(Sight { version, raster }).expect(rt, "memory");
                 }
             }
             _ => wrong = wrong.saturating_add(1),
         }
     }
-    Ok(Sights { seen, wrong })
+    Sights { seen, wrong }
 }
 
 /// The raster of a small window of a document, by one worker.
-pub(crate) fn raster<R: Threads + Sync>(
+pub(crate) fn raster<R: Threads + Sync + Abort>(
     rt: &R,
     alloc: Global,
     document: &Document,
-) -> Result<Vec<u8>, OutOfMemory> {
-    let Ok(window) = Window::new(0, 0, 64, 4) else {
-        return Err(OutOfMemory);
-    };
+) -> Vec<u8> {
+    let window = Window::new(0, 0, 64, 4).expect(rt, "a window");
     let bump = Bump::new(alloc);
     let mut out = Vec::new(alloc);
-    append_picture(rt, alloc, &bump, document, &window, 1, &mut out)?;
-    Ok(out)
+    append_picture(rt, alloc, &bump, document, &window, 1, &mut out).expect(rt, "memory");
+    out
 }

@@ -1,7 +1,7 @@
 //! Worked examples.
 ghost use Rattle.std.specs.Prelude.{◌≡◌};
 
-use crate::lines::{Play, RED, Setting, at_a_line, edited, failed, rectangle, seen};
+use crate::lines::{Play, RED, Setting, at_a_line, edited, only, rectangle, seen};
 use canvas_doc::{Document, Edit, Refusal};
 use canvas_line::{Line, LineFault, Lines, Opened, Seat};
 use std::alloc::Global;
@@ -12,9 +12,9 @@ use std::test::Fail;
 use std::thread::{Threads, join};
 
 #[test]
-fn a_seat_sees_the_edit_of_one_that_it_met(rt: HostRuntime) -> Result<(), Fail> {
+fn a_seat_sees_the_edit_of_one_that_it_met(rt: HostRuntime) {
     let document = Document::empty(rt.alloc());
-    meeting::<Brand, _>(&rt, rt.alloc(), Opened::new(), document)
+    meeting::<Brand, _>(&rt, rt.alloc(), Opened::new(), document);
 }
 
 // A seat edits on one thread, meets another, and that one looks on another thread.
@@ -23,14 +23,31 @@ fn meeting<B: Lines + Send + Sync, R: Threads + Wait + Abort + Sync>(
     alloc: Global,
     opened: Opened,
     document: Document,
-) -> Result<(), Fail>
+)
     requires { B.line 1 ≡ record { book = opened.head.word.book; opening = document; limit = 10 } }
 {
-    let mut seats = Line::open::<B, R>(rt, alloc, opened, 1, document, 2, 10).map_err(failed)?;
-    let mut b = seats.pop().ok_or("no seat")?;
-    let mut a = seats.pop().ok_or("no seat")?;
+    let seats = Line::open::<B, R>(rt, alloc, opened, 1, document, 2, 10).expect(rt, "a line");
+    let (a, mut b) = both(rt, seats);
+    let mut a = edit_beside(rt, a, &b);
+    a.meet(rt, &mut b).expect(rt, "a seat of the same line");
+    let b = look_beside(rt, b, &a);
+    assert_eq!(rt; (a.number(), b.number()), (1, 1));
+}
+
+// The two seats of a line.
+fn both<B: Lines, R: Abort>(rt: &R, mut seats: Vec<Seat<B>>) -> (Seat<B>, Seat<B>) {
+    let b = seats.pop().expect(rt, "a seat");
+    (only(rt, seats), b)
+}
+
+// Edits through the first seat on another thread, while the second one tells its number.
+fn edit_beside<B: Lines + Send + Sync, R: Threads + Wait + Abort + Sync>(
+    rt: &R,
+    mut a: Seat<B>,
+    b: &Seat<B>,
+) -> Seat<B> {
     let edit = rectangle(1, 1, 0);
-    let ((mut a, answer), before) = join(
+    let ((a, answer), before) = join(
         rt,
         || {
             let answer = edited(rt, &mut a, &edit);
@@ -38,12 +55,19 @@ fn meeting<B: Lines + Send + Sync, R: Threads + Wait + Abort + Sync>(
         },
         || b.number(),
     );
-    let answer = answer.map_err(failed)?;
-    assert_eq!(rt; before, 0);
-    assert_eq!(rt; answer.number, 1);
+    let answer = answer.expect(rt, "an edit that is accepted");
+    assert_eq!(rt; (before, answer.number), (0, 1));
     assert!(rt; answer.id == Some(1));
-    a.meet(rt, &mut b).map_err(failed)?;
-    let ((b, version), after) = join(
+    a
+}
+
+// Looks through the first seat on another thread, while the second one tells its number.
+fn look_beside<B: Lines + Send + Sync, R: Threads + Wait + Abort + Sync>(
+    rt: &R,
+    mut b: Seat<B>,
+    a: &Seat<B>,
+) -> Seat<B> {
+    let ((b, version), number) = join(
         rt,
         || {
             let version = seen(&mut b);
@@ -51,12 +75,15 @@ fn meeting<B: Lines + Send + Sync, R: Threads + Wait + Abort + Sync>(
         },
         || a.number(),
     );
-    let version = version.map_err(failed)?;
-    assert_eq!(rt; version.number, 1);
+    let version = version.expect(rt, "a version");
+    assert_eq!(rt; (number, version.number), (1, 1));
     assert!(rt; version.document.colour_at(0, 0) == RED);
-    assert_eq!(rt; b.number(), 1);
-    assert_eq!(rt; after, 1);
-    Ok(())
+    b
+}
+
+// The number of the version that a seat sees.
+fn number_seen<B: Lines, R: Abort>(rt: &R, seat: &mut Seat<B>) -> u64 {
+    seen(seat).expect(rt, "a version").number
 }
 
 /// A line accepts no more than its limit.
@@ -66,16 +93,16 @@ impl Play for Spending {
     fn play<B: Lines, R: Wait + Abort>(
         rt: &R,
         _alloc: Global,
-        mut seats: Vec<Seat<B>>,
+        seats: Vec<Seat<B>>,
     ) -> Result<(), Fail> {
-        let mut seat = seats.pop().ok_or("no seat")?;
+        let mut seat = only(rt, seats);
         assert!(rt; edited(rt, &mut seat, &rectangle(1, 1, 0)).is_ok());
         assert!(rt; edited(rt, &mut seat, &rectangle(1, 1, 1)).is_ok());
         let missing = Edit::Delete { id: 9 };
         assert!(rt; edited(rt, &mut seat, &missing) == Err(LineFault::VersionsSpent));
         assert!(rt; edited(rt, &mut seat, &rectangle(1, 1, 2)) == Err(LineFault::VersionsSpent));
         assert_eq!(rt; seat.number(), 2);
-        assert_eq!(rt; seen(&mut seat).map_err(failed)?.number, 2);
+        assert_eq!(rt; number_seen(rt, &mut seat), 2);
         Ok(())
     }
 }
@@ -96,17 +123,16 @@ impl Play for Apart {
         _alloc: Global,
         mut seats: Vec<Seat<B>>,
     ) -> Result<(), Fail> {
-        let mut c = seats.pop().ok_or("no seat")?;
-        let mut b = seats.pop().ok_or("no seat")?;
-        let mut a = seats.pop().ok_or("no seat")?;
+        let mut c = seats.pop().expect(rt, "a seat");
+        let (mut a, mut b) = both(rt, seats);
         assert!(rt; edited(rt, &mut a, &rectangle(1, 1, 0)).is_ok());
         let refused = LineFault::Refused(Refusal::NoSuchShape);
         assert!(rt; edited(rt, &mut b, &Edit::Delete { id: 9 }) == Err(refused));
         assert_eq!(rt; b.number(), 1);
         assert_eq!(rt; c.number(), 0);
-        assert_eq!(rt; seen(&mut c).map_err(failed)?.number, 1);
+        assert_eq!(rt; number_seen(rt, &mut c), 1);
         assert!(rt; edited(rt, &mut a, &rectangle(1, 1, 1)).is_ok());
-        assert_eq!(rt; seen(&mut c).map_err(failed)?.number, 2);
+        assert_eq!(rt; number_seen(rt, &mut c), 2);
         assert_eq!(rt; b.number(), 1);
         for seat in [a, b, c] {
             seat.close(rt);

@@ -5,8 +5,10 @@ use canvas_doc::Document;
 use canvas_paint::{FreeGate, Gate, paint};
 use canvas_plane::Window;
 use canvas_scene::Scene;
+use std::alloc::Global;
+use std::process::Abort;
 use std::sync::atomic::{AtomicU64, Ordering};
-use std::test::Fail;
+use std::thread::Threads;
 
 // Counts the strips that pass, by their numbers, and those whose number is no worker's.
 #[derive(Drop)]
@@ -50,26 +52,44 @@ fn passes(gate: &Counting) -> ([u64; 4], u64) {
     (passed, gate.others.load(Ordering::SeqCst))
 }
 
+// The picture of an empty document in a window of so many rows, by so many workers, and how often each strip passed.
+fn painted<R: Threads + Sync + Abort>(
+    rt: &R,
+    alloc: Global,
+    rows: u32,
+    workers: u32,
+) -> (Vec<u8>, ([u64; 4], u64)) {
+    let document = Document::empty(alloc);
+    let window = Window::new(0, 0, 4, rows).expect(rt, "a window");
+    let bump = Bump::new(alloc);
+    let scene = Scene::build(&bump, &document, &window).expect(rt, "memory");
+    let gate = nobody_passed();
+    let raster = paint(rt, alloc, scene.display_list(), &window, workers, &gate);
+    (raster.expect(rt, "a picture"), passes(&gate))
+}
+
+// The same picture by one worker through a gate that lets all pass.
+fn alone<R: Threads + Sync + Abort>(rt: &R, alloc: Global, rows: u32) -> Vec<u8> {
+    let document = Document::empty(alloc);
+    let window = Window::new(0, 0, 4, rows).expect(rt, "a window");
+    let bump = Bump::new(alloc);
+    let scene = Scene::build(&bump, &document, &window).expect(rt, "memory");
+    let raster = paint(rt, alloc, scene.display_list(), &window, 1, &FreeGate);
+    raster.expect(rt, "a picture")
+}
+
 // More workers than the window has rows are as many strips, and one worker is one.
 #[test]
-fn each_strip_passes_the_gate_once(rt: HostRuntime) -> Result<(), Fail> {
+fn each_strip_passes_the_gate_once(rt: HostRuntime) {
     let alloc = rt.alloc();
-    let document = Document::empty(alloc);
-    let bump = Bump::new(alloc);
     let wanted = [[1, 0, 0, 0], [1, 1, 0, 0], [1, 1, 1, 0], [1, 1, 1, 1]];
     for rows in [1, 2, 3] {
-        let window = Window::new(0, 0, 4, rows)?;
-        let scene = Scene::build(&bump, &document, &window)?;
-        let items = scene.display_list();
-        let alone = paint(&rt, alloc, items, &window, 1, &FreeGate)?;
         let mut workers = 0u32;
         for once in wanted {
             workers = workers.wrapping_add(1);
-            let gate = nobody_passed();
-            let raster = paint(&rt, alloc, items, &window, workers, &gate)?;
-            assert_eq!(rt; raster.as_slice(), alone.as_slice());
-            assert_eq!(rt; passes(&gate), (once, 0));
+            let (raster, passed) = painted(&rt, alloc, rows, workers);
+            assert!(rt; raster == alone(&rt, alloc, rows), "{workers}");
+            assert_eq!(rt; passed, (once, 0));
         }
     }
-    Ok(())
 }

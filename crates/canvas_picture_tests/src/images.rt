@@ -2,7 +2,6 @@
 
 use canvas_ppm::{header, read, start, write};
 use std::alloc::Global;
-use std::test::Fail;
 
 const SIX: &[u8] = b"\x00\x01\x02\xfd\xfe\xff";
 
@@ -57,39 +56,38 @@ fn sides(alloc: Global, bytes: &[u8]) -> Result<(u32, u32), u16> {
 }
 
 #[test]
-fn reads_files_by_hand(rt: HostRuntime) -> Result<(), Fail> {
+fn reads_files_by_hand(rt: HostRuntime) {
     for (head, samples, wanted) in rows() {
-        let mut bytes = Vec::from_slice(rt.alloc(), head)?;
-        bytes.extend_from_slice(samples)?;
+        let mut bytes = Vec::from_slice(rt.alloc(), head).expect(&rt, "memory");
+        bytes.extend_from_slice(samples).expect(&rt, "memory");
         assert_eq!(rt; sides(rt.alloc(), &bytes), *wanted, "at {head:?}");
     }
-    Ok(())
 }
 
 #[test]
-fn keeps_the_raster(rt: HostRuntime) -> Result<(), Fail> {
-    let image = read(rt.alloc(), b"P6\n2 1\n255\n\x00\x01\x02\xfd\xfe\xff")?;
+fn keeps_the_raster(rt: HostRuntime) {
+    let image = read(rt.alloc(), b"P6\n2 1\n255\n\x00\x01\x02\xfd\xfe\xff").expect(&rt, "an image");
     assert_eq!(rt;
         image.raster.as_slice(),
         b"\x00\x01\x02\xfd\xfe\xff".as_slice()
     );
-    Ok(())
 }
 
 #[test]
-fn writes_files_by_hand(rt: HostRuntime) -> Result<(), Fail> {
-    let white = write(rt.alloc(), 2, 1, b"\xff\xff\xff\xff\xff\xff")?;
+fn writes_files_by_hand(rt: HostRuntime) {
+    let white = write(rt.alloc(), 2, 1, b"\xff\xff\xff\xff\xff\xff").expect(&rt, "a file");
     assert_eq!(rt;
         white.as_slice(),
         b"P6\n2 1\n255\n\xff\xff\xff\xff\xff\xff".as_slice()
     );
-    let red = write(rt.alloc(), 3, 1, b"\xff\x00\x00\xff\x00\x00\xff\xff\xff")?;
+    let red = write(rt.alloc(), 3, 1, b"\xff\x00\x00\xff\x00\x00\xff\xff\xff").expect(
+        &rt, "a file",
+    );
     assert_eq!(rt;
         red.as_slice(),
         b"P6\n3 1\n255\n\xff\x00\x00\xff\x00\x00\xff\xff\xff".as_slice()
     );
     assert_eq!(rt; header(65_535, 65_535).as_str(), "P6\n65535 65535\n255\n");
-    let begun = start(rt.alloc(), 256, 100)?;
+    let begun = start(rt.alloc(), 256, 100).expect(&rt, "a file");
     assert_eq!(rt; begun.as_slice(), b"P6\n256 100\n255\n".as_slice());
-    Ok(())
 }
