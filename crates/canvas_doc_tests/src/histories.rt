@@ -1,14 +1,12 @@
 //! Long histories: documents that share their records stay apart.
 
-use canvas_code::OutOfMemory;
-use canvas_doc::{Document, Edit, Parent, Record, Refusal, Spot};
+use canvas_doc::{Document, Edit, Parent, Record, Spot};
 use canvas_key::{Key, fresh};
 use canvas_plane::Pose;
 use canvas_samples::{BLUE, Dice, GREEN, RED, create, edited, moved, record, rectangle, restored};
 use canvas_shape::{Colour, Kind};
 use std::alloc::Global;
 use std::process::Abort;
-use std::test::Fail;
 
 // The group in which every third shape lies.
 const GROUP: Parent = Parent::Shape(1);
@@ -86,56 +84,61 @@ fn record_after(made: u32, id: u32) -> Record {
     shape
 }
 
-fn records_after(alloc: Global, made: u32) -> Result<Vec<Record>, OutOfMemory> {
+fn records_after(rt: &impl Abort, alloc: Global, made: u32) -> Vec<Record> {
     let mut records = Vec::new(alloc);
     for id in 1..204u32 {
         if is_there(made, id) {
-            records.push(record_after(made, id))?;
+            let shape = record_after(made, id);
+            records.push(shape).expect(rt, "memory");
         }
     }
-    Ok(records)
+    records
 }
 
-fn has_records(alloc: Global, document: &Document, made: u32) -> Result<bool, OutOfMemory> {
-    let wanted = records_after(alloc, made)?;
+// Whether a document has these records, as it lists them and as it finds them.
+fn are_its(document: &Document, listed: &[&Record], wanted: &[Record]) -> bool {
     let mut same = document.count() == wanted.len();
-    for (own, other) in document.records_in_order(alloc)?.iter().zip(&wanted) {
+    for (own, other) in listed.iter().zip(wanted) {
         same = same && *own == other && document.get(other.id) == Some(other);
     }
-    Ok(same)
+    same
 }
 
-fn all_have_records(rt: &impl Abort, alloc: Global, documents: &[Document]) -> Result<(), Fail> {
+fn has_records(rt: &impl Abort, alloc: Global, document: &Document, made: u32) -> bool {
+    let wanted = records_after(rt, alloc, made);
+    let listed = document.records_in_order(alloc).expect(rt, "memory");
+    are_its(document, &listed, &wanted)
+}
+
+fn all_have_records(rt: &impl Abort, alloc: Global, documents: &[Document]) {
     for (document, made) in documents.iter().zip(0..23u32) {
-        assert!(rt; has_records(alloc, document, made)?, "after {made}");
+        assert!(rt; has_records(rt, alloc, document, made), "after {made}");
     }
-    Ok(())
 }
 
 // The documents with the one after the next edit.
-fn push_next(alloc: Global, documents: &mut Vec<Document>, made: u32) -> Result<(), Fail> {
+fn push_next(rt: &impl Abort, alloc: Global, documents: &mut Vec<Document>, made: u32) {
     if let Some(last) = documents.last() {
-        let after = edited(alloc, last, &edit_after(made))?;
-        documents.push(after)?;
+        let after = edited(alloc, last, &edit_after(made)).expect(rt, "accepted");
+        documents.push(after).expect(rt, "memory");
     }
-    Ok(())
 }
 
-fn first_document(alloc: Global) -> Result<Document, Fail> {
-    Ok(restored(alloc, records_after(alloc, 0)?, 190)?)
+fn push_first(rt: &impl Abort, alloc: Global, documents: &mut Vec<Document>) {
+    let first = restored(alloc, records_after(rt, alloc, 0), 190).expect(rt, "a document");
+    documents.push(first).expect(rt, "memory");
 }
 
 #[test]
-fn a_long_history_keeps_its_documents_apart(rt: HostRuntime) -> Result<(), Fail> {
+fn a_long_history_keeps_its_documents_apart(rt: HostRuntime) {
     let alloc = rt.alloc();
     let mut documents = Vec::new(alloc);
-    documents.push(first_document(alloc)?)?;
+    push_first(&rt, alloc, &mut documents);
     for made in 0..22u32 {
-        push_next(alloc, &mut documents, made)?;
-        all_have_records(&rt, alloc, &documents)?;
+        push_next(&rt, alloc, &mut documents, made);
+        all_have_records(&rt, alloc, &documents);
     }
     assert_eq!(rt; documents.len(), 23);
-    Ok(())
 }
 
 // A shape of a crowd: eight groups, and rectangles of which every ninth lies on the page.
@@ -162,12 +165,12 @@ fn one_of_many(id: u32) -> Record {
     shape
 }
 
-fn crowd(alloc: Global) -> Result<Vec<Record>, OutOfMemory> {
+fn crowd(rt: &impl Abort, alloc: Global) -> Vec<Record> {
     let mut records = Vec::new(alloc);
     for id in 1..701u32 {
-        records.push(one_of_many(id))?;
+        records.push(one_of_many(id)).expect(rt, "memory");
     }
-    Ok(records)
+    records
 }
 
 // An edit of each sort in turn, and at times the deletion of a group.
@@ -214,21 +217,25 @@ fn whole_edit(number: u32, group: u32) -> Edit {
     }
 }
 
+// The document after an edit, or what it was where the edit is refused.
+fn edited_if_accepted(alloc: Global, document: Document, edit: &Edit) -> Document {
+    edited(alloc, &document, edit).unwrap_or(document)
+}
+
 // The document after some edits, those that are refused left out.
 fn next_version(
+    rt: &impl Abort,
     alloc: Global,
     dice: &mut Dice,
     document: &Document,
     number: u32,
-) -> Result<Document, Refusal> {
-    let mut after = document.try_clone(alloc)?;
+) -> Document {
+    let mut after = document.try_clone(alloc).expect(rt, "memory");
     for more in 0..3u32 {
         let edit = edit_in_turn(dice, number.wrapping_mul(3).wrapping_add(more));
-        if let Ok(edited) = edited(alloc, &after, &edit) {
-            after = edited;
-        }
+        after = edited_if_accepted(alloc, after, &edit);
     }
-    Ok(after)
+    after
 }
 
 // What a document is, told by its records, the children of the page and some colours.
@@ -239,70 +246,86 @@ struct Told {
     colours: Vec<Colour>,
 }
 
-fn tell(alloc: Global, document: &Document) -> Result<Told, OutOfMemory> {
-    Ok(Told {
-        records: copied(alloc, document)?,
-        page: page_of(alloc, document)?,
-        colours: colours_of(alloc, document)?,
-    })
+fn tell(rt: &impl Abort, alloc: Global, document: &Document) -> Told {
+    Told {
+        records: copied(rt, alloc, document),
+        page: page_of(rt, alloc, document),
+        colours: colours_of(rt, alloc, document),
+    }
 }
 
-fn copied(alloc: Global, document: &Document) -> Result<Vec<Record>, OutOfMemory> {
+fn copied(rt: &impl Abort, alloc: Global, document: &Document) -> Vec<Record> {
     let mut records = Vec::new(alloc);
-    for shape in &document.records_in_order(alloc)? {
-        records.push(shape.try_clone(alloc)?)?;
+    for shape in &document.records_in_order(alloc).expect(rt, "memory") {
+        let copy = shape.try_clone(alloc).expect(rt, "memory");
+        records.push(copy).expect(rt, "memory");
     }
-    Ok(records)
+    records
 }
 
-fn page_of(alloc: Global, document: &Document) -> Result<Vec<u32>, OutOfMemory> {
+fn page_of(rt: &impl Abort, alloc: Global, document: &Document) -> Vec<u32> {
     let mut ids = Vec::new(alloc);
-    for shape in &document.children(alloc, Parent::Page)? {
-        ids.push(shape.id)?;
+    for shape in &document.children(alloc, Parent::Page).expect(rt, "memory") {
+        ids.push(shape.id).expect(rt, "memory");
     }
-    Ok(ids)
+    ids
 }
 
-fn colours_of(alloc: Global, document: &Document) -> Result<Vec<Colour>, OutOfMemory> {
+fn colours_of(rt: &impl Abort, alloc: Global, document: &Document) -> Vec<Colour> {
     let mut colours = Vec::new(alloc);
     for at in 0..8i32 {
-        colours.push(document.colour_at(at.wrapping_mul(9), at.wrapping_mul(5)))?;
+        let colour = document.colour_at(at.wrapping_mul(9), at.wrapping_mul(5));
+        colours.push(colour).expect(rt, "memory");
     }
-    Ok(colours)
+    colours
 }
 
 type Version = (Told, Document);
 
-// The crowd, and as many versions more.
-fn versions(alloc: Global, more: u32) -> Result<Vec<Version>, Fail> {
-    let mut dice = Dice::new(4);
-    let mut versions = Vec::new(alloc);
-    push_version(alloc, &mut versions, restored(alloc, crowd(alloc)?, 701)?)?;
-    for number in 0..more {
-        if let Some((_, last)) = versions.last() {
-            let next = next_version(alloc, &mut dice, last, number)?;
-            push_version(alloc, &mut versions, next)?;
-        }
-    }
-    Ok(versions)
+fn push_version(rt: &impl Abort, alloc: Global, versions: &mut Vec<Version>, document: Document) {
+    let told = tell(rt, alloc, &document);
+    versions.push((told, document)).expect(rt, "memory");
 }
 
-fn push_version(
+fn push_crowd(rt: &impl Abort, alloc: Global, versions: &mut Vec<Version>) {
+    let crowd = restored(alloc, crowd(rt, alloc), 701).expect(rt, "a document");
+    push_version(rt, alloc, versions, crowd);
+}
+
+fn push_next_version(
+    rt: &impl Abort,
     alloc: Global,
+    dice: &mut Dice,
     versions: &mut Vec<Version>,
-    document: Document,
-) -> Result<(), OutOfMemory> {
-    versions.push((tell(alloc, &document)?, document))?;
-    Ok(())
+    number: u32,
+) {
+    if let Some((_, last)) = versions.last() {
+        let next = next_version(rt, alloc, dice, last, number);
+        push_version(rt, alloc, versions, next);
+    }
+}
+
+// The crowd, and as many versions more.
+fn versions(rt: &impl Abort, alloc: Global, more: u32) -> Vec<Version> {
+    let mut dice = Dice::new(4);
+    let mut versions = Vec::new(alloc);
+    push_crowd(rt, alloc, &mut versions);
+    for number in 0..more {
+        push_next_version(rt, alloc, &mut dice, &mut versions, number);
+    }
+    versions
+}
+
+fn is_what_it_was(rt: &impl Abort, alloc: Global, (was, version): &Version) -> bool {
+    tell(rt, alloc, version) == *was
 }
 
 #[test]
-fn many_versions_stay_what_they_were(rt: HostRuntime) -> Result<(), Fail> {
+fn many_versions_stay_what_they_were(rt: HostRuntime) {
     let alloc = rt.alloc();
-    let versions = versions(alloc, 64)?;
+    let versions = versions(&rt, alloc, 64);
     assert_eq!(rt; versions.len(), 65);
-    for (was, version) in &versions {
-        assert!(rt; tell(alloc, version)? == *was);
+    for version in &versions {
+        assert!(rt; is_what_it_was(&rt, alloc, version));
     }
-    Ok(())
 }

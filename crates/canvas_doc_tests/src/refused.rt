@@ -1,6 +1,5 @@
 //! Every refusal of every edit, and each pair of refusals that can meet in one edit, in its order.
 
-use canvas_code::OutOfMemory;
 use canvas_doc::{Document, Edit, Parent, Record, Refusal, Spot};
 use canvas_key::{Key, fresh};
 use canvas_plane::Pose;
@@ -10,7 +9,6 @@ use canvas_samples::{
 use canvas_shape::Kind;
 use std::alloc::Global;
 use std::process::Abort;
-use std::test::Fail;
 
 // No record of the documents here has this id.
 const MISSING: u32 = 100_000;
@@ -48,85 +46,99 @@ const POLYGON: u32 = 43;
 // One id above all of these.
 const NEXT: u32 = 44;
 
+fn push(rt: &impl Abort, records: &mut Vec<Record>, shape: Record) {
+    records.push(shape).expect(rt, "memory");
+}
+
 // Two leaves between which no index lies, the first with the id.
-fn push_pair(records: &mut Vec<Record>, id: u32, parent: u32) -> Result<(), Fail> {
+fn push_pair(rt: &impl Abort, records: &mut Vec<Record>, id: u32, parent: u32) {
     let parent = Parent::Shape(parent);
-    let low = last_index_below_a1()?;
-    let high = Key::read(b"a1")?;
-    records.push(record(id, parent, low, rectangle(1, 1, RED)))?;
+    let low = last_index_below_a1().expect(rt, "a key");
+    push(rt, records, record(id, parent, low, rectangle(1, 1, RED)));
+    let high = Key::read(b"a1").expect(rt, "a key");
     let next = id.saturating_add(1);
-    records.push(record(next, parent, high, rectangle(1, 1, RED)))?;
-    Ok(())
+    push(
+        rt,
+        records,
+        record(next, parent, high, rectangle(1, 1, RED)),
+    );
 }
 
 // A group on the page (`above` 0) or under a shape, at a fresh index.
-fn push_group(
-    records: &mut Vec<Record>,
-    id: u32,
-    above: u32,
-    rank: u32,
-) -> Result<(), OutOfMemory> {
+fn push_group(rt: &impl Abort, records: &mut Vec<Record>, id: u32, above: u32, rank: u32) {
     let parent = if above == 0 {
         Parent::Page
     } else {
         Parent::Shape(above)
     };
-    records.push(record(id, parent, fresh(rank), Kind::Group))?;
-    Ok(())
+    push(rt, records, record(id, parent, fresh(rank), Kind::Group));
 }
 
 // The group, its two children and the leaf.
-fn push_group_and_leaf(records: &mut Vec<Record>) -> Result<(), Fail> {
-    push_group(records, GROUP, 0, 0)?;
-    push_pair(records, 2, GROUP)?;
-    records.push(record(LEAF, Parent::Page, fresh(1), rectangle(1, 1, RED)))?;
-    Ok(())
+fn push_group_and_leaf(rt: &impl Abort, records: &mut Vec<Record>) {
+    push_group(rt, records, GROUP, 0, 0);
+    push_pair(rt, records, 2, GROUP);
+    let leaf = record(LEAF, Parent::Page, fresh(1), rectangle(1, 1, RED));
+    push(rt, records, leaf);
 }
 
 // The groups each of which holds the next, and the two leaves at depth 32.
-fn push_deep(records: &mut Vec<Record>) -> Result<(), Fail> {
-    push_group(records, UPPERMOST, 0, 2)?;
+fn push_deep(rt: &impl Abort, records: &mut Vec<Record>) {
+    push_group(rt, records, UPPERMOST, 0, 2);
     for above in UPPERMOST..LOWEST {
-        push_group(records, above.saturating_add(1), above, 0)?;
+        push_group(rt, records, above.saturating_add(1), above, 0);
     }
-    push_pair(records, DEEP_LEAF, AT_DEPTH_31)
+    push_pair(rt, records, DEEP_LEAF, AT_DEPTH_31);
 }
 
 // The group of height 3 with all below it.
-fn push_tall(records: &mut Vec<Record>) -> Result<(), Fail> {
-    push_group(records, TALL, 0, 3)?;
-    records.push(record(IN_TALL, Parent::Shape(TALL), fresh(0), frame(1, 1)))?;
-    push_pair(records, IN_BOTH, IN_TALL)
+fn push_tall(rt: &impl Abort, records: &mut Vec<Record>) {
+    push_group(rt, records, TALL, 0, 3);
+    let within = record(IN_TALL, Parent::Shape(TALL), fresh(0), frame(1, 1));
+    push(rt, records, within);
+    push_pair(rt, records, IN_BOTH, IN_TALL);
 }
 
-fn triangle(alloc: Global) -> Result<Kind, OutOfMemory> {
-    polygon(alloc, &[(0, 0), (4, 0), (0, 4)])
+fn triangle(rt: &impl Abort, alloc: Global) -> Kind {
+    polygon(alloc, &[(0, 0), (4, 0), (0, 4)]).expect(rt, "memory")
 }
 
-// The records that the constants name.
-fn records(alloc: Global) -> Result<Vec<Record>, Fail> {
-    let mut records = Vec::new(alloc);
-    push_group_and_leaf(&mut records)?;
-    push_deep(&mut records)?;
-    push_tall(&mut records)?;
-    records.push(record(POLYGON, Parent::Page, fresh(4), triangle(alloc)?))?;
-    Ok(records)
+fn push_polygon(rt: &impl Abort, alloc: Global, records: &mut Vec<Record>) {
+    let triangle = triangle(rt, alloc);
+    push(
+        rt,
+        records,
+        record(POLYGON, Parent::Page, fresh(4), triangle),
+    );
 }
 
 // As many groups more as there may be records.
-fn fill_up(records: &mut Vec<Record>) -> Result<(), OutOfMemory> {
+fn fill_up(rt: &impl Abort, records: &mut Vec<Record>) {
     for id in NEXT..16_385 {
-        records.push(record(id, Parent::Page, fresh(id), Kind::Group))?;
+        push_group(rt, records, id, 0, id);
     }
-    Ok(())
 }
 
-fn document(alloc: Global, is_full: bool, next: u32) -> Result<Document, Fail> {
-    let mut records = records(alloc)?;
+// The records that the constants name.
+fn records(rt: &impl Abort, alloc: Global, is_full: bool) -> Vec<Record> {
+    let mut records = Vec::new(alloc);
+    push_group_and_leaf(rt, &mut records);
+    push_deep(rt, &mut records);
+    push_tall(rt, &mut records);
+    push_polygon(rt, alloc, &mut records);
     if is_full {
-        fill_up(&mut records)?;
+        fill_up(rt, &mut records);
     }
-    Ok(restored(alloc, records, next)?)
+    records
+}
+
+fn document(rt: &impl Abort, alloc: Global, is_full: bool, next: u32) -> Document {
+    restored(alloc, records(rt, alloc, is_full), next).expect(rt, "a document")
+}
+
+// Why an edit is refused, if it is.
+fn why_refused(alloc: Global, document: &Document, edit: Edit) -> Option<Refusal> {
+    document.decide(alloc, &edit).err()
 }
 
 /// What is wrong with the values of a new shape.
@@ -137,11 +149,11 @@ enum Flaw {
     Vertices,
 }
 
-fn kind_with(alloc: Global, flaw: Flaw) -> Result<Kind, OutOfMemory> {
+fn kind_with(rt: &impl Abort, alloc: Global, flaw: Flaw) -> Kind {
     match flaw {
-        Flaw::None => Ok(Kind::Group),
-        Flaw::Side => Ok(rectangle(1, 0, RED)),
-        Flaw::Vertices => polygon(alloc, &[(0, 0), (4, 0)]),
+        Flaw::None => Kind::Group,
+        Flaw::Side => rectangle(1, 0, RED),
+        Flaw::Vertices => polygon(alloc, &[(0, 0), (4, 0)]).expect(rt, "memory"),
     }
 }
 
@@ -155,13 +167,14 @@ fn refusal_of(flaw: Flaw) -> (Option<Refusal>, Option<Refusal>) {
 
 // The four kinds of spots under a parent with two leaves between which no index lies, and what is
 // refused of each.
-fn spots(low: u32) -> Result<[(Spot, Option<Refusal>); 4], Fail> {
-    Ok([
+fn spots(rt: &impl Abort, low: u32) -> [(Spot, Option<Refusal>); 4] {
+    let taken = Key::read(b"a1").expect(rt, "a key");
+    [
         (Spot::Front, None),
         (Spot::Over(LEAF), Some(Refusal::SpotNotSibling)),
-        (Spot::At(Key::read(b"a1")?), Some(Refusal::IndexTaken)),
+        (Spot::At(taken), Some(Refusal::IndexTaken)),
         (Spot::Over(low), Some(Refusal::NoRoom)),
-    ])
+    ]
 }
 
 fn poses() -> [(Pose, Option<Refusal>); 2] {
@@ -179,10 +192,10 @@ fn check_new_shapes_at_spots(
     parent: Parent,
     (flaw, pose): (Flaw, Pose),
     first: Option<Refusal>,
-) -> Result<(), Fail> {
-    for (spot, placed) in spots(2)? {
+) {
+    for (spot, placed) in spots(rt, 2) {
         let edit = Edit::Create {
-            kind: kind_with(alloc, flaw)?,
+            kind: kind_with(rt, alloc, flaw),
             pose,
             hidden: false,
             parent,
@@ -190,11 +203,10 @@ fn check_new_shapes_at_spots(
         };
         let expected = first.or(placed);
         assert!(rt;
-            document.decide(alloc, &edit).err() == expected,
+            why_refused(alloc, document, edit) == expected,
             "{expected:?}"
         );
     }
-    Ok(())
 }
 
 // New shapes of every kind of flaw, pose and spot under a parent, of which `first` is refused before.
@@ -204,24 +216,18 @@ fn check_new_shapes(
     document: &Document,
     parent: Parent,
     first: Option<Refusal>,
-) -> Result<(), Fail> {
+) {
     for flaw in [Flaw::None, Flaw::Side, Flaw::Vertices] {
         let (side, vertices) = refusal_of(flaw);
         for (pose, far) in poses() {
             let before = first.or(side).or(far).or(vertices);
-            check_new_shapes_at_spots(rt, alloc, document, parent, (flaw, pose), before)?;
+            check_new_shapes_at_spots(rt, alloc, document, parent, (flaw, pose), before);
         }
     }
-    Ok(())
 }
 
 // New shapes under every sort of parent in a document, of which `spent` is refused after the parent.
-fn check_creations(
-    rt: &impl Abort,
-    alloc: Global,
-    document: &Document,
-    spent: Option<Refusal>,
-) -> Result<(), Fail> {
+fn check_creations(rt: &impl Abort, alloc: Global, document: &Document, spent: Option<Refusal>) {
     for (parent, hung) in [
         (GROUP, None),
         (MISSING, Some(Refusal::NoSuchParent)),
@@ -229,13 +235,12 @@ fn check_creations(
         (DEEP_LEAF, Some(Refusal::NotAContainer)),
         (LOWEST, Some(Refusal::TooDeep)),
     ] {
-        check_new_shapes(rt, alloc, document, Parent::Shape(parent), hung.or(spent))?;
+        check_new_shapes(rt, alloc, document, Parent::Shape(parent), hung.or(spent));
     }
-    Ok(())
 }
 
 #[test]
-fn refusals_of_create(rt: HostRuntime) -> Result<(), Fail> {
+fn refusals_of_create(rt: HostRuntime) {
     let alloc = rt.alloc();
     for (is_full, next, spent) in [
         (false, 20_000, None),
@@ -243,22 +248,28 @@ fn refusals_of_create(rt: HostRuntime) -> Result<(), Fail> {
         (false, 4_294_967_295, Some(Refusal::IdsSpent)),
         (true, 4_294_967_295, Some(Refusal::TooMany)),
     ] {
-        let document = document(alloc, is_full, next)?;
-        check_creations(&rt, alloc, &document, spent)?;
+        let document = document(&rt, alloc, is_full, next);
+        check_creations(&rt, alloc, &document, spent);
     }
-    Ok(())
+}
+
+fn new_group() -> Edit {
+    create(Kind::Group, Parent::Page, Spot::Front)
+}
+
+// A document whose last id went to a new group.
+fn spent(rt: &impl Abort, alloc: Global) -> Document {
+    let last = restored(alloc, Vec::new(alloc), 4_294_967_294).expect(rt, "a document");
+    edited(alloc, &last, &new_group()).expect(rt, "accepted")
 }
 
 #[test]
-fn ids_are_spent_last_of_all(rt: HostRuntime) -> Result<(), Fail> {
+fn ids_are_spent_last_of_all(rt: HostRuntime) {
     let alloc = rt.alloc();
-    let edit = create(Kind::Group, Parent::Page, Spot::Front);
-    let last = restored(alloc, Vec::new(alloc), 4_294_967_294)?;
-    let spent = last.with(alloc, &last.decide(alloc, &edit)?)?;
+    let spent = spent(&rt, alloc);
     assert_eq!(rt; spent.next_id(), 4_294_967_295);
     assert!(rt; spent.get(4_294_967_294).is_some());
-    assert!(rt; spent.decide(alloc, &edit).err() == Some(Refusal::IdsSpent));
-    Ok(())
+    assert!(rt; why_refused(alloc, &spent, new_group()) == Some(Refusal::IdsSpent));
 }
 
 // Moves of a shape under a parent to every kind of spot, of which `first` is refused before.
@@ -270,8 +281,8 @@ fn check_moves(
     parent: u32,
     low: u32,
     first: Option<Refusal>,
-) -> Result<(), Fail> {
-    for (spot, placed) in spots(low)? {
+) {
+    for (spot, placed) in spots(rt, low) {
         let edit = Edit::Move {
             id,
             parent: Parent::Shape(parent),
@@ -279,17 +290,16 @@ fn check_moves(
         };
         let expected = first.or(placed);
         assert!(rt;
-            document.decide(alloc, &edit).err() == expected,
+            why_refused(alloc, document, edit) == expected,
             "{id} under {parent}: {expected:?}"
         );
     }
-    Ok(())
 }
 
 #[test]
-fn refusals_of_move(rt: HostRuntime) -> Result<(), Fail> {
+fn refusals_of_move(rt: HostRuntime) {
     let alloc = rt.alloc();
-    let document = document(alloc, false, NEXT)?;
+    let document = document(&rt, alloc, false, NEXT);
     let rows = [
         (POLYGON, GROUP, 2, None),
         (TALL, GROUP, 2, None),
@@ -311,15 +321,14 @@ fn refusals_of_move(rt: HostRuntime) -> Result<(), Fail> {
         (POLYGON, LOWEST, 2, Some(Refusal::TooDeep)),
     ];
     for (id, parent, low, first) in rows {
-        check_moves(&rt, alloc, &document, id, parent, low, first)?;
+        check_moves(&rt, alloc, &document, id, parent, low, first);
     }
-    Ok(())
 }
 
 #[test]
-fn heights_below_a_parent(rt: HostRuntime) -> Result<(), Fail> {
+fn heights_below_a_parent(rt: HostRuntime) {
     let alloc = rt.alloc();
-    let document = document(alloc, false, NEXT)?;
+    let document = document(&rt, alloc, false, NEXT);
     let rows = [(AT_DEPTH_29, None), (AT_DEPTH_30, Some(Refusal::TooDeep))];
     for (parent, expected) in rows {
         let edit = Edit::Move {
@@ -327,31 +336,29 @@ fn heights_below_a_parent(rt: HostRuntime) -> Result<(), Fail> {
             parent: Parent::Shape(parent),
             spot: Spot::Front,
         };
-        assert!(rt; document.decide(alloc, &edit).err() == expected, "{parent}");
+        assert!(rt; why_refused(alloc, &document, edit) == expected, "{parent}");
     }
-    Ok(())
 }
 
 #[test]
-fn refusals_of_pose(rt: HostRuntime) -> Result<(), Fail> {
+fn refusals_of_pose(rt: HostRuntime) {
     let alloc = rt.alloc();
-    let document = document(alloc, false, NEXT)?;
+    let document = document(&rt, alloc, false, NEXT);
     for (id, missing) in [(LEAF, None), (MISSING, Some(Refusal::NoSuchShape))] {
         for (pose, far) in poses() {
             let edit = Edit::Pose { id, pose };
             assert!(rt;
-                document.decide(alloc, &edit).err() == missing.or(far),
+                why_refused(alloc, &document, edit) == missing.or(far),
                 "{id}"
             );
         }
     }
-    Ok(())
 }
 
 #[test]
-fn refusals_of_reshape(rt: HostRuntime) -> Result<(), Fail> {
+fn refusals_of_reshape(rt: HostRuntime) {
     let alloc = rt.alloc();
-    let document = document(alloc, false, NEXT)?;
+    let document = document(&rt, alloc, false, NEXT);
     let rows = [
         (GROUP, Flaw::None, None),
         (LEAF, Flaw::None, Some(Refusal::WrongKind)),
@@ -364,25 +371,24 @@ fn refusals_of_reshape(rt: HostRuntime) -> Result<(), Fail> {
         (MISSING, Flaw::Vertices, Some(Refusal::NoSuchShape)),
     ];
     for (id, flaw, expected) in rows {
-        let kind = kind_with(alloc, flaw)?;
+        let kind = kind_with(&rt, alloc, flaw);
         let edit = Edit::Reshape { id, kind };
         assert!(rt;
-            document.decide(alloc, &edit).err() == expected,
+            why_refused(alloc, &document, edit) == expected,
             "{id}: {expected:?}"
         );
     }
-    Ok(())
 }
 
 #[test]
-fn refusals_of_the_others(rt: HostRuntime) -> Result<(), Fail> {
+fn refusals_of_the_others(rt: HostRuntime) {
     let alloc = rt.alloc();
-    let document = document(alloc, false, NEXT)?;
+    let document = document(&rt, alloc, false, NEXT);
     for (id, expected) in [(LEAF, None), (MISSING, Some(Refusal::NoSuchShape))] {
         let show = Edit::Show { id, hidden: true };
-        assert!(rt; document.decide(alloc, &show).err() == expected, "{id}");
+        assert!(rt; why_refused(alloc, &document, show) == expected, "{id}");
         let delete = Edit::Delete { id };
-        assert!(rt; document.decide(alloc, &delete).err() == expected, "{id}");
+        assert!(rt; why_refused(alloc, &document, delete) == expected, "{id}");
     }
     let rows = [
         (Parent::Page, None),
@@ -393,17 +399,16 @@ fn refusals_of_the_others(rt: HostRuntime) -> Result<(), Fail> {
     for (parent, expected) in rows {
         let edit = Edit::Respace { parent };
         assert!(rt;
-            document.decide(alloc, &edit).err() == expected,
+            why_refused(alloc, &document, edit) == expected,
             "{expected:?}"
         );
     }
-    Ok(())
 }
 
 // An edit of the polygon to what it is, by its number.
-fn edit_to_the_same(alloc: Global, number: u32) -> Result<Edit, OutOfMemory> {
+fn edit_to_the_same(rt: &impl Abort, alloc: Global, number: u32) -> Edit {
     let id = POLYGON;
-    Ok(match number {
+    match number {
         0 => Edit::Move {
             id,
             parent: Parent::Page,
@@ -415,23 +420,28 @@ fn edit_to_the_same(alloc: Global, number: u32) -> Result<Edit, OutOfMemory> {
         },
         2 => Edit::Reshape {
             id,
-            kind: triangle(alloc)?,
+            kind: triangle(rt, alloc),
         },
         _ => Edit::Show { id, hidden: false },
-    })
+    }
+}
+
+// The document after such an edit.
+fn after_same(rt: &impl Abort, alloc: Global, document: &Document, number: u32) -> Document {
+    let edit = edit_to_the_same(rt, alloc, number);
+    edited(alloc, document, &edit).expect(rt, "accepted")
 }
 
 #[test]
-fn edits_to_what_is_there(rt: HostRuntime) -> Result<(), Fail> {
+fn edits_to_what_is_there(rt: HostRuntime) {
     let alloc = rt.alloc();
-    let document = document(alloc, false, NEXT)?;
+    let document = document(&rt, alloc, false, NEXT);
     for number in 0..4u32 {
-        let after = edited(alloc, &document, &edit_to_the_same(alloc, number)?)?;
+        let after = after_same(&rt, alloc, &document, number);
         assert!(rt;
             after.get(POLYGON) == document.get(POLYGON),
             "edit {number}"
         );
         assert_eq!(rt; after.count(), document.count(), "edit {number}");
     }
-    Ok(())
 }

@@ -1,6 +1,5 @@
 //! Lists of records that are documents, and the positions of the faults of others.
 
-use canvas_code::OutOfMemory;
 use canvas_doc::{Document, Edit, Parent, Record, Refusal, Spot, TreeFault};
 use canvas_key::fresh;
 use canvas_plane::Pose;
@@ -10,7 +9,6 @@ use canvas_samples::{
 use canvas_shape::Kind;
 use std::alloc::Global;
 use std::process::Abort;
-use std::test::Fail;
 
 // An id, the id of a parent (0: the page), how many siblings' keys come before its index, and whether it is a leaf.
 type Row = (u32, u32, u32, bool);
@@ -34,17 +32,17 @@ fn record_of(row: &Row) -> Record {
     record(id, parent, fresh(rank), kind)
 }
 
-fn records(alloc: Global, rows: &[Row]) -> Result<Vec<Record>, OutOfMemory> {
+fn records(rt: &impl Abort, alloc: Global, rows: &[Row]) -> Vec<Record> {
     let mut records = Vec::new(alloc);
     for row in rows {
-        records.push(record_of(row))?;
+        records.push(record_of(row)).expect(rt, "memory");
     }
-    Ok(records)
+    records
 }
 
 // What `restore` answers of a list that is no document.
-fn fault(alloc: Global, rows: &[Row], next: u32) -> Result<Option<TreeFault>, OutOfMemory> {
-    Ok(restored(alloc, records(alloc, rows)?, next).err())
+fn fault(rt: &impl Abort, alloc: Global, rows: &[Row], next: u32) -> Option<TreeFault> {
+    restored(alloc, records(rt, alloc, rows), next).err()
 }
 
 fn bad_record(position: usize) -> Option<TreeFault> {
@@ -56,37 +54,34 @@ fn bad_tree(position: usize) -> Option<TreeFault> {
 }
 
 // Groups each of which holds the next, from id 1 on.
-fn chain(alloc: Global, levels: u32) -> Result<Vec<Row>, OutOfMemory> {
+fn chain(rt: &impl Abort, alloc: Global, levels: u32) -> Vec<Row> {
     let mut rows = Vec::new(alloc);
     for parent in 0..levels {
-        rows.push((parent + 1, parent, 0, GROUP))?;
+        let row = (parent + 1, parent, 0, GROUP);
+        rows.push(row).expect(rt, "memory");
     }
-    Ok(rows)
+    rows
 }
 
 // Groups on the page with the ids 1 to `count`, the k-th from 0 with the `step * k`-th fresh index.
-fn row_of_groups(alloc: Global, count: u32, step: u32) -> Result<Vec<Record>, OutOfMemory> {
+fn row_of_groups(rt: &impl Abort, alloc: Global, count: u32, step: u32) -> Vec<Record> {
     let mut records = Vec::new(alloc);
     for rank in 0..count {
-        records.push(record_of(&(rank + 1, 0, rank.wrapping_mul(step), GROUP)))?;
+        let group = record_of(&(rank + 1, 0, rank.wrapping_mul(step), GROUP));
+        records.push(group).expect(rt, "memory");
     }
-    Ok(records)
+    records
 }
 
 // Lists of rows with next id 9, and what `restore` finds of each.
-fn check_all(
-    rt: &impl Abort,
-    alloc: Global,
-    cases: &[(&[Row], Option<TreeFault>)],
-) -> Result<(), OutOfMemory> {
+fn check_all(rt: &impl Abort, alloc: Global, cases: &[(&[Row], Option<TreeFault>)]) {
     for (rows, expected) in cases {
-        assert_eq!(rt; fault(alloc, rows, 9)?, *expected);
+        assert_eq!(rt; fault(rt, alloc, rows, 9), *expected);
     }
-    Ok(())
 }
 
 #[test]
-fn ids_outside_their_range(rt: HostRuntime) -> Result<(), Fail> {
+fn ids_outside_their_range(rt: HostRuntime) {
     let alloc = rt.alloc();
     let cases: [(&[Row], Option<TreeFault>); 5] = [
         (&[], None),
@@ -98,30 +93,29 @@ fn ids_outside_their_range(rt: HostRuntime) -> Result<(), Fail> {
             bad_record(1),
         ),
     ];
-    check_all(&rt, alloc, &cases)?;
-    Ok(())
+    check_all(&rt, alloc, &cases);
 }
 
 // What `restore` answers of a group and a second record in it.
-fn fault_of_second(alloc: Global, shape: Record) -> Result<Option<TreeFault>, OutOfMemory> {
-    let mut list = records(alloc, &[(1, 0, 0, GROUP)])?;
-    list.push(shape)?;
-    Ok(restored(alloc, list, 3).err())
+fn fault_of_second(rt: &impl Abort, alloc: Global, shape: Record) -> Option<TreeFault> {
+    let mut list = records(rt, alloc, &[(1, 0, 0, GROUP)]);
+    list.push(shape).expect(rt, "memory");
+    restored(alloc, list, 3).err()
 }
 
-fn fault_of_pose(alloc: Global, pose: Pose) -> Result<Option<TreeFault>, OutOfMemory> {
+fn fault_of_pose(rt: &impl Abort, alloc: Global, pose: Pose) -> Option<TreeFault> {
     let mut shape = record_of(&(2, 1, 0, LEAF));
     shape.pose = pose;
-    fault_of_second(alloc, shape)
+    fault_of_second(rt, alloc, shape)
 }
 
-fn fault_of_kind(alloc: Global, kind: Kind) -> Result<Option<TreeFault>, OutOfMemory> {
+fn fault_of_kind(rt: &impl Abort, alloc: Global, kind: Kind) -> Option<TreeFault> {
     let shape = record(2, Parent::Shape(1), fresh(0), kind);
-    fault_of_second(alloc, shape)
+    fault_of_second(rt, alloc, shape)
 }
 
 #[test]
-fn poses_outside_their_limits(rt: HostRuntime) -> Result<(), Fail> {
+fn poses_outside_their_limits(rt: HostRuntime) {
     let alloc = rt.alloc();
     let mut least = moved(-1_048_576, 1_048_576);
     least.quarter = 3;
@@ -130,45 +124,45 @@ fn poses_outside_their_limits(rt: HostRuntime) -> Result<(), Fail> {
     let mut turned = Pose::STILL;
     turned.quarter = 4;
     for (pose, expected) in [(least, None), (far, bad_record(1)), (turned, bad_record(1))] {
-        assert_eq!(rt; fault_of_pose(alloc, pose)?, expected, "{pose:?}");
+        let found = fault_of_pose(&rt, alloc, pose);
+        assert_eq!(rt; found, expected, "{pose:?}");
     }
-    Ok(())
 }
 
 #[test]
-fn sides_outside_their_limits(rt: HostRuntime) -> Result<(), Fail> {
+fn sides_outside_their_limits(rt: HostRuntime) {
     let alloc = rt.alloc();
     for (w, h, expected) in [
         (65_536, 1, None),
         (0, 1, bad_record(1)),
         (1, 65_537, bad_record(1)),
     ] {
-        assert_eq!(rt; fault_of_kind(alloc, frame(w, h))?, expected, "{w}, {h}");
+        let found = fault_of_kind(&rt, alloc, frame(w, h));
+        assert_eq!(rt; found, expected, "{w}, {h}");
     }
-    Ok(())
 }
 
 // A polygon with so many vertices.
-fn polygon_of(alloc: Global, count: i64) -> Result<Kind, OutOfMemory> {
+fn polygon_of(rt: &impl Abort, alloc: Global, count: i64) -> Kind {
     let mut vertices = Vec::new(alloc);
     for x in 0..count {
-        vertices.push((x, 0i64))?;
+        vertices.push((x, 0i64)).expect(rt, "memory");
     }
-    polygon(alloc, &vertices)
+    polygon(alloc, &vertices).expect(rt, "memory")
 }
 
 #[test]
-fn vertices_outside_their_limits(rt: HostRuntime) -> Result<(), Fail> {
+fn vertices_outside_their_limits(rt: HostRuntime) {
     let alloc = rt.alloc();
     for (count, expected) in [(3, None), (2, bad_record(1)), (257, bad_record(1))] {
-        let kind = polygon_of(alloc, count)?;
-        assert_eq!(rt; fault_of_kind(alloc, kind)?, expected, "{count}");
+        let kind = polygon_of(&rt, alloc, count);
+        let found = fault_of_kind(&rt, alloc, kind);
+        assert_eq!(rt; found, expected, "{count}");
     }
-    Ok(())
 }
 
 #[test]
-fn ids_that_stand_twice(rt: HostRuntime) -> Result<(), Fail> {
+fn ids_that_stand_twice(rt: HostRuntime) {
     let alloc = rt.alloc();
     let cases: [(&[Row], Option<TreeFault>); 3] = [
         (
@@ -185,12 +179,11 @@ fn ids_that_stand_twice(rt: HostRuntime) -> Result<(), Fail> {
             bad_tree(2),
         ),
     ];
-    check_all(&rt, alloc, &cases)?;
-    Ok(())
+    check_all(&rt, alloc, &cases);
 }
 
 #[test]
-fn parents_and_paths(rt: HostRuntime) -> Result<(), Fail> {
+fn parents_and_paths(rt: HostRuntime) {
     let alloc = rt.alloc();
     let cases: [(&[Row], Option<TreeFault>); 6] = [
         // A parent that is not there, and one that is a leaf.
@@ -210,12 +203,11 @@ fn parents_and_paths(rt: HostRuntime) -> Result<(), Fail> {
             bad_tree(1),
         ),
     ];
-    check_all(&rt, alloc, &cases)?;
-    Ok(())
+    check_all(&rt, alloc, &cases);
 }
 
 #[test]
-fn places_and_two_faults(rt: HostRuntime) -> Result<(), Fail> {
+fn places_and_two_faults(rt: HostRuntime) {
     let alloc = rt.alloc();
     let cases: [(&[Row], Option<TreeFault>); 5] = [
         // One index twice under one parent, and under two.
@@ -241,25 +233,25 @@ fn places_and_two_faults(rt: HostRuntime) -> Result<(), Fail> {
             bad_tree(1),
         ),
     ];
-    check_all(&rt, alloc, &cases)?;
-    Ok(())
+    check_all(&rt, alloc, &cases);
 }
 
 // What `restore` answers of a chain, from the page down or from below up.
 fn fault_of_chain(
+    rt: &impl Abort,
     alloc: Global,
     levels: u32,
     is_upward: bool,
-) -> Result<Option<TreeFault>, OutOfMemory> {
-    let mut rows = chain(alloc, levels)?;
+) -> Option<TreeFault> {
+    let mut rows = chain(rt, alloc, levels);
     if is_upward {
         rows.reverse();
     }
-    fault(alloc, &rows, 99)
+    fault(rt, alloc, &rows, 99)
 }
 
 #[test]
-fn depth(rt: HostRuntime) -> Result<(), Fail> {
+fn depth(rt: HostRuntime) {
     let alloc = rt.alloc();
     for (levels, is_upward, expected) in [
         (32, false, None),
@@ -267,93 +259,105 @@ fn depth(rt: HostRuntime) -> Result<(), Fail> {
         (33, false, bad_tree(32)),
         (33, true, bad_tree(0)),
     ] {
-        let found = fault_of_chain(alloc, levels, is_upward)?;
+        let found = fault_of_chain(&rt, alloc, levels, is_upward);
         assert_eq!(rt; found, expected, "{levels} {is_upward}");
     }
-    Ok(())
 }
 
-fn unordered(alloc: Global) -> Result<Document, TreeFault> {
+fn unordered(rt: &impl Abort, alloc: Global) -> Document {
     let rows = [
         (7, 5, 0, LEAF),
         (2, 0, 1, GROUP),
         (5, 2, 3, GROUP),
         (3, 0, 0, LEAF),
     ];
-    restored(alloc, records(alloc, &rows)?, 8)
+    restored(alloc, records(rt, alloc, &rows), 8).expect(rt, "a document")
 }
 
-fn ids_of(alloc: Global, document: &Document) -> Result<Vec<u32>, OutOfMemory> {
+fn ids_of(rt: &impl Abort, alloc: Global, document: &Document) -> Vec<u32> {
     let mut ids = Vec::new(alloc);
-    for shape in document.records_in_order(alloc)? {
-        ids.push(shape.id)?;
+    for shape in document.records_in_order(alloc).expect(rt, "memory") {
+        ids.push(shape.id).expect(rt, "memory");
     }
-    Ok(ids)
+    ids
 }
 
 // Asserts that a document has the four records.
-fn check_ordered(rt: &impl Abort, alloc: Global, document: &Document) -> Result<(), Fail> {
+fn check_ordered(rt: &impl Abort, alloc: Global, document: &Document) {
     assert_eq!(rt; document.next_id(), 8);
-    let ids = ids_of(alloc, document)?;
+    let ids = ids_of(rt, alloc, document);
     assert_eq!(rt; ids.as_slice(), [2, 3, 5, 7].as_slice());
-    let found = document.get(7).ok_or("the leaf")?;
+    let found = document.get(7).expect(rt, "the leaf");
     assert!(rt; found.place.parent == Parent::Shape(5));
     assert!(rt; document.colour_at(1, 0) == RED);
-    Ok(())
+}
+
+fn check_copy(rt: &impl Abort, alloc: Global, document: &Document) {
+    let copy = document.try_clone(alloc).expect(rt, "memory");
+    check_ordered(rt, alloc, &copy);
 }
 
 #[test]
-fn any_order_is_restored_in_rising_id(rt: HostRuntime) -> Result<(), Fail> {
+fn any_order_is_restored_in_rising_id(rt: HostRuntime) {
     let alloc = rt.alloc();
-    let document = unordered(alloc)?;
-    let copy = document.try_clone(alloc)?;
-    check_ordered(&rt, alloc, &document)?;
-    check_ordered(&rt, alloc, &copy)
+    let document = unordered(&rt, alloc);
+    check_copy(&rt, alloc, &document);
+    check_ordered(&rt, alloc, &document);
 }
 
 // A document with as many groups on the page as may be.
-fn full_page(alloc: Global, step: u32) -> Result<Document, TreeFault> {
-    let list = row_of_groups(alloc, 16_384, step)?;
-    restored(alloc, list, 16_385)
+fn full_page(rt: &impl Abort, alloc: Global, step: u32) -> Document {
+    let list = row_of_groups(rt, alloc, 16_384, step);
+    restored(alloc, list, 16_385).expect(rt, "a document")
 }
 
 fn new_group() -> Edit {
     create(Kind::Group, Parent::Page, Spot::Front)
 }
 
+fn refusal_of_new_group(alloc: Global, document: &Document) -> Option<Refusal> {
+    document.decide(alloc, &new_group()).err()
+}
+
+fn count_in_order(rt: &impl Abort, alloc: Global, document: &Document) -> usize {
+    document.records_in_order(alloc).expect(rt, "memory").len()
+}
+
 #[test]
-fn as_many_as_may_be(rt: HostRuntime) -> Result<(), Fail> {
+fn as_many_as_may_be(rt: HostRuntime) {
     let alloc = rt.alloc();
-    let full = full_page(alloc, 1)?;
+    let full = full_page(&rt, alloc, 1);
     assert_eq!(rt; full.count(), 16_384);
-    assert_eq!(rt; full.records_in_order(alloc)?.len(), 16_384);
-    assert!(rt; full.decide(alloc, &new_group()).err() == Some(Refusal::TooMany));
-    Ok(())
+    assert_eq!(rt; count_in_order(&rt, alloc, &full), 16_384);
+    assert!(rt; refusal_of_new_group(alloc, &full) == Some(Refusal::TooMany));
+}
+
+// The document after an edit.
+fn after(rt: &impl Abort, alloc: Global, document: Document, edit: &Edit) -> Document {
+    edited(alloc, &document, edit).expect(rt, "accepted")
 }
 
 // The full page without its first group, and with a new one.
-fn full_page_again(alloc: Global) -> Result<Document, Fail> {
-    let full = full_page(alloc, 1)?;
-    let less = edited(alloc, &full, &Edit::Delete { id: 1 })?;
-    Ok(edited(alloc, &less, &new_group())?)
+fn full_page_again(rt: &impl Abort, alloc: Global) -> Document {
+    let full = full_page(rt, alloc, 1);
+    let less = after(rt, alloc, full, &Edit::Delete { id: 1 });
+    after(rt, alloc, less, &new_group())
 }
 
 #[test]
-fn room_for_one_after_a_deletion(rt: HostRuntime) -> Result<(), Fail> {
-    let again = full_page_again(rt.alloc())?;
+fn room_for_one_after_a_deletion(rt: HostRuntime) {
+    let again = full_page_again(&rt, rt.alloc());
     assert_eq!(rt; again.count(), 16_384);
     assert!(rt; again.get(16_385).is_some());
     assert!(rt; again.get(1).is_none());
-    Ok(())
 }
 
 #[test]
-fn a_full_page_is_respaced(rt: HostRuntime) -> Result<(), Fail> {
+fn a_full_page_is_respaced(rt: HostRuntime) {
     let alloc = rt.alloc();
-    let full = full_page(alloc, 3)?;
+    let full = full_page(&rt, alloc, 3);
     let parent = Parent::Page;
-    let spaced = edited(alloc, &full, &Edit::Respace { parent })?;
+    let spaced = after(&rt, alloc, full, &Edit::Respace { parent });
     assert!(rt; index_of(&spaced, 1) == b"a0".as_slice());
     assert!(rt; index_of(&spaced, 16_384) == b"c3FF".as_slice());
-    Ok(())
 }
