@@ -6,7 +6,6 @@ use canvas_plane::{Pose, Window};
 use canvas_shape::{Colour, Kind};
 use canvas_world::{Entry, Event, run};
 use std::alloc::{AllocError, Global};
-use std::test::Fail;
 
 const RED: Colour = Colour([255, 0, 0]);
 
@@ -113,10 +112,10 @@ pub(crate) const A_TILE_TOLD: &str =
     "looked 0; painted; edited 1 1; painted; tile 0 1 2 [255, 255, 255, 255, 255, 255]; skipped; ";
 
 #[test]
-fn a_tile_shows_the_version_of_its_look(rt: HostRuntime) -> Result<(), Fail> {
-    let told = transcript(rt.alloc(), 1, Window::new(0, 0, 1, 2)?, &A_TILE)?;
+fn a_tile_shows_the_version_of_its_look(rt: HostRuntime) {
+    let window = Window::new(0, 0, 1, 2).expect(&rt, "a window");
+    let told = transcript(rt.alloc(), 1, window, &A_TILE).expect(&rt, "memory");
     assert_eq!(rt; told.as_str(), A_TILE_TOLD);
-    Ok(())
 }
 
 const NEW_LOOKS: [Step; 8] = [
@@ -131,13 +130,13 @@ const NEW_LOOKS: [Step; 8] = [
 ];
 
 #[test]
-fn a_new_look_begins_anew(rt: HostRuntime) -> Result<(), Fail> {
-    let told = transcript(rt.alloc(), 2, Window::new(0, 0, 1, 1)?, &NEW_LOOKS)?;
+fn a_new_look_begins_anew(rt: HostRuntime) {
+    let window = Window::new(0, 0, 1, 1).expect(&rt, "a window");
+    let told = transcript(rt.alloc(), 2, window, &NEW_LOOKS).expect(&rt, "memory");
     assert_eq!(rt;
         told.as_str(),
         "edited 1 1; looked 1; painted; looked 1; skipped; painted; skipped; skipped; "
     );
-    Ok(())
 }
 
 const A_LEVEL: [Step; 4] = [
@@ -148,13 +147,13 @@ const A_LEVEL: [Step; 4] = [
 ];
 
 #[test]
-fn a_tile_of_a_level_shows_the_first_pixel_of_each_block(rt: HostRuntime) -> Result<(), Fail> {
-    let told = transcript(rt.alloc(), 1, Window::at_level(1, -1, 0, 3, 1)?, &A_LEVEL)?;
+fn a_tile_of_a_level_shows_the_first_pixel_of_each_block(rt: HostRuntime) {
+    let window = Window::at_level(1, -1, 0, 3, 1).expect(&rt, "a window");
+    let told = transcript(rt.alloc(), 1, window, &A_LEVEL).expect(&rt, "memory");
     assert_eq!(rt;
         told.as_str(),
         "edited 1 1; looked 1; painted; tile 1 3 1 [255, 255, 255, 255, 0, 0, 255, 255, 255]; "
     );
-    Ok(())
 }
 
 const ANY_ORDER: [Step; 11] = [
@@ -172,18 +171,18 @@ const ANY_ORDER: [Step; 11] = [
 ];
 
 #[test]
-fn strips_come_in_any_order(rt: HostRuntime) -> Result<(), Fail> {
-    let told = transcript(rt.alloc(), 1, Window::new(0, 0, 1, 2)?, &ANY_ORDER)?;
+fn strips_come_in_any_order(rt: HostRuntime) {
+    let window = Window::new(0, 0, 1, 2).expect(&rt, "a window");
+    let told = transcript(rt.alloc(), 1, window, &ANY_ORDER).expect(&rt, "memory");
     assert_eq!(rt;
         told.as_str(),
         "edited 1 1; refused 2; looked 1; painted; skipped; skipped; skipped; skipped; painted; tile 1 1 2 [255, 0, 0, 255, 255, 255]; skipped; "
     );
-    Ok(())
 }
 
 #[test]
-fn seats_of_events(rt: HostRuntime) -> Result<(), Fail> {
-    let window = Window::new(0, 0, 1, 1)?;
+fn seats_of_events(rt: HostRuntime) {
+    let window = Window::new(0, 0, 1, 1).expect(&rt, "a window");
     let look = Event::Look { seat: 4, window };
     let strip = event(Step::Strip(5, 1, 2), window);
     let answer = event(Step::Answer(6), window);
@@ -193,5 +192,4 @@ fn seats_of_events(rt: HostRuntime) -> Result<(), Fail> {
     };
     let seats = (look.seat(), strip.seat(), answer.seat(), edit.seat());
     assert_eq!(rt; seats, (4, 5, 6, 7));
-    Ok(())
 }

@@ -1,13 +1,11 @@
 //! Random lists of events, with each entry compared with what is found by looking back over the list.
 
-use canvas_code::OutOfMemory;
 use canvas_doc::{Change, Document, Edit, Parent, Spot};
 use canvas_plane::{Pose, Window};
 use canvas_shape::{Colour, Kind};
 use canvas_world::{Entry, Event, Transcript, run};
 use std::alloc::Global;
 use std::process::Abort;
-use std::test::Fail;
 
 // Numbers that look random.
 #[derive(Drop)]
@@ -88,36 +86,38 @@ fn random_window(dice: &mut Dice) -> Option<Window> {
     Window::new(dice.below(3).min(3) as i32, 0, w, h).ok()
 }
 
-fn random_events(alloc: Global, dice: &mut Dice) -> Result<Vec<Event>, OutOfMemory> {
+fn random_events(rt: &impl Abort, alloc: Global, dice: &mut Dice) -> Vec<Event> {
     let mut events = Vec::new(alloc);
     for _ in 0..24u8 {
         if let Some(window) = random_window(dice) {
-            events.push(random_event(dice, window))?;
+            let event = random_event(dice, window);
+            events.push(event).expect(rt, "memory");
         }
     }
-    Ok(events)
+    events
 }
 
 // The document after the first so many accepted edits, judged anew from the empty one.
 fn replayed(
+    rt: &impl Abort,
     alloc: Global,
     events: &[Event],
     entries: &[Entry],
     many: u64,
-) -> Result<Document, OutOfMemory> {
+) -> Document {
     let mut document = Document::empty(alloc);
     let mut done = 0u64;
     for (event, entry) in events.iter().zip(entries) {
         if let (Event::Edit { edit, .. }, Entry::Edited { .. }) = (event, entry) {
             if done < many {
                 if let Ok(change) = document.decide(alloc, edit) {
-                    document = document.with(alloc, &change)?;
+                    document = document.with(alloc, &change).expect(rt, "memory");
                 }
                 done = done.wrapping_add(1);
             }
         }
     }
-    Ok(document)
+    document
 }
 
 fn edits_in(entries: &[Entry]) -> u64 {
@@ -198,8 +198,17 @@ fn new_id(change: &Change) -> Option<u32> {
     }
 }
 
-// Whether an edit came to the right entry.
-fn edited_right(document: &Document, alloc: Global, edit: &Edit, many: u64, entry: &Entry) -> bool {
+// Whether an edit came to the right entry after the events before it.
+fn edited_right(
+    rt: &impl Abort,
+    alloc: Global,
+    events: &[Event],
+    entries: &[Entry],
+    edit: &Edit,
+    entry: &Entry,
+) -> bool {
+    let many = edits_in(entries);
+    let document = replayed(rt, alloc, events, entries, many);
     match (document.decide(alloc, edit), entry) {
         (Ok(change), Entry::Edited { version, id }) => {
             *version == many.wrapping_add(1) && *id == new_id(&change)
@@ -260,13 +269,14 @@ fn is_whole(events: &[Event], entries: &[Entry], own: u32, since: usize) -> bool
 
 // Whether an answer came to the right entry after a look at a place.
 fn answered_right(
+    rt: &impl Abort,
     alloc: Global,
     events: &[Event],
     entries: &[Entry],
     own: u32,
     since: usize,
     entry: &Entry,
-) -> Result<bool, OutOfMemory> {
+) -> bool {
     let whole = is_whole(events, entries, own, since);
     match (entry, events.get(since), entries.get(since)) {
         (
@@ -278,76 +288,59 @@ fn answered_right(
             Some(Event::Look { window: asked, .. }),
             Some(Entry::Looked { version: fixed }),
         ) => {
-            let document = replayed(alloc, events, entries, *fixed)?;
-            Ok(
-                whole
-                    && version == fixed
-                    && window == asked
-                    && shows(&document, asked, raster.bytes()),
-            )
+            let document = replayed(rt, alloc, events, entries, *fixed);
+            whole && version == fixed && window == asked && shows(&document, asked, raster.bytes())
         }
-        (Entry::Skipped, _, _) => Ok(!whole),
-        _ => Ok(false),
+        (Entry::Skipped, _, _) => !whole,
+        _ => false,
     }
 }
 
 // Whether an event came to the right entry, by looking back over those before it.
 fn is_right(
+    rt: &impl Abort,
     alloc: Global,
     events: &[Event],
     entries: &[Entry],
     event: &Event,
     entry: &Entry,
-) -> Result<bool, OutOfMemory> {
-    let many = edits_in(entries);
+) -> bool {
     if event.seat() >= 3 {
-        return Ok(matches!(entry, Entry::Skipped));
+        return matches!(entry, Entry::Skipped);
     }
     match (event, latest_look(events, entries, event.seat())) {
-        (Event::Edit { edit, .. }, _) => {
-            let document = replayed(alloc, events, entries, many)?;
-            Ok(edited_right(&document, alloc, edit, many, entry))
-        }
+        (Event::Edit { edit, .. }, _) => edited_right(rt, alloc, events, entries, edit, entry),
         (Event::Look { .. }, _) => match entry {
-            Entry::Looked { version } => Ok(*version == many),
-            _ => Ok(false),
+            Entry::Looked { version } => *version == edits_in(entries),
+            _ => false,
         },
-        (Event::Strip { seat, k, n }, Some(at)) => Ok(painted_right(
-            events,
-            entries,
-            *seat,
-            at,
-            (*k, *n),
-            entry,
-        )),
-        (Event::Answer { seat }, Some(at)) => {
-            answered_right(alloc, events, entries, *seat, at, entry)
+        (Event::Strip { seat, k, n }, Some(at)) => {
+            painted_right(events, entries, *seat, at, (*k, *n), entry)
         }
-        _ => Ok(matches!(entry, Entry::Skipped)),
+        (Event::Answer { seat }, Some(at)) => {
+            answered_right(rt, alloc, events, entries, *seat, at, entry)
+        }
+        _ => matches!(entry, Entry::Skipped),
     }
 }
 
 // Whether all entries are right.
-fn all_right(
-    alloc: Global,
-    events: &[Event],
-    transcript: &Transcript,
-) -> Result<bool, OutOfMemory> {
+fn all_right(rt: &impl Abort, alloc: Global, events: &[Event], transcript: &Transcript) -> bool {
     let entries = transcript.entries();
     if entries.len() != events.len() {
-        return Ok(false);
+        return false;
     }
     let mut at = 0usize;
     for (event, entry) in events.iter().zip(entries) {
         let (Some(before), Some(came)) = (events.get(..at), entries.get(..at)) else {
-            return Ok(false);
+            return false;
         };
-        if !is_right(alloc, before, came, event, entry)? {
-            return Ok(false);
+        if !is_right(rt, alloc, before, came, event, entry) {
+            return false;
         }
         at = at.wrapping_add(1);
     }
-    Ok(true)
+    true
 }
 
 // How many tiles are among the entries.
@@ -361,24 +354,30 @@ fn tiles_in(entries: &[Entry]) -> u32 {
     many
 }
 
+// How many tiles there were in a list of events over an empty document, if all entries are right.
+fn tiles_of(rt: &impl Abort, alloc: Global, events: &[Event]) -> Option<u32> {
+    let transcript = run(alloc, &Document::empty(alloc), 3, events).expect(rt, "memory");
+    if all_right(rt, alloc, events, &transcript) {
+        Some(tiles_in(transcript.entries()))
+    } else {
+        None
+    }
+}
+
 // How many tiles there were in random lists of events, all compared.
-fn compared(rt: &impl Abort, alloc: Global, seed: u64) -> Result<u32, OutOfMemory> {
+fn compared(rt: &impl Abort, alloc: Global, seed: u64) -> u32 {
     let mut dice = Dice(seed);
     let mut tiles = 0u32;
     for round in 0..2_000u32 {
-        let events = random_events(alloc, &mut dice)?;
-        let transcript = run(alloc, &Document::empty(alloc), 3, events.as_slice())?;
-        assert!(rt;
-            all_right(alloc, events.as_slice(), &transcript)?,
-            "{seed} {round}"
-        );
-        tiles = tiles.wrapping_add(tiles_in(transcript.entries()));
+        let events = random_events(rt, alloc, &mut dice);
+        let more = tiles_of(rt, alloc, events.as_slice());
+        assert!(rt; more.is_some(), "{seed} {round}");
+        tiles = tiles.wrapping_add(more.unwrap_or(0));
     }
-    Ok(tiles)
+    tiles
 }
 
 #[test]
-fn random_lists_are_their_replay(rt: HostRuntime) -> Result<(), Fail> {
-    assert!(rt; compared(&rt, rt.alloc(), 1)? > 200);
-    Ok(())
+fn random_lists_are_their_replay(rt: HostRuntime) {
+    assert!(rt; compared(&rt, rt.alloc(), 1) > 200);
 }
