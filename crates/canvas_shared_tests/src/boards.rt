@@ -169,9 +169,8 @@ fn two_boards_share_a_document(rt: HostRuntime) {
 fn share<B: Lines, H: Wait + Abort>(rt: &H, alloc: Global, opened: Opened, document: Document)
     requires { B.line 1 ≡ record { book = opened.head.word.book; opening = document; limit = 10 } }
 {
-    let (mut first, mut second) = boards::<B, H>(rt, alloc, opened, document, 10).expect(
-        rt, "boards",
-    );
+    let both = boards::<B, H>(rt, alloc, opened, document, 10);
+    let (mut first, mut second) = both.expect(rt, "boards");
     assert!(rt; is_edited(first.edit(rt, &square(1, 0)), 1, Some(1)));
     let dot = second.point(0, 0).expect(rt, "a colour");
     assert!(rt; dot.version == 1 && dot.colour == RED);

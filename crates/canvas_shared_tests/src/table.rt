@@ -85,9 +85,8 @@ fn opened<B: Lines, P: Play, H: Threads + Wait + Abort + Sync>(
     requires sync { IsSync H.row }
     requires line { B.line 1 ≡ record { book = opened.head.word.book; opening = document; limit = 4000 } }
 {
-    let mut seats = Line::open::<B, H>(rt, alloc, opened, 1, document, 3, LIMIT).expect(
-        rt, "a line",
-    );
+    let seats = Line::open::<B, H>(rt, alloc, opened, 1, document, 3, LIMIT);
+    let mut seats = seats.expect(rt, "a line");
     let mut table = Table {
         viewer: board(rt, alloc, seats.pop(), keep),
         editor: board(rt, alloc, seats.pop(), 0),
