@@ -4,7 +4,7 @@ ghost use Rattle.std.specs.Prelude.{◌≡◌};
 
 use canvas_board::{Board, BoardFault, Edited, Picture, Shared};
 use canvas_doc::{Document, Edit, Parent, Spot};
-use canvas_line::{Line, Lines, Opened, Seat};
+use canvas_line::{Line, LineFault, Lines, Opened, Seat};
 use canvas_plane::{Pose, Window};
 use canvas_shape::{Colour, Kind};
 use canvas_store::import;
@@ -12,7 +12,6 @@ use std::alloc::Global;
 use std::marker::Brand;
 use std::process::Abort;
 use std::sync::Wait;
-use std::test::Fail;
 use std::thread::Threads;
 
 pub(crate) const RED: Colour = Colour([255, 0, 0]);
@@ -45,36 +44,44 @@ pub(crate) fn at(dx: i64) -> Pose {
 }
 
 /// The boards of a line of two seats.
-pub(crate) fn boards<B: Lines, H: Wait>(
+pub(crate) fn boards<B: Lines, H: Wait + Abort>(
     rt: &H,
     alloc: Global,
     opened: Opened,
     document: Document,
     limit: u64,
-) -> Result<(Shared<B>, Shared<B>), Fail>
+) -> Result<(Shared<B>, Shared<B>), LineFault>
     requires { B.line 1 ≡ record { book = opened.head.word.book; opening = document; limit = limit } }
 {
-    let Ok(mut seats) = Line::open::<B, H>(rt, alloc, opened, 1, document, 2, limit) else {
-        return Err(Fail::from("no line"));
-    };
-    let first = board(alloc, seats.pop(), 4)?;
-    let second = board(alloc, seats.pop(), 4)?;
+    let mut seats = Line::open::<B, H>(rt, alloc, opened, 1, document, 2, limit)?;
+    let first = board(rt, alloc, seats.pop(), 4);
+    let second = board(rt, alloc, seats.pop(), 4);
     Ok((first, second))
+}
+
+/// The first of these boards alone.
+pub(crate) fn first_board<B: Lines, H: Wait + Abort>(
+    rt: &H,
+    alloc: Global,
+    opened: Opened,
+    document: Document,
+    limit: u64,
+) -> Shared<B>
+    requires { B.line 1 ≡ record { book = opened.head.word.book; opening = document; limit = limit } }
+{
+    let (first, _) = boards::<B, H>(rt, alloc, opened, document, limit).expect(rt, "boards");
+    first
 }
 
 /// The board of a seat, which keeps so many pictures.
 pub(crate) fn board<B: Lines>(
+    rt: &impl Abort,
     alloc: Global,
     seat: Option<Seat<B>>,
     keep: u32,
-) -> Result<Shared<B>, Fail> {
-    let Some(seat) = seat else {
-        return Err(Fail::from("no seat"));
-    };
-    match Shared::new(alloc, seat, keep) {
-        Ok(board) => Ok(board),
-        Err(_) => Err(Fail::from("no board")),
-    }
+) -> Shared<B> {
+    let seat = seat.expect(rt, "a seat");
+    Shared::new(alloc, seat, keep).ok().expect(rt, "a board")
 }
 
 /// Whether an edit was accepted as such a version, and made such a shape.
@@ -101,7 +108,7 @@ pub(crate) fn is_painted(answer: &Result<Picture, BoardFault>, version: u64, lef
 }
 
 #[test]
-fn a_square_moves_away(rt: HostRuntime) -> Result<(), Fail> {
+fn a_square_moves_away(rt: HostRuntime) {
     let alloc = rt.alloc();
     moves_away::<Brand, _>(&rt, alloc, Opened::new(), Document::empty(alloc))
 }
@@ -111,13 +118,11 @@ fn moves_away<B: Lines, H: Threads + Wait + Abort + Sync>(
     alloc: Global,
     opened: Opened,
     document: Document,
-) -> Result<(), Fail>
+)
     requires { B.line 1 ≡ record { book = opened.head.word.book; opening = document; limit = 10 } }
 {
-    let (mut board, _) = boards::<B, H>(rt, alloc, opened, document, 10)?;
-    let Ok(window) = Window::new(0, 0, 16, 16) else {
-        return Err(Fail::from("no window"));
-    };
+    let mut board = first_board::<B, H>(rt, alloc, opened, document, 10);
+    let window = Window::new(0, 0, 16, 16).expect(rt, "a window");
     assert!(rt; is_edited(board.edit(rt, &square(10, 0)), 1, Some(1)));
     assert!(rt; is_painted(&board.picture(rt, &window, 1), 1, RED));
     let away = Edit::Pose {
@@ -128,88 +133,61 @@ fn moves_away<B: Lines, H: Threads + Wait + Abort + Sync>(
     assert!(rt; is_painted(&board.picture(rt, &window, 2), 2, WHITE));
     assert!(rt; is_edited(board.edit(rt, &square(1, 500)), 3, Some(2)));
     assert!(rt; is_painted(&board.picture(rt, &window, 1), 3, WHITE));
-    let Ok(dot) = board.point(0, 0) else {
-        return Err(Fail::from("no colour"));
-    };
+    let dot = board.point(0, 0).expect(rt, "a colour");
     assert!(rt; dot.version == 3 && dot.colour == WHITE);
-    let Ok(saved) = board.saved() else {
-        return Err(Fail::from("not saved"));
-    };
+    let saved = board.saved().expect(rt, "a saved document");
     assert_eq!(rt; saved.version, 3);
-    let Ok(again) = import(alloc, saved.text.as_slice()) else {
-        return Err(Fail::from("not imported"));
-    };
+    let again = import(alloc, saved.text.as_slice()).expect(rt, "a document again");
     assert_eq!(rt; again.count(), 2);
     board.close(rt);
-    Ok(())
 }
 
 #[test]
-fn versions_are_spent_first(rt: HostRuntime) -> Result<(), Fail> {
+fn versions_are_spent_first(rt: HostRuntime) {
     let alloc = rt.alloc();
     spends::<Brand, _>(&rt, alloc, Opened::new(), Document::empty(alloc))
 }
 
-fn spends<B: Lines, H: Wait + Abort>(
-    rt: &H,
-    alloc: Global,
-    opened: Opened,
-    document: Document,
-) -> Result<(), Fail>
+fn spends<B: Lines, H: Wait + Abort>(rt: &H, alloc: Global, opened: Opened, document: Document)
     requires { B.line 1 ≡ record { book = opened.head.word.book; opening = document; limit = 2 } }
 {
-    let (mut board, _) = boards::<B, H>(rt, alloc, opened, document, 2)?;
+    let mut board = first_board::<B, H>(rt, alloc, opened, document, 2);
     assert!(rt; is_edited(board.edit(rt, &square(1, 0)), 1, Some(1)));
     assert!(rt; is_edited(board.edit(rt, &square(1, 0)), 2, Some(2)));
     let missing = Edit::Delete { id: 9 };
     assert!(rt; board.edit(rt, &missing) == Err(BoardFault::VersionsSpent));
-    let Ok(dot) = board.point(0, 0) else {
-        return Err(Fail::from("no colour"));
-    };
+    let dot = board.point(0, 0).expect(rt, "a colour");
     assert!(rt; dot.version == 2 && dot.colour == RED);
-    Ok(())
 }
 
 #[test]
-fn two_boards_share_a_document(rt: HostRuntime) -> Result<(), Fail> {
+fn two_boards_share_a_document(rt: HostRuntime) {
     let alloc = rt.alloc();
     share::<Brand, _>(&rt, alloc, Opened::new(), Document::empty(alloc))
 }
 
-fn share<B: Lines, H: Wait + Abort>(
-    rt: &H,
-    alloc: Global,
-    opened: Opened,
-    document: Document,
-) -> Result<(), Fail>
+fn share<B: Lines, H: Wait + Abort>(rt: &H, alloc: Global, opened: Opened, document: Document)
     requires { B.line 1 ≡ record { book = opened.head.word.book; opening = document; limit = 10 } }
 {
-    let (mut first, mut second) = boards::<B, H>(rt, alloc, opened, document, 10)?;
+    let both = boards::<B, H>(rt, alloc, opened, document, 10);
+    let (mut first, mut second) = both.expect(rt, "boards");
     assert!(rt; is_edited(first.edit(rt, &square(1, 0)), 1, Some(1)));
-    let Ok(dot) = second.point(0, 0) else {
-        return Err(Fail::from("no colour"));
-    };
+    let dot = second.point(0, 0).expect(rt, "a colour");
     assert!(rt; dot.version == 1 && dot.colour == RED);
     assert!(rt; is_edited(second.edit(rt, &Edit::Delete { id: 1 }), 2, None));
     assert!(rt; is_edited(first.edit(rt, &square(1, 0)), 3, Some(2)));
-    Ok(())
 }
 
 #[test]
-fn a_board_alone_at_its_document_is_never_behind(rt: HostRuntime) -> Result<(), Fail> {
+fn a_board_alone_at_its_document_is_never_behind(rt: HostRuntime) {
     let alloc = rt.alloc();
     goes_on::<Brand, _>(&rt, alloc, Opened::new(), Document::empty(alloc))
 }
 
-fn goes_on<B: Lines, H: Wait + Abort>(
-    rt: &H,
-    alloc: Global,
-    opened: Opened,
-    document: Document,
-) -> Result<(), Fail>
+fn goes_on<B: Lines, H: Wait + Abort>(rt: &H, alloc: Global, opened: Opened, document: Document)
     requires { B.line 1 ≡ record { book = opened.head.word.book; opening = document; limit = 100 } }
 {
-    let (mut board, _) = boards::<B, H>(rt, alloc, opened, document, 100)?;
+    let mut board = first_board::<B, H>(rt, alloc, opened, document, 100);
     for number in 1..=50 {
         assert!(rt;
             board
@@ -223,38 +201,23 @@ fn goes_on<B: Lines, H: Wait + Abort>(
         );
         assert!(rt; board.point(0, 0).is_ok_and(|dot| dot.version == number));
     }
-    Ok(())
 }
 
 #[test]
-fn settings_that_are_refused(rt: HostRuntime) -> Result<(), Fail> {
+fn settings_that_are_refused(rt: HostRuntime) {
     let alloc = rt.alloc();
     refuses::<Brand, _>(&rt, alloc, Opened::new(), Document::empty(alloc))
 }
 
-fn refuses<B: Lines, H: Wait + Abort>(
-    rt: &H,
-    alloc: Global,
-    opened: Opened,
-    document: Document,
-) -> Result<(), Fail>
+fn refuses<B: Lines, H: Wait + Abort>(rt: &H, alloc: Global, opened: Opened, document: Document)
     requires { B.line 1 ≡ record { book = opened.head.word.book; opening = document; limit = 10 } }
 {
-    let Ok(mut seats) = Line::open::<B, H>(rt, alloc, opened, 1, document, 1, 10) else {
-        return Err(Fail::from("no line"));
-    };
-    let Some(mut seat) = seats.pop() else {
-        return Err(Fail::from("no seat"));
-    };
+    let mut seats = Line::open::<B, H>(rt, alloc, opened, 1, document, 1, 10).expect(rt, "a line");
+    let mut seat = seats.pop().expect(rt, "a seat");
     assert!(rt; seat.edit(rt, &square(1, 0)).is_ok());
-    let Err((fault, seat)) = Shared::new(alloc, seat, 257) else {
-        return Err(Fail::from("a board"));
-    };
+    let (fault, seat) = Shared::new(alloc, seat, 257).err().expect(rt, "a refusal");
     assert_eq!(rt; fault.code(), 32);
     assert_eq!(rt; seat.number(), 1);
-    let Ok(mut board) = Shared::new(alloc, seat, 256) else {
-        return Err(Fail::from("no board"));
-    };
+    let mut board = Shared::new(alloc, seat, 256).ok().expect(rt, "a board");
     assert!(rt; is_edited(board.edit(rt, &square(1, 0)), 2, Some(2)));
-    Ok(())
 }

@@ -12,7 +12,6 @@ use canvas_shape::Kind;
 use std::alloc::Global;
 use std::process::Abort;
 use std::sync::Wait;
-use std::test::Fail;
 use std::thread::Threads;
 
 /// An edit before a picture of 16 by 16 at the page's origin, one that is made so often between it and the next picture of
@@ -42,12 +41,8 @@ struct Twice<'a> {
 }
 
 impl Play for Twice<'_> {
-    fn play<B: Lines, H: Threads + Wait + Abort + Sync>(
-        &self,
-        rt: &H,
-        table: &mut Table<B>,
-    ) -> Result<(), Fail> {
-        let window = window_at(0, 0)?;
+    fn play<B: Lines, H: Threads + Wait + Abort + Sync>(&self, rt: &H, table: &mut Table<B>) {
+        let window = window_at(rt, 0, 0);
         assert!(rt; table.edits(rt, self.by_viewer, &self.row.before));
         assert!(rt;
             table
@@ -66,39 +61,29 @@ impl Play for Twice<'_> {
                 .is_some_and(|seen| seen.version == version)
         );
         assert_eq!(rt; table.viewer.hits(), self.row.hits);
-        Ok(())
     }
 }
 
 // Plays rows, of which the viewer and then the editor makes the edits.
-fn play_rows<H: Threads + Wait + Abort + Sync>(
-    rt: &H,
-    alloc: Global,
-    keep: u32,
-    rows: &[Row],
-) -> Result<(), Fail>
+fn play_rows<H: Threads + Wait + Abort + Sync>(rt: &H, alloc: Global, keep: u32, rows: &[Row])
     requires { IsSync H.row }
 {
     for row in rows {
         for by_viewer in [true, false] {
             let play = Twice { row, by_viewer };
-            play_at(rt, alloc, Document::empty(alloc), keep, &play)?;
+            play_at(rt, alloc, Document::empty(alloc), keep, &play);
         }
     }
-    Ok(())
 }
 
 // A window of 16 by 16.
-fn window_at(x: i32, y: i32) -> Result<Window, Fail> {
-    window_of(0, x, y, 16)
+fn window_at(rt: &impl Abort, x: i32, y: i32) -> Window {
+    window_of(rt, 0, x, y, 16)
 }
 
 // A window of a level, as wide as high.
-fn window_of(level: u8, x: i32, y: i32, side: u32) -> Result<Window, Fail> {
-    match Window::at_level(level, x, y, side, side) {
-        Ok(window) => Ok(window),
-        Err(_) => Err(Fail::from("no window")),
-    }
+fn window_of(rt: &impl Abort, level: u8, x: i32, y: i32, side: u32) -> Window {
+    Window::at_level(level, x, y, side, side).expect(rt, "a window")
 }
 
 fn moved(dx: i64) -> Edit {
@@ -133,7 +118,7 @@ fn hidden_square() -> Edit {
 }
 
 #[test]
-fn a_picture_is_answered_again_where_no_change_meets_it(rt: HostRuntime) -> Result<(), Fail> {
+fn a_picture_is_answered_again_where_no_change_meets_it(rt: HostRuntime) {
     let rows = [
         row_of(square(10, 0), square(1, 500), 1, 1),
         row_of(square(10, 0), square(1, 500), 64, 1),
@@ -158,7 +143,7 @@ fn a_picture_is_answered_again_where_no_change_meets_it(rt: HostRuntime) -> Resu
 }
 
 #[test]
-fn a_picture_that_a_change_meets_is_painted_anew(rt: HostRuntime) -> Result<(), Fail> {
+fn a_picture_that_a_change_meets_is_painted_anew(rt: HostRuntime) {
     let rows = [
         row_of(square(10, 0), square(2, 3), 1, 0),
         row_of(square(10, 0), square(10, 15), 1, 0),
@@ -191,7 +176,7 @@ fn a_picture_that_a_change_meets_is_painted_anew(rt: HostRuntime) -> Result<(), 
 }
 
 #[test]
-fn a_board_that_keeps_none_paints_each_picture(rt: HostRuntime) -> Result<(), Fail> {
+fn a_board_that_keeps_none_paints_each_picture(rt: HostRuntime) {
     let rows = [
         row_of(square(10, 0), square(1, 500), 1, 0),
         row_of(square(10, 0), group(), 0, 0),
@@ -207,25 +192,20 @@ struct InTurn {
 }
 
 impl Play for InTurn {
-    fn play<B: Lines, H: Threads + Wait + Abort + Sync>(
-        &self,
-        rt: &H,
-        table: &mut Table<B>,
-    ) -> Result<(), Fail> {
+    fn play<B: Lines, H: Threads + Wait + Abort + Sync>(&self, rt: &H, table: &mut Table<B>) {
         assert!(rt; table.edits(rt, false, &square(10, 4)));
         for _ in 0..3u32 {
             for number in 0..self.windows {
-                let window = window_at(number, 0)?;
+                let window = window_at(rt, number, 0);
                 assert!(rt; table.picture(rt, &window).is_some());
             }
         }
         assert_eq!(rt; table.viewer.hits(), self.hits);
-        Ok(())
     }
 }
 
 #[test]
-fn as_many_windows_as_are_kept(rt: HostRuntime) -> Result<(), Fail> {
+fn as_many_windows_as_are_kept(rt: HostRuntime) {
     let alloc = rt.alloc();
     for (keep, windows, hits) in [
         (0, 1, 0),
@@ -236,9 +216,8 @@ fn as_many_windows_as_are_kept(rt: HostRuntime) -> Result<(), Fail> {
         (256, 9, 18),
     ] {
         let play = InTurn { windows, hits };
-        play_at(&rt, alloc, Document::empty(alloc), keep, &play)?;
+        play_at(&rt, alloc, Document::empty(alloc), keep, &play);
     }
-    Ok(())
 }
 
 /// A picture of 2 by 2 pixels that lie 8 apart, after changes beside them, between them and at one of them.
@@ -246,13 +225,9 @@ fn as_many_windows_as_are_kept(rt: HostRuntime) -> Result<(), Fail> {
 struct OfALevel;
 
 impl Play for OfALevel {
-    fn play<B: Lines, H: Threads + Wait + Abort + Sync>(
-        &self,
-        rt: &H,
-        table: &mut Table<B>,
-    ) -> Result<(), Fail> {
+    fn play<B: Lines, H: Threads + Wait + Abort + Sync>(&self, rt: &H, table: &mut Table<B>) {
         let red = b"P6\n2 2\n255\n\xff\0\0\xff\0\0\xff\0\0\xff\0\0".as_slice();
-        let window = window_of(3, 0, 0, 2)?;
+        let window = window_of(rt, 3, 0, 0, 2);
         // Each edit makes a version, whose picture is all red, by so many answers as kept.
         for (edit, version, hits) in [
             (square(10, 0), 1, 0),
@@ -262,14 +237,11 @@ impl Play for OfALevel {
             (dot(0, -1), 5, 3),
         ] {
             assert!(rt; table.edits(rt, false, &edit));
-            let Some(picture) = table.picture(rt, &window) else {
-                return Err(Fail::from("no picture"));
-            };
+            let picture = table.picture(rt, &window).expect(rt, "a picture");
             assert_eq!(rt; picture.version, version);
             assert!(rt; picture.bytes.as_slice() == red);
             assert_eq!(rt; table.viewer.hits(), hits);
         }
-        Ok(())
     }
 }
 
@@ -294,7 +266,7 @@ fn dot(dx: i64, dy: i64) -> Edit {
 }
 
 #[test]
-fn pictures_of_a_level_are_kept(rt: HostRuntime) -> Result<(), Fail> {
+fn pictures_of_a_level_are_kept(rt: HostRuntime) {
     let alloc = rt.alloc();
     play_at(&rt, alloc, Document::empty(alloc), 4, &OfALevel)
 }
@@ -304,29 +276,24 @@ fn pictures_of_a_level_are_kept(rt: HostRuntime) -> Result<(), Fail> {
 struct AtEachLevel;
 
 impl Play for AtEachLevel {
-    fn play<B: Lines, H: Threads + Wait + Abort + Sync>(
-        &self,
-        rt: &H,
-        table: &mut Table<B>,
-    ) -> Result<(), Fail> {
+    fn play<B: Lines, H: Threads + Wait + Abort + Sync>(&self, rt: &H, table: &mut Table<B>) {
         assert!(rt; table.edits(rt, false, &square(10, 4)));
         for number in 0..14u8 {
-            let window = window_of(number % 7, 0, 0, 16)?;
+            let window = window_of(rt, number % 7, 0, 0, 16);
             assert!(rt; table.picture(rt, &window).is_some(), "picture {number}");
         }
         assert_eq!(rt; table.viewer.hits(), 7);
         assert!(rt; table.edits(rt, false, &square(1, 16)));
         for level in 0..7u8 {
-            let window = window_of(level, 0, 0, 16)?;
+            let window = window_of(rt, level, 0, 0, 16);
             assert!(rt; table.picture(rt, &window).is_some(), "level {level}");
         }
         assert_eq!(rt; table.viewer.hits(), 8);
-        Ok(())
     }
 }
 
 #[test]
-fn levels_are_kept_apart(rt: HostRuntime) -> Result<(), Fail> {
+fn levels_are_kept_apart(rt: HostRuntime) {
     let alloc = rt.alloc();
     play_at(&rt, alloc, Document::empty(alloc), 7, &AtEachLevel)
 }
@@ -336,12 +303,8 @@ fn levels_are_kept_apart(rt: HostRuntime) -> Result<(), Fail> {
 struct KeptOn;
 
 impl Play for KeptOn {
-    fn play<B: Lines, H: Threads + Wait + Abort + Sync>(
-        &self,
-        rt: &H,
-        table: &mut Table<B>,
-    ) -> Result<(), Fail> {
-        let window = window_at(0, 0)?;
+    fn play<B: Lines, H: Threads + Wait + Abort + Sync>(&self, rt: &H, table: &mut Table<B>) {
+        let window = window_at(rt, 0, 0);
         let mut hits: u64 = 0;
         for changes in [1, 64, 64, 40, 64, 65, 64] {
             for _ in 0..changes {
@@ -352,12 +315,11 @@ impl Play for KeptOn {
             hits = hits.saturating_add(if painted { 0 } else { 1 });
             assert_eq!(rt; table.viewer.hits(), hits, "after {changes} changes");
         }
-        Ok(())
     }
 }
 
 #[test]
-fn what_is_answered_again_counts_as_kept_then(rt: HostRuntime) -> Result<(), Fail> {
+fn what_is_answered_again_counts_as_kept_then(rt: HostRuntime) {
     let alloc = rt.alloc();
     play_at(&rt, alloc, Document::empty(alloc), 1, &KeptOn)
 }
@@ -367,12 +329,8 @@ fn what_is_answered_again_counts_as_kept_then(rt: HostRuntime) -> Result<(), Fai
 struct Workers;
 
 impl Play for Workers {
-    fn play<B: Lines, H: Threads + Wait + Abort + Sync>(
-        &self,
-        rt: &H,
-        table: &mut Table<B>,
-    ) -> Result<(), Fail> {
-        let window = window_at(0, 0)?;
+    fn play<B: Lines, H: Threads + Wait + Abort + Sync>(&self, rt: &H, table: &mut Table<B>) {
+        let window = window_at(rt, 0, 0);
         assert!(rt; table.edits(rt, true, &square(10, 0)));
         for (workers, hits) in [(1, 0), (17, 0), (16, 1), (0, 1), (2, 2), (17, 2)] {
             let answer = table.viewer.picture(rt, &window, workers);
@@ -383,12 +341,11 @@ impl Play for Workers {
             assert!(rt; is_refused == (workers == 0 || workers == 17));
             assert_eq!(rt; table.viewer.hits(), hits, "{workers} workers");
         }
-        Ok(())
     }
 }
 
 #[test]
-fn workers_are_judged_first(rt: HostRuntime) -> Result<(), Fail> {
+fn workers_are_judged_first(rt: HostRuntime) {
     let alloc = rt.alloc();
     play_at(&rt, alloc, Document::empty(alloc), 4, &Workers)
 }

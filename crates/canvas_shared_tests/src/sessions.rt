@@ -2,7 +2,7 @@
 
 ghost use Rattle.std.specs.Prelude.{◌≡◌};
 
-use crate::boards::boards;
+use crate::boards::first_board;
 use canvas_doc::Document;
 use canvas_line::{Lines, Opened};
 use canvas_session::{Served, serve};
@@ -10,8 +10,8 @@ use std::alloc::{AllocError, Global};
 use std::io;
 use std::io::{Read, Write};
 use std::marker::Brand;
+use std::process::Abort;
 use std::sync::Wait;
-use std::test::Fail;
 use std::thread::Threads;
 
 const REQUESTS: &[u8] = br#"{"verb":"create","shape":{"kind":"rect","w":10,"h":10,"fill":"ff0000"}}
@@ -98,49 +98,55 @@ impl Write for Narrow {
 }
 
 #[test]
-fn a_session_in_one_piece(rt: HostRuntime) -> Result<(), Fail> {
+fn a_session_in_one_piece(rt: HostRuntime) {
     let alloc = rt.alloc();
     in_one_piece::<Brand, _>(&rt, alloc, Opened::new(), Document::empty(alloc))
 }
 
-fn in_one_piece<B: Lines, H: Threads + Wait + Sync>(
+fn in_one_piece<B: Lines, H: Threads + Wait + Abort + Sync>(
     rt: &H,
     alloc: Global,
     opened: Opened,
     document: Document,
-) -> Result<(), Fail>
+)
     requires { B.line 1 ≡ record { book = opened.head.word.book; opening = document; limit = 10 } }
 {
-    let (mut board, _) = boards::<B, H>(rt, alloc, opened, document, 10)?;
-    let wanted = answers(alloc)?;
+    let mut board = first_board::<B, H>(rt, alloc, opened, document, 10);
+    let wanted = answers(alloc).expect(rt, "memory");
     let mut reader = REQUESTS;
     let mut whole = Vec::new(alloc);
     let served = serve(rt, alloc, &mut board, 1, &mut reader, &mut whole);
-    is_served(served == Ok(all_served(&wanted)) && whole.as_slice() == wanted.as_slice())
+    assert!(rt;
+        served == Ok(all_served(&wanted)) && whole.as_slice() == wanted.as_slice(),
+        "other answers"
+    );
 }
 
 #[test]
-fn a_session_byte_by_byte(rt: HostRuntime) -> Result<(), Fail> {
+fn a_session_byte_by_byte(rt: HostRuntime) {
     let alloc = rt.alloc();
     byte_by_byte::<Brand, _>(&rt, alloc, Opened::new(), Document::empty(alloc))
 }
 
-fn byte_by_byte<B: Lines, H: Threads + Wait + Sync>(
+fn byte_by_byte<B: Lines, H: Threads + Wait + Abort + Sync>(
     rt: &H,
     alloc: Global,
     opened: Opened,
     document: Document,
-) -> Result<(), Fail>
+)
     requires { B.line 1 ≡ record { book = opened.head.word.book; opening = document; limit = 10 } }
 {
-    let (mut board, _) = boards::<B, H>(rt, alloc, opened, document, 10)?;
-    let wanted = answers(alloc)?;
+    let mut board = first_board::<B, H>(rt, alloc, opened, document, 10);
+    let wanted = answers(alloc).expect(rt, "memory");
     let mut drip = Drip { rest: REQUESTS };
     let mut narrow = Narrow {
         out: Vec::new(alloc),
     };
     let served = serve(rt, alloc, &mut board, 1, &mut drip, &mut narrow);
-    is_served(served == Ok(all_served(&wanted)) && narrow.out.as_slice() == wanted.as_slice())
+    assert!(rt;
+        served == Ok(all_served(&wanted)) && narrow.out.as_slice() == wanted.as_slice(),
+        "other answers"
+    );
 }
 
 /// What a session of nine requests counts.
@@ -148,13 +154,5 @@ fn all_served(answers: &Vec<u8>) -> Served {
     Served {
         requests: 9,
         written: answers.len() as u64,
-    }
-}
-
-fn is_served(holds: bool) -> Result<(), Fail> {
-    if holds {
-        Ok(())
-    } else {
-        Err(Fail::from("other answers"))
     }
 }

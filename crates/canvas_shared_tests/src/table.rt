@@ -12,7 +12,6 @@ use std::alloc::Global;
 use std::marker::Brand;
 use std::process::Abort;
 use std::sync::Wait;
-use std::test::Fail;
 use std::thread::Threads;
 
 /// How many changes a document may accept.
@@ -58,11 +57,7 @@ impl<B: Lines> Table<B> {
 /// What is done at a table.
 pub(crate) trait Play {
     /// Plays it at a document that nobody has looked at.
-    fn play<B: Lines, H: Threads + Wait + Abort + Sync>(
-        &self,
-        rt: &H,
-        table: &mut Table<B>,
-    ) -> Result<(), Fail>
+    fn play<B: Lines, H: Threads + Wait + Abort + Sync>(&self, rt: &H, table: &mut Table<B>)
         requires { IsSync H.row };
 }
 
@@ -73,7 +68,7 @@ pub(crate) fn play_at<P: Play, H: Threads + Wait + Abort + Sync>(
     document: Document,
     keep: u32,
     play: &P,
-) -> Result<(), Fail>
+)
     requires { IsSync H.row }
 {
     opened::<Brand, P, H>(rt, alloc, Opened::new(), document, keep, play)
@@ -86,17 +81,16 @@ fn opened<B: Lines, P: Play, H: Threads + Wait + Abort + Sync>(
     document: Document,
     keep: u32,
     play: &P,
-) -> Result<(), Fail>
+)
     requires sync { IsSync H.row }
     requires line { B.line 1 ≡ record { book = opened.head.word.book; opening = document; limit = 4000 } }
 {
-    let Ok(mut seats) = Line::open::<B, H>(rt, alloc, opened, 1, document, 3, LIMIT) else {
-        return Err(Fail::from("no line"));
-    };
+    let seats = Line::open::<B, H>(rt, alloc, opened, 1, document, 3, LIMIT);
+    let mut seats = seats.expect(rt, "a line");
     let mut table = Table {
-        viewer: board(alloc, seats.pop(), keep)?,
-        editor: board(alloc, seats.pop(), 0)?,
-        witness: board(alloc, seats.pop(), 0)?,
+        viewer: board(rt, alloc, seats.pop(), keep),
+        editor: board(rt, alloc, seats.pop(), 0),
+        witness: board(rt, alloc, seats.pop(), 0),
     };
     play.play(rt, &mut table)
 }

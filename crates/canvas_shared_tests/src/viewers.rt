@@ -15,7 +15,6 @@ use canvas_shape::{Colour, Kind};
 use std::alloc::Global;
 use std::process::Abort;
 use std::sync::Wait;
-use std::test::Fail;
 use std::thread::Threads;
 
 // How many edits are made at random.
@@ -102,22 +101,19 @@ fn edit(dice: &mut Dice, made: u32) -> Edit {
 }
 
 // One of 64 windows, most often one of the first, and at times one of another level.
-fn some_window(dice: &mut Dice) -> Result<Window, Fail> {
+fn some_window(rt: &impl Abort, dice: &mut Dice) -> Window {
     match dice.below(8) {
-        0 | 1 => tile(0, dice.below(64) as i32, 32),
-        2 => tile(dice.below(7) as u8, dice.below(6) as i32, 32),
-        _ => tile(0, dice.below(6) as i32, 32),
+        0 | 1 => tile(rt, 0, dice.below(64) as i32, 32),
+        2 => tile(rt, dice.below(7) as u8, dice.below(6) as i32, 32),
+        _ => tile(rt, 0, dice.below(6) as i32, 32),
     }
 }
 
 // A window of a level of 16 by 16, one of 8 in a row, so far apart.
-fn tile(level: u8, number: i32, apart: i32) -> Result<Window, Fail> {
+fn tile(rt: &impl Abort, level: u8, number: i32, apart: i32) -> Window {
     let x = (number % 8).saturating_mul(apart);
     let y = (number / 8).saturating_mul(apart);
-    match Window::at_level(level, x, y, 16, 16) {
-        Ok(window) => Ok(window),
-        Err(_) => Err(Fail::from("no window")),
-    }
+    Window::at_level(level, x, y, 16, 16).expect(rt, "a window")
 }
 
 /// Edits and windows at random.
@@ -125,18 +121,14 @@ fn tile(level: u8, number: i32, apart: i32) -> Result<Window, Fail> {
 struct AtRandom;
 
 impl Play for AtRandom {
-    fn play<B: Lines, H: Threads + Wait + Abort + Sync>(
-        &self,
-        rt: &H,
-        table: &mut Table<B>,
-    ) -> Result<(), Fail> {
+    fn play<B: Lines, H: Threads + Wait + Abort + Sync>(&self, rt: &H, table: &mut Table<B>) {
         let mut dice = Dice { state: 5 };
         let mut made: u32 = 0;
         for number in 0..EDITS {
             if let Ok(edited) = table.editor.edit(rt, &edit(&mut dice, made)) {
                 made = edited.id.unwrap_or(made);
             }
-            let window = some_window(&mut dice)?;
+            let window = some_window(rt, &mut dice);
             assert!(rt;
                 table.picture(rt, &window).is_some(),
                 "after {number} edits"
@@ -144,12 +136,11 @@ impl Play for AtRandom {
         }
         let hits = table.viewer.hits();
         assert!(rt; hits > 100 && hits < 1900, "{hits} hits");
-        Ok(())
     }
 }
 
 #[test]
-fn random_edits_and_windows(rt: HostRuntime) -> Result<(), Fail> {
+fn random_edits_and_windows(rt: HostRuntime) {
     let alloc = rt.alloc();
     play_at(&rt, alloc, Document::empty(alloc), 32, &AtRandom)
 }
@@ -187,16 +178,12 @@ fn squares(alloc: Global, count: u32) -> Result<Vec<Record>, OutOfMemory> {
 struct Elsewhere;
 
 impl Play for Elsewhere {
-    fn play<B: Lines, H: Threads + Wait + Abort + Sync>(
-        &self,
-        rt: &H,
-        table: &mut Table<B>,
-    ) -> Result<(), Fail> {
+    fn play<B: Lines, H: Threads + Wait + Abort + Sync>(&self, rt: &H, table: &mut Table<B>) {
         let mut asked: u64 = 0;
         for number in 0..400u32 {
             let pose = at(i64::from(number % 7));
             assert!(rt; table.edits(rt, false, &Edit::Pose { id: 1, pose }));
-            let window = tile(0, (number % 8) as i32 + 8, 64)?;
+            let window = tile(rt, 0, (number % 8) as i32 + 8, 64);
             assert!(rt; table.viewer.picture(rt, &window, 1).is_ok());
             asked = asked.saturating_add(1);
         }
@@ -205,23 +192,18 @@ impl Play for Elsewhere {
             hits.saturating_mul(100) >= asked.saturating_mul(90),
             "{hits} of {asked}"
         );
-        let corner = tile(0, 0, 64)?;
+        let corner = tile(rt, 0, 0, 64);
         assert!(rt; table.picture(rt, &corner).is_some());
-        let beside = tile(0, 8, 64)?;
+        let beside = tile(rt, 0, 8, 64);
         assert!(rt; table.picture(rt, &beside).is_some());
-        Ok(())
     }
 }
 
 #[test]
-fn viewers_elsewhere_are_answered_again(rt: HostRuntime) -> Result<(), Fail> {
+fn viewers_elsewhere_are_answered_again(rt: HostRuntime) {
     let alloc = rt.alloc();
-    let records = squares(alloc, 4000)?;
-    if records.len() > MOST_RECORDS {
-        return Err(Fail::from("too many records"));
-    }
-    let Ok(document) = Document::restore(alloc, records, 4001) else {
-        return Err(Fail::from("no document"));
-    };
+    let records = squares(alloc, 4000).expect(&rt, "memory");
+    assert!(rt; records.len() <= MOST_RECORDS);
+    let document = Document::restore(alloc, records, 4001).expect(&rt, "a document");
     play_at(&rt, alloc, document, 8, &Elsewhere)
 }
