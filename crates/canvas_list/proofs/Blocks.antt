@@ -2,7 +2,7 @@
 use Rattle.std.proofs.Common.{◌≡◌, ◌∙◌, ℕ, ◌+◌, ◌-◌, ◌<◌, List, [], ◌∷◌, take, drop, slice_range, ◌++◌, Some, refl, sym, ap, arith, length, get_or}
 use Rattle.std.specs.List.{slice_get}
 use Rattle.std.proofs.lemmas.List.{append-nil, drop_more}
-use Rattle.canvas_list.specs.Chunks.{joined, IsLastBefore, IsTable}
+use Rattle.canvas_list.specs.Chunks.{joined, IsSpot, IsTable}
 use Rattle.canvas_list.proofs.Joined.{found}
 use Rattle.canvas_list.proofs.Spliced.{of-spot, IsOfSpot}
 
@@ -12,10 +12,10 @@ one-part cs k c h =
     ap (λ n. joined (take n (drop k cs))) one ∙ ap (λ l. joined (take 1 l)) (drop_more cs k c h) ∙ append-nil (get_or cs k c)
 
 -- the items of the block of a position
-pub of-block : {X : Type 0} (cs : List (List X)) (ss rs : List ℕ) (xs : List X) (n k s at : ℕ) (c items : List X) → IsTable cs ss n → rs ≡ ss → IsLastBefore rs at k s → joined cs ≡ xs → c ≡ get_or cs k c → items ≡ c → IsOfSpot cs xs k s at items
-of-block cs ss rs xs n k s at c items t e last all is same =
-    let f = found cs ss rs n k s at t e last in
-    of-spot cs cs ss rs xs n k s at items t e last all refl (same ∙ is ∙ sym (one-part cs k c f.within))
+pub of-block : {X : Type 0} (cs rs : List (List X)) (xs : List X) (n k s at : ℕ) (c items : List X) → IsTable cs n → rs ≡ cs → IsSpot length rs at k s → joined cs ≡ xs → c ≡ get_or cs k c → items ≡ c → IsOfSpot cs xs k s at items
+of-block cs rs xs n k s at c items t e last all is same =
+    let f = found cs rs n k s at t e last in
+    of-spot cs cs rs xs n k s at items t e last all refl (same ∙ is ∙ sym (one-part cs k c f.within))
 
 -- the items of blocks, if there is one block
 pub joined-one : {X : Type 0} (cs : List (List X)) (c : List X) → length cs ≡ 1 → c ≡ get_or cs 0 c → joined cs ≡ c

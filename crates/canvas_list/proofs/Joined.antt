@@ -1,9 +1,11 @@
--- Lists in chunks: where each chunk starts, and edits of some chunks.
+-- Lists in chunks: what a search finds, and edits of some chunks.
 use Rattle.std.proofs.Common.{◌≡◌, ◌∙◌, ℕ, zero, suc, ◌+◌, ◌-◌, ◌<◌, ◌≤◌, List, [], ◌∷◌, ◌++◌, take, drop, inl, inr, refl, sym, ap, subst, arith, length, get_or, add-zero, ◌^◌}
 use Rattle.std.proofs.lemmas.Bool.{cases_lt}
 use Rattle.std.proofs.lemmas.List.{append-nil, append_assoc, drop_more, get_or-append-add, get_or_append_left, length-append, take-append-drop, take-take, take_all, take_more}
+use Rattle.std.specs.List.{sum_by}
 use Rattle.std.proofs.lemmas.List.Elements.{All-push}
-use Rattle.canvas_list.specs.Chunks.{joined, starts_from, IsLastBefore, IsTable}
+use Rattle.std.proofs.lemmas.List.Sums.{sum_by-cons}
+use Rattle.canvas_list.specs.Chunks.{joined, IsSpot, IsTable}
 
 pub joined-append : {X : Type 0} (cs ds : List (List X)) → joined (cs ++ ds) ≡ joined cs ++ joined ds
 joined-append [] ds = refl
@@ -15,41 +17,18 @@ joined-push cs c = joined-append cs (c ∷ []) ∙ ap (λ l. joined cs ++ l) (ap
 pub joined_more : {X : Type 0} (cs : List (List X)) (i : ℕ) (c : List X) → i < length cs → joined (take (i + 1) cs) ≡ joined (take i cs) ++ get_or cs i c
 joined_more cs i c h = ap joined (take_more cs i c h) ∙ joined-push (take i cs) (get_or cs i c)
 
-pub length-starts_from : {X : Type 0} (n : ℕ) (cs : List (List X)) → length (starts_from n cs) ≡ length cs
-length-starts_from n [] = refl
-length-starts_from n (c ∷ cs) = ap suc (length-starts_from (n + length c) cs)
-
-pub starts_from-push : {X : Type 0} (n : ℕ) (cs : List (List X)) (c : List X) → starts_from n (cs ++ c ∷ []) ≡ starts_from n cs ++ (n + length (joined cs)) ∷ []
-starts_from-push n [] c = ap (λ k. k ∷ []) (sym (add-zero n))
-starts_from-push n (d ∷ cs) c =
-    let sum : n + length d + length (joined cs) ≡ n + length (d ++ joined cs) = omega (arith, length-append d (joined cs)) in
-    ap (λ l. n ∷ l) (starts_from-push (n + length d) cs c ∙ ap (λ k. starts_from (n + length d) cs ++ k ∷ []) sum)
-
-pub start-from : {X : Type 0} (n : ℕ) (cs : List (List X)) (k d : ℕ) → k < length cs → get_or (starts_from n cs) k d ≡ n + length (joined (take k cs))
-start-from n [] k d h = absurd (omega arith)
-start-from n (c ∷ cs) zero d h = sym (add-zero n)
-start-from n (c ∷ cs) (suc k) d h =
-    let more : get_or (starts_from (n + length c) cs) k d ≡ n + length c + length (joined (take k cs)) = start-from (n + length c) cs k d (omega arith) in
-    omega (arith, more, length-append c (joined (take k cs)))
-
--- where a chunk starts
-pub start-is : {X : Type 0} (cs : List (List X)) (ss : List ℕ) (n k d : ℕ) → IsTable cs ss n → k < length cs → get_or ss k d ≡ length (joined (take k cs))
-start-is cs ss n k d t h =
-    let from : get_or (starts_from 0 cs) k d ≡ 0 + length (joined (take k cs)) = start-from 0 cs k d h in
-    ap (λ l. get_or l k d) t.has_starts ∙ omega (arith, from)
-
-pub length-starts : {X : Type 0} (cs : List (List X)) (ss : List ℕ) (n : ℕ) → IsTable cs ss n → length ss ≡ length cs
-length-starts cs ss n t = ap length t.has_starts ∙ length-starts_from 0 cs
+-- so many items are there in all chunks
+pub sum-joined : {X : Type 0} (cs : List (List X)) → sum_by length cs ≡ length (joined cs)
+sum-joined [] = refl
+sum-joined (c ∷ cs) = sum_by-cons length c cs ∙ ap (λ n. length c + n) (sum-joined cs) ∙ sym (length-append c (joined cs))
 
 -- a table with one more chunk
-pub table-push : {X : Type 0} (cs : List (List X)) (ss : List ℕ) (n : ℕ) (c : List X) → IsTable cs ss n → 0 < length c → n + length c < 2 ^ 32 → IsTable (cs ++ c ∷ []) (ss ++ n ∷ []) (n + length c)
-table-push {X} cs ss n c t some h =
-    let zero_more : 0 + length (joined cs) ≡ n = omega (arith, t.has_len) in
+pub table-push : {X : Type 0} (cs : List (List X)) (n : ℕ) (c : List X) → IsTable cs n → 0 < length c → n + length c < 2 ^ 32 → IsTable (cs ++ c ∷ []) (n + length c)
+table-push {X} cs n c t some h =
     let long : length (joined (cs ++ c ∷ [])) ≡ length (joined cs) + length c = ap length (joined-push cs c) ∙ length-append (joined cs) c in
     let has : List X → Type 0 = λ d. 0 < length d in
     record {
       some = All-push has cs c t.some some;
-      has_starts = ap (λ l. l ++ n ∷ []) t.has_starts ∙ ap (λ k. starts_from 0 cs ++ k ∷ []) (sym zero_more) ∙ sym (starts_from-push 0 cs c);
       has_len = omega (arith, long, t.has_len);
       is_small = h;
     }
@@ -85,8 +64,8 @@ some-chunk [] at h = absurd (omega arith)
 some-chunk (c ∷ cs) at h = omega arith
 
 -- how many items a table has
-pub len-is : {X : Type 0} (cs : List (List X)) (ss : List ℕ) (n : ℕ) (xs : List X) → IsTable cs ss n → joined cs ≡ xs → n ≡ length xs
-len-is cs ss n xs t e = t.has_len ∙ ap length e
+pub len-is : {X : Type 0} (cs : List (List X)) (n : ℕ) (xs : List X) → IsTable cs n → joined cs ≡ xs → n ≡ length xs
+len-is cs n xs t e = t.has_len ∙ ap length e
 
 -- a position of n ones stands in a chunk, or behind the last one
 pub record IsFound {X : Type 0} (cs : List (List X)) (n k s at : ℕ) : Type 0 where
@@ -97,38 +76,45 @@ pub record IsFound {X : Type 0} (cs : List (List X)) (n k s at : ℕ) : Type 0 w
   pub before : at < n → at < length (joined (take (k + 1) cs))
   pub behind : at ≤ n → at ≤ length (joined (take (k + 1) cs))
 
--- what a search among the starts finds
-pub found : {X : Type 0} (cs : List (List X)) (ss rs : List ℕ) (n k s at : ℕ) → IsTable cs ss n → rs ≡ ss → IsLastBefore rs at k s → IsFound cs n k s at
-found cs ss rs n k s at t e last =
-    let many : length rs ≡ length cs = ap length e ∙ length-starts cs ss n t in
-    let inside : k < length rs = last.within in
-    let here : s ≡ length (joined (take k cs)) = last.is ∙ ap (λ l. get_or l k 0) e ∙ start-is cs ss n k 0 t (omega arith) in
-    let sum : n ≡ length (joined cs) = t.has_len in
-    elim (cases_lt (k + 1) (length rs)) [
+-- what a search among the chunks finds
+pub found : {X : Type 0} (cs ds : List (List X)) (n k s at : ℕ) → IsTable cs n → ds ≡ cs → IsSpot length ds at k s → IsFound cs n k s at
+found cs ds n k s at t e spot =
+    let sum_at : (i : ℕ) → sum_by length (take i ds) ≡ length (joined (take i cs)) = λ i. sum-joined (take i ds) ∙ ap (λ l. length (joined (take i l))) e in
+    let many : length ds ≡ length cs = ap length e in
+    let inside : k < length ds = spot.within in
+    let here : s ≡ length (joined (take k cs)) = spot.is ∙ sum_at k in
+    let all_items : n ≡ length (joined cs) = t.has_len in
+    elim (cases_lt (k + 1) (length ds)) [
       | inl more ↦
-          (let there : get_or rs (k + 1) 0 ≡ length (joined (take (k + 1) cs)) = ap (λ l. get_or l (k + 1) 0) e ∙ start-is cs ss n (k + 1) 0 t (omega arith) in
-          let next : at < get_or rs (k + 1) 0 = last.upto more in
-          record { within = omega arith; start = here; from = last.from; next = λ _. omega arith; before = λ h. omega arith; behind = λ h. omega arith })
+          (let next : at < length (joined (take (k + 1) cs)) = subst (λ m. at < m) (sum_at (k + 1)) (spot.upto more) in
+          record { within = omega arith; start = here; from = spot.from; next = λ _. next; before = λ h. next; behind = λ h. omega arith })
       | inr none ↦
           (let all : length (joined (take (k + 1) cs)) ≡ length (joined cs) = ap (λ l. length (joined l)) (take_all (k + 1) cs (omega arith)) in
-          record { within = omega arith; start = here; from = last.from; next = λ h. absurd (omega arith); before = λ h. omega arith; behind = λ h. omega arith })
+          record { within = omega arith; start = here; from = spot.from; next = λ h. absurd (omega arith); before = λ h. omega arith; behind = λ h. omega arith })
     ]
 
--- a search among the starts may be made
-pub search-some : {X : Type 0} (cs : List (List X)) (ss rs : List ℕ) (n : ℕ) → IsTable cs ss n → rs ≡ ss → 0 < length cs → 0 < length rs
-search-some cs ss rs n t e h = omega (arith, length-starts cs ss n t, ap length e)
+-- a search among the chunks may be made
+pub search-some : {X : Type 0} (cs ds : List (List X)) → ds ≡ cs → 0 < length cs → 0 < length ds
+search-some cs ds e h = omega (arith, ap length e)
 
-pub search-first : {X : Type 0} (cs : List (List X)) (ss rs : List ℕ) (n at : ℕ) → IsTable cs ss n → rs ≡ ss → 0 < length cs → get_or rs 0 0 ≤ at
-search-first cs ss rs n at t e h = omega (arith, ap (λ l. get_or l 0 0) e, start-is cs ss n 0 0 t h)
+-- the first chunks have few items
+pub few-before : {X : Type 0} (cs ds : List (List X)) (n i : ℕ) → IsTable cs n → ds ≡ cs → sum_by length (take i ds) < 2 ^ 32
+few-before cs ds n i t e =
+    let sum_at : sum_by length (take i ds) ≡ length (joined (take i cs)) = sum-joined (take i ds) ∙ ap (λ l. length (joined (take i l))) e in
+    omega (arith, t.has_len, t.is_small, take-fewer cs i)
+
+-- how many items the first chunks have
+pub start-read : {X : Type 0} (cs ds : List (List X)) (i s : ℕ) → ds ≡ cs → s ≡ sum_by length (take i ds) → s ≡ length (joined (take i cs))
+start-read cs ds i s e is = is ∙ sum-joined (take i ds) ∙ ap (λ l. length (joined (take i l))) e
 
 -- a table has a chunk, if it has an item at a position
 pub has-chunk : {X : Type 0} (cs : List (List X)) (xs : List X) (at : ℕ) → joined cs ≡ xs → at < length xs → 0 < length cs
 has-chunk cs xs at e h = some-chunk cs at (omega (arith, ap length e))
 
 -- a position stands in the items of its chunk
-pub offset-in : {X : Type 0} (cs : List (List X)) (ss : List ℕ) (xs : List X) (n k s at : ℕ) (c items : List X) → IsTable cs ss n → IsFound cs n k s at → joined cs ≡ xs → c ≡ get_or cs k c → items ≡ c → at < length xs → at - s < length items
-offset-in cs ss xs n k s at c items t f e is same h =
-    omega (arith, f.before, f.from, f.start, len-is cs ss n xs t e, ap length (joined_more cs k c f.within), length-append (joined (take k cs)) (get_or cs k c), ap length (same ∙ is))
+pub offset-in : {X : Type 0} (cs : List (List X)) (xs : List X) (n k s at : ℕ) (c items : List X) → IsTable cs n → IsFound cs n k s at → joined cs ≡ xs → c ≡ get_or cs k c → items ≡ c → at < length xs → at - s < length items
+offset-in cs xs n k s at c items t f e is same h =
+    omega (arith, f.before, f.from, f.start, len-is cs n xs t e, ap length (joined_more cs k c f.within), length-append (joined (take k cs)) (get_or cs k c), ap length (same ∙ is))
 
 -- the items of a chunk
 pub chunk-read : {X : Type 0} (cs : List (List X)) (k : ℕ) (c items : List X) → k < length cs → c ≡ get_or cs k c → items ≡ c → length (joined (take (k + 1) cs)) ≡ length (joined (take k cs)) + length items

@@ -1,12 +1,12 @@
 -- Where the items that pass a test end in a list in chunks.
 use Rattle.std.proofs.Common.{◌≡◌, ◌∙◌, ℕ, ◌+◌, ◌-◌, ◌<◌, ◌≤◌, Bool, true, false, List, [], ◌∷◌, ◌++◌, take, drop, refl, sym, ap, subst, inl, inr, arith, length, get_or, Some}
 use Rattle.std.specs.Fn.{AlwaysReturns, Called, Mut}
-use Rattle.std.specs.List.{slice_get, All}
+use Rattle.std.specs.List.{slice_get, sum_by, All}
 use Rattle.std.specs.List.Sorted.{IsPartitionPoint, IsPartitionedBy}
 use Rattle.std.proofs.lemmas.Bool.{both_ways, cases_lt}
 use Rattle.std.proofs.lemmas.List.{get_or-append-add, get_or_append_left, length-append, take_all}
 use Rattle.canvas_list.specs.Chunks.{first_passes, joined, IsTable}
-use Rattle.canvas_list.proofs.Joined.{fewer, joined_more, some-chunk, split_at, start-is, take-fewer}
+use Rattle.canvas_list.proofs.Joined.{fewer, joined_more, some-chunk, split_at, start-read, take-fewer}
 
 -- the items before a place pass a test, and those from it on fail it
 abbrev pub IsPoint : {X : Type 0} → (X → Bool) → List X → ℕ → Type 0
@@ -125,7 +125,7 @@ module _ {X : Type 0} (p : X → Bool) (cs : List (List X)) (some : All (λ c. 0
         )
 
 -- a list, by the table that has it, and what a search among its chunks requires and finds
-module _ {X : Type 0} (p : X → Bool) (cs ds : List (List X)) (ss : List ℕ) (n : ℕ) (xs : List X) (t : IsTable cs ss n) (all : joined cs ≡ xs) (e : ds ≡ cs) (m : ℕ) (found : IsPartitionedBy (first_passes p) ds → IsPoint (first_passes p) ds m) (parted : IsPartitionedBy p xs) where
+module _ {X : Type 0} (p : X → Bool) (cs ds : List (List X)) (n : ℕ) (xs : List X) (t : IsTable cs n) (all : joined cs ≡ xs) (e : ds ≡ cs) (m : ℕ) (found : IsPartitionedBy (first_passes p) ds → IsPoint (first_passes p) ds m) (parted : IsPartitionedBy p xs) where
   parted-joined : IsPartitionedBy p (joined cs)
   parted-joined = subst (IsPartitionedBy p) (sym all) parted
 
@@ -140,19 +140,19 @@ module _ {X : Type 0} (p : X → Bool) (cs ds : List (List X)) (ss : List ℕ) (
       let Q : ℕ → Type 0 = λ i. IsPoint (first_passes p) cs i in
       subst P all (none-pass p cs t.some parted-joined (subst Q zero_found found-firsts))
 
-  pub has-point : (k q s : ℕ) (c items : List X) → m ≡ k + 1 → m ≤ length ds → s ≡ get_or ss k s → c ≡ get_or cs k c → items ≡ c → (IsPartitionedBy p items → IsPoint p items q) → q ≤ length items → IsPoint p xs (s + q)
-  has-point k q s c items next within read is same place bound =
+  pub has-point : (k q s : ℕ) (bs : List (List X)) (c items : List X) → m ≡ k + 1 → m ≤ length ds → bs ≡ cs → s ≡ sum_by length (take k bs) → c ≡ get_or cs k c → items ≡ c → (IsPartitionedBy p items → IsPoint p items q) → q ≤ length items → IsPoint p xs (s + q)
+  has-point k q s bs c items next within b read is same place bound =
       let P : List X → Type 0 = λ l. IsPoint p l (s + q) in
       let Q : ℕ → Type 0 = λ i. IsPoint (first_passes p) cs i in
       let R : List X → Type 0 = λ l. IsPoint p l q in
       let S : ℕ → Type 0 = λ i. IsPoint p (joined cs) (i + q) in
       let here : items ≡ get_or cs k c = same ∙ is in
       let h : k < length cs = omega (arith, ap length e) in
-      let from : s ≡ start cs k = read ∙ start-is cs ss n k s t h in
+      let from : s ≡ start cs k = start-read cs bs k s b read in
       let inside : IsPoint p (get_or cs k c) q = subst R here (place (subst (IsPartitionedBy p) (sym here) (parted-chunk p cs t.some parted-joined k c h))) in
       subst P all (subst S (sym from) (point p cs t.some parted-joined k q c (subst Q next found-firsts) h inside (omega (arith, ap length here))))
 
-pub point-bound : {X : Type 0} (cs ds : List (List X)) (ss : List ℕ) (n : ℕ) (xs : List X) (k q s : ℕ) (c items : List X) → IsTable cs ss n → joined cs ≡ xs → ds ≡ cs → k < length ds → s ≡ get_or ss k s → c ≡ get_or cs k c → items ≡ c → q ≤ length items → s + q ≤ length xs
-point-bound cs ds ss n xs k q s c items t all e within read is same bound =
+pub point-bound : {X : Type 0} (cs ds : List (List X)) (n : ℕ) (xs : List X) (k q s : ℕ) (bs : List (List X)) (c items : List X) → IsTable cs n → joined cs ≡ xs → ds ≡ cs → k < length ds → bs ≡ cs → s ≡ sum_by length (take k bs) → c ≡ get_or cs k c → items ≡ c → q ≤ length items → s + q ≤ length xs
+point-bound cs ds n xs k q s bs c items t all e within b read is same bound =
     let h : k < length cs = omega (arith, ap length e) in
-    omega (arith, read, start-is cs ss n k s t h, ap length all, ap length (same ∙ is), chunk-end cs k c h, take-fewer cs (k + 1))
+    omega (arith, start-read cs bs k s b read, ap length all, ap length (same ∙ is), chunk-end cs k c h, take-fewer cs (k + 1))

@@ -1,11 +1,11 @@
 -- Other items in place of some chunks.
-use Rattle.std.proofs.Common.{◌≡◌, ◌∙◌, ℕ, ◌+◌, ◌-◌, ◌<◌, ◌≤◌, List, ◌++◌, take, drop, slice_set, slice_range, sym, ap, arith, length, get_or}
-use Rattle.std.specs.List.{insert, remove}
+use Rattle.std.proofs.Common.{◌≡◌, ◌∙◌, ℕ, ◌+◌, ◌-◌, ◌<◌, ◌≤◌, List, ◌++◌, take, drop, slice_set, slice_range, sym, ap, arith, length}
+use Rattle.std.specs.List.{insert, remove, sum_by}
 use Rattle.std.proofs.lemmas.List.{append_assoc, length-append, set-append_left, set-append_right}
 use Rattle.std.proofs.lemmas.List.Edits.{insert-append_left, insert-append_right, remove-append_left, remove-append_right, split_between}
 use Rattle.std.proofs.Math.Seq.{take-add}
-use Rattle.canvas_list.specs.Chunks.{joined, IsLastBefore, IsTable}
-use Rattle.canvas_list.proofs.Joined.{fewer, found, joined-append, len-is, start-is, IsFound}
+use Rattle.canvas_list.specs.Chunks.{joined, IsSpot, IsTable}
+use Rattle.canvas_list.proofs.Joined.{fewer, found, joined-append, len-is, start-read, IsFound}
 
 -- the items before some chunks, those in them, and those behind them
 pub parts : {X : Type 0} (cs : List (List X)) (i j : ℕ) → i ≤ j → joined cs ≡ joined (take i cs) ++ (joined (slice_range cs i j) ++ joined (drop j cs))
@@ -100,20 +100,20 @@ pub record IsOfSpot {X : Type 0} (cs : List (List X)) (xs : List X) (k s at : �
   pub part : IsPart cs xs k (k + 1) s old
   pub place : IsIn xs s at old
 
-pub of-spot : {X : Type 0} (cs ds : List (List X)) (ss rs : List ℕ) (xs : List X) (n k s at : ℕ) (old : List X) → IsTable cs ss n → rs ≡ ss → IsLastBefore rs at k s → joined cs ≡ xs → ds ≡ cs → old ≡ joined (slice_range ds k (k + 1)) → IsOfSpot cs xs k s at old
-of-spot cs ds ss rs xs n k s at old t e last all d is =
-    let f : IsFound cs n k s at = found cs ss rs n k s at t e last in
+pub of-spot : {X : Type 0} (cs ds rs : List (List X)) (xs : List X) (n k s at : ℕ) (old : List X) → IsTable cs n → rs ≡ cs → IsSpot length rs at k s → joined cs ≡ xs → ds ≡ cs → old ≡ joined (slice_range ds k (k + 1)) → IsOfSpot cs xs k s at old
+of-spot cs ds rs xs n k s at old t e last all d is =
+    let f : IsFound cs n k s at = found cs rs n k s at t e last in
     let p : IsPart cs xs k (k + 1) s old = is-part cs ds xs k (k + 1) s old (omega arith) all f.start d is in
-    record { within = f.within; part = p; place = is-in cs xs n k s k (k + 1) s at old f (len-is cs ss n xs t all) (omega arith) (omega arith) p }
+    record { within = f.within; part = p; place = is-in cs xs n k s k (k + 1) s at old f (len-is cs n xs t all) (omega arith) (omega arith) p }
 
 -- the items of some chunks with the chunk of a position
 pub record IsOfPart {X : Type 0} (cs : List (List X)) (xs : List X) (i j s at : ℕ) (old : List X) : Type 0 where
   pub part : IsPart cs xs i j s old
   pub place : IsIn xs s at old
 
-pub of-part : {X : Type 0} (cs ds : List (List X)) (ss rs : List ℕ) (xs : List X) (n k t i j s at : ℕ) (old : List X) → IsTable cs ss n → rs ≡ ss → IsLastBefore rs at k t → joined cs ≡ xs → ds ≡ cs → i ≤ k → k < j → s ≡ get_or ss i s → old ≡ joined (slice_range ds i j) → IsOfPart cs xs i j s at old
-of-part cs ds ss rs xs n k t i j s at old table e last all d l m read is =
-    let f : IsFound cs n k t at = found cs ss rs n k t at table e last in
-    let start : s ≡ length (joined (take i cs)) = read ∙ start-is cs ss n i s table (omega (arith, f.within)) in
+pub of-part : {X : Type 0} (cs ds rs bs : List (List X)) (xs : List X) (n k t i j s at : ℕ) (old : List X) → IsTable cs n → rs ≡ cs → IsSpot length rs at k t → joined cs ≡ xs → ds ≡ cs → i ≤ k → k < j → bs ≡ cs → s ≡ sum_by length (take i bs) → old ≡ joined (slice_range ds i j) → IsOfPart cs xs i j s at old
+of-part cs ds rs bs xs n k t i j s at old table e last all d l m b read is =
+    let f : IsFound cs n k t at = found cs rs n k t at table e last in
+    let start : s ≡ length (joined (take i cs)) = start-read cs bs i s b read in
     let p : IsPart cs xs i j s old = is-part cs ds xs i j s old (omega arith) all start d is in
-    record { part = p; place = is-in cs xs n k t i j s at old f (len-is cs ss n xs table all) l m p }
+    record { part = p; place = is-in cs xs n k t i j s at old f (len-is cs n xs table all) l m p }

@@ -5,6 +5,7 @@ ghost use Rattle.std.specs.List.{slice_get};
 ghost use Rattle.canvas_list.specs.Chunks.{joined};
 
 use crate::chunks::Chunks;
+use crate::counted::Counted;
 use canvas_code::OutOfMemory;
 use std::alloc::Global;
 use std::marker::Model;
@@ -14,17 +15,19 @@ use std::sync::Arc;
 #[derive(Drop)]
 pub(crate) struct Block<T> {
     chunks: Arc<Chunks<T>>,
+    // How many items they have, which is asked without a look at them.
+    count: u32,
 }
 
 impl<T> Model for Block<T> {
-    ghost use Rattle.std.specs.Prelude.{List, length, ◌<◌};
+    ghost use Rattle.std.specs.Prelude.{List, length, ◌<◌, ◌≡◌};
     ghost use Rattle.std.specs.Arc.{arc_value};
 
     ghost Value = { List T };
 
     ghost view = { λ block. arc_value block.chunks };
 
-    ghost invariant = { λ block. 0 < length (arc_value block.chunks) };
+    ghost invariant = { λ block. (0 < length (arc_value block.chunks)) × (block.count ≡ length (arc_value block.chunks)) };
 }
 
 impl<T: Drop> Block<T> {
@@ -32,8 +35,10 @@ impl<T: Drop> Block<T> {
         requires { 0 < length chunks }
         ensures { IfOk result (λ block. block ≡ chunks) }
     {
+        let count = chunks.len() as u32;
         Ok(Block {
             chunks: Arc::new(alloc, chunks)?,
+            count,
         })
     }
 
@@ -44,6 +49,7 @@ impl<T: Drop> Block<T> {
     {
         Ok(Block {
             chunks: Arc::try_clone(&self.chunks)?,
+            count: self.count,
         })
     }
 
@@ -61,6 +67,15 @@ impl<T: Drop> Block<T> {
         ensures { slice_get self.now 0 ≡ Some result.now }
     {
         self.chunks.first()
+    }
+}
+
+impl<T> Counted for Block<T> {
+    ghost size = { λ block. length block };
+
+    #[inline(always)]
+    fn count(&self) -> usize {
+        self.count as usize
     }
 }
 

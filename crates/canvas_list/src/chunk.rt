@@ -4,6 +4,7 @@ ghost use Rattle.std.specs.Prelude.{◌≡◌, ◌<◌, ◌≤◌, ◌++◌, IfO
 ghost use Rattle.std.specs.List.{slice_get};
 ghost use Rattle.canvas_list.specs.Chunks.{joined};
 
+use crate::counted::Counted;
 use crate::share::Share;
 use crate::sizes::CHUNK;
 use canvas_code::OutOfMemory;
@@ -15,10 +16,12 @@ use std::sync::Arc;
 #[derive(Drop)]
 pub(crate) struct Chunk<T> {
     items: Arc<Vec<T>>,
+    // How many there are, which is asked without a look at them.
+    count: u32,
 }
 
 impl<T> Model for Chunk<T> {
-    ghost use Rattle.std.specs.Prelude.{List};
+    ghost use Rattle.std.specs.Prelude.{List, ◌≡◌, length};
     ghost use Rattle.std.specs.Arc.{arc_value};
     ghost use Rattle.canvas_list.specs.Chunks.{FitsChunk};
 
@@ -26,7 +29,7 @@ impl<T> Model for Chunk<T> {
 
     ghost view = { λ chunk. (arc_value chunk.items).items };
 
-    ghost invariant = { λ chunk. FitsChunk (arc_value chunk.items).items };
+    ghost invariant = { λ chunk. FitsChunk (arc_value chunk.items).items × (chunk.count ≡ length (arc_value chunk.items).items) };
 }
 
 impl<T: Drop> Chunk<T> {
@@ -35,8 +38,10 @@ impl<T: Drop> Chunk<T> {
         requires few { length items.items ≤ CHUNK }
         ensures { IfOk result (λ chunk. chunk ≡ items.items) }
     {
+        let count = items.len() as u32;
         Ok(Chunk {
             items: Arc::new(alloc, items)?,
+            count,
         })
     }
 
@@ -47,6 +52,7 @@ impl<T: Drop> Chunk<T> {
     {
         Ok(Chunk {
             items: Arc::try_clone(&self.items)?,
+            count: self.count,
         })
     }
 
@@ -65,6 +71,15 @@ impl<T: Drop> Chunk<T> {
         ensures { slice_get self.now 0 ≡ Some result.now }
     {
         &self.items[0]
+    }
+}
+
+impl<T> Counted for Chunk<T> {
+    ghost size = { λ chunk. length chunk };
+
+    #[inline(always)]
+    fn count(&self) -> usize {
+        self.count as usize
     }
 }
 

@@ -4,7 +4,8 @@ ghost use Rattle.std.specs.Prelude.{◌≡◌, ◌<◌, ◌≤◌, ◌-◌, ◌^
 ghost use Rattle.std.specs.Iterator.{YieldsFirstRef, YieldsLastRef, item_count};
 
 use crate::chunk::Chunk;
-use crate::chunks::{Chunks, spot_of};
+use crate::chunks::Chunks;
+use crate::counted::spot_of;
 use std::marker::Model;
 
 /// The items of some chunks that are left to go over, in order, seen as the list of them.
@@ -106,7 +107,7 @@ impl<T: Drop> Chunks<T> {
         if self.chunks.is_empty() {
             return self.iter();
         }
-        let spot = spot_of(&self.starts, at);
+        let spot = spot_of(&self.chunks, at);
         let next = spot.chunk + 1;
         ChunkItems {
             front: &self.chunks[spot.chunk].items()[at - spot.start..],
@@ -124,7 +125,7 @@ impl<T: Drop> Chunks<T> {
         if self.chunks.is_empty() {
             return self.iter();
         }
-        let spot = spot_of(&self.starts, at);
+        let spot = spot_of(&self.chunks, at);
         ChunkItems {
             front: &[],
             chunks: &self.chunks[..spot.chunk],
@@ -141,8 +142,8 @@ impl<T: Drop> Chunks<T> {
         if self.chunks.is_empty() {
             return self.iter();
         }
-        let first = spot_of(&self.starts, from);
-        let last = spot_of(&self.starts, to);
+        let first = spot_of(&self.chunks, from);
+        let last = spot_of(&self.chunks, to);
         let items = self.chunks[first.chunk].items();
         if first.chunk == last.chunk {
             return ChunkItems {

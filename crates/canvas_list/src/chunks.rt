@@ -1,10 +1,11 @@
 //! A part of a list, as a table of its chunks.
 
-ghost use Rattle.std.specs.Prelude.{◌≡◌, ◌<◌, ◌≤◌, ◌+◌, ◌*◌, ◌^◌, ◌++◌, [], IfOk, false, take, drop, length, slice_set, slice_index, slice_index_or};
+ghost use Rattle.std.specs.Prelude.{◌≡◌, ◌<◌, ◌≤◌, ◌+◌, ◌*◌, ◌^◌, ◌++◌, [], IfOk, false, take, drop, length, slice_set, slice_index_or};
 ghost use Rattle.std.specs.List.{insert, remove, slice_get};
-ghost use Rattle.canvas_list.specs.Chunks.{joined, IsLastBefore};
+ghost use Rattle.canvas_list.specs.Chunks.{joined};
 
 use crate::chunk::{Chunk, items_of};
+use crate::counted::{Counted, count_of, spot_of};
 use crate::share::Share;
 use crate::sizes::{BLOCK, CHUNK, GROWN_BLOCK, JOINED_BLOCK, JOINED_CHUNK};
 use canvas_code::OutOfMemory;
@@ -15,8 +16,6 @@ use std::marker::Model;
 #[derive(Drop)]
 pub(crate) struct Chunks<T> {
     pub(crate) chunks: Vec<Chunk<T>>,
-    // Where each chunk starts.
-    pub(crate) starts: Vec<u32>,
     pub(crate) count: usize,
 }
 
@@ -28,7 +27,7 @@ impl<T> Model for Chunks<T> {
 
     ghost view = { λ list. joined list.chunks.items };
 
-    ghost invariant = { λ list. IsTable list.chunks.items list.starts.items list.count };
+    ghost invariant = { λ list. IsTable list.chunks.items list.count };
 }
 
 impl<T: Drop> Chunks<T> {
@@ -38,7 +37,6 @@ impl<T: Drop> Chunks<T> {
     {
         Chunks {
             chunks: Vec::new(alloc),
-            starts: Vec::new(alloc),
             count: 0,
         }
     }
@@ -58,7 +56,7 @@ impl<T: Drop> Chunks<T> {
         requires { at < length self.now }
         ensures { result.now ≡ slice_index_or self.now at result.now }
     {
-        let spot = spot_of(&self.starts, at);
+        let spot = spot_of(&self.chunks, at);
         &self.chunks[spot.chunk].items()[at - spot.start]
     }
 
@@ -106,7 +104,6 @@ impl<T: Drop> Chunks<T> {
     {
         Ok(Chunks {
             chunks: Vec::with_capacity(alloc, chunks)?,
-            starts: Vec::with_capacity(alloc, chunks)?,
             ..Chunks::empty(alloc)
         })
     }
@@ -116,17 +113,11 @@ impl<T: Drop> Chunks<T> {
         requires { length self + length chunk < 2 ^ 32 }
         ensures { IfOk result (λ list. list ≡ self ++ chunk) }
     {
-        let Chunks {
-            mut chunks,
-            mut starts,
-            count,
-        } = self;
-        starts.push(count as u32)?;
-        let more = chunk.items().len();
+        let Chunks { mut chunks, count } = self;
+        let more = chunk.count();
         chunks.push(chunk)?;
         Ok(Chunks {
             chunks,
-            starts,
             count: count + more,
         })
     }
@@ -177,19 +168,13 @@ impl<T: Drop> Chunks<T> {
     {
         let Chunks {
             mut chunks,
-            mut starts,
             mut count,
         } = self;
         for chunk in more {
-            starts.push(count as u32)?;
-            count += chunk.items().len();
+            count += chunk.count();
             chunks.push(chunk.try_clone()?)?;
         }
-        Ok(Chunks {
-            chunks,
-            starts,
-            count,
-        })
+        Ok(Chunks { chunks, count })
     }
 }
 
@@ -204,7 +189,7 @@ impl<T: Share> Chunks<T> {
         requires { at < length self.now }
         ensures { IfOk result (λ list. list ≡ slice_set self.now at item) }
     {
-        let spot = spot_of(&self.starts, at);
+        let spot = spot_of(&self.chunks, at);
         let end = spot.chunk + 1;
         let mut items = items_of(alloc, &self.chunks[spot.chunk..end], CHUNK)?;
         items[at - spot.start] = item;
@@ -228,7 +213,7 @@ impl<T: Share> Chunks<T> {
             let end = self.chunks.len();
             return spliced(alloc, &self.chunks, end, end, items);
         }
-        let spot = spot_of(&self.starts, at);
+        let spot = spot_of(&self.chunks, at);
         let end = spot.chunk + 1;
         let mut items = items_of(alloc, &self.chunks[spot.chunk..end], CHUNK + 1)?;
         items.insert(at - spot.start, item)?;
@@ -240,10 +225,10 @@ impl<T: Share> Chunks<T> {
         requires { at < length self.now }
         ensures { IfOk result (λ list. list ≡ remove self.now at) }
     {
-        let spot = spot_of(&self.starts, at);
+        let spot = spot_of(&self.chunks, at);
         let part = small_about(&self.chunks, spot.chunk);
         let mut items = items_of(alloc, &self.chunks[part.first..part.end], CHUNK)?;
-        items.remove(at - self.starts[part.first] as usize);
+        items.remove(at - count_of(&self.chunks[..part.first]));
         spliced(alloc, &self.chunks, part.first, part.end, items)
     }
 }
@@ -267,42 +252,13 @@ fn spliced<T: Drop>(
         .and_all(&chunks[end..])
 }
 
-/// A chunk, by its number, and where it starts.
-#[derive(Clone, Copy)]
-pub(crate) struct Spot {
-    pub(crate) chunk: usize,
-    pub(crate) start: usize,
-}
-
-/// The last chunk that starts at a position or before it.
-pub(crate) fn spot_of(starts: &[u32], at: usize) -> Spot
-    requires some { 0 < length starts.now }
-    requires first { slice_index starts.now 0 ≤ at }
-    ensures { IsLastBefore starts.now at result.chunk result.start }
-{
-    let mut low = 0;
-    let mut high = starts.len();
-    'halve: while high - low > 1 {
-        let middle = low + (high - low) / 2;
-        if starts[middle] as usize <= at {
-            low = middle;
-        } else {
-            high = middle;
-        }
-    }
-    Spot {
-        chunk: low,
-        start: starts[low] as usize,
-    }
-}
-
 // Whether the last chunk has no room for one more item, or there is no chunk.
 fn is_full<T: Drop>(chunks: &[Chunk<T>]) -> bool
     ensures { result ≡ false → 0 < length chunks.now }
 {
     match chunks.last() {
         None => true,
-        Some(chunk) => chunk.items().len() == CHUNK,
+        Some(chunk) => chunk.count() == CHUNK,
     }
 }
 
@@ -320,14 +276,14 @@ fn small_about<T: Drop>(chunks: &[Chunk<T>], chunk: usize) -> Part
     ensures end { chunk < result.end }
     ensures within { result.end ≤ length chunks.now }
 {
-    let count = chunks[chunk].items().len();
-    if chunk > 0 && chunks[chunk - 1].items().len() + count <= JOINED_CHUNK {
+    let count = chunks[chunk].count();
+    if chunk > 0 && chunks[chunk - 1].count() + count <= JOINED_CHUNK {
         return Part {
             first: chunk - 1,
             end: chunk + 1,
         };
     }
-    if chunk + 1 < chunks.len() && count + chunks[chunk + 1].items().len() <= JOINED_CHUNK {
+    if chunk + 1 < chunks.len() && count + chunks[chunk + 1].count() <= JOINED_CHUNK {
         return Part {
             first: chunk,
             end: chunk + 2,

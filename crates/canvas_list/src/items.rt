@@ -5,7 +5,7 @@ ghost use Rattle.std.specs.Iterator.{YieldsFirstRef, YieldsLastRef, item_count};
 
 use crate::block::Block;
 use crate::chunk_items::ChunkItems;
-use crate::chunks::spot_of;
+use crate::counted::spot_of;
 use crate::table::SharedList;
 use std::marker::Model;
 
@@ -86,7 +86,7 @@ impl<T: Drop> SharedList<T> {
         if self.blocks.is_empty() {
             return self.iter();
         }
-        let spot = spot_of(&self.starts, at);
+        let spot = spot_of(&self.blocks, at);
         let next = spot.chunk + 1;
         Items {
             front: self.blocks[spot.chunk].chunks().iter_from(at - spot.start),
@@ -104,7 +104,7 @@ impl<T: Drop> SharedList<T> {
         if self.blocks.is_empty() {
             return self.iter();
         }
-        let spot = spot_of(&self.starts, at);
+        let spot = spot_of(&self.blocks, at);
         Items {
             front: ChunkItems::none(),
             blocks: &self.blocks[..spot.chunk],
@@ -123,8 +123,8 @@ impl<T: Drop> SharedList<T> {
         if self.blocks.is_empty() {
             return self.iter();
         }
-        let first = spot_of(&self.starts, from);
-        let last = spot_of(&self.starts, to);
+        let first = spot_of(&self.blocks, from);
+        let last = spot_of(&self.blocks, to);
         let block = self.blocks[first.chunk].chunks();
         if first.chunk == last.chunk {
             return Items {

@@ -6,6 +6,7 @@ mod block;
 mod chunk;
 mod chunk_items;
 mod chunks;
+mod counted;
 mod items;
 mod made;
 mod reader;

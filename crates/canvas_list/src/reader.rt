@@ -3,7 +3,8 @@
 ghost use Rattle.std.specs.Prelude.{◌≡◌, ◌<◌, ◌≤◌, ◌+◌, length, slice_index_or};
 ghost use Rattle.canvas_list.specs.Chunks.{IsRun};
 
-use crate::chunks::{Chunks, spot_of};
+use crate::chunks::Chunks;
+use crate::counted::spot_of;
 use crate::table::SharedList;
 use std::marker::Model;
 
@@ -71,7 +72,7 @@ impl<T: Drop> SharedList<T> {
         ensures from { result.start ≤ at }
         ensures upto { at < result.start + length result.items.now }
     {
-        let spot = spot_of(&self.starts, at);
+        let spot = spot_of(&self.blocks, at);
         let run = self.blocks[spot.chunk].chunks().run_at(at - spot.start);
         Run {
             items: run.items,
@@ -88,7 +89,7 @@ impl<T: Drop> Chunks<T> {
         ensures from { result.start ≤ at }
         ensures upto { at < result.start + length result.items.now }
     {
-        let spot = spot_of(&self.starts, at);
+        let spot = spot_of(&self.chunks, at);
         Run {
             items: self.chunks[spot.chunk].items(),
             start: spot.start,

@@ -8,6 +8,7 @@ ghost use Rattle.canvas_list.specs.Chunks.{first_passes};
 use crate::block::Block;
 use crate::chunk::Chunk;
 use crate::chunks::Chunks;
+use crate::counted::count_of;
 use crate::table::SharedList;
 use std::marker::Model;
 
@@ -29,7 +30,7 @@ impl<T: Drop> SharedList<T> {
             return 0;
         }
         let last = passed - 1;
-        self.starts[last] as usize + self.blocks[last].chunks().partition_point(&pred)
+        count_of(&self.blocks[..last]) + self.blocks[last].chunks().partition_point(&pred)
     }
 }
 
@@ -51,6 +52,6 @@ impl<T: Drop> Chunks<T> {
             return 0;
         }
         let last = passed - 1;
-        self.starts[last] as usize + self.chunks[last].items().partition_point(pred)
+        count_of(&self.chunks[..last]) + self.chunks[last].items().partition_point(pred)
     }
 }

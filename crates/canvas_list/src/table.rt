@@ -7,7 +7,8 @@ ghost use Rattle.canvas_list.specs.Chunks.{joined};
 
 use crate::block::{Block, chunks_of};
 use crate::chunk::Chunk;
-use crate::chunks::{Chunks, Part, spot_of};
+use crate::chunks::{Chunks, Part};
+use crate::counted::{Counted, count_of, spot_of};
 use crate::share::Share;
 use canvas_code::OutOfMemory;
 use std::alloc::Global;
@@ -18,8 +19,6 @@ use std::marker::Model;
 #[derive(Drop)]
 pub struct SharedList<T> {
     pub(crate) blocks: Vec<Block<T>>,
-    // Where each block starts.
-    pub(crate) starts: Vec<u32>,
     pub(crate) count: usize,
 }
 
@@ -31,7 +30,7 @@ impl<T> Model for SharedList<T> {
 
     ghost view = { λ list. joined list.blocks.items };
 
-    ghost invariant = { λ list. IsTable list.blocks.items list.starts.items list.count };
+    ghost invariant = { λ list. IsTable list.blocks.items list.count };
 }
 
 impl<T: Drop> SharedList<T> {
@@ -41,7 +40,6 @@ impl<T: Drop> SharedList<T> {
     {
         SharedList {
             blocks: Vec::new(alloc),
-            starts: Vec::new(alloc),
             count: 0,
         }
     }
@@ -68,7 +66,7 @@ impl<T: Drop> SharedList<T> {
         requires { at < length self.now }
         ensures { result.now ≡ slice_index_or self.now at result.now }
     {
-        let spot = spot_of(&self.starts, at);
+        let spot = spot_of(&self.blocks, at);
         self.blocks[spot.chunk].chunks().at(at - spot.start)
     }
 
@@ -97,7 +95,6 @@ impl<T: Drop> SharedList<T> {
     {
         Ok(SharedList {
             blocks: Vec::with_capacity(alloc, blocks)?,
-            starts: Vec::with_capacity(alloc, blocks)?,
             ..SharedList::empty(alloc)
         })
     }
@@ -107,17 +104,11 @@ impl<T: Drop> SharedList<T> {
         requires { length self + length block < 2 ^ 32 }
         ensures { IfOk result (λ list. list ≡ self ++ block) }
     {
-        let SharedList {
-            mut blocks,
-            mut starts,
-            count,
-        } = self;
-        starts.push(count as u32)?;
-        let more = block.chunks().len();
+        let SharedList { mut blocks, count } = self;
+        let more = block.count();
         blocks.push(block)?;
         Ok(SharedList {
             blocks,
-            starts,
             count: count + more,
         })
     }
@@ -181,19 +172,13 @@ impl<T: Drop> SharedList<T> {
     {
         let SharedList {
             mut blocks,
-            mut starts,
             mut count,
         } = self;
         for block in more {
-            starts.push(count as u32)?;
-            count += block.chunks().len();
+            count += block.count();
             blocks.push(block.try_clone()?)?;
         }
-        Ok(SharedList {
-            blocks,
-            starts,
-            count,
-        })
+        Ok(SharedList { blocks, count })
     }
 }
 
@@ -208,7 +193,7 @@ impl<T: Share> SharedList<T> {
         requires { at < length self.now }
         ensures { IfOk result (λ list. list ≡ slice_set self.now at item) }
     {
-        let spot = spot_of(&self.starts, at);
+        let spot = spot_of(&self.blocks, at);
         let end = spot.chunk + 1;
         let old = self.blocks[spot.chunk].chunks();
         let new = old.with_replaced(alloc, at - spot.start, item)?;
@@ -231,7 +216,7 @@ impl<T: Share> SharedList<T> {
             let end = self.blocks.len();
             return spliced(alloc, &self.blocks, end, end, one);
         }
-        let spot = spot_of(&self.starts, at);
+        let spot = spot_of(&self.blocks, at);
         let end = spot.chunk + 1;
         let old = self.blocks[spot.chunk].chunks();
         let new = old.with_inserted(alloc, at - spot.start, item)?;
@@ -243,9 +228,9 @@ impl<T: Share> SharedList<T> {
         requires { at < length self.now }
         ensures { IfOk result (λ list. list ≡ remove self.now at) }
     {
-        let spot = spot_of(&self.starts, at);
+        let spot = spot_of(&self.blocks, at);
         let part = small_about(&self.blocks, spot.chunk);
-        let place = at - self.starts[part.first] as usize;
+        let place = at - count_of(&self.blocks[..part.first]);
         let new = without_in(alloc, &self.blocks[part.first..part.end], place)?;
         spliced(alloc, &self.blocks, part.first, part.end, new)
     }

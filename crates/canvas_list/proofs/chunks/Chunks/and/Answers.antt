@@ -4,10 +4,10 @@ use Rattle.canvas_list.proofs.chunks.Chunks.and.Goals as goal
 
 pub invariant_of-result : goal.invariant_of-result
 invariant_of-result g c =
-    rw (c.in_ok-push.ensures.items, c.in_ok-push-2.ensures.items, c.items-more.ensures.same)
-    (table-push c.self.inside.chunks.items c.self.inside.starts.items c.self.inside.count c.args.chunk c.self.invariant c.items-more.ensures.some
-    (omega (arith, c.requires, len-is c.self.inside.chunks.items c.self.inside.starts.items c.self.inside.count c.args.self c.self.invariant c.self.view_is)))
+    rw (c.in_ok-push.ensures.items, c.count-more.ensures.count)
+    (table-push c.self.inside.chunks.items c.self.inside.count c.args.chunk c.self.invariant c.count-more.ensures.some
+    (omega (arith, c.requires, len-is c.self.inside.chunks.items c.self.inside.count c.args.self c.self.invariant c.self.view_is)))
 
 pub returns : goal.returns
 returns g c =
-    rw c.in_ok-push-2.ensures.items (joined-push c.self.inside.chunks.items c.args.chunk ∙ ap (λ (l : List g.row.T.Denot). l ++ c.args.chunk) c.self.view_is)
+    rw c.in_ok-push.ensures.items (joined-push c.self.inside.chunks.items c.args.chunk ∙ ap (λ (l : List g.row.T.Denot). l ++ c.args.chunk) c.self.view_is)

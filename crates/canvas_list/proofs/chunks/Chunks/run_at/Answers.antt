@@ -1,28 +1,24 @@
 use Rattle.std.proofs.Common.{arith}
-use Rattle.canvas_list.proofs.Joined.{found, has-chunk, len-is, search-first, search-some, IsFound}
+use Rattle.canvas_list.proofs.Joined.{found, has-chunk, len-is, search-some, IsFound}
 use Rattle.canvas_list.proofs.Runs.{chunk-holds, run-of-chunk}
 use Rattle.canvas_list.proofs.chunks.Chunks.run_at.Goals as goal
 
-pub spot_of-spot-requires-clause-some : goal.spot_of-spot-requires-clause-some
-spot_of-spot-requires-clause-some g c =
-    search-some c.self.inside.chunks.items c.self.inside.starts.items c.deref.result.now c.self.inside.count c.self.invariant c.deref.ensures.value (has-chunk c.self.inside.chunks.items c.args.self.now c.args.at c.self.view_is c.requires)
-
-pub spot_of-spot-requires-clause-first : goal.spot_of-spot-requires-clause-first
-spot_of-spot-requires-clause-first g c =
-    search-first c.self.inside.chunks.items c.self.inside.starts.items c.deref.result.now c.self.inside.count c.args.at c.self.invariant c.deref.ensures.value (has-chunk c.self.inside.chunks.items c.args.self.now c.args.at c.self.view_is c.requires)
+pub spot_of-spot-requires : goal.spot_of-spot-requires
+spot_of-spot-requires g c =
+    search-some c.self.inside.chunks.items c.deref.result.now c.deref.ensures.value (has-chunk c.self.inside.chunks.items c.args.self.now c.args.at c.self.view_is c.requires)
 
 pub index-requires : goal.index-requires
 index-requires g c =
-    let f : IsFound c.self.inside.chunks.items c.self.inside.count c.spot_of-spot.result.chunk c.spot_of-spot.result.start c.args.at = found c.self.inside.chunks.items c.self.inside.starts.items c.deref.result.now c.self.inside.count c.spot_of-spot.result.chunk c.spot_of-spot.result.start c.args.at c.self.invariant c.deref.ensures.value c.spot_of-spot.ensures in
+    let f : IsFound c.self.inside.chunks.items c.self.inside.count c.spot_of-spot.result.chunk c.spot_of-spot.result.start c.args.at = found c.self.inside.chunks.items c.deref.result.now c.self.inside.count c.spot_of-spot.result.chunk c.spot_of-spot.result.start c.args.at c.self.invariant c.deref.ensures.value c.spot_of-spot.ensures in
     omega (arith, f.within)
 
 pub returns-clause-run : goal.returns-clause-run
 returns-clause-run g c =
-    let f : IsFound c.self.inside.chunks.items c.self.inside.count c.spot_of-spot.result.chunk c.spot_of-spot.result.start c.args.at = found c.self.inside.chunks.items c.self.inside.starts.items c.deref.result.now c.self.inside.count c.spot_of-spot.result.chunk c.spot_of-spot.result.start c.args.at c.self.invariant c.deref.ensures.value c.spot_of-spot.ensures in
+    let f : IsFound c.self.inside.chunks.items c.self.inside.count c.spot_of-spot.result.chunk c.spot_of-spot.result.start c.args.at = found c.self.inside.chunks.items c.deref.result.now c.self.inside.count c.spot_of-spot.result.chunk c.spot_of-spot.result.start c.args.at c.self.invariant c.deref.ensures.value c.spot_of-spot.ensures in
     run-of-chunk c.self.inside.chunks.items c.args.self.now c.self.inside.count c.spot_of-spot.result.chunk c.spot_of-spot.result.start c.args.at c.index.result.now c.items.result.now f c.self.view_is c.index.ensures c.items.ensures.same
 
 pub returns-clause-upto : goal.returns-clause-upto
 returns-clause-upto g c =
-    let f : IsFound c.self.inside.chunks.items c.self.inside.count c.spot_of-spot.result.chunk c.spot_of-spot.result.start c.args.at = found c.self.inside.chunks.items c.self.inside.starts.items c.deref.result.now c.self.inside.count c.spot_of-spot.result.chunk c.spot_of-spot.result.start c.args.at c.self.invariant c.deref.ensures.value c.spot_of-spot.ensures in
+    let f : IsFound c.self.inside.chunks.items c.self.inside.count c.spot_of-spot.result.chunk c.spot_of-spot.result.start c.args.at = found c.self.inside.chunks.items c.deref.result.now c.self.inside.count c.spot_of-spot.result.chunk c.spot_of-spot.result.start c.args.at c.self.invariant c.deref.ensures.value c.spot_of-spot.ensures in
     chunk-holds c.self.inside.chunks.items c.self.inside.count c.spot_of-spot.result.chunk c.spot_of-spot.result.start c.args.at c.index.result.now c.items.result.now f c.index.ensures c.items.ensures.same
-    (omega (arith, c.requires, len-is c.self.inside.chunks.items c.self.inside.starts.items c.self.inside.count c.args.self.now c.self.invariant c.self.view_is))
+    (omega (arith, c.requires, len-is c.self.inside.chunks.items c.self.inside.count c.args.self.now c.self.invariant c.self.view_is))

@@ -2,40 +2,32 @@ use Rattle.std.proofs.Common.{◌≡◌, ◌+◌, ◌-◌, ◌<◌, ◌++◌, Li
 use Rattle.std.specs.List.{insert}
 use Rattle.std.proofs.lemmas.List.Edits.{length-insert}
 use Rattle.canvas_list.specs.Chunks.{joined}
-use Rattle.canvas_list.proofs.Joined.{found, has-chunk, len-is, search-first, search-some}
+use Rattle.canvas_list.proofs.Joined.{found, has-chunk, len-is, search-some}
 use Rattle.canvas_list.proofs.Spliced.{inserted, of-spot, sum-parts, IsOfSpot}
 use Rattle.canvas_list.proofs.chunks.Chunks.with_inserted.Goals as goal
 use Rattle.canvas_list.proofs.chunks.Chunks.with_inserted.Goals.{else-at-len-via-then-at-len+else-is_full, else-at-len-via-else-at-len}
 
-pub spot_of-spot-requires-clause-some : goal.spot_of-spot-requires-clause-some
-spot_of-spot-requires-clause-some g c =
+pub spot_of-spot-requires : goal.spot_of-spot-requires
+spot_of-spot-requires g c =
     let some : 0 < length c.self.inside.chunks.items = elim c.else-at-len.branch [
       | else-at-len-via-then-at-len+else-is_full w ↦ omega (arith, w.if-is_full.ensures refl, ap length w.deref.ensures.value)
-      | else-at-len-via-else-at-len w ↦ has-chunk c.self.inside.chunks.items c.args.self.now c.args.at c.self.view_is (omega (arith, len-is c.self.inside.chunks.items c.self.inside.starts.items c.self.inside.count c.args.self.now c.self.invariant c.self.view_is, c.requires.within, w.if-at-len.false))
+      | else-at-len-via-else-at-len w ↦ has-chunk c.self.inside.chunks.items c.args.self.now c.args.at c.self.view_is (omega (arith, len-is c.self.inside.chunks.items c.self.inside.count c.args.self.now c.self.invariant c.self.view_is, c.requires.within, w.if-at-len.false))
     ] in
-    search-some c.self.inside.chunks.items c.self.inside.starts.items c.deref-2.result.now c.self.inside.count c.self.invariant c.deref-2.ensures.value some
-
-pub spot_of-spot-requires-clause-first : goal.spot_of-spot-requires-clause-first
-spot_of-spot-requires-clause-first g c =
-    let some : 0 < length c.self.inside.chunks.items = elim c.else-at-len.branch [
-      | else-at-len-via-then-at-len+else-is_full w ↦ omega (arith, w.if-is_full.ensures refl, ap length w.deref.ensures.value)
-      | else-at-len-via-else-at-len w ↦ has-chunk c.self.inside.chunks.items c.args.self.now c.args.at c.self.view_is (omega (arith, len-is c.self.inside.chunks.items c.self.inside.starts.items c.self.inside.count c.args.self.now c.self.invariant c.self.view_is, c.requires.within, w.if-at-len.false))
-    ] in
-    search-first c.self.inside.chunks.items c.self.inside.starts.items c.deref-2.result.now c.self.inside.count c.args.at c.self.invariant c.deref-2.ensures.value some
+    search-some c.self.inside.chunks.items c.deref-2.result.now c.deref-2.ensures.value some
 
 pub slice_bounds-items_of-end : goal.slice_bounds-items_of-end
 slice_bounds-items_of-end g c =
-    let f = found c.self.inside.chunks.items c.self.inside.starts.items c.deref-2.result.now c.self.inside.count c.spot_of-spot.result.chunk c.spot_of-spot.result.start c.args.at c.self.invariant c.deref-2.ensures.value c.spot_of-spot.ensures in
+    let f = found c.self.inside.chunks.items c.deref-2.result.now c.self.inside.count c.spot_of-spot.result.chunk c.spot_of-spot.result.start c.args.at c.self.invariant c.deref-2.ensures.value c.spot_of-spot.ensures in
     omega (arith, f.within, ap length c.deref-3.ensures.value)
 
 pub insert-requires : goal.insert-requires
 insert-requires g c =
-    let p : IsOfSpot c.self.inside.chunks.items c.args.self.now c.spot_of-spot.result.chunk c.spot_of-spot.result.start c.args.at c.in_ok-items-2.items.items = of-spot c.self.inside.chunks.items c.deref-3.result.now c.self.inside.starts.items c.deref-2.result.now c.args.self.now c.self.inside.count c.spot_of-spot.result.chunk c.spot_of-spot.result.start c.args.at c.in_ok-items-2.items.items c.self.invariant c.deref-2.ensures.value c.spot_of-spot.ensures c.self.view_is c.deref-3.ensures.value c.in_ok-items-2.ensures in
+    let p : IsOfSpot c.self.inside.chunks.items c.args.self.now c.spot_of-spot.result.chunk c.spot_of-spot.result.start c.args.at c.in_ok-items-2.items.items = of-spot c.self.inside.chunks.items c.deref-3.result.now c.deref-2.result.now c.args.self.now c.self.inside.count c.spot_of-spot.result.chunk c.spot_of-spot.result.start c.args.at c.in_ok-items-2.items.items c.self.invariant c.deref-2.ensures.value c.spot_of-spot.ensures c.self.view_is c.deref-3.ensures.value c.in_ok-items-2.ensures in
     omega (arith, p.place.behind c.requires.within, c.in_ok-items-2.items.ok)
 
 pub spliced-requires-2-clause-small : goal.spliced-requires-2-clause-small
 spliced-requires-2-clause-small g c =
-    let p : IsOfSpot c.self.inside.chunks.items c.args.self.now c.spot_of-spot.result.chunk c.spot_of-spot.result.start c.args.at c.in_ok-items-2.items.items = of-spot c.self.inside.chunks.items c.deref-3.result.now c.self.inside.starts.items c.deref-2.result.now c.args.self.now c.self.inside.count c.spot_of-spot.result.chunk c.spot_of-spot.result.start c.args.at c.in_ok-items-2.items.items c.self.invariant c.deref-2.ensures.value c.spot_of-spot.ensures c.self.view_is c.deref-3.ensures.value c.in_ok-items-2.ensures in
+    let p : IsOfSpot c.self.inside.chunks.items c.args.self.now c.spot_of-spot.result.chunk c.spot_of-spot.result.start c.args.at c.in_ok-items-2.items.items = of-spot c.self.inside.chunks.items c.deref-3.result.now c.deref-2.result.now c.args.self.now c.self.inside.count c.spot_of-spot.result.chunk c.spot_of-spot.result.start c.args.at c.in_ok-items-2.items.items c.self.invariant c.deref-2.ensures.value c.spot_of-spot.ensures c.self.view_is c.deref-3.ensures.value c.in_ok-items-2.ensures in
     omega (
       arith,
       ap length c.in_ok-insert.ensures.items,
@@ -46,7 +38,7 @@ spliced-requires-2-clause-small g c =
 
 pub returns : goal.returns
 returns g c =
-    let p : IsOfSpot c.self.inside.chunks.items c.args.self.now c.spot_of-spot.result.chunk c.spot_of-spot.result.start c.args.at c.in_ok-items-2.items.items = of-spot c.self.inside.chunks.items c.deref-3.result.now c.self.inside.starts.items c.deref-2.result.now c.args.self.now c.self.inside.count c.spot_of-spot.result.chunk c.spot_of-spot.result.start c.args.at c.in_ok-items-2.items.items c.self.invariant c.deref-2.ensures.value c.spot_of-spot.ensures c.self.view_is c.deref-3.ensures.value c.in_ok-items-2.ensures in
+    let p : IsOfSpot c.self.inside.chunks.items c.args.self.now c.spot_of-spot.result.chunk c.spot_of-spot.result.start c.args.at c.in_ok-items-2.items.items = of-spot c.self.inside.chunks.items c.deref-3.result.now c.deref-2.result.now c.args.self.now c.self.inside.count c.spot_of-spot.result.chunk c.spot_of-spot.result.start c.args.at c.in_ok-items-2.items.items c.self.invariant c.deref-2.ensures.value c.spot_of-spot.ensures c.self.view_is c.deref-3.ensures.value c.in_ok-items-2.ensures in
     let new : List g.row.T.Denot = c.insert.new.self.items in
     let same : joined (take c.spot_of-spot.result.chunk c.deref-4.result.now) ++ new ++ joined (drop (c.spot_of-spot.result.chunk + 1) c.deref-4.result.now) ≡ insert c.args.self.now c.args.at c.args.item =
     inserted c.self.inside.chunks.items c.deref-4.result.now c.args.self.now c.spot_of-spot.result.chunk (c.spot_of-spot.result.chunk + 1) c.spot_of-spot.result.start c.args.at c.in_ok-items-2.items.items new c.args.item p.part p.place c.deref-4.ensures.value c.in_ok-insert.ensures.items c.requires.within in

@@ -6,11 +6,11 @@ pub loop-block-preserved : goal.loop-block-preserved
 loop-block-preserved g c =
     let cs : List (List g.row.T.Denot) = c.loop-block.blocks.items in
     let item : List g.row.T.Denot = c.block-item.result in
-    let pushed : c.push-in-loop-block.new.self.items ≡ cs ++ item ∷ [] = c.in_ok-push-2.ensures.items ∙ ap (λ (l : List g.row.T.Denot). cs ++ l ∷ []) c.in_ok-try_clone.ensures in
+    let pushed : c.push.new.self.items ≡ cs ++ item ∷ [] = c.in_ok-push.ensures.items ∙ ap (λ (l : List g.row.T.Denot). cs ++ l ∷ []) c.in_ok-try_clone.ensures in
     record {
       table =
-          rw (pushed, c.in_ok-push.ensures.items, c.len.ensures.len, c.chunks.ensures.same)
-          (table-push cs c.loop-block.starts.items c.loop-block.count item c.loop-block.invariant.table c.chunks.ensures.some
+          rw (pushed, c.count.ensures.count)
+          (table-push cs c.loop-block.count item c.loop-block.invariant.table c.count.ensures.some
           (still-small cs c.args.more.now c.args.self c.loop-block.count (2 ^ 32) c.loop-block.block-index item c.loop-block-test.true c.block-item.is c.loop-block.invariant.list c.loop-block.invariant.table.has_len c.requires));
       list = rw pushed (grown cs c.args.more.now c.args.self c.loop-block.block-index item c.loop-block-test.true c.block-item.is c.loop-block.invariant.list);
     }

@@ -1,28 +1,24 @@
 use Rattle.std.proofs.Common.{arith}
-use Rattle.canvas_list.proofs.Joined.{found, has-chunk, item-read, offset-in, search-first, search-some, IsFound}
+use Rattle.canvas_list.proofs.Joined.{found, has-chunk, item-read, offset-in, search-some, IsFound}
 use Rattle.canvas_list.proofs.table.SharedList.at.Goals as goal
 
-pub spot_of-spot-requires-clause-some : goal.spot_of-spot-requires-clause-some
-spot_of-spot-requires-clause-some g c =
-    search-some c.self.inside.blocks.items c.self.inside.starts.items c.deref.result.now c.self.inside.count c.self.invariant c.deref.ensures.value (has-chunk c.self.inside.blocks.items c.args.self.now c.args.at c.self.view_is c.requires)
-
-pub spot_of-spot-requires-clause-first : goal.spot_of-spot-requires-clause-first
-spot_of-spot-requires-clause-first g c =
-    search-first c.self.inside.blocks.items c.self.inside.starts.items c.deref.result.now c.self.inside.count c.args.at c.self.invariant c.deref.ensures.value (has-chunk c.self.inside.blocks.items c.args.self.now c.args.at c.self.view_is c.requires)
+pub spot_of-spot-requires : goal.spot_of-spot-requires
+spot_of-spot-requires g c =
+    search-some c.self.inside.blocks.items c.deref.result.now c.deref.ensures.value (has-chunk c.self.inside.blocks.items c.args.self.now c.args.at c.self.view_is c.requires)
 
 pub index-requires : goal.index-requires
 index-requires g c =
-    let f : IsFound c.self.inside.blocks.items c.self.inside.count c.spot_of-spot.result.chunk c.spot_of-spot.result.start c.args.at = found c.self.inside.blocks.items c.self.inside.starts.items c.deref.result.now c.self.inside.count c.spot_of-spot.result.chunk c.spot_of-spot.result.start c.args.at c.self.invariant c.deref.ensures.value c.spot_of-spot.ensures in
+    let f : IsFound c.self.inside.blocks.items c.self.inside.count c.spot_of-spot.result.chunk c.spot_of-spot.result.start c.args.at = found c.self.inside.blocks.items c.deref.result.now c.self.inside.count c.spot_of-spot.result.chunk c.spot_of-spot.result.start c.args.at c.self.invariant c.deref.ensures.value c.spot_of-spot.ensures in
     omega (arith, f.within)
 
 pub at-requires : goal.at-requires
 at-requires g c =
-    let f : IsFound c.self.inside.blocks.items c.self.inside.count c.spot_of-spot.result.chunk c.spot_of-spot.result.start c.args.at = found c.self.inside.blocks.items c.self.inside.starts.items c.deref.result.now c.self.inside.count c.spot_of-spot.result.chunk c.spot_of-spot.result.start c.args.at c.self.invariant c.deref.ensures.value c.spot_of-spot.ensures in
-    offset-in c.self.inside.blocks.items c.self.inside.starts.items c.args.self.now c.self.inside.count c.spot_of-spot.result.chunk c.spot_of-spot.result.start c.args.at c.index.result.now c.chunks.result.now c.self.invariant f c.self.view_is c.index.ensures c.chunks.ensures.same c.requires
+    let f : IsFound c.self.inside.blocks.items c.self.inside.count c.spot_of-spot.result.chunk c.spot_of-spot.result.start c.args.at = found c.self.inside.blocks.items c.deref.result.now c.self.inside.count c.spot_of-spot.result.chunk c.spot_of-spot.result.start c.args.at c.self.invariant c.deref.ensures.value c.spot_of-spot.ensures in
+    offset-in c.self.inside.blocks.items c.args.self.now c.self.inside.count c.spot_of-spot.result.chunk c.spot_of-spot.result.start c.args.at c.index.result.now c.chunks.result.now c.self.invariant f c.self.view_is c.index.ensures c.chunks.ensures.same c.requires
 
 pub returns : goal.returns
 returns g c =
-    let f : IsFound c.self.inside.blocks.items c.self.inside.count c.spot_of-spot.result.chunk c.spot_of-spot.result.start c.args.at = found c.self.inside.blocks.items c.self.inside.starts.items c.deref.result.now c.self.inside.count c.spot_of-spot.result.chunk c.spot_of-spot.result.start c.args.at c.self.invariant c.deref.ensures.value c.spot_of-spot.ensures in
+    let f : IsFound c.self.inside.blocks.items c.self.inside.count c.spot_of-spot.result.chunk c.spot_of-spot.result.start c.args.at = found c.self.inside.blocks.items c.deref.result.now c.self.inside.count c.spot_of-spot.result.chunk c.spot_of-spot.result.start c.args.at c.self.invariant c.deref.ensures.value c.spot_of-spot.ensures in
     item-read c.self.inside.blocks.items c.args.self.now c.self.inside.count c.spot_of-spot.result.chunk c.spot_of-spot.result.start c.args.at c.index.result.now c.chunks.result.now c.at.result.now f c.self.view_is c.index.ensures c.chunks.ensures.same
-    (offset-in c.self.inside.blocks.items c.self.inside.starts.items c.args.self.now c.self.inside.count c.spot_of-spot.result.chunk c.spot_of-spot.result.start c.args.at c.index.result.now c.chunks.result.now c.self.invariant f c.self.view_is c.index.ensures c.chunks.ensures.same c.requires)
+    (offset-in c.self.inside.blocks.items c.args.self.now c.self.inside.count c.spot_of-spot.result.chunk c.spot_of-spot.result.start c.args.at c.index.result.now c.chunks.result.now c.self.invariant f c.self.view_is c.index.ensures c.chunks.ensures.same c.requires)
     c.at.ensures

@@ -2,48 +2,44 @@ use Rattle.std.proofs.Common.{◌≡◌, ◌-◌, ◌+◌, ◌++◌, List, IfOk,
 use Rattle.std.proofs.lemmas.List.{length-set}
 use Rattle.canvas_list.specs.Chunks.{joined}
 use Rattle.canvas_list.proofs.Blocks.{of-block}
-use Rattle.canvas_list.proofs.Joined.{found, has-chunk, len-is, search-first, search-some, IsFound}
+use Rattle.canvas_list.proofs.Joined.{found, has-chunk, len-is, search-some, IsFound}
 use Rattle.canvas_list.proofs.Spliced.{replaced, sum-parts, IsOfSpot}
 use Rattle.canvas_list.proofs.table.SharedList.with_replaced.Goals as goal
 
-pub spot_of-spot-requires-clause-some : goal.spot_of-spot-requires-clause-some
-spot_of-spot-requires-clause-some g c =
-    search-some c.self.inside.blocks.items c.self.inside.starts.items c.deref.result.now c.self.inside.count c.self.invariant c.deref.ensures.value (has-chunk c.self.inside.blocks.items c.args.self.now c.args.at c.self.view_is c.requires)
-
-pub spot_of-spot-requires-clause-first : goal.spot_of-spot-requires-clause-first
-spot_of-spot-requires-clause-first g c =
-    search-first c.self.inside.blocks.items c.self.inside.starts.items c.deref.result.now c.self.inside.count c.args.at c.self.invariant c.deref.ensures.value (has-chunk c.self.inside.blocks.items c.args.self.now c.args.at c.self.view_is c.requires)
+pub spot_of-spot-requires : goal.spot_of-spot-requires
+spot_of-spot-requires g c =
+    search-some c.self.inside.blocks.items c.deref.result.now c.deref.ensures.value (has-chunk c.self.inside.blocks.items c.args.self.now c.args.at c.self.view_is c.requires)
 
 pub index-requires : goal.index-requires
 index-requires g c =
-    let f : IsFound c.self.inside.blocks.items c.self.inside.count c.spot_of-spot.result.chunk c.spot_of-spot.result.start c.args.at = found c.self.inside.blocks.items c.self.inside.starts.items c.deref.result.now c.self.inside.count c.spot_of-spot.result.chunk c.spot_of-spot.result.start c.args.at c.self.invariant c.deref.ensures.value c.spot_of-spot.ensures in
+    let f : IsFound c.self.inside.blocks.items c.self.inside.count c.spot_of-spot.result.chunk c.spot_of-spot.result.start c.args.at = found c.self.inside.blocks.items c.deref.result.now c.self.inside.count c.spot_of-spot.result.chunk c.spot_of-spot.result.start c.args.at c.self.invariant c.deref.ensures.value c.spot_of-spot.ensures in
     omega (arith, f.within)
 
 pub with_replaced-requires : goal.with_replaced-requires
 with_replaced-requires g c =
-    let p : IsOfSpot c.self.inside.blocks.items c.args.self.now c.spot_of-spot.result.chunk c.spot_of-spot.result.start c.args.at c.chunks-old.result.now = of-block c.self.inside.blocks.items c.self.inside.starts.items c.deref.result.now c.args.self.now c.self.inside.count c.spot_of-spot.result.chunk c.spot_of-spot.result.start c.args.at c.index.result.now c.chunks-old.result.now c.self.invariant c.deref.ensures.value c.spot_of-spot.ensures c.self.view_is c.index.ensures c.chunks-old.ensures.same in
+    let p : IsOfSpot c.self.inside.blocks.items c.args.self.now c.spot_of-spot.result.chunk c.spot_of-spot.result.start c.args.at c.chunks-old.result.now = of-block c.self.inside.blocks.items c.deref.result.now c.args.self.now c.self.inside.count c.spot_of-spot.result.chunk c.spot_of-spot.result.start c.args.at c.index.result.now c.chunks-old.result.now c.self.invariant c.deref.ensures.value c.spot_of-spot.ensures c.self.view_is c.index.ensures c.chunks-old.ensures.same in
     p.place.before c.requires
 
 pub spliced-requires-clause-end : goal.spliced-requires-clause-end
 spliced-requires-clause-end g c =
-    let f : IsFound c.self.inside.blocks.items c.self.inside.count c.spot_of-spot.result.chunk c.spot_of-spot.result.start c.args.at = found c.self.inside.blocks.items c.self.inside.starts.items c.deref.result.now c.self.inside.count c.spot_of-spot.result.chunk c.spot_of-spot.result.start c.args.at c.self.invariant c.deref.ensures.value c.spot_of-spot.ensures in
+    let f : IsFound c.self.inside.blocks.items c.self.inside.count c.spot_of-spot.result.chunk c.spot_of-spot.result.start c.args.at = found c.self.inside.blocks.items c.deref.result.now c.self.inside.count c.spot_of-spot.result.chunk c.spot_of-spot.result.start c.args.at c.self.invariant c.deref.ensures.value c.spot_of-spot.ensures in
     omega (arith, f.within, ap length c.deref-2.ensures.value)
 
 pub spliced-requires-clause-small : goal.spliced-requires-clause-small
 spliced-requires-clause-small g c =
-    let p : IsOfSpot c.self.inside.blocks.items c.args.self.now c.spot_of-spot.result.chunk c.spot_of-spot.result.start c.args.at c.chunks-old.result.now = of-block c.self.inside.blocks.items c.self.inside.starts.items c.deref.result.now c.args.self.now c.self.inside.count c.spot_of-spot.result.chunk c.spot_of-spot.result.start c.args.at c.index.result.now c.chunks-old.result.now c.self.invariant c.deref.ensures.value c.spot_of-spot.ensures c.self.view_is c.index.ensures c.chunks-old.ensures.same in
+    let p : IsOfSpot c.self.inside.blocks.items c.args.self.now c.spot_of-spot.result.chunk c.spot_of-spot.result.start c.args.at c.chunks-old.result.now = of-block c.self.inside.blocks.items c.deref.result.now c.args.self.now c.self.inside.count c.spot_of-spot.result.chunk c.spot_of-spot.result.start c.args.at c.index.result.now c.chunks-old.result.now c.self.invariant c.deref.ensures.value c.spot_of-spot.ensures c.self.view_is c.index.ensures c.chunks-old.ensures.same in
     omega (
       arith,
       ap length c.in_ok-new.ensures,
       length-set c.chunks-old.result.now (c.args.at - c.spot_of-spot.result.start) c.args.item,
-      len-is c.self.inside.blocks.items c.self.inside.starts.items c.self.inside.count c.args.self.now c.self.invariant c.self.view_is,
+      len-is c.self.inside.blocks.items c.self.inside.count c.args.self.now c.self.invariant c.self.view_is,
       c.self.invariant.is_small,
       sum-parts c.self.inside.blocks.items c.deref-2.result.now c.args.self.now c.spot_of-spot.result.chunk (c.spot_of-spot.result.chunk + 1) c.spot_of-spot.result.start c.chunks-old.result.now p.part c.deref-2.ensures.value,
     )
 
 pub returns : goal.returns
 returns g c =
-    let p : IsOfSpot c.self.inside.blocks.items c.args.self.now c.spot_of-spot.result.chunk c.spot_of-spot.result.start c.args.at c.chunks-old.result.now = of-block c.self.inside.blocks.items c.self.inside.starts.items c.deref.result.now c.args.self.now c.self.inside.count c.spot_of-spot.result.chunk c.spot_of-spot.result.start c.args.at c.index.result.now c.chunks-old.result.now c.self.invariant c.deref.ensures.value c.spot_of-spot.ensures c.self.view_is c.index.ensures c.chunks-old.ensures.same in
+    let p : IsOfSpot c.self.inside.blocks.items c.args.self.now c.spot_of-spot.result.chunk c.spot_of-spot.result.start c.args.at c.chunks-old.result.now = of-block c.self.inside.blocks.items c.deref.result.now c.args.self.now c.self.inside.count c.spot_of-spot.result.chunk c.spot_of-spot.result.start c.args.at c.index.result.now c.chunks-old.result.now c.self.invariant c.deref.ensures.value c.spot_of-spot.ensures c.self.view_is c.index.ensures c.chunks-old.ensures.same in
     let same : joined (take c.spot_of-spot.result.chunk c.deref-2.result.now) ++ c.in_ok-new.new ++ joined (drop (c.spot_of-spot.result.chunk + 1) c.deref-2.result.now) ≡ slice_set c.args.self.now c.args.at c.args.item =
     replaced c.self.inside.blocks.items c.deref-2.result.now c.args.self.now c.spot_of-spot.result.chunk (c.spot_of-spot.result.chunk + 1) c.spot_of-spot.result.start c.args.at c.chunks-old.result.now c.in_ok-new.new c.args.item p.part p.place c.deref-2.ensures.value c.in_ok-new.ensures c.requires in
     subst (λ (l : List g.row.T.Denot). IfOk c.spliced.result (λ (list : List g.row.T.Denot). list ≡ l)) same c.spliced.ensures
