@@ -7,7 +7,7 @@ ghost use Rattle.canvas_list.specs.Chunks.{joined};
 use crate::chunk::{Chunk, items_of};
 use crate::counted::{Counted, count_of, spot_of};
 use crate::share::Share;
-use crate::sizes::{BLOCK, CHUNK, GROWN_BLOCK, JOINED_BLOCK, JOINED_CHUNK};
+use crate::sizes::{CHUNK, JOINED_CHUNK};
 use canvas_code::OutOfMemory;
 use std::alloc::Global;
 use std::marker::Model;
@@ -69,26 +69,29 @@ impl<T: Drop> Chunks<T> {
         self.chunks[0].first()
     }
 
-    /// Whether there is no room for one more chunk, and none for one more item in the last one.
-    pub(crate) fn is_full(&self) -> bool {
-        self.chunks.len() >= GROWN_BLOCK && is_full(&self.chunks)
+    /// Whether there is no room for one more chunk, and none for one more item in the last one, in a
+    /// block that gets so many chunks.
+    pub(crate) fn is_full(&self, size: usize) -> bool {
+        self.chunks.len() >= size && is_full(&self.chunks)
     }
 
-    /// Whether there are more chunks than a block has.
-    pub(crate) fn is_over(&self) -> bool {
-        self.chunks.len() > BLOCK
+    /// Whether there are more chunks than a block has that gets so many.
+    pub(crate) fn is_over(&self, size: usize) -> bool {
+        self.chunks.len() / 2 >= size
     }
 
-    /// Whether there are few chunks.
-    pub(crate) fn is_small(&self) -> bool {
-        self.chunks.len() <= JOINED_BLOCK
+    /// Whether there are few chunks for a block that gets so many.
+    pub(crate) fn is_small(&self, size: usize) -> bool {
+        self.chunks.len() <= size / 2
     }
 
-    /// How many chunks a part has, where these are put into as few blocks as hold them, of much the
-    /// same size.
-    pub(crate) fn part_len(&self) -> usize {
-        let parts = self.chunks.len() / BLOCK + 1;
-        (self.chunks.len() / parts).saturating_add(1)
+    /// How many chunks a part has, where these are put into blocks of much the same size, each of
+    /// which gets about so many.
+    pub(crate) fn part_len(&self, size: usize) -> usize
+        requires { 0 < size }
+    {
+        let parts = self.chunks.len() / size;
+        (self.chunks.len() / parts.max(1)).saturating_add(1)
     }
 
     /// The chunks.

@@ -4,13 +4,10 @@ ghost use Rattle.std.specs.Prelude.{◌≡◌, ◌<◌, ◌^◌, IfOk, length};
 
 use crate::chunk::Chunk;
 use crate::chunks::Chunks;
-use crate::sizes::{CHUNK, GROWN_BLOCK};
+use crate::sizes::{CHUNK, block_size};
 use crate::table::SharedList;
 use canvas_code::OutOfMemory;
 use std::alloc::Global;
-
-// How many items a block has that is full.
-const WHOLE: usize = CHUNK * GROWN_BLOCK;
 
 impl<T: Drop> Chunks<T> {
     /// The items of a `Vec`.
@@ -37,11 +34,12 @@ impl<T: Drop> SharedList<T> {
         requires { length items.items < 2 ^ 32 }
         ensures { IfOk result (λ list. list ≡ items.items) }
     {
-        let mut list = SharedList::with_room(alloc, items.len() / WHOLE + 1)?;
+        let whole = CHUNK * block_size(items.len());
+        let mut list = SharedList::with_room(alloc, items.len() / whole + 1)?;
         let mut fresh = Vec::new(alloc);
         for item in items {
             fresh.push(item)?;
-            if fresh.len() == WHOLE {
+            if fresh.len() == whole {
                 list = list.and_block(alloc, Chunks::from_vec(alloc, fresh)?)?;
                 fresh = Vec::new(alloc);
             }

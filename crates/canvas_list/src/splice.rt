@@ -7,6 +7,7 @@ use crate::chunk_items::ChunkItems;
 use crate::chunks::Chunks;
 use crate::items::Items;
 use crate::share::Share;
+use crate::sizes::block_size;
 use crate::table::SharedList;
 use canvas_code::OutOfMemory;
 use std::alloc::Global;
@@ -25,7 +26,9 @@ impl<T: Share> SharedList<T> {
         requires few { length self.now + length items.items < 2 ^ 32 }
         ensures { IfOk result (λ list. list ≡ take first self.now ++ items.items ++ drop end self.now) }
     {
-        list_between(alloc, &self.iter_before(first), items, &self.iter_from(end))
+        let size = block_size(self.len() - (end - first) + items.len());
+        let before = self.iter_before(first);
+        list_between(alloc, &before, items, &self.iter_from(end), size)
     }
 }
 
@@ -35,19 +38,21 @@ fn list_between<T: Share>(
     before: &Items<'_, T>,
     items: Vec<T>,
     behind: &Items<'_, T>,
+    size: usize,
 ) -> Result<SharedList<T>, OutOfMemory>
-    requires { length before.now + length items.items + length behind.now < 2 ^ 32 }
+    requires some { 0 < size }
+    requires few { length before.now + length items.items + length behind.now < 2 ^ 32 }
     ensures { IfOk result (λ list. list ≡ before.now ++ items.items ++ behind.now) }
 {
     let first = chunks_between(alloc, &before.front, Vec::new(alloc), &ChunkItems::none())?;
     let middle = chunks_between(alloc, &before.back, items, &behind.front)?;
     let last = chunks_between(alloc, &ChunkItems::none(), Vec::new(alloc), &behind.back)?;
     SharedList::empty(alloc)
-        .and_chunks(alloc, first)?
+        .and_chunks(alloc, first, size)?
         .and_all(before.blocks)?
-        .and_chunks(alloc, middle)?
+        .and_chunks(alloc, middle, size)?
         .and_all(behind.blocks)?
-        .and_chunks(alloc, last)
+        .and_chunks(alloc, last, size)
 }
 
 // The same of parts of lists.

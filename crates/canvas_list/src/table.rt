@@ -10,6 +10,7 @@ use crate::chunk::Chunk;
 use crate::chunks::{Chunks, Part};
 use crate::counted::{Counted, count_of, spot_of};
 use crate::share::Share;
+use crate::sizes::block_size;
 use canvas_code::OutOfMemory;
 use std::alloc::Global;
 use std::marker::Model;
@@ -128,19 +129,21 @@ impl<T: Drop> SharedList<T> {
         self.and(Block::new(alloc, chunks)?)
     }
 
-    /// More chunks, in as few blocks as hold them.
+    /// More chunks, in one block, or in several that get about so many each.
     pub(crate) fn and_chunks(
         self,
         alloc: Global,
         chunks: Chunks<T>,
+        size: usize,
     ) -> Result<SharedList<T>, OutOfMemory>
-        requires { length self + length chunks < 2 ^ 32 }
+        requires some { 0 < size }
+        requires few { length self + length chunks < 2 ^ 32 }
         ensures { IfOk result (λ list. list ≡ self ++ chunks) }
     {
-        if !chunks.is_over() {
+        if !chunks.is_over(size) {
             return self.and_block(alloc, chunks);
         }
-        self.and_parts(alloc, chunks.chunks(), chunks.part_len())
+        self.and_parts(alloc, chunks.chunks(), chunks.part_len(size))
     }
 
     // More chunks, which are shared, in blocks of so many.
@@ -197,7 +200,14 @@ impl<T: Share> SharedList<T> {
         let end = spot.chunk + 1;
         let old = self.blocks[spot.chunk].chunks();
         let new = old.with_replaced(alloc, at - spot.start, item)?;
-        spliced(alloc, &self.blocks, spot.chunk, end, new)
+        spliced(
+            alloc,
+            &self.blocks,
+            spot.chunk,
+            end,
+            new,
+            block_size(self.count),
+        )
     }
 
     /// The list with one more item before the one at a position, or at the end.
@@ -211,16 +221,17 @@ impl<T: Share> SharedList<T> {
         requires few { length self.now + 1 < 2 ^ 32 }
         ensures { IfOk result (λ list. list ≡ insert self.now at item) }
     {
-        if at == self.len() && is_full(&self.blocks) {
+        let size = block_size(self.count);
+        if at == self.len() && is_full(&self.blocks, size) {
             let one = Chunks::empty(alloc).with_inserted(alloc, 0, item)?;
             let end = self.blocks.len();
-            return spliced(alloc, &self.blocks, end, end, one);
+            return spliced(alloc, &self.blocks, end, end, one, size);
         }
         let spot = spot_of(&self.blocks, at);
         let end = spot.chunk + 1;
         let old = self.blocks[spot.chunk].chunks();
         let new = old.with_inserted(alloc, at - spot.start, item)?;
-        spliced(alloc, &self.blocks, spot.chunk, end, new)
+        spliced(alloc, &self.blocks, spot.chunk, end, new, size)
     }
 
     /// The list without the item at a position.
@@ -229,10 +240,11 @@ impl<T: Share> SharedList<T> {
         ensures { IfOk result (λ list. list ≡ remove self.now at) }
     {
         let spot = spot_of(&self.blocks, at);
-        let part = small_about(&self.blocks, spot.chunk);
+        let size = block_size(self.count);
+        let part = small_about(&self.blocks, spot.chunk, size);
         let place = at - count_of(&self.blocks[..part.first]);
         let new = without_in(alloc, &self.blocks[part.first..part.end], place)?;
-        spliced(alloc, &self.blocks, part.first, part.end, new)
+        spliced(alloc, &self.blocks, part.first, part.end, new, size)
     }
 }
 
@@ -252,14 +264,16 @@ fn without_in<T: Share>(
     chunks_of(alloc, blocks)?.without(alloc, at)
 }
 
-// Other chunks in place of some blocks.
+// Other chunks in place of some blocks, where a block gets about so many.
 fn spliced<T: Drop>(
     alloc: Global,
     blocks: &[Block<T>],
     first: usize,
     end: usize,
     new: Chunks<T>,
+    size: usize,
 ) -> Result<SharedList<T>, OutOfMemory>
+    requires some { 0 < size }
     requires first { first ≤ end }
     requires end { end ≤ length blocks.now }
     requires small { length (joined (take first blocks.now)) + length new + length (joined (drop end blocks.now)) < 2 ^ 32 }
@@ -267,40 +281,40 @@ fn spliced<T: Drop>(
 {
     SharedList::with_room(alloc, blocks.len() + 2)?
         .and_all(&blocks[..first])?
-        .and_chunks(alloc, new)?
+        .and_chunks(alloc, new, size)?
         .and_all(&blocks[end..])
 }
 
 // Whether the last block has no room for one more item at its end, or there is no block.
-fn is_full<T: Drop>(blocks: &[Block<T>]) -> bool
+fn is_full<T: Drop>(blocks: &[Block<T>], size: usize) -> bool
     ensures { result ≡ false → 0 < length blocks.now }
 {
     match blocks.last() {
         None => true,
-        Some(block) => block.chunks().is_full(),
+        Some(block) => block.chunks().is_full(size),
     }
 }
 
 // A block, with one beside it if both are small.
-fn small_about<T: Drop>(blocks: &[Block<T>], block: usize) -> Part
+fn small_about<T: Drop>(blocks: &[Block<T>], block: usize, size: usize) -> Part
     requires { block < length blocks.now }
     ensures first { result.first ≤ block }
     ensures end { block < result.end }
     ensures within { result.end ≤ length blocks.now }
 {
-    if !blocks[block].chunks().is_small() {
+    if !blocks[block].chunks().is_small(size) {
         return Part {
             first: block,
             end: block + 1,
         };
     }
-    if block > 0 && blocks[block - 1].chunks().is_small() {
+    if block > 0 && blocks[block - 1].chunks().is_small(size) {
         return Part {
             first: block - 1,
             end: block + 1,
         };
     }
-    if block + 1 < blocks.len() && blocks[block + 1].chunks().is_small() {
+    if block + 1 < blocks.len() && blocks[block + 1].chunks().is_small(size) {
         return Part {
             first: block,
             end: block + 2,
