@@ -1,11 +1,11 @@
 -- The items of an array, one after another, and their data.
-use Rattle.std.proofs.Common.{◌≡◌, ℕ, suc, ◌<◌, ◌≤◌, List, [], ◌∷◌, ◌++◌, Option, Some, None, option_map, option_and_then, refl, sym, ap, ◌∙◌, subst, arith}
+use Rattle.std.proofs.Common.{◌≡◌, suc, ◌≤◌, List, ◌∷◌, ◌++◌, Option, Some, None, option_map, option_and_then, refl, sym, ap, ◌∙◌, subst, arith}
 use Rattle.std.specs.Prelude.{⊤, MatchOption}
 use Rattle.json.specs.Token.{Token}
 use Rattle.json.specs.Json as json
 use Rattle.json.specs.Find.{BeginsWith, InItems, NextItem}
 use Rattle.json.specs.Find as seen
-use Rattle.json.specs.Tree.{depth, items_depth, json_tokens, items_tokens}
+use Rattle.json.specs.Tree.{depth, items_depth, json_tokens}
 use Rattle.json.proofs.Found.{Some_inj, not_found, opened}
 use Rattle.json.proofs.Printed.Trees.{value-json_tokens}
 use Rattle.serde_json.specs.Data.{Data, null, boolean, number, string, array, object, Items, no_items, item}

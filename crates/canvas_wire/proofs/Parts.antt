@@ -1,5 +1,5 @@
 -- The parts of a value, as the tokens have them and as its data has them.
-use Rattle.std.proofs.Common.{◌≡◌, ℕ, suc, ◌<◌, ◌≤◌, max, Bool, true, false, cond, ◌||◌, List, [], ◌∷◌, ◌++◌, Option, Some, None, option_map, option_and_then, Ordering, Less, Equal, Greater, is_eq, nat_cmp, bytes_eq, refl, sym, ap, ◌∙◌, subst, arith}
+use Rattle.std.proofs.Common.{◌≡◌, ℕ, suc, ◌≤◌, max, Bool, true, false, cond, ◌||◌, List, Option, Some, None, option_map, option_and_then, Ordering, Less, Equal, Greater, is_eq, nat_cmp, bytes_eq, refl, sym, ap, ◌∙◌, subst, arith}
 use Rattle.std.specs.Prelude.{⊤, is_some, MatchOption}
 use Rattle.std.specs.List.{list_any}
 use Rattle.std.proofs.lemmas.Slice.Eq.{bytes_eq-Decides}
@@ -10,18 +10,17 @@ use Rattle.json.specs.Token.{Token}
 use Rattle.json.specs.Json as json
 use Rattle.json.specs.Find.{BeginsWith, InMembers, Finds, later_or}
 use Rattle.json.specs.Find as seen
-use Rattle.json.specs.Tree.{depth, items_depth, members_depth, json_tokens, items_tokens}
-use Rattle.json.proofs.Found.{Some_inj, not_found, one_reading}
+use Rattle.json.specs.Tree.{depth, members_depth}
+use Rattle.json.proofs.Found.{Some_inj, not_found}
 use Rattle.json.proofs.Nesting.{value-depth}
-use Rattle.json.proofs.Printed.Trees.{value-json_tokens}
-use Rattle.serde_json.specs.Data.{Num, Data, null, boolean, number, string, array, object, Items, no_items, item, Members, no_members, member, put}
-use Rattle.serde_json.specs.Find.{get, get_member, as_null, as_bool, as_number, as_str, as_array, as_object}
+use Rattle.serde_json.specs.Data.{Num, Data, null, boolean, number, string, array, object, Items, Members, no_members, member, put}
+use Rattle.serde_json.specs.Find.{get, get_member, as_null, as_bool, as_number, as_str, as_object}
 use Rattle.serde_json.specs.Read.{number_of, of_json, of_items, of_members, max_depth}
 use Rattle.serde_json.proofs.Views.{get_member-put, get_member-put_other}
-use Rattle.canvas_wire.specs.Given.{data_at, view, or_null, items_view, or_no_items, HasData}
+use Rattle.canvas_wire.specs.Given.{data_at, view, or_null, HasData}
 use Rattle.canvas_wire.specs.Extra.{names_of}
 use Rattle.canvas_wire.specs.MemberNames.{given_names, HoldsNames}
-use Rattle.canvas_wire.proofs.Spelling.{value-at, items-spelled}
+use Rattle.canvas_wire.proofs.Spelling.{value-at}
 
 -- ---- what tokens begin with
 

@@ -31,7 +31,7 @@ fn depth_after(depth: u8, node: &Node<'_>) -> Option<u8>
             }
         }
         Node::EndObject | Node::EndArray => Some(depth.saturating_sub(1)),
-        Node::Number(text) => { if is_in_range(text) { Some(depth) } else { None } }
+        Node::Number(text) => is_in_range(text).then_some(depth),
         Node::Key(_) | Node::String(_) | Node::Bool(_) | Node::Null => Some(depth),
     }
 }

@@ -1,6 +1,5 @@
-use Rattle.std.proofs.Common.{◌≡◌, Option, option_map, option_and_then, sym, ap, ◌∙◌}
+use Rattle.std.proofs.Common.{◌≡◌, option_and_then, ap, ◌∙◌}
 use Rattle.json.specs.Find as seen
-use Rattle.serde_json.specs.Data.{Num}
 use Rattle.serde_json.specs.Find.{as_number, as_i64}
 use Rattle.serde_json.specs.Read.{number_of}
 use Rattle.canvas_wire.specs.Given.{view}

@@ -1,6 +1,5 @@
-use Rattle.std.proofs.Common.{Some, None, ap, ap₂, sym, ◌∙◌, subst, MatchOption, ◌≡◌}
-use Rattle.serde_json.specs.Data.{no_items, item}
-use Rattle.canvas_wire.specs.Given.{view, items_view}
+use Rattle.std.proofs.Common.{Some, None, ap₂, sym, ◌∙◌}
+use Rattle.serde_json.specs.Data.{item}
 use Rattle.canvas_wire.proofs.Parts.{view_is}
 use Rattle.canvas_wire.proofs.Items.{next_in, items_view_is}
 use Rattle.canvas_wire.proofs.given.GivenItems.next.Goals as goal
