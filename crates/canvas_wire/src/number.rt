@@ -8,6 +8,7 @@ use fast_float::Numeral;
 use serde_json::Number;
 
 // The nearest float, unless it is infinite.
+#[inline(always)]
 fn nearest(negative: bool, numeral: &Numeral<'_>) -> Option<Number>
     ensures { option_map number_view result ≡ float_of negative numeral.now }
 {
@@ -15,6 +16,7 @@ fn nearest(negative: bool, numeral: &Numeral<'_>) -> Option<Number>
 }
 
 // A number from 0 on.
+#[inline(always)]
 fn unsigned(numeral: &Numeral<'_>) -> Option<Number>
     ensures { option_map number_view result ≡ number_from false numeral.now }
 {
@@ -25,6 +27,7 @@ fn unsigned(numeral: &Numeral<'_>) -> Option<Number>
 }
 
 // A number with a minus. `-0` is a float.
+#[inline(always)]
 fn negative(numeral: &Numeral<'_>) -> Option<Number>
     ensures { option_map number_view result ≡ number_from true numeral.now }
 {
@@ -36,6 +39,7 @@ fn negative(numeral: &Numeral<'_>) -> Option<Number>
     nearest(true, numeral)
 }
 
+#[inline(always)]
 fn has_minus(bytes: &[u8]) -> bool
     ensures value { result ≡ (slice_index bytes.now 0 == 45) }
     ensures len { IsTrue result → 0 < length bytes.now }
