@@ -9,7 +9,7 @@ use crate::answer::Answer;
 use canvas_board::{Board, BoardFault, Dot, Edited, Picture, Saved};
 use canvas_code::name_of;
 use canvas_plane::Window;
-use canvas_wire::{Reply, Request, read_request};
+use canvas_wire::{Reply, Request, RequestReader};
 use std::alloc::Global;
 use std::sync::Wait;
 use std::thread::Threads;
@@ -26,7 +26,22 @@ pub fn answer_line<B: Board, H: Threads + Wait + Sync>(
 ) -> Answer
     ensures { Answers workers (B.seen board.old) (request_of line.now) result (B.seen board.new) }
 {
-    match read_request(alloc, line) {
+    let mut request_reader = RequestReader::new(alloc);
+    answer_next(rt, alloc, board, workers, &mut request_reader, line)
+}
+
+/// The same, with a reader that keeps its memory from line to line.
+pub(crate) fn answer_next<B: Board, H: Threads + Wait + Sync>(
+    rt: &H,
+    alloc: Global,
+    board: &mut B,
+    workers: u32,
+    request_reader: &mut RequestReader,
+    line: &[u8],
+) -> Answer
+    ensures { Answers workers (B.seen board.old) (request_of line.now) result (B.seen board.new) }
+{
+    match request_reader.read(alloc, line) {
         Err(fault) => Answer::bare(alloc, refusal(fault.code())),
         Ok(request) => answer_request(rt, alloc, board, workers, &request),
     }

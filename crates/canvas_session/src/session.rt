@@ -5,9 +5,10 @@ use crate::fault::{Cause, SessionFault};
 use crate::next::{Interruption, Next, find_next};
 use crate::output::{close, write_answer};
 use crate::pending::Pending;
-use crate::respond::answer_line;
+use crate::respond::answer_next;
 use crate::served::Served;
 use canvas_board::Board;
+use canvas_wire::RequestReader;
 use std::alloc::Global;
 use std::io::{Read, Write};
 use std::sync::Wait;
@@ -40,6 +41,7 @@ pub fn serve<B: Board, R: Read, W: Write, H: Threads + Wait + Sync>(
     let Ok(mut pending) = Pending::new(alloc) else {
         return Err(stop(Cause::OutOfMemory, 0, 0));
     };
+    let mut request_reader = RequestReader::new(alloc);
     let mut requests = 0;
     let mut written = 0;
     'lines: loop {
@@ -54,7 +56,7 @@ pub fn serve<B: Board, R: Read, W: Write, H: Threads + Wait + Sync>(
                     return Err(close(writer, Cause::TooManyRequests, requests, written));
                 }
                 let (line, _) = pending.as_slice().split_at(n);
-                let answer = answer_line(rt, alloc, board, workers, line);
+                let answer = answer_next(rt, alloc, board, workers, &mut request_reader, line);
                 pending.drop_front(n + 1);
                 let (sent, whole) = write_answer(writer, &answer);
                 drop(answer);

@@ -6,15 +6,19 @@ use canvas_doc::{Edit, Parent, Spot};
 use canvas_key::Key;
 use canvas_plane::Pose;
 use canvas_shape::{Colour, Kind};
-use canvas_wire::{Reply, Request, read_request, write_reply};
+use canvas_wire::{Reply, Request, RequestReader, WireFault, read_request, write_reply};
 use std::alloc::{AllocError, Global};
 use std::process::Abort;
 use std::str;
 use std::test::Fail;
 
-// A request in words, or the number of the fault.
+// The request of a line in words, or the number of the fault.
 fn told(alloc: Global, line: &[u8]) -> Result<String, AllocError> {
-    match read_request(alloc, line) {
+    told_request(alloc, read_request(alloc, line))
+}
+
+fn told_request(alloc: Global, read: Result<Request, WireFault>) -> Result<String, AllocError> {
+    match read {
         Ok(Request::Edit(edit)) => told_edit(alloc, &edit),
         Ok(Request::Tile { level, col, row }) => {
             format!(in alloc; "tile {col} {row} at {level}")
@@ -127,11 +131,12 @@ fn told_key(alloc: Global, key: &Key) -> Result<String, AllocError> {
     }
 }
 
-// Each line says what stands beside it, and the same with a CR before its LF.
+// Each line says what stands beside it to a reader of them all, and the same with a CR before its LF and read alone.
 fn assert_told(rt: &impl Abort, alloc: Global, rows: &[(&str, &str)]) -> Result<(), AllocError> {
+    let mut reader = RequestReader::new(alloc);
     for row in rows {
         let (line, wanted) = *row;
-        let request = told(alloc, line.as_bytes())?;
+        let request = told_request(alloc, reader.read(alloc, line.as_bytes()))?;
         assert_eq!(rt; request.as_str(), wanted, "at {line}");
         let with_cr = format!(in alloc; "{line}\r")?;
         let request = told(alloc, with_cr.as_bytes())?;

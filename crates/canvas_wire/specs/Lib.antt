@@ -1,11 +1,14 @@
 pub mod Asked
 pub mod Extra
 pub mod Faults
+pub mod Given
 pub mod Json
+pub mod MemberNames
 pub mod Places
 pub mod Poses
 pub mod Replies
 pub mod ReplyObjects
 pub mod Requests
 pub mod Shapes
+pub mod Taken
 pub mod Verbs

@@ -1,12 +1,13 @@
 //! What a request of each verb asks for.
 ghost use Rattle.std.specs.Prelude.{◌≡◌, None, Some, IfOk, codes};
-ghost use Rattle.serde_json.specs.View.{view};
 ghost use Rattle.canvas_wire.specs.Asked.{asked};
+ghost use Rattle.canvas_wire.specs.Given.{view};
 ghost use Rattle.canvas_wire.specs.Json.{required};
 ghost use Rattle.canvas_wire.specs.Shapes.{shape_of};
 ghost use Rattle.canvas_wire.specs.declared.verb.Verb.TheVariants as verb;
 
 use crate::field::{bool_at, bool_or_false, i32_at, u8_or_zero, u32_at};
+use crate::given::Given;
 use crate::place::{parent_at, parent_or_page, pose_at, pose_or_still, spot_at, spot_or_front};
 use crate::request::Request;
 use crate::shape::shape_at;
@@ -14,7 +15,6 @@ use crate::verb::Verb;
 use canvas_code::OutOfMemory;
 use canvas_doc::Edit;
 use canvas_shape::Kind;
-use serde_json::Value;
 use std::alloc::Global;
 
 // What a request asks for, or none where a member is missing or can't be read.
@@ -22,7 +22,7 @@ use std::alloc::Global;
 pub(crate) fn asked(
     alloc: Global,
     verb: Verb,
-    object: &Value,
+    object: &Given<'_, '_>,
 ) -> Result<Option<Request>, OutOfMemory>
     ensures { IfOk result (λ request. request ≡ asked verb (view object.now)) }
 {
@@ -43,7 +43,7 @@ pub(crate) fn asked(
 
 // The shape is read first: its points alone want memory.
 #[tactic(auto, unfolding(crate::specs::Asked::asked))]
-fn create_of(alloc: Global, object: &Value) -> Result<Option<Request>, OutOfMemory>
+fn create_of(alloc: Global, object: &Given<'_, '_>) -> Result<Option<Request>, OutOfMemory>
     ensures { IfOk result (λ request. request ≡ asked verb.Create (view object.now)) }
 {
     match shape_at(alloc, object)? {
@@ -53,7 +53,7 @@ fn create_of(alloc: Global, object: &Value) -> Result<Option<Request>, OutOfMemo
 }
 
 #[tactic(auto, unfolding(crate::specs::Asked::asked))]
-fn create_with(kind: Kind, object: &Value) -> Option<Request>
+fn create_with(kind: Kind, object: &Given<'_, '_>) -> Option<Request>
     ensures { required shape_of (codes "shape") (view object.now) ≡ Some kind → result ≡ asked verb.Create (view object.now) }
 {
     let pose = pose_or_still(object)?;
@@ -70,7 +70,7 @@ fn create_with(kind: Kind, object: &Value) -> Option<Request>
 }
 
 #[tactic(auto, unfolding(crate::specs::Asked::asked))]
-fn move_of(object: &Value) -> Option<Request>
+fn move_of(object: &Given<'_, '_>) -> Option<Request>
     ensures { result ≡ asked verb.Move (view object.now) }
 {
     let id = u32_at(object, "id")?;
@@ -80,7 +80,7 @@ fn move_of(object: &Value) -> Option<Request>
 }
 
 #[tactic(auto, unfolding(crate::specs::Asked::asked))]
-fn pose_edit_of(object: &Value) -> Option<Request>
+fn pose_edit_of(object: &Given<'_, '_>) -> Option<Request>
     ensures { result ≡ asked verb.Pose (view object.now) }
 {
     let id = u32_at(object, "id")?;
@@ -89,7 +89,7 @@ fn pose_edit_of(object: &Value) -> Option<Request>
 }
 
 #[tactic(auto, unfolding(crate::specs::Asked::asked))]
-fn reshape_of(alloc: Global, object: &Value) -> Result<Option<Request>, OutOfMemory>
+fn reshape_of(alloc: Global, object: &Given<'_, '_>) -> Result<Option<Request>, OutOfMemory>
     ensures { IfOk result (λ request. request ≡ asked verb.Reshape (view object.now)) }
 {
     let Some(id) = u32_at(object, "id") else {
@@ -102,7 +102,7 @@ fn reshape_of(alloc: Global, object: &Value) -> Result<Option<Request>, OutOfMem
 }
 
 #[tactic(auto, unfolding(crate::specs::Asked::asked))]
-fn show_of(object: &Value) -> Option<Request>
+fn show_of(object: &Given<'_, '_>) -> Option<Request>
     ensures { result ≡ asked verb.Show (view object.now) }
 {
     let id = u32_at(object, "id")?;
@@ -111,7 +111,7 @@ fn show_of(object: &Value) -> Option<Request>
 }
 
 #[tactic(auto, unfolding(crate::specs::Asked::asked))]
-fn delete_of(object: &Value) -> Option<Request>
+fn delete_of(object: &Given<'_, '_>) -> Option<Request>
     ensures { result ≡ asked verb.Delete (view object.now) }
 {
     let id = u32_at(object, "id")?;
@@ -119,7 +119,7 @@ fn delete_of(object: &Value) -> Option<Request>
 }
 
 #[tactic(auto, unfolding(crate::specs::Asked::asked))]
-fn respace_of(object: &Value) -> Option<Request>
+fn respace_of(object: &Given<'_, '_>) -> Option<Request>
     ensures { result ≡ asked verb.Respace (view object.now) }
 {
     let parent = parent_at(object)?;
@@ -127,7 +127,7 @@ fn respace_of(object: &Value) -> Option<Request>
 }
 
 #[tactic(auto, unfolding(crate::specs::Asked::asked))]
-fn tile_of(object: &Value) -> Option<Request>
+fn tile_of(object: &Given<'_, '_>) -> Option<Request>
     ensures { result ≡ asked verb.Tile (view object.now) }
 {
     let col = i32_at(object, "col")?;
@@ -137,7 +137,7 @@ fn tile_of(object: &Value) -> Option<Request>
 }
 
 #[tactic(auto, unfolding(crate::specs::Asked::asked))]
-fn patch_of(object: &Value) -> Option<Request>
+fn patch_of(object: &Given<'_, '_>) -> Option<Request>
     ensures { result ≡ asked verb.Patch (view object.now) }
 {
     let x = i32_at(object, "x")?;
@@ -149,7 +149,7 @@ fn patch_of(object: &Value) -> Option<Request>
 }
 
 #[tactic(auto, unfolding(crate::specs::Asked::asked))]
-fn pixel_of(object: &Value) -> Option<Request>
+fn pixel_of(object: &Given<'_, '_>) -> Option<Request>
     ensures { result ≡ asked verb.Point (view object.now) }
 {
     let x = i32_at(object, "x")?;

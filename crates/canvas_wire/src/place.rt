@@ -1,21 +1,21 @@
 //! Parents, spots and poses: where a shape goes.
 ghost use Rattle.std.specs.Prelude.{◌≡◌, codes};
-ghost use Rattle.serde_json.specs.View.{view};
 ghost use Rattle.canvas_doc.specs.declared.records.Parent.TheVariants.{Page};
 ghost use Rattle.canvas_doc.specs.declared.edits.Spot.TheVariants.{Front};
+ghost use Rattle.canvas_wire.specs.Given.{view};
 ghost use Rattle.canvas_wire.specs.Json.{required, optional};
 ghost use Rattle.canvas_wire.specs.Places.{parent_of, spot_named, spot_over, spot_at_key, spot_in, spot_of};
 ghost use Rattle.canvas_wire.specs.Poses.{pose_of, still};
 
 use crate::field::{bool_or_false, i32_or_zero, u8_or_zero, u32_of};
+use crate::given::Given;
 use canvas_doc::{Parent, Spot};
 use canvas_key::Key;
 use canvas_plane::Pose;
-use serde_json::Value;
 
 #[tactic(auto, unfolding(crate::specs::Places::parent_of))]
-fn parent_of(value: &Value) -> Option<Parent>
-    ensures { result ≡ parent_of (view value.now) }
+fn parent_of(value: Given<'_, '_>) -> Option<Parent>
+    ensures { result ≡ parent_of (view value.entry) }
 {
     if value.is_null() {
         Some(Parent::Page)
@@ -25,14 +25,14 @@ fn parent_of(value: &Value) -> Option<Parent>
 }
 
 // The parent, which has to be there.
-pub(crate) fn parent_at(object: &Value) -> Option<Parent>
+pub(crate) fn parent_at(object: &Given<'_, '_>) -> Option<Parent>
     ensures { result ≡ required parent_of (codes "parent") (view object.now) }
 {
     object.get("parent").and_then(parent_of)
 }
 
 // The parent, or the page where it is left out.
-pub(crate) fn parent_or_page(object: &Value) -> Option<Parent>
+pub(crate) fn parent_or_page(object: &Given<'_, '_>) -> Option<Parent>
     ensures { result ≡ optional parent_of Page (codes "parent") (view object.now) }
 {
     object.get("parent").map_or(Some(Parent::Page), parent_of)
@@ -50,8 +50,8 @@ fn spot_named(name: &str) -> Option<Spot>
 }
 
 #[tactic(auto, unfolding(crate::specs::Places::spot_over))]
-fn spot_over(id: &Value) -> Option<Spot>
-    ensures { result ≡ spot_over (view id.now) }
+fn spot_over(id: Given<'_, '_>) -> Option<Spot>
+    ensures { result ≡ spot_over (view id.entry) }
 {
     u32_of(id).map(Spot::Over)
 }
@@ -67,37 +67,37 @@ fn spot_at_key(text: &str) -> Option<Spot>
 }
 
 #[tactic(auto, unfolding(crate::specs::Places::spot_in))]
-fn spot_in(object: &Value) -> Option<Spot>
+fn spot_in(object: &Given<'_, '_>) -> Option<Spot>
     ensures { result ≡ spot_in (view object.now) }
 {
     match object.get("over") {
         Some(id) => spot_over(id),
         None => object
             .get("at")
-            .and_then(Value::as_str)
+            .and_then(|key| key.as_str())
             .and_then(spot_at_key),
     }
 }
 
 #[tactic(auto, unfolding(crate::specs::Places::spot_of))]
-fn spot_of(value: &Value) -> Option<Spot>
-    ensures { result ≡ spot_of (view value.now) }
+fn spot_of(value: Given<'_, '_>) -> Option<Spot>
+    ensures { result ≡ spot_of (view value.entry) }
 {
     match value.as_str() {
         Some(name) => spot_named(name),
-        None => spot_in(value),
+        None => spot_in(&value),
     }
 }
 
 // The spot, which has to be there.
-pub(crate) fn spot_at(object: &Value) -> Option<Spot>
+pub(crate) fn spot_at(object: &Given<'_, '_>) -> Option<Spot>
     ensures { result ≡ required spot_of (codes "spot") (view object.now) }
 {
     object.get("spot").and_then(spot_of)
 }
 
 // The spot, or in front of all siblings where it is left out.
-pub(crate) fn spot_or_front(object: &Value) -> Option<Spot>
+pub(crate) fn spot_or_front(object: &Given<'_, '_>) -> Option<Spot>
     ensures { result ≡ optional spot_of Front (codes "spot") (view object.now) }
 {
     match object.get("spot") {
@@ -107,14 +107,16 @@ pub(crate) fn spot_or_front(object: &Value) -> Option<Spot>
 }
 
 #[tactic(auto, unfolding(crate::specs::Poses::pose_of))]
-fn pose_of(value: &Value) -> Option<Pose>
-    ensures { result ≡ pose_of (view value.now) }
+fn pose_of(value: Given<'_, '_>) -> Option<Pose>
+    ensures { result ≡ pose_of (view value.entry) }
 {
-    let _members = value.as_object()?;
-    let dx = i32_or_zero(value, "dx")?;
-    let dy = i32_or_zero(value, "dy")?;
-    let quarter = u8_or_zero(value, "quarter")?;
-    let flip = bool_or_false(value, "flip")?;
+    if !value.is_object() {
+        return None;
+    }
+    let dx = i32_or_zero(&value, "dx")?;
+    let dy = i32_or_zero(&value, "dy")?;
+    let quarter = u8_or_zero(&value, "quarter")?;
+    let flip = bool_or_false(&value, "flip")?;
     Some(Pose {
         dx: i64::from(dx),
         dy: i64::from(dy),
@@ -124,14 +126,14 @@ fn pose_of(value: &Value) -> Option<Pose>
 }
 
 // The pose, which has to be there.
-pub(crate) fn pose_at(object: &Value) -> Option<Pose>
+pub(crate) fn pose_at(object: &Given<'_, '_>) -> Option<Pose>
     ensures { result ≡ required pose_of (codes "pose") (view object.now) }
 {
     object.get("pose").and_then(pose_of)
 }
 
 // The pose, or the one that moves nothing where it is left out.
-pub(crate) fn pose_or_still(object: &Value) -> Option<Pose>
+pub(crate) fn pose_or_still(object: &Given<'_, '_>) -> Option<Pose>
     ensures { result ≡ optional pose_of still (codes "pose") (view object.now) }
 {
     object.get("pose").map_or(Some(Pose::STILL), pose_of)

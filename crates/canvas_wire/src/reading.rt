@@ -1,44 +1,28 @@
 //! From a line to a request.
 ghost use Rattle.std.specs.Prelude.{◌≡◌, [], Err};
-ghost use Rattle.serde_json.specs.View.{view};
-ghost use Rattle.canvas_wire.specs.Faults.{Gives, GivesSeen, or_fault};
-ghost use Rattle.canvas_wire.specs.Json.{json_of};
+ghost use Rattle.canvas_wire.specs.Faults.{Gives};
+ghost use Rattle.canvas_wire.specs.Given.{view};
 ghost use Rattle.canvas_wire.specs.Requests.{request_in, request_of};
 ghost use Rattle.canvas_wire.specs.declared.fault.WireFault.TheVariants.{BadJson};
 
 use crate::asked::asked;
 use crate::extra::has_extra;
 use crate::fault::WireFault;
+use crate::given::Given;
 use crate::request::Request;
+use crate::tape::tape_of;
 use crate::verb::Verb;
-use serde_json::Value;
+use json::Scratch;
 use std::alloc::Global;
-
-// The value that a line is.
-fn value_of(alloc: Global, line: &[u8]) -> Result<Value, WireFault>
-    ensures value { GivesSeen view result (or_fault BadJson (json_of line.now)) }
-    ensures empty { line.now ≡ [] → result ≡ Err BadJson }
-{
-    match Value::from_slice(alloc, line) {
-        Ok(value) => Ok(value),
-        Err(error) => {
-            if error.is_memory() {
-                Err(WireFault::OutOfMemory)
-            } else {
-                Err(WireFault::BadJson)
-            }
-        }
-    }
-}
 
 // The request of an object.
 #[tactic(auto, unfolding(crate::specs::Requests::request_in))]
-fn request_in(alloc: Global, object: &Value) -> Result<Request, WireFault>
+fn request_in(alloc: Global, object: &Given<'_, '_>) -> Result<Request, WireFault>
     ensures { Gives result (request_in (view object.now)) }
 {
     let verb = object
         .get("verb")
-        .and_then(Value::as_str)
+        .and_then(|verb| verb.as_str())
         .and_then(Verb::named)
         .ok_or(WireFault::BadVerb)?;
     let request = asked(alloc, verb, object)?.ok_or(WireFault::BadField)?;
@@ -48,21 +32,48 @@ fn request_in(alloc: Global, object: &Value) -> Result<Request, WireFault>
     Ok(request)
 }
 
-/// The request of a line, which stands without its LF: one JSON object, by serde_json's reading of it.
-///
-/// The first of these faults that applies is answered: 50 where the line is not JSON, 51 where it
-/// is no object, 52 where `verb` is missing or no verb's name, 53 where a member of the verb, or
-/// of an object inside it, is missing, of the wrong type or out of range, 54 where there is a
-/// member besides these. 1 is answered only where the allocator refused memory, whatever else the
-/// line holds; an empty line takes none.
-#[tactic(auto, unfolding(crate::specs::Requests::request_of))]
+/// Reads requests, and keeps the memory that its reading takes from line to line.
+#[derive(Drop)]
+pub struct RequestReader {
+    scratch: Scratch,
+}
+
+impl RequestReader {
+    /// A reader that has taken no memory yet.
+    pub fn new(alloc: Global) -> RequestReader {
+        RequestReader {
+            scratch: Scratch::new(alloc),
+        }
+    }
+
+    /// The request of a line, which stands without its LF: one JSON object, by serde_json's reading of it.
+    ///
+    /// The first of these faults that applies is answered: 50 where the line is not JSON, 51 where it
+    /// is no object, 52 where `verb` is missing or no verb's name, 53 where a member of the verb, or
+    /// of an object inside it, is missing, of the wrong type or out of range, 54 where there is a
+    /// member besides these. 1 is answered only where the allocator refused memory, whatever else the
+    /// line holds; an empty line takes none.
+    #[tactic(auto, unfolding(crate::specs::Requests::request_of))]
+    pub fn read(&mut self, alloc: Global, line: &[u8]) -> Result<Request, WireFault>
+        ensures request { Gives result (request_of line.now) }
+        ensures empty { line.now ≡ [] → result ≡ Err BadJson }
+    {
+        let tape = match tape_of(alloc, &mut self.scratch, line) {
+            Ok(tape) => tape,
+            Err(fault) => return Err(fault),
+        };
+        let value = Given::root(&tape);
+        if !value.is_object() {
+            return Err(WireFault::NotObject);
+        }
+        request_in(alloc, &value)
+    }
+}
+
+/// The request of a line, as a new `RequestReader` reads it.
 pub fn read_request(alloc: Global, line: &[u8]) -> Result<Request, WireFault>
     ensures request { Gives result (request_of line.now) }
     ensures empty { line.now ≡ [] → result ≡ Err BadJson }
 {
-    let value = value_of(alloc, line)?;
-    if !value.is_object() {
-        return Err(WireFault::NotObject);
-    }
-    request_in(alloc, &value)
+    RequestReader::new(alloc).read(alloc, line)
 }

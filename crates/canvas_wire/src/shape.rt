@@ -1,32 +1,32 @@
 //! Shapes.
 ghost use Rattle.std.specs.Prelude.{◌≡◌, None, codes, map, IfOk};
-ghost use Rattle.serde_json.specs.View.{view, items_view};
+ghost use Rattle.canvas_wire.specs.Given.{view, items_view};
 ghost use Rattle.canvas_wire.specs.Json.{required, optional};
 ghost use Rattle.canvas_wire.specs.Shapes.{colour_of, fill_of, point_in, point_of, points_in, points_of, frame_of, rect_of, ellipse_of, polygon_of, shape_named, shape_of, shape_members};
 
 use crate::field::{i32_of, u32_at};
+use crate::given::{Given, GivenItems};
 use canvas_code::OutOfMemory;
 use canvas_plane::Point;
 use canvas_shape::{Colour, Kind, Points};
-use serde_json::Value;
 use std::alloc::Global;
 
 #[tactic(auto, unfolding(crate::specs::Shapes::colour_of))]
-fn colour_of(value: &Value) -> Option<Colour>
-    ensures { result ≡ colour_of (view value.now) }
+fn colour_of(value: Given<'_, '_>) -> Option<Colour>
+    ensures { result ≡ colour_of (view value.entry) }
 {
     value.as_str().and_then(Colour::read)
 }
 
-fn colour_at(shape: &Value) -> Option<Colour>
+fn colour_at(shape: &Given<'_, '_>) -> Option<Colour>
     ensures { result ≡ required colour_of (codes "fill") (view shape.now) }
 {
     shape.get("fill").and_then(colour_of)
 }
 
 #[tactic(auto, unfolding(crate::specs::Shapes::fill_of))]
-fn fill_of(value: &Value) -> Option<Option<Colour>>
-    ensures { result ≡ fill_of (view value.now) }
+fn fill_of(value: Given<'_, '_>) -> Option<Option<Colour>>
+    ensures { result ≡ fill_of (view value.entry) }
 {
     if value.is_null() {
         Some(None)
@@ -35,7 +35,7 @@ fn fill_of(value: &Value) -> Option<Option<Colour>>
     }
 }
 
-fn fill_or_none(shape: &Value) -> Option<Option<Colour>>
+fn fill_or_none(shape: &Given<'_, '_>) -> Option<Option<Colour>>
     ensures { result ≡ optional fill_of None (codes "fill") (view shape.now) }
 {
     match shape.get("fill") {
@@ -44,31 +44,35 @@ fn fill_or_none(shape: &Value) -> Option<Option<Colour>>
     }
 }
 
-fn point_in(list: &[Value]) -> Option<Point>
-    ensures { result ≡ point_in (items_view list.now) }
+fn point_in(items: GivenItems<'_, '_>) -> Option<Point>
+    ensures { result ≡ point_in (items_view items.entry) }
 {
-    match list {
-        [x, y] => Some(Point {
-            x: i64::from(i32_of(x)?),
-            y: i64::from(i32_of(y)?),
-        }),
-        _ => None,
+    let mut left = items;
+    let x = left.next()?;
+    let y = left.next()?;
+    if left.next().is_some() {
+        return None;
     }
+    Some(Point {
+        x: i64::from(i32_of(x)?),
+        y: i64::from(i32_of(y)?),
+    })
 }
 
 #[tactic(auto, unfolding(crate::specs::Shapes::point_of))]
-fn point_of(value: &Value) -> Option<Point>
-    ensures { result ≡ point_of (view value.now) }
+fn point_of(value: Given<'_, '_>) -> Option<Point>
+    ensures { result ≡ point_of (view value.entry) }
 {
-    point_in(value.as_array()?.as_slice())
+    point_in(value.items()?)
 }
 
 // The points of a list.
-fn points_in(alloc: Global, list: &[Value]) -> Result<Option<Points>, OutOfMemory>
-    ensures { IfOk result (λ points. points ≡ points_in (items_view list.now)) }
+fn points_in(alloc: Global, items: GivenItems<'_, '_>) -> Result<Option<Points>, OutOfMemory>
+    ensures { IfOk result (λ points. points ≡ points_in (items_view items.entry)) }
 {
     let mut points = Points::new(alloc);
-    for value in list {
+    let mut left = items;
+    while let Some(value) = left.next() {
         match point_of(value) {
             Some(point) => points.push(point)?,
             None => return Ok(None),
@@ -78,17 +82,17 @@ fn points_in(alloc: Global, list: &[Value]) -> Result<Option<Points>, OutOfMemor
 }
 
 #[tactic(auto, unfolding(crate::specs::Shapes::points_of))]
-fn points_of(alloc: Global, value: &Value) -> Result<Option<Points>, OutOfMemory>
-    ensures { IfOk result (λ points. points ≡ points_of (view value.now)) }
+fn points_of(alloc: Global, value: Given<'_, '_>) -> Result<Option<Points>, OutOfMemory>
+    ensures { IfOk result (λ points. points ≡ points_of (view value.entry)) }
 {
-    match value.as_array() {
-        Some(list) => points_in(alloc, list.as_slice()),
+    match value.items() {
+        Some(items) => points_in(alloc, items),
         None => Ok(None),
     }
 }
 
 #[tactic(auto, unfolding(crate::specs::Shapes::frame_of))]
-fn frame_of(shape: &Value) -> Option<Kind>
+fn frame_of(shape: &Given<'_, '_>) -> Option<Kind>
     ensures { result ≡ frame_of (view shape.now) }
 {
     let w = u32_at(shape, "w")?;
@@ -98,7 +102,7 @@ fn frame_of(shape: &Value) -> Option<Kind>
 }
 
 #[tactic(auto, unfolding(crate::specs::Shapes::rect_of))]
-fn rect_of(shape: &Value) -> Option<Kind>
+fn rect_of(shape: &Given<'_, '_>) -> Option<Kind>
     ensures { result ≡ rect_of (view shape.now) }
 {
     let w = u32_at(shape, "w")?;
@@ -108,7 +112,7 @@ fn rect_of(shape: &Value) -> Option<Kind>
 }
 
 #[tactic(auto, unfolding(crate::specs::Shapes::ellipse_of))]
-fn ellipse_of(shape: &Value) -> Option<Kind>
+fn ellipse_of(shape: &Given<'_, '_>) -> Option<Kind>
     ensures { result ≡ ellipse_of (view shape.now) }
 {
     let w = u32_at(shape, "w")?;
@@ -118,7 +122,7 @@ fn ellipse_of(shape: &Value) -> Option<Kind>
 }
 
 #[tactic(auto, unfolding(crate::specs::Shapes::polygon_of))]
-fn polygon_of(alloc: Global, shape: &Value) -> Result<Option<Kind>, OutOfMemory>
+fn polygon_of(alloc: Global, shape: &Given<'_, '_>) -> Result<Option<Kind>, OutOfMemory>
     ensures { IfOk result (λ kind. kind ≡ polygon_of (view shape.now)) }
 {
     let Some(fill) = colour_at(shape) else {
@@ -134,7 +138,11 @@ fn polygon_of(alloc: Global, shape: &Value) -> Result<Option<Kind>, OutOfMemory>
 }
 
 #[tactic(auto, unfolding(crate::specs::Shapes::shape_named))]
-fn shape_named(alloc: Global, kind: &str, shape: &Value) -> Result<Option<Kind>, OutOfMemory>
+fn shape_named(
+    alloc: Global,
+    kind: &str,
+    shape: &Given<'_, '_>,
+) -> Result<Option<Kind>, OutOfMemory>
     ensures { IfOk result (λ read. read ≡ shape_named kind.now (view shape.now)) }
 {
     match kind {
@@ -148,17 +156,17 @@ fn shape_named(alloc: Global, kind: &str, shape: &Value) -> Result<Option<Kind>,
 }
 
 #[tactic(auto, unfolding(crate::specs::Shapes::shape_of))]
-fn shape_of(alloc: Global, shape: &Value) -> Result<Option<Kind>, OutOfMemory>
-    ensures { IfOk result (λ kind. kind ≡ shape_of (view shape.now)) }
+fn shape_of(alloc: Global, shape: Given<'_, '_>) -> Result<Option<Kind>, OutOfMemory>
+    ensures { IfOk result (λ kind. kind ≡ shape_of (view shape.entry)) }
 {
-    match shape.get("kind").and_then(Value::as_str) {
-        Some(kind) => shape_named(alloc, kind, shape),
+    match shape.get("kind").and_then(|kind| kind.as_str()) {
+        Some(kind) => shape_named(alloc, kind, &shape),
         None => Ok(None),
     }
 }
 
 // The shape, which has to be there.
-pub(crate) fn shape_at(alloc: Global, object: &Value) -> Result<Option<Kind>, OutOfMemory>
+pub(crate) fn shape_at(alloc: Global, object: &Given<'_, '_>) -> Result<Option<Kind>, OutOfMemory>
     ensures { IfOk result (λ kind. kind ≡ required shape_of (codes "shape") (view object.now)) }
 {
     match object.get("shape") {

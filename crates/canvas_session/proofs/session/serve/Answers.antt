@@ -59,14 +59,14 @@ pub returns-else-whole : goal.returns-else-whole
 returns-else-whole g c =
     let next : IsNext (Line c.in-Ok-Line.n) c.find_next.new.pending (g.R.Read.remaining c.find_next.new.reader) = rw c.in-Ok-Line.field-0-is at c.in-Ok-Line.ensures.next in
     let line : c.split_at.result.0.now ≡ take c.in-Ok-Line.n c.find_next.new.pending = c.split_at.ensures.front ∙ ap (λ l. take c.in-Ok-Line.n l) c.as_slice.ensures.bytes in
-    let e = ends (g.R.Read.remaining c.args.reader.now) (g.R.Read.remaining c.find_next.new.reader) (g.W.Write.contents c.args.writer.now) (g.W.Write.contents c.write_answer-sent.new.writer) (g.B.Board.seen c.args.board.now) (g.B.Board.seen c.answer_line-answer.new.board) in
+    let e = ends (g.R.Read.remaining c.args.reader.now) (g.R.Read.remaining c.find_next.new.reader) (g.W.Write.contents c.args.writer.now) (g.W.Write.contents c.write_answer-sent.new.writer) (g.B.Board.seen c.args.board.now) (g.B.Board.seen c.answer_next-answer.new.board) in
     subst (λ (f : SessionFault). IsStopped c.args.workers e f.cause f.answered f.written) (sym c.stop-else-whole.ensures)
-    (session_breaks c.args.workers _ _ _ _ _ _ _ _ c.find_next.new.pending c.drop_front.new.self c.lines.requests c.lines.written c.in-Ok-Line.n c.write_answer-sent.result.0 c.answer_line-answer.result
+    (session_breaks c.args.workers _ _ _ _ _ _ _ _ c.find_next.new.pending c.drop_front.new.self c.lines.requests c.lines.written c.in-Ok-Line.n c.write_answer-sent.result.0 c.answer_next-answer.result
     (session_waits _ _ _ _ _ _ _ _ _ _ _ _ _ c.lines.invariant.session c.in-Ok-Line.ensures.takes c.in-Ok-Line.ensures.kept)
     (omega (arith, c.lines.invariant.few, c.if-requests-eq-MOST_REQUESTS.false))
     (line_at c.find_next.new.pending c.in-Ok-Line.n next.0 next.1 next.2)
     (ap (λ l. ended (take c.in-Ok-Line.n c.find_next.new.pending) ++ l) c.drop_front.ensures ∙ line_and_rest c.find_next.new.pending c.in-Ok-Line.n next.1 next.3)
-    (rw line at c.answer_line-answer.ensures)
+    (rw line at c.answer_next-answer.ensures)
     c.write_answer-sent.ensures.wrote
     (c.write_answer-sent.ensures.cut c.if-whole.false))
 
@@ -76,12 +76,12 @@ lines-preserved g c =
     let line : c.split_at.result.0.now ≡ take c.in-Ok-Line.n c.find_next.new.pending = c.split_at.ensures.front ∙ ap (λ l. take c.in-Ok-Line.n l) c.as_slice.ensures.bytes in
     let small : c.write_answer-sent.result.0 ≤ 2199023255552 = c.write_answer-sent.ensures.small in
     record {
-      session = session_answers c.args.workers _ _ _ _ _ _ _ _ c.find_next.new.pending c.drop_front.new.self c.lines.requests c.lines.written c.in-Ok-Line.n c.write_answer-sent.result.0 c.answer_line-answer.result
+      session = session_answers c.args.workers _ _ _ _ _ _ _ _ c.find_next.new.pending c.drop_front.new.self c.lines.requests c.lines.written c.in-Ok-Line.n c.write_answer-sent.result.0 c.answer_next-answer.result
           (session_waits _ _ _ _ _ _ _ _ _ _ _ _ _ c.lines.invariant.session c.in-Ok-Line.ensures.takes c.in-Ok-Line.ensures.kept)
           (omega (arith, c.lines.invariant.few, c.if-requests-eq-MOST_REQUESTS.false))
           (line_at c.find_next.new.pending c.in-Ok-Line.n next.0 next.1 next.2)
           (ap (λ l. ended (take c.in-Ok-Line.n c.find_next.new.pending) ++ l) c.drop_front.ensures ∙ line_and_rest c.find_next.new.pending c.in-Ok-Line.n next.1 next.3)
-          (rw line at c.answer_line-answer.ensures)
+          (rw line at c.answer_next-answer.ensures)
           c.write_answer-sent.ensures.wrote
           (c.write_answer-sent.ensures.whole c.if-whole.true);
       few = omega (arith, c.lines.invariant.few, c.if-requests-eq-MOST_REQUESTS.false);
