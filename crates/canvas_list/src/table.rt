@@ -206,7 +206,7 @@ impl<T: Share> SharedList<T> {
             spot.chunk,
             end,
             new,
-            block_size(self.count),
+            block_size(self.len()),
         )
     }
 
@@ -221,7 +221,7 @@ impl<T: Share> SharedList<T> {
         requires few { length self.now + 1 < 2 ^ 32 }
         ensures { IfOk result (λ list. list ≡ insert self.now at item) }
     {
-        let size = block_size(self.count);
+        let size = block_size(self.len());
         if at == self.len() && is_full(&self.blocks, size) {
             let one = Chunks::empty(alloc).with_inserted(alloc, 0, item)?;
             let end = self.blocks.len();
@@ -240,7 +240,7 @@ impl<T: Share> SharedList<T> {
         ensures { IfOk result (λ list. list ≡ remove self.now at) }
     {
         let spot = spot_of(&self.blocks, at);
-        let size = block_size(self.count);
+        let size = block_size(self.len());
         let part = small_about(&self.blocks, spot.chunk, size);
         let place = at - count_of(&self.blocks[..part.first]);
         let new = without_in(alloc, &self.blocks[part.first..part.end], place)?;
