@@ -3,11 +3,13 @@
 mod each;
 pub mod layouts;
 
-use crate::times::least_and_middle;
+use crate::fault::Fault;
+use crate::shapes::edited;
+use crate::times::{least_and_middle, now, since};
 use canvas_doc::{Document, Edit};
 use layouts::Layout;
 use std::alloc::Global;
-use std::time::{Clock, Duration, Instant};
+use std::time::{Clock, Duration};
 
 /// How often each call is timed.
 const ROUNDS: u32 = 401;
@@ -22,7 +24,7 @@ const MANY: u32 = 4_096;
 const SIZES: [u32; 4] = [10, 100, 1_000, 16_384];
 
 /// Times each edit of each layout, and of larger and smaller documents.
-pub fn time_all<R: Clock + Print>(rt: &R, alloc: Global) -> anyhow::Result<()> {
+pub fn time_all<R: Clock + Print>(rt: &R, alloc: Global) -> Result<(), Fault> {
     println!(rt;
         "layout, records, call: least of {ROUNDS} rounds until decided, made, and the old document dropped"
     )?;
@@ -42,21 +44,42 @@ fn time_edits<R: Clock + Print>(
     alloc: Global,
     layout: Layout,
     records: u32,
-) -> anyhow::Result<()> {
-    let fewer = records.saturating_sub(1);
-    let room = layouts::restored(alloc, layouts::records(alloc, layout, fewer)?)?;
-    time_edit(
-        rt,
-        alloc,
-        (layout.name(), "Create"),
-        &room,
-        &each::create(alloc, layout)?,
-    )?;
-    let full = layouts::restored(alloc, layouts::records(alloc, layout, records)?)?;
-    for (name, edit) in each::others(alloc, layout, records)? {
-        time_edit(rt, alloc, (layout.name(), name), &full, &edit)?;
+) -> Result<(), Fault> {
+    time_creation(rt, alloc, layout, records.saturating_sub(1))?;
+    time_others(rt, alloc, layout, records)
+}
+
+fn time_creation<R: Clock + Print>(
+    rt: &R,
+    alloc: Global,
+    layout: Layout,
+    records: u32,
+) -> Result<(), Fault> {
+    let room = layouts::document(alloc, layout, records)?;
+    let edit = each::create(alloc, layout)?;
+    time_edit(rt, alloc, (layout.name(), "Create"), &room, &edit)
+}
+
+fn time_others<R: Clock + Print>(
+    rt: &R,
+    alloc: Global,
+    layout: Layout,
+    records: u32,
+) -> Result<(), Fault> {
+    let full = layouts::document(alloc, layout, records)?;
+    for other in each::Other::ALL {
+        let edit = other.edit(alloc, layout, records)?;
+        time_edit(rt, alloc, (layout.name(), other.name()), &full, &edit)?;
     }
     Ok(())
+}
+
+/// The least times until an edit was decided, and until it was made, and the times of whole ones.
+#[derive(Drop)]
+struct Times {
+    decided: Duration,
+    made: Duration,
+    whole: Vec<Duration>,
 }
 
 /// Times `decide`, and `with` behind it, and both with the drop of the document that they made.
@@ -66,54 +89,95 @@ fn time_edit<R: Clock + Print>(
     names: (&str, &str),
     document: &Document,
     edit: &Edit,
-) -> anyhow::Result<()> {
-    let mut decided = Duration::MAX;
-    let mut made = Duration::MAX;
-    let mut whole: Vec<Duration> = Vec::with_capacity(alloc, ROUNDS as usize)?;
+) -> Result<(), Fault> {
+    let mut times = Times {
+        decided: Duration::MAX,
+        made: Duration::MAX,
+        whole: Vec::new(alloc),
+    };
     for _ in 0..ROUNDS {
-        let start = Instant::now(rt)?;
-        let change = document.decide(alloc, edit)?;
-        decided = decided.min(start.elapsed(rt)?);
-        let after = document.with(alloc, &change)?;
-        made = made.min(start.elapsed(rt)?);
-        drop(after);
-        let start = Instant::now(rt)?;
-        edit_in_turn(alloc, document, edit)?;
-        whole.push(start.elapsed(rt)? / IN_TURN)?;
+        times.add_round(rt, alloc, document, edit)?;
     }
-    let (least, middle) = least_and_middle(whole)?;
-    println!(rt;
-        "{:<9} {:>6} {:<7} {decided:?} {made:?} {least:?}, middle {middle:?}",
-        names.0,
-        document.count(),
-        names.1
-    )?;
-    Ok(())
+    times.print(rt, names, document.count())
+}
+
+impl Times {
+    fn add_round<R: Clock>(
+        &mut self,
+        rt: &R,
+        alloc: Global,
+        document: &Document,
+        edit: &Edit,
+    ) -> Result<(), Fault> {
+        let (decided, made) = time_call(rt, alloc, document, edit)?;
+        self.decided = self.decided.min(decided);
+        self.made = self.made.min(made);
+        let start = now(rt)?;
+        edit_in_turn(alloc, document, edit)?;
+        self.whole.push(since(rt, start)? / IN_TURN)?;
+        Ok(())
+    }
+
+    fn print<R: Print>(
+        &mut self,
+        rt: &R,
+        names: (&str, &str),
+        records: usize,
+    ) -> Result<(), Fault> {
+        let (decided, made) = (self.decided, self.made);
+        let (least, middle) = least_and_middle(&mut self.whole);
+        println!(rt;
+            "{:<9} {records:>6} {:<7} {decided:?} {made:?} {least:?}, middle {middle:?}",
+            names.0, names.1
+        )?;
+        Ok(())
+    }
+}
+
+/// The times until an edit is decided, and until it is made.
+fn time_call<R: Clock>(
+    rt: &R,
+    alloc: Global,
+    document: &Document,
+    edit: &Edit,
+) -> Result<(Duration, Duration), Fault> {
+    let start = now(rt)?;
+    let change = document.decide(alloc, edit)?;
+    let decided = since(rt, start);
+    let after = document.with(alloc, &change)?;
+    let made = since(rt, start);
+    drop(after);
+    Ok((decided?, made?))
 }
 
 /// Decides an edit, makes it and drops the document that it made, some times in turn.
-fn edit_in_turn(alloc: Global, document: &Document, edit: &Edit) -> anyhow::Result<()> {
+fn edit_in_turn(alloc: Global, document: &Document, edit: &Edit) -> Result<(), Fault> {
     for _ in 0..IN_TURN {
-        let change = document.decide(alloc, edit)?;
-        drop(document.with(alloc, &change)?);
+        drop(edited(alloc, document, edit)?);
     }
     Ok(())
 }
 
-fn time_restoring<R: Clock + Print>(rt: &R, alloc: Global, layout: Layout) -> anyhow::Result<()> {
+fn time_restoring<R: Clock + Print>(rt: &R, alloc: Global, layout: Layout) -> Result<(), Fault> {
     let mut times: Vec<Duration> = Vec::new(alloc);
     for _ in 0..21u32 {
-        let mut records = layouts::records(alloc, layout, MANY)?;
-        records.reverse();
-        let start = Instant::now(rt)?;
-        let document = layouts::restored(alloc, records)?;
-        times.push(start.elapsed(rt)?)?;
-        let _next = document.next_id();
+        times.push(time_restoration(rt, alloc, layout)?)?;
     }
-    let (least, middle) = least_and_middle(times)?;
+    let (least, middle) = least_and_middle(&mut times);
     println!(rt;
         "{:<9} {MANY:>6} restore {least:?}, middle {middle:?}",
         layout.name()
     )?;
     Ok(())
+}
+
+/// The time in which a document becomes one of its records, which come in the reverse of their order.
+fn time_restoration<R: Clock>(rt: &R, alloc: Global, layout: Layout) -> Result<Duration, Fault> {
+    let mut records = layouts::records(alloc, layout, MANY)?;
+    records.reverse();
+    let start = now(rt)?;
+    let document = layouts::restored(alloc, records)?;
+    let took = since(rt, start);
+    drop(document);
+    took
 }

@@ -3,16 +3,19 @@
 #![tactic(auto)]
 
 mod edits;
+mod fault;
 mod lists;
 mod painting;
 mod saving;
 mod scenes;
 mod seats;
+mod shapes;
 mod spans;
 mod times;
 mod versions;
 
-use std::{env, io};
+use fault::Fault;
+use std::env;
 
 /// What can be timed.
 #[derive(Clone, Copy)]
@@ -52,25 +55,25 @@ impl Subject {
     }
 }
 
-fn main(rt: HostRuntime) -> anyhow::Result<()> {
+fn main(rt: HostRuntime) -> Result<(), Fault> {
     let Some(subject) = asked(&rt)? else {
         println!(rt; "usage: bench spans|lists|edits|scenes|painting|saving|seats|versions")?;
         return Ok(());
     };
     match subject {
-        Subject::Spans => Ok(spans::time_all(&rt)?),
+        Subject::Spans => spans::time_all(&rt),
         Subject::Lists => lists::time_all(&rt, rt.alloc()),
         Subject::Edits => edits::time_all(&rt, rt.alloc()),
         Subject::Scenes => scenes::time_all(&rt),
         Subject::Painting => painting::time_all(&rt, rt.alloc()),
-        Subject::Saving => Ok(saving::time_all(&rt)?),
+        Subject::Saving => saving::time_all(&rt),
         Subject::Seats => seats::time_all(&rt, rt.alloc()),
         Subject::Versions => versions::measure_all(&rt),
     }
 }
 
 // The subject that the first word names.
-fn asked(rt: &HostRuntime) -> io::Result<Option<Subject>> {
+fn asked(rt: &HostRuntime) -> Result<Option<Subject>, Fault> {
     let mut words = env::args(rt)?.skip(1);
     Ok(match words.next() {
         Some(word) => Subject::named(word.as_str()),

@@ -2,7 +2,8 @@
 
 mod documents;
 
-use anyhow::Result;
+use crate::fault::Fault;
+use crate::times::{now, since};
 use bumpalo::Bump;
 use canvas_doc::Document;
 use canvas_paint::{FreeGate, append_picture, paint, paint_strip};
@@ -11,7 +12,7 @@ use canvas_scene::{Item, Scene};
 use std::alloc::Global;
 use std::fmt;
 use std::thread::Threads;
-use std::time::{Clock, Instant};
+use std::time::Clock;
 
 /// How often a picture is painted in one measurement.
 const TIMES: u32 = 5;
@@ -54,25 +55,36 @@ impl fmt::Display for Way {
 }
 
 /// Times pictures of documents of each kind of leaf.
-pub fn time_all<R: Clock + Print + Threads + Sync>(rt: &R, alloc: Global) -> Result<()> {
-    for (count, most) in [(10, 250), (100, 120), (1000, 40), (4000, 12)] {
-        let document = documents::rectangles(alloc, count, most)?;
-        println!(rt; "{count} rectangles of up to {most} pixels")?;
-        measure(rt, alloc, &document)?;
-    }
-    for (count, most) in [(20, 120), (200, 120)] {
-        let document = documents::ellipses(alloc, count, most)?;
-        println!(rt; "{count} ellipses of up to {most} pixels")?;
-        measure(rt, alloc, &document)?;
-    }
-    for count in [5, 20, 80] {
-        let document = documents::polygons(alloc, count, 64)?;
-        println!(rt; "{count} polygons of 64 vertices")?;
-        measure(rt, alloc, &document)?;
-    }
-    let document = documents::framed(alloc, 80, 64)?;
+pub fn time_all<R: Clock + Print + Threads + Sync>(rt: &R, alloc: Global) -> Result<(), Fault> {
+    time_rectangles(rt, alloc)?;
+    time_ellipses(rt, alloc)?;
+    time_polygons(rt, alloc)?;
     println!(rt; "80 polygons of 64 vertices, each in a frame of 8 by 8 pixels")?;
-    measure(rt, alloc, &document)
+    measure(rt, alloc, documents::framed(alloc, 80, 64)?)
+}
+
+fn time_rectangles<R: Clock + Print + Threads + Sync>(rt: &R, alloc: Global) -> Result<(), Fault> {
+    for (count, most) in [(10, 250), (100, 120), (1000, 40), (4000, 12)] {
+        println!(rt; "{count} rectangles of up to {most} pixels")?;
+        measure(rt, alloc, documents::rectangles(alloc, count, most)?)?;
+    }
+    Ok(())
+}
+
+fn time_ellipses<R: Clock + Print + Threads + Sync>(rt: &R, alloc: Global) -> Result<(), Fault> {
+    for (count, most) in [(20, 120), (200, 120)] {
+        println!(rt; "{count} ellipses of up to {most} pixels")?;
+        measure(rt, alloc, documents::ellipses(alloc, count, most)?)?;
+    }
+    Ok(())
+}
+
+fn time_polygons<R: Clock + Print + Threads + Sync>(rt: &R, alloc: Global) -> Result<(), Fault> {
+    for count in [5, 20, 80] {
+        println!(rt; "{count} polygons of 64 vertices")?;
+        measure(rt, alloc, documents::polygons(alloc, count, 64)?)?;
+    }
+    Ok(())
 }
 
 /// A document in a window, and its items there.
@@ -87,11 +99,21 @@ struct Sight<'a> {
 fn measure<R: Clock + Print + Threads + Sync>(
     rt: &R,
     alloc: Global,
-    document: &Document,
-) -> Result<()> {
+    document: Document,
+) -> Result<(), Fault> {
     let bump = Bump::new(alloc);
+    measure_in(rt, alloc, &bump, &document)
+}
+
+/// The same with an arena for the scene.
+fn measure_in<R: Clock + Print + Threads + Sync>(
+    rt: &R,
+    alloc: Global,
+    bump: &Bump,
+    document: &Document,
+) -> Result<(), Fault> {
     let window = Window::tile(0, 0)?;
-    let scene = Scene::build(&bump, document, &window)?;
+    let scene = Scene::build(bump, document, &window)?;
     let items = scene.display_list();
     println!(rt; "    {} shown", items.len())?;
     let sight = Sight {
@@ -109,23 +131,40 @@ fn measure_ways<R: Clock + Print + Threads + Sync>(
     alloc: Global,
     sight: Sight<'_>,
     ways: &[Way],
-) -> Result<()> {
-    let mut timed_ways = Vec::new(alloc);
-    for way in ways {
-        timed_ways.push((*way, Vec::new(alloc)))?;
-    }
+) -> Result<(), Fault> {
+    let mut timed = untimed(alloc, ways)?;
     for _ in 0..ROUNDS {
-        for (way, times) in timed_ways.iter_mut() {
-            times.push(timed(rt, alloc, sight, *way)?)?;
-        }
+        time_each(rt, alloc, sight, &mut timed)?;
     }
-    report(rt, &mut timed_ways)
+    report(rt, &mut timed)
+}
+
+/// Each way, with no times yet.
+fn untimed(alloc: Global, ways: &[Way]) -> Result<Vec<(Way, Vec<u64>)>, Fault> {
+    let mut timed = Vec::new(alloc);
+    for way in ways {
+        timed.push((*way, Vec::new(alloc)))?;
+    }
+    Ok(timed)
+}
+
+/// Times each way once.
+fn time_each<R: Clock + Threads + Sync>(
+    rt: &R,
+    alloc: Global,
+    sight: Sight<'_>,
+    timed: &mut [(Way, Vec<u64>)],
+) -> Result<(), Fault> {
+    for (way, times) in timed {
+        times.push(time_way(rt, alloc, sight, *way)?)?;
+    }
+    Ok(())
 }
 
 /// Prints the least and the middle of the times of each way, and what part they are of the first one's.
-fn report<R: Print>(rt: &R, ways: &mut [(Way, Vec<u64>)]) -> Result<()> {
+fn report<R: Print>(rt: &R, timed: &mut [(Way, Vec<u64>)]) -> Result<(), Fault> {
     let mut first = None;
-    for (way, times) in ways {
+    for (way, times) in timed {
         times.sort_unstable();
         let least = times.first().map_or(0, |time| *time);
         let middle = times.get(times.len() / 2).map_or(0, |time| *time);
@@ -145,20 +184,31 @@ fn percent(part: u64, whole: u64) -> u64 {
 }
 
 /// The nanoseconds that a picture takes.
-fn timed<R: Clock + Threads + Sync>(
+fn time_way<R: Clock + Threads + Sync>(
     rt: &R,
     alloc: Global,
     sight: Sight<'_>,
     way: Way,
-) -> Result<u64> {
+) -> Result<u64, Fault> {
     let mut bump = Bump::new(alloc);
-    let start = Instant::now(rt)?;
+    time_way_in(rt, alloc, &mut bump, sight, way)
+}
+
+/// The same with an arena for scenes.
+fn time_way_in<R: Clock + Threads + Sync>(
+    rt: &R,
+    alloc: Global,
+    bump: &mut Bump,
+    sight: Sight<'_>,
+    way: Way,
+) -> Result<u64, Fault> {
+    let start = now(rt)?;
     for _ in 0..TIMES {
-        paint_once(rt, alloc, &bump, sight, way)?;
+        paint_once(rt, alloc, bump, sight, way)?;
         // Nothing borrows the arena any more, so a reset can't fail.
         let _ = bump.reset();
     }
-    let each = start.elapsed(rt)?.as_nanos() / u128::from(TIMES);
+    let each = since(rt, start)?.as_nanos() / u128::from(TIMES);
     Ok(u64::try_from(each).unwrap_or(u64::MAX))
 }
 
@@ -169,20 +219,38 @@ fn paint_once<R: Threads + Sync>(
     bump: &Bump,
     sight: Sight<'_>,
     way: Way,
-) -> Result<()> {
-    let window = sight.window;
+) -> Result<(), Fault> {
     match way {
         Way::OneStrip => {
-            paint_strip(alloc, sight.items, window, 0, window.h())?;
+            paint_strip(alloc, sight.items, sight.window, 0, sight.window.h())?;
+            Ok(())
         }
         Way::Workers(workers) => {
-            paint(rt, alloc, sight.items, window, workers, &FreeGate)?;
+            paint(rt, alloc, sight.items, sight.window, workers, &FreeGate)?;
+            Ok(())
         }
-        Way::UpTo(workers) => {
-            let mut out = Vec::new(alloc);
-            let workers = workers.max(1).min(16);
-            append_picture(rt, alloc, bump, sight.document, window, workers, &mut out)?;
-        }
+        Way::UpTo(workers) => paint_document(rt, alloc, bump, sight, workers),
     }
+}
+
+/// Paints a picture of a document with up to so many workers.
+fn paint_document<R: Threads + Sync>(
+    rt: &R,
+    alloc: Global,
+    bump: &Bump,
+    sight: Sight<'_>,
+    workers: u32,
+) -> Result<(), Fault> {
+    let mut out = Vec::new(alloc);
+    let workers = workers.max(1).min(16);
+    append_picture(
+        rt,
+        alloc,
+        bump,
+        sight.document,
+        sight.window,
+        workers,
+        &mut out,
+    )?;
     Ok(())
 }

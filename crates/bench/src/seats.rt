@@ -5,7 +5,9 @@ ghost use Rattle.std.specs.Prelude.{◌≡◌};
 mod edits;
 mod looks;
 
-use canvas_doc::{Document, Edit, Parent, Spot};
+use crate::fault::Fault;
+use crate::shapes::with_shape;
+use canvas_doc::{Document, Parent};
 use canvas_line::{Line, Lines, Opened, Seat};
 use canvas_plane::Pose;
 use canvas_shape::{Colour, Kind};
@@ -34,60 +36,56 @@ enum Work {
 pub fn time_all<R: Clock + Print + Threads + Wait + Sync>(
     rt: &R,
     alloc: Global,
-) -> anyhow::Result<()> {
+) -> Result<(), Fault> {
     for records in [100, 4096] {
         edits::time_alone(rt, alloc, document(alloc, records)?)?;
-        time(rt, alloc, document(alloc, records)?, 1, Work::Edits)?;
+        time(rt, alloc, records, 1, Work::Edits)?;
     }
-    for work in [Work::LooksInTurn, Work::Looks] {
-        for seats in [1, 4, 16] {
-            time(rt, alloc, document(alloc, 100)?, seats, work)?;
-        }
-    }
-    for seats in [2, 4] {
-        time(
-            rt,
-            alloc,
-            document(alloc, 100)?,
-            seats,
-            Work::LooksBesideEdits,
-        )?;
-    }
-    for seats in [1, 2, 4, 8] {
-        time(rt, alloc, document(alloc, 100)?, seats, Work::EditsAtOnce)?;
+    time_each(rt, alloc, &[1, 4, 16], Work::LooksInTurn)?;
+    time_each(rt, alloc, &[1, 4, 16], Work::Looks)?;
+    time_each(rt, alloc, &[2, 4], Work::LooksBesideEdits)?;
+    time_each(rt, alloc, &[1, 2, 4, 8], Work::EditsAtOnce)
+}
+
+/// Times one kind of work with each of some numbers of seats, at lines of 100 records.
+fn time_each<R: Clock + Print + Threads + Wait + Sync>(
+    rt: &R,
+    alloc: Global,
+    numbers: &[u32],
+    work: Work,
+) -> Result<(), Fault> {
+    for seats in numbers {
+        time(rt, alloc, 100, *seats, work)?;
     }
     Ok(())
 }
 
 /// A document of so many rectangles on the page.
-fn document(alloc: Global, records: u32) -> anyhow::Result<Document> {
+fn document(alloc: Global, records: u32) -> Result<Document, Fault> {
     let mut document = Document::empty(alloc);
     for _ in 0..records {
-        let edit = Edit::Create {
-            kind: Kind::Rect {
-                w: 2,
-                h: 2,
-                fill: Colour([255, 0, 0]),
-            },
-            pose: Pose::STILL,
-            hidden: false,
-            parent: Parent::Page,
-            spot: Spot::Front,
-        };
-        let change = document.decide(alloc, &edit)?;
-        document = document.with(alloc, &change)?;
+        document = with_shape(alloc, document, rectangle(), Pose::STILL, Parent::Page)?;
     }
     Ok(document)
 }
 
-/// Opens a line and times one kind of work there.
+fn rectangle() -> Kind {
+    Kind::Rect {
+        w: 2,
+        h: 2,
+        fill: Colour([255, 0, 0]),
+    }
+}
+
+/// Opens a line of so many records and times one kind of work there.
 fn time<R: Clock + Print + Threads + Wait + Sync>(
     rt: &R,
     alloc: Global,
-    document: Document,
+    records: u32,
     seats: u32,
     work: Work,
-) -> anyhow::Result<()> {
+) -> Result<(), Fault> {
+    let document = document(alloc, records)?;
     time_at::<Brand, R>(rt, alloc, Opened::new(), document, seats, work)
 }
 
@@ -98,7 +96,7 @@ fn time_at<B: Lines + Send + Sync, R: Clock + Print + Threads + Wait + Sync>(
     document: Document,
     seats: u32,
     work: Work,
-) -> anyhow::Result<()>
+) -> Result<(), Fault>
     requires { B.line 1 ≡ record { book = opened.head.word.book; opening = document; limit = 1000000 } }
 {
     let records = document.count();
@@ -112,7 +110,7 @@ fn run<B: Lines + Send + Sync, R: Clock + Print + Threads + Wait + Sync>(
     seats: Vec<Seat<B>>,
     records: usize,
     work: Work,
-) -> anyhow::Result<()> {
+) -> Result<(), Fault> {
     match work {
         Work::Edits => edits::time_through_seats(rt, alloc, seats, records),
         Work::LooksInTurn => looks::time_in_turn(rt, seats),

@@ -1,7 +1,7 @@
 //! One edit of each sort.
 
 use crate::edits::layouts::{Layout, leaf};
-use canvas_code::OutOfMemory;
+use crate::fault::Fault;
 use canvas_doc::{Edit, Parent, Spot};
 use canvas_plane::Pose;
 use std::alloc::Global;
@@ -12,7 +12,7 @@ fn leaf_of(records: u32) -> u32 {
 }
 
 /// A new leaf. The document must have room for it.
-pub fn create(alloc: Global, layout: Layout) -> Result<Edit, OutOfMemory> {
+pub fn create(alloc: Global, layout: Layout) -> Result<Edit, Fault> {
     Ok(Edit::Create {
         kind: leaf(alloc, layout, 7)?,
         pose: Pose::STILL,
@@ -39,55 +39,73 @@ fn moved(layout: Layout, records: u32) -> (u32, Parent) {
     }
 }
 
-/// All edits but `Create` of a layout of so many records, each with its name.
-pub fn others(
-    alloc: Global,
-    layout: Layout,
-    records: u32,
-) -> Result<[(&'static str, Edit); 6], OutOfMemory> {
-    let (id, parent) = moved(layout, records);
-    let leaf_id = leaf_of(records);
-    Ok([
-        (
-            "Move",
-            Edit::Move {
-                id,
-                parent,
-                spot: Spot::Front,
-            },
-        ),
-        (
-            "Pose",
-            Edit::Pose {
-                id: leaf_id,
-                pose: Pose {
-                    dx: 3,
-                    dy: 4,
-                    quarter: 1,
-                    flip: false,
-                },
-            },
-        ),
-        (
-            "Reshape",
-            Edit::Reshape {
-                id: leaf_id,
-                kind: leaf(alloc, layout, 9)?,
-            },
-        ),
-        (
-            "Show",
-            Edit::Show {
-                id: leaf_id,
-                hidden: true,
-            },
-        ),
-        ("Delete", Edit::Delete { id }),
-        (
-            "Respace",
-            Edit::Respace {
+/// The sorts of edits but `Create`.
+#[derive(Clone, Copy)]
+pub enum Other {
+    Move,
+    Pose,
+    Reshape,
+    Show,
+    Delete,
+    Respace,
+}
+
+impl Other {
+    /// All sorts.
+    pub const ALL: [Other; 6] = [
+        Other::Move,
+        Other::Pose,
+        Other::Reshape,
+        Other::Show,
+        Other::Delete,
+        Other::Respace,
+    ];
+
+    /// What the sort is called.
+    pub fn name(&self) -> &'static str {
+        match self {
+            Other::Move => "Move",
+            Other::Pose => "Pose",
+            Other::Reshape => "Reshape",
+            Other::Show => "Show",
+            Other::Delete => "Delete",
+            Other::Respace => "Respace",
+        }
+    }
+
+    /// An edit of this sort of a layout of so many records.
+    pub fn edit(&self, alloc: Global, layout: Layout, records: u32) -> Result<Edit, Fault> {
+        let (root, parent) = moved(layout, records);
+        let id = leaf_of(records);
+        match self {
+            Other::Move => Ok(moving(root, parent)),
+            Other::Pose => Ok(posing(id)),
+            Other::Reshape => reshaping(alloc, layout, id),
+            Other::Show => Ok(Edit::Show { id, hidden: true }),
+            Other::Delete => Ok(Edit::Delete { id: root }),
+            Other::Respace => Ok(Edit::Respace {
                 parent: with_children(layout),
-            },
-        ),
-    ])
+            }),
+        }
+    }
+}
+
+fn moving(id: u32, parent: Parent) -> Edit {
+    let spot = Spot::Front;
+    Edit::Move { id, parent, spot }
+}
+
+fn posing(id: u32) -> Edit {
+    let pose = Pose {
+        dx: 3,
+        dy: 4,
+        quarter: 1,
+        flip: false,
+    };
+    Edit::Pose { id, pose }
+}
+
+fn reshaping(alloc: Global, layout: Layout, id: u32) -> Result<Edit, Fault> {
+    let kind = leaf(alloc, layout, 9)?;
+    Ok(Edit::Reshape { id, kind })
 }

@@ -1,7 +1,7 @@
 //! Documents to be edited.
 
-use canvas_code::OutOfMemory;
-use canvas_doc::{Document, MOST_RECORDS, Parent, Place, Record, TreeFault};
+use crate::fault::Fault;
+use canvas_doc::{Document, MOST_RECORDS, Parent, Place, Record};
 use canvas_key::fresh;
 use canvas_plane::{Point, Pose};
 use canvas_shape::{Colour, Kind, Points};
@@ -42,14 +42,11 @@ impl Layout {
 }
 
 /// A triangle or a rectangle.
-pub fn leaf(alloc: Global, layout: Layout, side: u32) -> Result<Kind, OutOfMemory> {
+pub fn leaf(alloc: Global, layout: Layout, side: u32) -> Result<Kind, Fault> {
     let fill = Colour([1, 2, 3]);
     match layout {
         Layout::Triangles => {
-            let mut points = Points::new(alloc);
-            for (x, y) in [(0, 0), (side as i64, 0), (0, side as i64)] {
-                points.push(Point { x, y })?;
-            }
+            let points = triangle(alloc, side)?;
             Ok(Kind::Polygon { points, fill })
         }
         _ => Ok(Kind::Rect {
@@ -58,6 +55,14 @@ pub fn leaf(alloc: Global, layout: Layout, side: u32) -> Result<Kind, OutOfMemor
             fill,
         }),
     }
+}
+
+fn triangle(alloc: Global, side: u32) -> Result<Points, Fault> {
+    let mut points = Points::new(alloc);
+    for (x, y) in [(0, 0), (side as i64, 0), (0, side as i64)] {
+        points.push(Point { x, y })?;
+    }
+    Ok(points)
 }
 
 // The parent of the record of an id, and whether it is a group.
@@ -86,34 +91,43 @@ fn hung(layout: Layout, id: u32) -> (Parent, bool) {
 }
 
 /// The first records of a layout.
-pub fn records(alloc: Global, layout: Layout, count: u32) -> Result<Vec<Record>, OutOfMemory> {
+pub fn records(alloc: Global, layout: Layout, count: u32) -> Result<Vec<Record>, Fault> {
     let mut records = Vec::new(alloc);
     for number in 0..count {
-        let id = number.saturating_add(2);
-        let (parent, is_group) = hung(layout, id);
-        let kind = if is_group {
-            Kind::Group
-        } else {
-            leaf(alloc, layout, 5)?
-        };
-        records.push(Record {
-            id,
-            kind,
-            place: Place {
-                parent,
-                index: fresh(id.wrapping_mul(1_597) % 16_384 * 2),
-            },
-            pose: Pose::STILL,
-            hidden: false,
-        })?;
+        records.push(record(alloc, layout, number.saturating_add(2))?)?;
     }
     Ok(records)
 }
 
-/// The document of records, where the conditions of `restore` hold.
-pub fn restored(alloc: Global, records: Vec<Record>) -> Result<Document, TreeFault> {
+// The record of an id.
+fn record(alloc: Global, layout: Layout, id: u32) -> Result<Record, Fault> {
+    let (parent, is_group) = hung(layout, id);
+    let kind = if is_group {
+        Kind::Group
+    } else {
+        leaf(alloc, layout, 5)?
+    };
+    Ok(Record {
+        id,
+        kind,
+        place: Place {
+            parent,
+            index: fresh(id.wrapping_mul(1_597) % 16_384 * 2),
+        },
+        pose: Pose::STILL,
+        hidden: false,
+    })
+}
+
+/// The document of the first records of a layout.
+pub fn document(alloc: Global, layout: Layout, count: u32) -> Result<Document, Fault> {
+    restored(alloc, records(alloc, layout, count)?)
+}
+
+/// The document of records, where there are not too many.
+pub fn restored(alloc: Global, records: Vec<Record>) -> Result<Document, Fault> {
     if records.len() > MOST_RECORDS {
-        return Err(TreeFault::OutOfMemory);
+        return Err(Fault::NoDocument);
     }
-    Document::restore(alloc, records, 20_000)
+    Ok(Document::restore(alloc, records, 20_000)?)
 }

@@ -1,15 +1,14 @@
 //! What a tile costs.
 
-use anyhow::Result;
+use crate::fault::Fault;
+use crate::times::{now, since};
 use bumpalo::Bump;
 use canvas_doc::Document;
 use canvas_paint::append_strip;
 use canvas_plane::Window;
 use canvas_scene::Scene;
 use std::alloc::Global;
-use std::io;
-use std::io::ErrorKind;
-use std::time::{Duration, Instant};
+use std::time::Duration;
 
 /// How often each tile is painted; its least times count.
 const ROUNDS: u32 = 10;
@@ -86,20 +85,82 @@ impl Memory {
         }
     }
 
-    // Fills a tile with the ready row.
-    fn fill(&mut self) -> Result<()> {
-        self.out.clear();
-        self.out.reserve(256 * ROW)?;
-        for _ in 0..256u32 {
-            self.out.extend_from_slice(&self.row)?;
+    // The cost of one tile.
+    fn tile(
+        &mut self,
+        rt: &HostRuntime,
+        document: &Document,
+        window: &Window,
+    ) -> Result<Cost, Fault> {
+        let Memory { bump, out, row } = self;
+        let (items, scene, painting) = time_scene(rt, bump, out, document, window)?;
+        let filling = time_filling(rt, out, row)?;
+        if bump.reset().is_err() {
+            return Err(Fault::Arena);
         }
-        Ok(())
+        Ok(Cost {
+            items,
+            scene,
+            painting,
+            filling,
+        })
     }
 }
 
+// How many items a scene has, the time of building it, and that of painting it.
+fn time_scene(
+    rt: &HostRuntime,
+    bump: &Bump,
+    out: &mut Vec<u8>,
+    document: &Document,
+    window: &Window,
+) -> Result<(usize, u64, u64), Fault> {
+    let start = now(rt)?;
+    let scene = Scene::build(bump, document, window)?;
+    let cut = since(rt, start)?;
+    let list = scene.display_list();
+    out.clear();
+    let start = now(rt)?;
+    append_strip(rt.alloc(), list, window, 0, window.h(), out)?;
+    let painting = since(rt, start)?;
+    Ok((list.len(), nanoseconds(cut), nanoseconds(painting)))
+}
+
+// The time of filling a tile with the ready row.
+fn time_filling(rt: &HostRuntime, out: &mut Vec<u8>, row: &[u8; ROW]) -> Result<u64, Fault> {
+    let start = now(rt)?;
+    fill(out, row)?;
+    Ok(nanoseconds(since(rt, start)?))
+}
+
+// Fills a tile with the ready row.
+fn fill(out: &mut Vec<u8>, row: &[u8; ROW]) -> Result<(), Fault> {
+    out.clear();
+    out.reserve(256 * ROW)?;
+    for _ in 0..256u32 {
+        out.extend_from_slice(row)?;
+    }
+    Ok(())
+}
+
 /// The mean cost of some tiles of a document, whose left and top edges lie below `across`.
-pub fn timed(rt: &HostRuntime, document: &Document, across: u32, count: u32) -> Result<Cost> {
+pub fn timed(
+    rt: &HostRuntime,
+    document: &Document,
+    across: u32,
+    count: u32,
+) -> Result<Cost, Fault> {
     let mut memory = Memory::new(rt.alloc());
+    sum(rt, document, across, count, &mut memory)
+}
+
+fn sum(
+    rt: &HostRuntime,
+    document: &Document,
+    across: u32,
+    count: u32,
+    memory: &mut Memory,
+) -> Result<Cost, Fault> {
     let mut all = Cost::NONE;
     let mut place = 7u32;
     for _ in 0..count {
@@ -107,7 +168,7 @@ pub fn timed(rt: &HostRuntime, document: &Document, across: u32, count: u32) -> 
         let x = within(place >> 16, across);
         let y = within(place >> 8, across);
         if let Ok(window) = Window::new(x, y, 256, 256) {
-            all = all.and(&least(rt, document, &window, &mut memory)?);
+            all = all.and(&least(rt, document, &window, memory)?);
         }
     }
     Ok(all.each(count))
@@ -119,10 +180,10 @@ fn least(
     document: &Document,
     window: &Window,
     memory: &mut Memory,
-) -> Result<Cost> {
-    let mut least = tile(rt, document, window, memory)?;
+) -> Result<Cost, Fault> {
+    let mut least = memory.tile(rt, document, window)?;
     for _ in 1..ROUNDS {
-        let cost = tile(rt, document, window, memory)?;
+        let cost = memory.tile(rt, document, window)?;
         least = least.least(&cost);
     }
     Ok(least)
@@ -132,36 +193,6 @@ fn within(number: u32, size: u32) -> i32 {
     match number.checked_rem(size) {
         Some(place) => place.min(1_000_000) as i32,
         None => 0,
-    }
-}
-
-// The cost of one tile.
-fn tile(
-    rt: &HostRuntime,
-    document: &Document,
-    window: &Window,
-    memory: &mut Memory,
-) -> Result<Cost> {
-    let start = Instant::now(rt)?;
-    let scene = Scene::build(&memory.bump, document, window)?;
-    let cut = start.elapsed(rt)?;
-    let list = scene.display_list();
-    let items = list.len();
-    memory.out.clear();
-    let start = Instant::now(rt)?;
-    append_strip(rt.alloc(), list, window, 0, window.h(), &mut memory.out)?;
-    let painting = start.elapsed(rt)?;
-    let start = Instant::now(rt)?;
-    memory.fill()?;
-    let filling = start.elapsed(rt)?;
-    match memory.bump.reset() {
-        Ok(()) => Ok(Cost {
-            items,
-            scene: nanoseconds(cut),
-            painting: nanoseconds(painting),
-            filling: nanoseconds(filling),
-        }),
-        Err(_fault) => Err(io::Error::from(ErrorKind::Other).into()),
     }
 }
 

@@ -1,12 +1,14 @@
 //! Edits through a seat, and by `decide` and `with` alone.
 
-use crate::times::least_and_middle;
+use crate::fault::Fault;
+use crate::shapes::edited;
+use crate::times::{least_and_middle, now, since};
 use canvas_doc::{Document, Edit};
 use canvas_line::{Lines, Seat};
 use canvas_plane::Pose;
 use std::alloc::Global;
 use std::sync::Wait;
-use std::time::{Clock, Duration, Instant};
+use std::time::{Clock, Duration};
 
 /// How often an edit is timed.
 const ROUNDS: u32 = 20_001;
@@ -29,14 +31,23 @@ pub fn time_alone<R: Clock + Print>(
     rt: &R,
     alloc: Global,
     mut document: Document,
-) -> anyhow::Result<()> {
+) -> Result<(), Fault> {
+    let records = document.count();
+    let times = times_alone(rt, alloc, &mut document)?;
+    print_times(rt, "alone", records, times)
+}
+
+fn times_alone<R: Clock>(
+    rt: &R,
+    alloc: Global,
+    document: &mut Document,
+) -> Result<Vec<Duration>, Fault> {
     let records = document.count();
     let mut times: Vec<Duration> = Vec::with_capacity(alloc, ROUNDS as usize)?;
     for round in 0..ROUNDS {
-        let edit = pose_edit(records, round);
-        times.push(time_edit(rt, alloc, &mut document, &edit)?)?;
+        times.push(time_edit(rt, alloc, document, records, round)?)?;
     }
-    print_times(rt, "alone", records, times)
+    Ok(times)
 }
 
 /// The time in which a document becomes the one after an edit.
@@ -44,12 +55,13 @@ fn time_edit<R: Clock>(
     rt: &R,
     alloc: Global,
     document: &mut Document,
-    edit: &Edit,
-) -> anyhow::Result<Duration> {
-    let start = Instant::now(rt)?;
-    let change = document.decide(alloc, edit)?;
-    *document = document.with(alloc, &change)?;
-    Ok(start.elapsed(rt)?)
+    records: usize,
+    round: u32,
+) -> Result<Duration, Fault> {
+    let edit = pose_edit(records, round);
+    let start = now(rt)?;
+    *document = edited(alloc, document, &edit)?;
+    since(rt, start)
 }
 
 /// Times an edit through each of these seats in turn.
@@ -58,38 +70,67 @@ pub fn time_through_seats<B: Lines, R: Clock + Print + Wait>(
     alloc: Global,
     seats: Vec<Seat<B>>,
     records: usize,
-) -> anyhow::Result<()> {
+) -> Result<(), Fault> {
     let mut times: Vec<Duration> = Vec::with_capacity(alloc, ROUNDS as usize)?;
-    for mut seat in seats {
-        time_seat(rt, &mut seat, records, &mut times)?;
-        seat.close(rt);
-    }
+    time_seats(rt, seats, records, &mut times)?;
     print_times(rt, "by a seat", records, times)
 }
 
-/// Times edits through a seat.
+fn time_seats<B: Lines, R: Clock + Wait>(
+    rt: &R,
+    seats: Vec<Seat<B>>,
+    records: usize,
+    times: &mut Vec<Duration>,
+) -> Result<(), Fault> {
+    for seat in seats {
+        time_and_close(rt, seat, records, times)?;
+    }
+    Ok(())
+}
+
+/// Times edits through a seat, and closes it.
+fn time_and_close<B: Lines, R: Clock + Wait>(
+    rt: &R,
+    mut seat: Seat<B>,
+    records: usize,
+    times: &mut Vec<Duration>,
+) -> Result<(), Fault> {
+    let timed = time_seat(rt, &mut seat, records, times);
+    seat.close(rt);
+    timed
+}
+
 fn time_seat<B: Lines, R: Clock + Wait>(
     rt: &R,
     seat: &mut Seat<B>,
     records: usize,
     times: &mut Vec<Duration>,
-) -> anyhow::Result<()> {
+) -> Result<(), Fault> {
     for round in 0..ROUNDS {
-        let edit = pose_edit(records, round);
-        let start = Instant::now(rt)?;
-        seat.edit(rt, &edit)?;
-        times.push(start.elapsed(rt)?)?;
+        times.push(time_seat_edit(rt, seat, records, round)?)?;
     }
     Ok(())
+}
+
+fn time_seat_edit<B: Lines, R: Clock + Wait>(
+    rt: &R,
+    seat: &mut Seat<B>,
+    records: usize,
+    round: u32,
+) -> Result<Duration, Fault> {
+    let edit = pose_edit(records, round);
+    let start = now(rt)?;
+    seat.edit(rt, &edit)?;
+    since(rt, start)
 }
 
 fn print_times<R: Print>(
     rt: &R,
     name: &str,
     records: usize,
-    times: Vec<Duration>,
-) -> anyhow::Result<()> {
-    let (least, middle) = least_and_middle(times)?;
+    mut times: Vec<Duration>,
+) -> Result<(), Fault> {
+    let (least, middle) = least_and_middle(&mut times);
     println!(rt; "edit of {records:>4} records {name:<9}: least {least:?}, middle {middle:?}")?;
     Ok(())
 }

@@ -1,11 +1,13 @@
 //! Looks by many seats, in turn and at once, and edits at once.
 
+use crate::fault::Fault;
 use crate::seats::edits::pose_edit;
-use canvas_line::{LineFault, Lines, Seat};
+use crate::times::{now, since};
+use canvas_line::{Lines, Seat};
 use std::alloc::Global;
 use std::sync::Wait;
 use std::thread::{self, Threads};
-use std::time::{Clock, Duration, Instant};
+use std::time::{Clock, Duration};
 
 /// How many looks each seat takes.
 const LOOKS: u32 = 1_000_000;
@@ -34,19 +36,22 @@ struct Done {
 pub fn time_in_turn<B: Lines, R: Clock + Print>(
     rt: &R,
     mut seats: Vec<Seat<B>>,
-) -> anyhow::Result<()> {
-    let count = seats.len();
-    let start = Instant::now(rt)?;
-    for _ in 0..ROUNDS {
-        look_by_each(&mut seats)?;
-    }
-    let took = start.elapsed(rt)?;
-    let round = took.as_nanos() / u128::from(ROUNDS);
-    println!(rt; "{count:>2} seats in turn: {round} ns a round")?;
+) -> Result<(), Fault> {
+    let round = time_rounds(rt, &mut seats)?;
+    println!(rt; "{:>2} seats in turn: {round} ns a round", seats.len())?;
     Ok(())
 }
 
-fn look_by_each<B: Lines>(seats: &mut [Seat<B>]) -> Result<(), LineFault> {
+/// The nanoseconds of a look by each seat.
+fn time_rounds<B: Lines, R: Clock>(rt: &R, seats: &mut [Seat<B>]) -> Result<u128, Fault> {
+    let start = now(rt)?;
+    for _ in 0..ROUNDS {
+        look_by_each(seats)?;
+    }
+    Ok(since(rt, start)?.as_nanos() / u128::from(ROUNDS))
+}
+
+fn look_by_each<B: Lines>(seats: &mut [Seat<B>]) -> Result<(), Fault> {
     for seat in seats {
         let _ = seat.look()?;
     }
@@ -59,17 +64,30 @@ pub fn time_at_once<B: Lines + Send + Sync, R: Clock + Print + Threads + Wait + 
     alloc: Global,
     seats: Vec<Seat<B>>,
     editors: usize,
-) -> anyhow::Result<()> {
-    let count = seats.len();
-    let mut jobs = Vec::with_capacity(alloc, count)?;
+) -> Result<(), Fault> {
+    println!(rt; "{:>2} seats, {editors} of which edit:", seats.len())?;
+    let jobs = jobs(alloc, seats, editors)?;
+    let done = thread::map_vec(rt, jobs, &|job: Job<B>| work(rt, job))?;
+    print_done(rt, &done)
+}
+
+fn jobs<B: Lines>(
+    alloc: Global,
+    seats: Vec<Seat<B>>,
+    editors: usize,
+) -> Result<Vec<Job<B>>, Fault> {
+    let mut jobs = Vec::with_capacity(alloc, seats.len())?;
     for seat in seats {
         let is_editor = jobs.len() < editors;
         jobs.push(Job { seat, is_editor })?;
     }
-    println!(rt; "{count:>2} seats, {editors} of which edit:")?;
-    for done in thread::map_vec(rt, jobs, &|job: Job<B>| work(rt, job))? {
+    Ok(jobs)
+}
+
+fn print_done<R: Print>(rt: &R, done: &[Option<Done>]) -> Result<(), Fault> {
+    for done in done {
         if let Some(Done { calls, took }) = done {
-            let each = took.as_nanos() / u128::from(calls.max(1));
+            let each = took.as_nanos() / u128::from((*calls).max(1));
             println!(rt; "  {calls} calls of {each} ns")?;
         }
     }
@@ -82,24 +100,32 @@ fn work<B: Lines, R: Clock + Wait>(rt: &R, job: Job<B>) -> Option<Done> {
         mut seat,
         is_editor,
     } = job;
-    let start = Instant::now(rt).ok()?;
-    let calls = if is_editor {
-        make_edits(rt, &mut seat).ok()?
-    } else {
-        take_looks(&mut seat).ok()?
-    };
-    let took = start.elapsed(rt).ok()?;
-    Some(Done { calls, took })
+    timed_calls(rt, &mut seat, is_editor).ok()
 }
 
-fn make_edits<B: Lines, R: Wait>(rt: &R, seat: &mut Seat<B>) -> Result<u32, LineFault> {
+fn timed_calls<B: Lines, R: Clock + Wait>(
+    rt: &R,
+    seat: &mut Seat<B>,
+    is_editor: bool,
+) -> Result<Done, Fault> {
+    let start = now(rt)?;
+    let calls = if is_editor {
+        make_edits(rt, seat)?
+    } else {
+        take_looks(seat)?
+    };
+    let took = since(rt, start)?;
+    Ok(Done { calls, took })
+}
+
+fn make_edits<B: Lines, R: Wait>(rt: &R, seat: &mut Seat<B>) -> Result<u32, Fault> {
     for round in 0..EDITS {
         seat.edit(rt, &pose_edit(100, round))?;
     }
     Ok(EDITS)
 }
 
-fn take_looks<B: Lines>(seat: &mut Seat<B>) -> Result<u32, LineFault> {
+fn take_looks<B: Lines>(seat: &mut Seat<B>) -> Result<u32, Fault> {
     for _ in 0..LOOKS {
         let _ = seat.look()?;
     }

@@ -1,8 +1,9 @@
 //! The rows of a window of 256 by 256, row by row or together.
 
+use crate::fault::Fault;
 use canvas_plane::Window;
 use canvas_shape::{Carried, Cuts, EdgeFlags, Span, Vertices};
-use std::alloc::{AllocError, Global};
+use std::alloc::Global;
 use std::fmt;
 
 /// How many rows and columns the window has.
@@ -43,7 +44,7 @@ impl Memory {
     }
 
     /// The spans of all rows of a leaf.
-    pub fn take_rows(&mut self, leaf: &Carried<'_>, way: Way) -> Result<(), AllocError> {
+    pub fn take_rows(&mut self, leaf: &Carried<'_>, way: Way) -> Result<(), Fault> {
         self.out.clear();
         match (way, leaf) {
             (Way::Together, Carried::Polygon(vertices)) => {
@@ -58,10 +59,9 @@ fn append_row_by_row(
     leaf: &Carried<'_>,
     cuts: &mut Cuts,
     out: &mut Vec<Span>,
-) -> Result<(), AllocError> {
+) -> Result<(), Fault> {
     for y in 0..SIDE as i32 {
-        leaf.row_spans_with(cuts, y, 0, SIDE as i32, out)
-            .map_err(|_| AllocError)?;
+        leaf.row_spans_with(cuts, y, 0, SIDE as i32, out)?;
     }
     Ok(())
 }
@@ -70,13 +70,13 @@ fn append_together(
     vertices: &Vertices<'_>,
     rows: &mut [EdgeFlags; SIDE as usize],
     out: &mut Vec<Span>,
-) -> Result<(), AllocError> {
+) -> Result<(), Fault> {
     let Ok(tile) = Window::tile(0, 0) else {
         return Ok(());
     };
     vertices.flag_rows(&tile, 0, rows);
     for row in rows.iter() {
-        row.append_spans(0, SIDE, out).map_err(|_| AllocError)?;
+        row.append_spans(0, SIDE, out)?;
     }
     Ok(())
 }

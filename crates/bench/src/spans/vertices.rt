@@ -3,8 +3,9 @@
 ghost use Rattle.std.specs.Prelude.{◌≤◌, ◌<◌, ◌^◌, IfOk, All, length};
 ghost use Rattle.canvas_plane.specs.Motion.{size_of};
 
+use crate::fault::Fault;
 use canvas_plane::Point;
-use std::alloc::{AllocError, Global};
+use std::alloc::Global;
 
 /// How many vertices a polygon has.
 const COUNT: u32 = 256;
@@ -13,7 +14,7 @@ const COUNT: u32 = 256;
 const RADIUS: u32 = 120;
 
 /// Vertices on a circle, one after another.
-pub fn round(alloc: Global) -> Result<Vec<Point>, AllocError>
+pub fn round(alloc: Global) -> Result<Vec<Point>, Fault>
     ensures { IfOk result (λ points. (0 < length points.items) × All (λ p. size_of p ≤ 2 ^ 27) points.items) }
 {
     let mut points = Vec::new(alloc);
@@ -24,7 +25,7 @@ pub fn round(alloc: Global) -> Result<Vec<Point>, AllocError>
 }
 
 /// Vertices on a circle and on one of half its size in turn.
-pub fn star(alloc: Global) -> Result<Vec<Point>, AllocError>
+pub fn star(alloc: Global) -> Result<Vec<Point>, Fault>
     ensures { IfOk result (λ points. (0 < length points.items) × All (λ p. size_of p ≤ 2 ^ 27) points.items) }
 {
     let mut points = Vec::new(alloc);
@@ -35,7 +36,7 @@ pub fn star(alloc: Global) -> Result<Vec<Point>, AllocError>
 }
 
 /// Vertices that lie anywhere, the same in each run.
-pub fn scattered(alloc: Global) -> Result<Vec<Point>, AllocError>
+pub fn scattered(alloc: Global) -> Result<Vec<Point>, Fault>
     ensures { IfOk result (λ points. (0 < length points.items) × All (λ p. size_of p ≤ 2 ^ 27) points.items) }
 {
     let mut points = Vec::new(alloc);
@@ -50,7 +51,7 @@ pub fn scattered(alloc: Global) -> Result<Vec<Point>, AllocError>
 }
 
 /// Vertices anywhere in a square of 256 by 256, the same in each run, so that most edges cross many others.
-pub fn crossing(alloc: Global) -> Result<Vec<Point>, AllocError>
+pub fn crossing(alloc: Global) -> Result<Vec<Point>, Fault>
     ensures { IfOk result (λ points. (0 < length points.items) × All (λ p. size_of p ≤ 2 ^ 27) points.items) }
 {
     let mut points = Vec::new(alloc);
@@ -61,7 +62,7 @@ pub fn crossing(alloc: Global) -> Result<Vec<Point>, AllocError>
 }
 
 /// Vertices down one side and up the other, a step of two rows each, of which neither side is quite straight.
-pub fn frayed(alloc: Global) -> Result<Vec<Point>, AllocError>
+pub fn frayed(alloc: Global) -> Result<Vec<Point>, Fault>
     ensures { IfOk result (λ points. (0 < length points.items) × All (λ p. size_of p ≤ 2 ^ 27) points.items) }
 {
     let mut points = Vec::new(alloc);
