@@ -2,8 +2,14 @@
 #![tactic(auto)]
 
 #[cfg(test)]
+mod ends;
+#[cfg(test)]
+mod fakes;
+#[cfg(test)]
 mod memory;
 #[cfg(test)]
 mod rows;
+#[cfg(test)]
+mod serving;
 #[cfg(test)]
 mod sessions;

@@ -1,10 +1,8 @@
 //! Worked sessions, from the bytes of the requests to the bytes of the answers: each is served in one piece and byte by
 //! byte, with and without a CR before each LF.
 
-use crate::sessions::check;
-use canvas_board::Alone;
+use crate::serving::{answers, board, check};
 use canvas_doc::Document;
-use canvas_session::serve;
 use std::alloc::Global;
 use std::process::Abort;
 use std::sync::Wait;
@@ -526,11 +524,8 @@ fn respacing_shows_the_same(rt: HostRuntime) {
 fn ids_are_spent(rt: HostRuntime) {
     let alloc = rt.alloc();
     let spent = Document::restore(alloc, Vec::new(alloc), u32::MAX).expect(&rt, "a document");
-    let mut board = Alone::new(alloc, spent, 10).expect(&rt, "a board");
-    let mut out = Vec::new(alloc);
-    let mut reader: &[u8] = b"{\"verb\":\"create\",\"shape\":{\"kind\":\"group\"}}\n";
-    let served = serve(&rt, alloc, &mut board, 1, &mut reader, &mut out);
-    assert!(rt; served.is_ok());
-    let spent: &[u8] = b"{\"body\":0,\"code\":15,\"name\":\"IdsSpent\",\"ok\":false}\n";
-    assert!(rt; out.as_slice() == spent);
+    let board = board(&rt, alloc, spent, 10);
+    let request = b"{\"verb\":\"create\",\"shape\":{\"kind\":\"group\"}}\n";
+    let reply = b"{\"body\":0,\"code\":15,\"name\":\"IdsSpent\",\"ok\":false}\n";
+    assert!(rt; answers(&rt, alloc, board, 1, request, reply));
 }
