@@ -1,6 +1,7 @@
 //! Sessions for which memory may be refused: run with each allocation refused in turn, nothing is read, or one line is answered by
 //! want of memory and all others as they should be; what was refused is asked again, and answered in full.
 
+use crate::serving::board;
 use crate::sessions::{RED, RED_ANSWERS};
 use canvas_board::Alone;
 use canvas_doc::Document;
@@ -102,13 +103,6 @@ fn is_counted(served: &Result<Served, SessionFault>, counts: Served, is_unread: 
     }
 }
 
-fn board(alloc: Global) -> Result<Alone, Fail> {
-    match Alone::new(alloc, Document::empty(alloc), 1_000_000) {
-        Ok(board) => Ok(board),
-        Err(_) => Err(Fail::from("no board")),
-    }
-}
-
 // Serves requests, so many, and what was refused of them again.
 fn serve_again<H: Threads + Wait + Sync + Abort>(
     rt: &H,
@@ -118,7 +112,7 @@ fn serve_again<H: Threads + Wait + Sync + Abort>(
     ends: &[End],
 ) -> Result<(), Fail> {
     let mut out = Vec::with_capacity(alloc, 256)?;
-    let mut board = board(alloc)?;
+    let mut board = board(rt, alloc, Document::empty(alloc), 1_000_000);
     assert!(rt; is_counted_right(rt, alloc, &mut board, &mut out, requests, input));
     let end = end_of(ends, &out).expect(rt, "one of these ends");
     if !end.again.is_empty() {
