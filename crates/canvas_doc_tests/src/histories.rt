@@ -116,24 +116,28 @@ fn all_have_records(rt: &impl Abort, alloc: Global, documents: &[Document]) {
     }
 }
 
-// The documents with the one after the next edit.
-fn push_next(rt: &impl Abort, alloc: Global, documents: &mut Vec<Document>, made: u32) {
-    if let Some(last) = documents.last() {
-        let after = edited(alloc, last, &edit_after(made)).expect(rt, "accepted");
-        documents.push(after).expect(rt, "memory");
-    }
+fn first_document(rt: &impl Abort, alloc: Global) -> Document {
+    restored(alloc, records_after(rt, alloc, 0), 190).expect(rt, "a document")
 }
 
-fn push_first(rt: &impl Abort, alloc: Global, documents: &mut Vec<Document>) {
-    let first = restored(alloc, records_after(rt, alloc, 0), 190).expect(rt, "a document");
-    documents.push(first).expect(rt, "memory");
+fn next_document(rt: &impl Abort, alloc: Global, last: &Document, made: u32) -> Document {
+    edited(alloc, last, &edit_after(made)).expect(rt, "accepted")
+}
+
+// The documents with the one after the next edit, or the first.
+fn push_next(rt: &impl Abort, alloc: Global, documents: &mut Vec<Document>, made: u32) {
+    let next = match documents.last() {
+        Some(last) => next_document(rt, alloc, last, made),
+        None => first_document(rt, alloc),
+    };
+    documents.push(next).expect(rt, "memory");
 }
 
 #[test]
 fn a_long_history_keeps_its_documents_apart(rt: HostRuntime) {
     let alloc = rt.alloc();
     let mut documents = Vec::new(alloc);
-    push_first(&rt, alloc, &mut documents);
+    push_next(&rt, alloc, &mut documents, 0);
     for made in 0..22u32 {
         push_next(&rt, alloc, &mut documents, made);
         all_have_records(&rt, alloc, &documents);
@@ -287,11 +291,11 @@ fn push_version(rt: &impl Abort, alloc: Global, versions: &mut Vec<Version>, doc
     versions.push((told, document)).expect(rt, "memory");
 }
 
-fn push_crowd(rt: &impl Abort, alloc: Global, versions: &mut Vec<Version>) {
-    let crowd = restored(alloc, crowd(rt, alloc), 701).expect(rt, "a document");
-    push_version(rt, alloc, versions, crowd);
+fn crowd_document(rt: &impl Abort, alloc: Global) -> Document {
+    restored(alloc, crowd(rt, alloc), 701).expect(rt, "a document")
 }
 
+// The versions with the one after some edits, or the crowd.
 fn push_next_version(
     rt: &impl Abort,
     alloc: Global,
@@ -299,17 +303,18 @@ fn push_next_version(
     versions: &mut Vec<Version>,
     number: u32,
 ) {
-    if let Some((_, last)) = versions.last() {
-        let next = next_version(rt, alloc, dice, last, number);
-        push_version(rt, alloc, versions, next);
-    }
+    let next = match versions.last() {
+        Some((_, last)) => next_version(rt, alloc, dice, last, number),
+        None => crowd_document(rt, alloc),
+    };
+    push_version(rt, alloc, versions, next);
 }
 
 // The crowd, and as many versions more.
 fn versions(rt: &impl Abort, alloc: Global, more: u32) -> Vec<Version> {
     let mut dice = Dice::new(4);
     let mut versions = Vec::new(alloc);
-    push_crowd(rt, alloc, &mut versions);
+    push_next_version(rt, alloc, &mut dice, &mut versions, 0);
     for number in 0..more {
         push_next_version(rt, alloc, &mut dice, &mut versions, number);
     }

@@ -78,6 +78,18 @@ fn are_same(document: &Document, other: &Document) -> bool {
     true
 }
 
+// Whether of two answers to an edit the second is right, and the first says no more than want of memory or the same.
+fn are_right(
+    first: &Result<Document, Refusal>,
+    again: &Result<Document, Refusal>,
+) -> Result<bool, Refusal> {
+    match (first, again) {
+        (Ok(after), Ok(again)) => Ok(are_same(after, again)),
+        (Err(refusal), Ok(_)) => Ok(*refusal == Refusal::OutOfMemory),
+        (_, Err(refusal)) => Err(*refusal),
+    }
+}
+
 // Whether only want of memory kept an edit from being made, and the edit is made afterwards.
 fn is_made_once_there_is_memory(
     alloc: Global,
@@ -85,11 +97,8 @@ fn is_made_once_there_is_memory(
     edit: &Edit,
 ) -> Result<bool, Refusal> {
     let first = edited(alloc, document, edit);
-    let again = edited(alloc, document, edit)?;
-    Ok(match &first {
-        Ok(after) => are_same(after, &again),
-        Err(refusal) => *refusal == Refusal::OutOfMemory,
-    })
+    let again = edited(alloc, document, edit);
+    are_right(&first, &again)
 }
 
 #[test]
@@ -156,18 +165,28 @@ fn restored_pair(alloc: Global) -> Result<Document, TreeFault> {
     restored(alloc, records, 3)
 }
 
+// Whether of two answers to a list of records the second is right, and the first says no more than want of memory or
+// the same.
+fn restores_are_right(
+    first: &Result<Document, TreeFault>,
+    again: &Result<Document, TreeFault>,
+) -> Result<bool, TreeFault> {
+    match (first, again) {
+        (Ok(document), Ok(again)) => Ok(are_same(document, again)),
+        (Err(fault), Ok(_)) => Ok(*fault == TreeFault::OutOfMemory),
+        (_, Err(fault)) => Err(*fault),
+    }
+}
+
+// Whether only want of memory kept the pair from being restored, and it is restored afterwards.
+fn is_restored_once_there_is_memory(alloc: Global) -> Result<bool, TreeFault> {
+    let first = restored_pair(alloc);
+    let again = restored_pair(alloc);
+    restores_are_right(&first, &again)
+}
+
 #[test]
 fn restored_with_little_memory(rt: HostRuntime) -> Result<(), Fail> {
-    let alloc = rt.alloc();
-    let first = restored_pair(alloc);
-    let again = restored_pair(alloc)?;
-    match &first {
-        Ok(document) => {
-            assert!(rt; are_same(document, &again));
-        }
-        Err(fault) => {
-            assert!(rt; *fault == TreeFault::OutOfMemory);
-        }
-    }
+    assert!(rt; is_restored_once_there_is_memory(rt.alloc())?);
     Ok(())
 }

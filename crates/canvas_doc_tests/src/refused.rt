@@ -432,16 +432,19 @@ fn after_same(rt: &impl Abort, alloc: Global, document: &Document, number: u32) 
     edited(alloc, document, &edit).expect(rt, "accepted")
 }
 
+fn has_same_polygon(document: &Document, other: &Document) -> bool {
+    document.get(POLYGON) == other.get(POLYGON) && document.count() == other.count()
+}
+
+fn is_the_same_after(rt: &impl Abort, alloc: Global, document: &Document, number: u32) -> bool {
+    has_same_polygon(document, &after_same(rt, alloc, document, number))
+}
+
 #[test]
 fn edits_to_what_is_there(rt: HostRuntime) {
-    let alloc = rt.alloc();
-    let document = document(&rt, alloc, false, NEXT);
+    let document = document(&rt, rt.alloc(), false, NEXT);
     for number in 0..4u32 {
-        let after = after_same(&rt, alloc, &document, number);
-        assert!(rt;
-            after.get(POLYGON) == document.get(POLYGON),
-            "edit {number}"
-        );
-        assert_eq!(rt; after.count(), document.count(), "edit {number}");
+        let same = is_the_same_after(&rt, rt.alloc(), &document, number);
+        assert!(rt; same, "edit {number}");
     }
 }

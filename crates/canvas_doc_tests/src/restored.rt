@@ -276,7 +276,7 @@ fn unordered(rt: &impl Abort, alloc: Global) -> Document {
 
 fn ids_of(rt: &impl Abort, alloc: Global, document: &Document) -> Vec<u32> {
     let mut ids = Vec::new(alloc);
-    for shape in document.records_in_order(alloc).expect(rt, "memory") {
+    for shape in &document.records_in_order(alloc).expect(rt, "memory") {
         ids.push(shape.id).expect(rt, "memory");
     }
     ids
@@ -320,7 +320,7 @@ fn refusal_of_new_group(alloc: Global, document: &Document) -> Option<Refusal> {
 }
 
 fn count_in_order(rt: &impl Abort, alloc: Global, document: &Document) -> usize {
-    document.records_in_order(alloc).expect(rt, "memory").len()
+    ids_of(rt, alloc, document).len()
 }
 
 #[test]

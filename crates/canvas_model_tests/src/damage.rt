@@ -4,14 +4,12 @@ use crate::both::Both;
 use crate::plain::{Plain, position_in};
 use crate::random::{edit, id, pose};
 use crate::viewed::{carried, corners};
-use canvas_code::OutOfMemory;
-use canvas_doc::{Change, Document, Edit, Parent, Record, Refusal, Spot};
+use canvas_doc::{Change, Document, Edit, Parent, Record, Spot};
 use canvas_plane::{PageBox, Point, Pose};
-use canvas_samples::{Dice, RED, create, edited_by_all, frame, moved, polygon, rectangle};
+use canvas_samples::{Dice, RED, create, edited, frame, moved, polygon, rectangle};
 use canvas_shape::Kind;
 use std::alloc::Global;
 use std::process::Abort;
-use std::test::Fail;
 
 const NOTHING: PageBox = PageBox::EMPTY;
 
@@ -25,9 +23,9 @@ fn area(left: i64, top: i64, right: i64, bottom: i64) -> PageBox {
 }
 
 // The damage of an edit that is allowed.
-fn damage(alloc: Global, document: &Document, edit: &Edit) -> Result<PageBox, Refusal> {
-    let change = document.decide(alloc, edit)?;
-    Ok(document.damage(&change))
+fn damage(rt: &impl Abort, alloc: Global, document: &Document, edit: &Edit) -> PageBox {
+    let change = document.decide(alloc, edit).expect(rt, "accepted");
+    document.damage(&change)
 }
 
 fn posed(kind: Kind, pose: Pose, hidden: bool, parent: Parent) -> Edit {
@@ -40,9 +38,8 @@ fn posed(kind: Kind, pose: Pose, hidden: bool, parent: Parent) -> Edit {
     }
 }
 
-// A frame 1 with a rectangle 2 that it clips and a hidden ellipse 3 beside it; a turned and flipped group 4 with a
-// triangle 5; an empty group 6; a hidden rectangle 7.
-fn drawing(alloc: Global) -> Result<Document, Refusal> {
+// The edits that make the drawing.
+fn creation(rt: &impl Abort, alloc: Global, id: u32) -> Edit {
     let turned = Pose {
         dx: 100,
         dy: 0,
@@ -54,17 +51,33 @@ fn drawing(alloc: Global) -> Result<Document, Refusal> {
         h: 3,
         fill: RED,
     };
-    let triangle = polygon(alloc, &[(0, 0), (4, 0), (0, 6)])?;
-    let edits = [
-        posed(frame(4, 4), moved(10, 20), false, Parent::Page),
-        posed(rectangle(6, 2, RED), moved(2, 0), false, Parent::Shape(1)),
-        posed(round, moved(-5, 1), true, Parent::Shape(1)),
-        posed(Kind::Group, turned, false, Parent::Page),
-        posed(triangle, moved(0, 2), false, Parent::Shape(4)),
-        posed(Kind::Group, moved(7, 7), false, Parent::Page),
-        posed(rectangle(2, 2, RED), moved(-9, 0), true, Parent::Page),
-    ];
-    edited_by_all(alloc, Document::empty(alloc), &edits)
+    match id {
+        1 => posed(frame(4, 4), moved(10, 20), false, Parent::Page),
+        2 => posed(rectangle(6, 2, RED), moved(2, 0), false, Parent::Shape(1)),
+        3 => posed(round, moved(-5, 1), true, Parent::Shape(1)),
+        4 => posed(Kind::Group, turned, false, Parent::Page),
+        5 => posed(triangle(rt, alloc), moved(0, 2), false, Parent::Shape(4)),
+        6 => posed(Kind::Group, moved(7, 7), false, Parent::Page),
+        _ => posed(rectangle(2, 2, RED), moved(-9, 0), true, Parent::Page),
+    }
+}
+
+fn triangle(rt: &impl Abort, alloc: Global) -> Kind {
+    polygon(alloc, &[(0, 0), (4, 0), (0, 6)]).expect(rt, "memory")
+}
+
+// A frame 1 with a rectangle 2 that it clips and a hidden ellipse 3 beside it; a turned and flipped group 4 with a
+// triangle 5; an empty group 6; a hidden rectangle 7.
+fn drawing(rt: &impl Abort, alloc: Global) -> Document {
+    let mut document = Document::empty(alloc);
+    for id in 1..8u32 {
+        document = after(rt, alloc, &document, &creation(rt, alloc, id));
+    }
+    document
+}
+
+fn after(rt: &impl Abort, alloc: Global, document: &Document, edit: &Edit) -> Document {
+    edited(alloc, document, edit).expect(rt, "accepted")
 }
 
 fn to_front(id: u32, parent: Parent) -> Edit {
@@ -84,34 +97,27 @@ fn turn(id: u32, pose: Pose) -> Edit {
 }
 
 // Whether each edit of the drawing has its damage.
-fn have_damage(
-    rt: &impl Abort,
-    alloc: Global,
-    document: &Document,
-    rows: &[(Edit, PageBox)],
-) -> Result<(), Fail> {
+fn have_damage(rt: &impl Abort, alloc: Global, rows: &[(Edit, PageBox)]) {
+    let document = drawing(rt, alloc);
     let mut row: usize = 0;
     for (edit, wanted) in rows {
-        assert_eq!(rt; damage(alloc, document, edit)?, *wanted, "row {row}");
+        let found = damage(rt, alloc, &document, edit);
+        assert_eq!(rt; found, *wanted, "row {row}");
         row = row.saturating_add(1);
     }
-    Ok(())
 }
 
 #[test]
-fn a_rectangle_moves(rt: HostRuntime) -> Result<(), Fail> {
+fn a_rectangle_moves(rt: HostRuntime) {
     let alloc = rt.alloc();
     let red = create(rectangle(10, 10, RED), Parent::Page, Spot::Front);
-    let document = edited_by_all(alloc, Document::empty(alloc), &[red])?;
+    let document = after(&rt, alloc, &Document::empty(alloc), &red);
     let away = turn(1, moved(100, 0));
-    assert_eq!(rt; damage(alloc, &document, &away)?, area(0, 0, 110, 10));
-    Ok(())
+    assert_eq!(rt; damage(&rt, alloc, &document, &away), area(0, 0, 110, 10));
 }
 
 #[test]
-fn groups_alone_and_indexes_damage_nothing(rt: HostRuntime) -> Result<(), Fail> {
-    let alloc = rt.alloc();
-    let document = drawing(alloc)?;
+fn groups_alone_and_indexes_damage_nothing(rt: HostRuntime) {
     let rows = [
         (create(Kind::Group, Parent::Page, Spot::Back), NOTHING),
         (create(Kind::Group, Parent::Shape(4), Spot::Back), NOTHING),
@@ -132,13 +138,11 @@ fn groups_alone_and_indexes_damage_nothing(rt: HostRuntime) -> Result<(), Fail> 
             NOTHING,
         ),
     ];
-    have_damage(&rt, alloc, &document, &rows)
+    have_damage(&rt, rt.alloc(), &rows);
 }
 
 #[test]
-fn hidden_and_clipped_shapes_count(rt: HostRuntime) -> Result<(), Fail> {
-    let alloc = rt.alloc();
-    let document = drawing(alloc)?;
+fn hidden_and_clipped_shapes_count(rt: HostRuntime) {
     let rows = [
         (show(7, false), area(-9, 0, -7, 2)),
         (show(3, true), area(5, 21, 8, 24)),
@@ -161,27 +165,33 @@ fn hidden_and_clipped_shapes_count(rt: HostRuntime) -> Result<(), Fail> {
             area(12, 20, 18, 23),
         ),
     ];
-    have_damage(&rt, alloc, &document, &rows)
+    have_damage(&rt, rt.alloc(), &rows);
+}
+
+// The edit that gives the triangle another outline.
+fn another_outline(rt: &impl Abort, alloc: Global) -> Edit {
+    let outline = polygon(alloc, &[(1, 1), (2, 1), (2, 3), (1, 3)]);
+    Edit::Reshape {
+        id: 5,
+        kind: outline.expect(rt, "memory"),
+    }
 }
 
 #[test]
-fn a_turned_and_flipped_group_carries_its_shapes(rt: HostRuntime) -> Result<(), Fail> {
-    let alloc = rt.alloc();
-    let document = drawing(alloc)?;
-    let kind = polygon(alloc, &[(1, 1), (2, 1), (2, 3), (1, 3)])?;
+fn a_turned_and_flipped_group_carries_its_shapes(rt: HostRuntime) {
     let rows = [
         (show(5, true), area(92, -4, 98, 0)),
         (Edit::Delete { id: 4 }, area(92, -4, 98, 0)),
         (turn(5, Pose::STILL), area(92, -4, 100, 0)),
         (turn(4, Pose::STILL), area(0, -4, 98, 8)),
         (to_front(5, Parent::Page), area(0, -4, 98, 8)),
-        (Edit::Reshape { id: 5, kind }, area(92, -4, 98, 0)),
+        (another_outline(&rt, rt.alloc()), area(92, -4, 98, 0)),
         (
             create(rectangle(1, 2, RED), Parent::Shape(4), Spot::Back),
             area(98, -1, 100, 0),
         ),
     ];
-    have_damage(&rt, alloc, &document, &rows)
+    have_damage(&rt, rt.alloc(), &rows);
 }
 
 // The least box round the points that a path carries to the page.
@@ -216,15 +226,22 @@ fn own_box(plain: &Plain, shape: &Record, path: &[u32]) -> PageBox {
 }
 
 // The least box round the boxes of a shape and of all that has it on the path to the page.
-fn extent(alloc: Global, plain: &Plain, id: u32) -> Result<PageBox, OutOfMemory> {
+fn extent(rt: &impl Abort, alloc: Global, plain: &Plain, id: u32) -> PageBox {
     let mut area = NOTHING;
     for shape in &plain.records {
-        let path = plain.path(alloc, Parent::Shape(shape.id))?;
-        if position_in(&path, id).is_some() {
-            area = area.hull(&own_box(plain, shape, &path));
-        }
+        area = area.hull(&part_box(rt, alloc, plain, shape, id));
     }
-    Ok(area)
+    area
+}
+
+// The carried box of what has a shape on the path to the page, or nothing.
+fn part_box(rt: &impl Abort, alloc: Global, plain: &Plain, part: &Record, id: u32) -> PageBox {
+    let path = plain.path(rt, alloc, Parent::Shape(part.id));
+    if position_in(&path, id).is_some() {
+        own_box(plain, part, &path)
+    } else {
+        NOTHING
+    }
 }
 
 fn changed_shape(change: &Change) -> Option<u32> {
@@ -236,15 +253,18 @@ fn changed_shape(change: &Change) -> Option<u32> {
 }
 
 // Makes a change in the plain model, and gives its damage.
-fn plain_damage(alloc: Global, plain: &mut Plain, change: &Change) -> Result<PageBox, OutOfMemory> {
-    let Some(id) = changed_shape(change) else {
-        plain.make(alloc, change)?;
-        return Ok(NOTHING);
-    };
-    let before = extent(alloc, plain, id)?;
-    plain.make(alloc, change)?;
-    let after = extent(alloc, plain, id)?;
-    Ok(before.hull(&after))
+fn plain_damage(rt: &impl Abort, alloc: Global, plain: &mut Plain, change: &Change) -> PageBox {
+    match changed_shape(change) {
+        Some(id) => {
+            let before = extent(rt, alloc, plain, id);
+            plain.make(rt, alloc, change);
+            before.hull(&extent(rt, alloc, plain, id))
+        }
+        None => {
+            plain.make(rt, alloc, change);
+            NOTHING
+        }
+    }
 }
 
 // Some position from one edge to another, or the first.
@@ -296,57 +316,68 @@ fn keeps_colours(dice: &mut Dice, area: &PageBox, before: &Document, after: &Doc
 }
 
 // An edit, every third one a turn of what is there.
-fn some_edit(
-    alloc: Global,
-    dice: &mut Dice,
-    plain: &Plain,
-    number: u32,
-) -> Result<Edit, OutOfMemory> {
+fn some_edit(rt: &impl Abort, alloc: Global, dice: &mut Dice, plain: &Plain, number: u32) -> Edit {
     if number % 3 > 0 {
-        return edit(alloc, dice, plain);
+        edit(rt, alloc, dice, plain)
+    } else {
+        turn(id(dice, plain), pose(dice))
     }
-    Ok(turn(id(dice, plain), pose(dice)))
 }
 
-// The damage of an edit that is allowed, beside that of the plain model.
-fn damage_agrees(
+// What an edit that is allowed does to a document.
+#[derive(Drop)]
+struct Made {
+    change: Change,
+    area: PageBox,
+    after: Document,
+}
+
+fn tried(rt: &impl Abort, alloc: Global, document: &Document, asked: &Edit) -> Option<Made> {
+    match document.decide(alloc, asked) {
+        Ok(change) => {
+            let area = document.damage(&change);
+            let after = document.with(alloc, &change).expect(rt, "memory");
+            Some(Made {
+                change,
+                area,
+                after,
+            })
+        }
+        Err(_) => None,
+    }
+}
+
+// The damage of an edit beside that of the plain model: the document after it.
+fn check_damage(
     rt: &impl Abort,
     alloc: Global,
     dice: &mut Dice,
     both: &mut Both,
-    asked: &Edit,
+    made: Made,
     (levels, number): (u32, u32),
-) -> Result<(), Fail> {
-    let Ok(change) = &both.document.decide(alloc, asked) else {
-        return Ok(());
-    };
-    let area = both.document.damage(change);
-    let after = both.document.with(alloc, change)?;
-    let wanted = plain_damage(alloc, &mut both.plain, change)?;
-    assert_eq!(rt; area, wanted, "{levels} levels, edit {number}");
-    assert!(rt;
-        keeps_colours(dice, &area, &both.document, &after),
-        "{levels} levels, edit {number}"
-    );
-    both.document = after;
-    Ok(())
+) {
+    let wanted = plain_damage(rt, alloc, &mut both.plain, &made.change);
+    assert_eq!(rt; made.area, wanted, "{levels} levels, edit {number}");
+    let kept = keeps_colours(dice, &made.area, &both.document, &made.after);
+    assert!(rt; kept, "{levels} levels, edit {number}");
+    both.document = made.after;
 }
 
 // Edits at random of nested groups.
-fn damages_agree(rt: &impl Abort, alloc: Global, dice: &mut Dice, levels: u32) -> Result<(), Fail> {
-    let mut both = Both::nested(alloc, levels)?;
+fn damages_agree(rt: &impl Abort, alloc: Global, dice: &mut Dice, levels: u32) {
+    let mut both = Both::nested(rt, alloc, levels);
     for number in 0..60u32 {
-        let asked = some_edit(alloc, dice, &both.plain, number)?;
-        damage_agrees(rt, alloc, dice, &mut both, &asked, (levels, number))?;
+        let asked = some_edit(rt, alloc, dice, &both.plain, number);
+        if let Some(made) = tried(rt, alloc, &both.document, &asked) {
+            check_damage(rt, alloc, dice, &mut both, made, (levels, number));
+        }
     }
-    Ok(())
 }
 
 #[test]
-fn damage_of_random_edits(rt: HostRuntime) -> Result<(), Fail> {
+fn damage_of_random_edits(rt: HostRuntime) {
     let mut dice = Dice::new(4);
     for levels in 0..31u32 {
-        damages_agree(&rt, rt.alloc(), &mut dice, levels)?;
+        damages_agree(&rt, rt.alloc(), &mut dice, levels);
     }
-    Ok(())
 }

@@ -1,11 +1,11 @@
 //! A slow, plain model of documents: each question is answered by looking at every record.
 
-use canvas_code::OutOfMemory;
 use canvas_doc::{Change, Edit, Parent, Place, Record, Refusal, Spot};
 use canvas_key::{Key, between, fresh};
 use canvas_plane::Pose;
 use canvas_shape::Kind;
-use std::alloc::{AllocError, Global};
+use std::alloc::Global;
+use std::process::Abort;
 
 /// How many steps up are looked at: more than any path has.
 const STEPS: u32 = 40;
@@ -29,24 +29,44 @@ impl Plain {
     }
 
     /// The shapes from a parent up to the page.
-    pub(crate) fn path(&self, alloc: Global, from: Parent) -> Result<Vec<u32>, AllocError> {
+    pub(crate) fn path(&self, rt: &impl Abort, alloc: Global, from: Parent) -> Vec<u32> {
         let mut ids = Vec::new(alloc);
         let mut parent = from;
         for _ in 0..STEPS {
-            let Parent::Shape(id) = parent else {
-                break;
-            };
-            ids.push(id)?;
-            parent = match self.find(id) {
-                Some(shape) => shape.place.parent,
-                None => Parent::Page,
-            };
+            if let Parent::Shape(id) = parent {
+                ids.push(id).expect(rt, "memory");
+                parent = self.parent_of(id);
+            }
         }
-        Ok(ids)
+        ids
+    }
+
+    // The parent of a shape; the page of one that is not there.
+    fn parent_of(&self, id: u32) -> Parent {
+        match self.find(id) {
+            Some(shape) => shape.place.parent,
+            None => Parent::Page,
+        }
+    }
+
+    /// How many steps a shape lies below another: none where it is that one.
+    pub(crate) fn steps_below(
+        &self,
+        rt: &impl Abort,
+        alloc: Global,
+        shape: &Record,
+        id: u32,
+    ) -> Option<usize> {
+        position_in(&self.path(rt, alloc, Parent::Shape(shape.id)), id)
     }
 
     /// What becomes of an edit.
-    pub(crate) fn decide(&self, alloc: Global, edit: &Edit) -> Result<Change, Refusal> {
+    pub(crate) fn decide(
+        &self,
+        rt: &impl Abort,
+        alloc: Global,
+        edit: &Edit,
+    ) -> Result<Change, Refusal> {
         match edit {
             Edit::Create {
                 kind,
@@ -55,42 +75,40 @@ impl Plain {
                 parent,
                 spot,
             } => {
-                let place = self.new_place(alloc, kind, pose, *parent, spot)?;
-                Ok(Change::Create {
-                    id: self.next,
-                    kind: kind.try_clone(alloc)?,
-                    pose: *pose,
-                    hidden: *hidden,
-                    place,
-                })
+                let place = self.new_place(rt, alloc, kind, pose, *parent, spot)?;
+                Ok(self.created(rt, alloc, kind, *pose, *hidden, place))
             }
-            Edit::Move { id, parent, spot } => {
-                let place = self.other_place(alloc, *id, *parent, spot)?;
-                Ok(Change::Move { id: *id, place })
-            }
+            Edit::Move { id, parent, spot } => self.moved(rt, alloc, *id, *parent, spot),
             Edit::Pose { id, pose } => self.posed(*id, *pose),
-            Edit::Reshape { id, kind } => self.reshaped(alloc, *id, kind),
-            Edit::Show { id, hidden } => {
-                self.judge_shape(*id)?;
-                Ok(Change::Show {
-                    id: *id,
-                    hidden: *hidden,
-                })
-            }
-            Edit::Delete { id } => {
-                self.judge_shape(*id)?;
-                Ok(Change::Delete { id: *id })
-            }
-            Edit::Respace { parent } => {
-                self.judge_parent(*parent)?;
-                Ok(Change::Respace { parent: *parent })
-            }
+            Edit::Reshape { id, kind } => self.reshaped(rt, alloc, *id, kind),
+            Edit::Show { id, hidden } => self.shown(*id, *hidden),
+            Edit::Delete { id } => self.deleted(*id),
+            Edit::Respace { parent } => self.respaced(*parent),
+        }
+    }
+
+    fn created(
+        &self,
+        rt: &impl Abort,
+        alloc: Global,
+        kind: &Kind,
+        pose: Pose,
+        hidden: bool,
+        place: Place,
+    ) -> Change {
+        Change::Create {
+            id: self.next,
+            kind: kind.try_clone(alloc).expect(rt, "memory"),
+            pose,
+            hidden,
+            place,
         }
     }
 
     // The place of a new shape.
     fn new_place(
         &self,
+        rt: &impl Abort,
         alloc: Global,
         kind: &Kind,
         pose: &Pose,
@@ -98,24 +116,26 @@ impl Plain {
         spot: &Spot,
     ) -> Result<Place, Refusal> {
         self.judge_parent(parent)?;
-        self.judge_new(alloc, kind, pose, parent)?;
-        let index = self.index_at(alloc, self.next, parent, spot)?;
+        self.judge_new(rt, alloc, kind, pose, parent)?;
+        let index = self.index_at(rt, alloc, self.next, parent, spot)?;
         Ok(Place { parent, index })
     }
 
-    // The place of a shape that goes elsewhere.
-    fn other_place(
+    // A shape goes elsewhere.
+    fn moved(
         &self,
+        rt: &impl Abort,
         alloc: Global,
         id: u32,
         parent: Parent,
         spot: &Spot,
-    ) -> Result<Place, Refusal> {
+    ) -> Result<Change, Refusal> {
         self.judge_shape(id)?;
         self.judge_parent(parent)?;
-        self.judge_move(alloc, id, parent)?;
-        let index = self.index_at(alloc, id, parent, spot)?;
-        Ok(Place { parent, index })
+        self.judge_move(rt, alloc, id, parent)?;
+        let index = self.index_at(rt, alloc, id, parent, spot)?;
+        let place = Place { parent, index };
+        Ok(Change::Move { id, place })
     }
 
     fn posed(&self, id: u32, pose: Pose) -> Result<Change, Refusal> {
@@ -124,15 +144,34 @@ impl Plain {
         Ok(Change::Pose { id, pose })
     }
 
-    fn reshaped(&self, alloc: Global, id: u32, kind: &Kind) -> Result<Change, Refusal> {
+    fn reshaped(
+        &self,
+        rt: &impl Abort,
+        alloc: Global,
+        id: u32,
+        kind: &Kind,
+    ) -> Result<Change, Refusal> {
         self.judge_shape(id)?;
         self.judge_variant(id, kind)?;
         judge_sides(kind)?;
         judge_vertices(kind)?;
-        Ok(Change::Reshape {
-            id,
-            kind: kind.try_clone(alloc)?,
-        })
+        let kind = kind.try_clone(alloc).expect(rt, "memory");
+        Ok(Change::Reshape { id, kind })
+    }
+
+    fn shown(&self, id: u32, hidden: bool) -> Result<Change, Refusal> {
+        self.judge_shape(id)?;
+        Ok(Change::Show { id, hidden })
+    }
+
+    fn deleted(&self, id: u32) -> Result<Change, Refusal> {
+        self.judge_shape(id)?;
+        Ok(Change::Delete { id })
+    }
+
+    fn respaced(&self, parent: Parent) -> Result<Change, Refusal> {
+        self.judge_parent(parent)?;
+        Ok(Change::Respace { parent })
     }
 
     fn judge_shape(&self, id: u32) -> Result<(), Refusal> {
@@ -157,12 +196,13 @@ impl Plain {
 
     fn judge_new(
         &self,
+        rt: &impl Abort,
         alloc: Global,
         kind: &Kind,
         pose: &Pose,
         parent: Parent,
     ) -> Result<(), Refusal> {
-        if self.path(alloc, parent)?.len() >= 32 {
+        if self.depth(rt, alloc, parent) >= 32 {
             return Err(Refusal::TooDeep);
         }
         if self.records.len() >= 16_384 {
@@ -176,27 +216,37 @@ impl Plain {
         judge_vertices(kind)
     }
 
-    fn judge_move(&self, alloc: Global, id: u32, parent: Parent) -> Result<(), Refusal> {
-        let above = self.path(alloc, parent)?;
-        if position_in(&above, id).is_some() {
+    // How many levels a parent has with all above it.
+    fn depth(&self, rt: &impl Abort, alloc: Global, parent: Parent) -> usize {
+        self.path(rt, alloc, parent).len()
+    }
+
+    fn judge_move(
+        &self,
+        rt: &impl Abort,
+        alloc: Global,
+        id: u32,
+        parent: Parent,
+    ) -> Result<(), Refusal> {
+        if position_in(&self.path(rt, alloc, parent), id).is_some() {
             return Err(Refusal::Cycle);
         }
-        if above.len().saturating_add(self.height(alloc, id)?) > 32 {
+        let above = self.depth(rt, alloc, parent);
+        if above.saturating_add(self.height(rt, alloc, id)) > 32 {
             return Err(Refusal::TooDeep);
         }
         Ok(())
     }
 
     // How many levels a shape has with all below it.
-    fn height(&self, alloc: Global, id: u32) -> Result<usize, AllocError> {
+    fn height(&self, rt: &impl Abort, alloc: Global, id: u32) -> usize {
         let mut height: usize = 0;
         for shape in &self.records {
-            let path = self.path(alloc, Parent::Shape(shape.id))?;
-            if let Some(at) = position_in(&path, id) {
-                height = height.max(at.saturating_add(1));
+            if let Some(steps) = self.steps_below(rt, alloc, shape, id) {
+                height = height.max(steps.saturating_add(1));
             }
         }
-        Ok(height)
+        height
     }
 
     fn judge_variant(&self, id: u32, kind: &Kind) -> Result<(), Refusal> {
@@ -207,47 +257,47 @@ impl Plain {
     }
 
     // The indexes of the children of a parent but for one shape, from back to front.
-    fn indexes(&self, alloc: Global, own: u32, parent: Parent) -> Result<Vec<&Key>, AllocError> {
+    fn indexes(&self, rt: &impl Abort, alloc: Global, own: u32, parent: Parent) -> Vec<&Key> {
         let mut keys = Vec::new(alloc);
         for shape in &self.records {
             if shape.place.parent == parent && shape.id != own {
-                keys.push(&shape.place.index)?;
+                keys.push(&shape.place.index).expect(rt, "memory");
             }
         }
-        keys.sort()?;
-        Ok(keys)
+        keys.sort().expect(rt, "memory");
+        keys
     }
 
     fn index_at(
         &self,
+        rt: &impl Abort,
         alloc: Global,
         own: u32,
         parent: Parent,
         spot: &Spot,
     ) -> Result<Key, Refusal> {
-        let keys = self.indexes(alloc, own, parent)?;
+        let keys = self.indexes(rt, alloc, own, parent);
         match spot {
             Spot::Back => key_between(None, keys.first().copied()),
             Spot::Front => key_between(keys.last().copied(), None),
-            Spot::Over(id) => match self.find(*id) {
-                Some(shape) if shape.place.parent == parent && *id != own => {
-                    let low = &shape.place.index;
-                    key_between(Some(low), next_above(&keys, low))
-                }
-                _ => Err(Refusal::SpotNotSibling),
-            },
-            Spot::At(key) => {
-                if has_key(&keys, key) {
-                    Err(Refusal::IndexTaken)
-                } else {
-                    Ok(key.copy())
-                }
+            Spot::Over(id) => self.index_over(&keys, *id, own, parent),
+            Spot::At(key) => untaken(&keys, key),
+        }
+    }
+
+    // An index over a sibling.
+    fn index_over(&self, keys: &[&Key], id: u32, own: u32, parent: Parent) -> Result<Key, Refusal> {
+        match self.find(id) {
+            Some(shape) if shape.place.parent == parent && id != own => {
+                let low = &shape.place.index;
+                key_between(Some(low), next_above(keys, low))
             }
+            _ => Err(Refusal::SpotNotSibling),
         }
     }
 
     /// Makes a change.
-    pub(crate) fn make(&mut self, alloc: Global, change: &Change) -> Result<(), OutOfMemory> {
+    pub(crate) fn make(&mut self, rt: &impl Abort, alloc: Global, change: &Change) {
         match change {
             Change::Create {
                 id,
@@ -256,68 +306,87 @@ impl Plain {
                 hidden,
                 place,
             } => {
-                self.records.push(Record {
-                    id: *id,
-                    kind: kind.try_clone(alloc)?,
-                    place: place.copy(),
-                    pose: *pose,
-                    hidden: *hidden,
-                })?;
-                self.next = self.next.saturating_add(1);
+                let kind = kind.try_clone(alloc).expect(rt, "memory");
+                self.add(
+                    rt,
+                    Record {
+                        id: *id,
+                        kind,
+                        place: place.copy(),
+                        pose: *pose,
+                        hidden: *hidden,
+                    },
+                );
             }
-            Change::Delete { id } => self.delete(alloc, *id)?,
-            Change::Respace { parent } => self.respace(alloc, *parent)?,
+            Change::Delete { id } => self.delete(rt, alloc, *id),
+            Change::Respace { parent } => self.respace(rt, alloc, *parent),
             Change::Move { id, .. }
             | Change::Pose { id, .. }
             | Change::Reshape { id, .. }
-            | Change::Show { id, .. } => {
-                for shape in self.records.iter_mut() {
-                    if shape.id == *id {
-                        change_shape(alloc, shape, change)?;
-                    }
-                }
+            | Change::Show { id, .. } => self.change_one(rt, alloc, *id, change),
+        }
+    }
+
+    fn add(&mut self, rt: &impl Abort, shape: Record) {
+        self.records.push(shape).expect(rt, "memory");
+        self.next = self.next.saturating_add(1);
+    }
+
+    fn change_one(&mut self, rt: &impl Abort, alloc: Global, id: u32, change: &Change) {
+        for shape in self.records.iter_mut() {
+            if shape.id == id {
+                change_shape(rt, alloc, shape, change);
             }
         }
-        Ok(())
     }
 
     // Takes out a shape and all that has it on the path to the page.
-    fn delete(&mut self, alloc: Global, id: u32) -> Result<(), OutOfMemory> {
+    fn delete(&mut self, rt: &impl Abort, alloc: Global, id: u32) {
+        self.records = self.all_but(rt, alloc, id);
+    }
+
+    fn all_but(&self, rt: &impl Abort, alloc: Global, id: u32) -> Vec<Record> {
         let mut kept = Vec::new(alloc);
         for shape in &self.records {
-            let path = self.path(alloc, Parent::Shape(shape.id))?;
-            if position_in(&path, id).is_none() {
-                kept.push(shape.try_clone(alloc)?)?;
+            if self.steps_below(rt, alloc, shape, id).is_none() {
+                let copy = shape.try_clone(alloc).expect(rt, "memory");
+                kept.push(copy).expect(rt, "memory");
             }
         }
-        self.records = kept;
-        Ok(())
+        kept
     }
 
     // Gives the children of a parent the first fresh indexes, from back to front.
-    fn respace(&mut self, alloc: Global, parent: Parent) -> Result<(), OutOfMemory> {
-        let mut old = Vec::new(alloc);
-        for key in self.indexes(alloc, 0, parent)? {
-            old.push(key.copy())?;
-        }
+    fn respace(&mut self, rt: &impl Abort, alloc: Global, parent: Parent) {
+        let old = self.copied_indexes(rt, alloc, parent);
         for shape in self.records.iter_mut() {
             if shape.place.parent == parent {
                 shape.place.index = fresh(count_below(&old, &shape.place.index));
             }
         }
-        Ok(())
+    }
+
+    fn copied_indexes(&self, rt: &impl Abort, alloc: Global, parent: Parent) -> Vec<Key> {
+        let mut keys = Vec::new(alloc);
+        for shape in &self.records {
+            if shape.place.parent == parent {
+                keys.push(shape.place.index.copy()).expect(rt, "memory");
+            }
+        }
+        keys
     }
 }
 
-fn change_shape(alloc: Global, shape: &mut Record, change: &Change) -> Result<(), OutOfMemory> {
+fn change_shape(rt: &impl Abort, alloc: Global, shape: &mut Record, change: &Change) {
     match change {
         Change::Move { place, .. } => shape.place = place.copy(),
         Change::Pose { pose, .. } => shape.pose = *pose,
-        Change::Reshape { kind, .. } => shape.kind = kind.try_clone(alloc)?,
+        Change::Reshape { kind, .. } => {
+            shape.kind = kind.try_clone(alloc).expect(rt, "memory");
+        }
         Change::Show { hidden, .. } => shape.hidden = *hidden,
         _ => {}
     }
-    Ok(())
 }
 
 fn judge_pose(pose: &Pose) -> Result<(), Refusal> {
@@ -377,6 +446,13 @@ pub(crate) fn position_in(path: &[u32], id: u32) -> Option<usize> {
         at = at.saturating_add(1);
     }
     None
+}
+
+fn untaken(keys: &[&Key], key: &Key) -> Result<Key, Refusal> {
+    if has_key(keys, key) {
+        return Err(Refusal::IndexTaken);
+    }
+    Ok(key.copy())
 }
 
 fn has_key(keys: &[&Key], key: &Key) -> bool {

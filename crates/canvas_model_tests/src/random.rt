@@ -1,19 +1,15 @@
 //! Some thousands of random edits, each beside the plain model.
 
-ghost use Rattle.std.specs.Prelude.{◌<◌};
-
 use crate::both::Both;
 use crate::plain::Plain;
 use crate::viewed::{Pixel, colour_at};
-use canvas_code::OutOfMemory;
-use canvas_doc::{Change, Edit, Parent, Record, Refusal, Spot};
+use canvas_doc::{Change, Document, Edit, Parent, Record, Refusal, Spot};
 use canvas_key::fresh;
 use canvas_plane::{Point, Pose};
 use canvas_samples::Dice;
 use canvas_shape::{Colour, Kind, Points};
 use std::alloc::Global;
 use std::process::Abort;
-use std::test::Fail;
 
 // A record, or nothing once in a while.
 fn some_record<'a>(dice: &mut Dice, plain: &'a Plain) -> Option<&'a Record> {
@@ -96,19 +92,18 @@ fn colour(dice: &mut Dice) -> Colour {
     Colour([red, green, 7])
 }
 
-fn points(alloc: Global, dice: &mut Dice) -> Result<Points, OutOfMemory> {
+fn points(rt: &impl Abort, alloc: Global, dice: &mut Dice) -> Points {
     let mut points = Points::new(alloc);
     for _ in 0..dice.below(6) + 2 {
-        points.push(Point {
-            x: dice.near(),
-            y: dice.near(),
-        })?;
+        let x = dice.near();
+        let y = dice.near();
+        points.push(Point { x, y }).expect(rt, "memory");
     }
-    Ok(points)
+    points
 }
 
-fn kind(alloc: Global, dice: &mut Dice) -> Result<Kind, OutOfMemory> {
-    Ok(match dice.below(8) {
+fn kind(rt: &impl Abort, alloc: Global, dice: &mut Dice) -> Kind {
+    match dice.below(8) {
         0 | 1 | 2 => Kind::Group,
         3 | 4 => Kind::Frame {
             w: side(dice),
@@ -130,21 +125,21 @@ fn kind(alloc: Global, dice: &mut Dice) -> Result<Kind, OutOfMemory> {
             fill: colour(dice),
         },
         _ => Kind::Polygon {
-            points: points(alloc, dice)?,
+            points: points(rt, alloc, dice),
             fill: colour(dice),
         },
-    })
+    }
 }
 
-fn create(alloc: Global, dice: &mut Dice, plain: &Plain) -> Result<Edit, OutOfMemory> {
+fn create(rt: &impl Abort, alloc: Global, dice: &mut Dice, plain: &Plain) -> Edit {
     let parent = parent(dice, plain);
-    Ok(Edit::Create {
-        kind: kind(alloc, dice)?,
+    Edit::Create {
+        kind: kind(rt, alloc, dice),
         pose: pose(dice),
         hidden: dice.below(9) == 0,
         parent,
         spot: spot(dice, plain, parent),
-    })
+    }
 }
 
 fn displace(dice: &mut Dice, plain: &Plain) -> Edit {
@@ -156,18 +151,29 @@ fn displace(dice: &mut Dice, plain: &Plain) -> Edit {
     }
 }
 
+fn reshape(rt: &impl Abort, alloc: Global, dice: &mut Dice, plain: &Plain) -> Edit {
+    Edit::Reshape {
+        id: id(dice, plain),
+        kind: kind(rt, alloc, dice),
+    }
+}
+
 /// An edit, many of which are refused.
-pub(crate) fn edit(alloc: Global, dice: &mut Dice, plain: &Plain) -> Result<Edit, OutOfMemory> {
-    Ok(match dice.below(20) {
-        0 | 1 | 2 | 3 | 4 | 5 | 6 => create(alloc, dice, plain)?,
+pub(crate) fn edit(rt: &impl Abort, alloc: Global, dice: &mut Dice, plain: &Plain) -> Edit {
+    match dice.below(20) {
+        0 | 1 | 2 | 3 | 4 | 5 | 6 => create(rt, alloc, dice, plain),
         7 | 8 | 9 | 10 | 11 | 12 => displace(dice, plain),
+        14 | 15 => reshape(rt, alloc, dice, plain),
+        number => small_edit(dice, plain, number),
+    }
+}
+
+// A turn, a mark, a deletion or new indexes.
+fn small_edit(dice: &mut Dice, plain: &Plain, number: u64) -> Edit {
+    match number {
         13 => Edit::Pose {
             id: id(dice, plain),
             pose: pose(dice),
-        },
-        14 | 15 => Edit::Reshape {
-            id: id(dice, plain),
-            kind: kind(alloc, dice)?,
         },
         16 | 17 => Edit::Show {
             id: id(dice, plain),
@@ -179,7 +185,7 @@ pub(crate) fn edit(alloc: Global, dice: &mut Dice, plain: &Plain) -> Result<Edit
         _ => Edit::Respace {
             parent: parent(dice, plain),
         },
-    })
+    }
 }
 
 fn are_same(own: &Result<Change, Refusal>, plain: &Result<Change, Refusal>) -> bool {
@@ -191,94 +197,99 @@ fn are_same(own: &Result<Change, Refusal>, plain: &Result<Change, Refusal>) -> b
 }
 
 // Whether a document has the records and the next id of the plain one.
-fn agree(alloc: Global, both: &Both) -> Result<bool, OutOfMemory> {
-    let Both { document, plain } = both;
-    let records = document.records_in_order(alloc)?;
-    let mut same = document.next_id() == plain.next
+fn agree(rt: &impl Abort, alloc: Global, document: &Document, plain: &Plain) -> bool {
+    document.next_id() == plain.next
         && document.count() == plain.records.len()
-        && records.len() == plain.records.len();
-    for (own, other) in records.iter().zip(&plain.records) {
+        && are_records(rt, alloc, document, &plain.records)
+}
+
+fn are_records(rt: &impl Abort, alloc: Global, document: &Document, wanted: &[Record]) -> bool {
+    let records = document.records_in_order(alloc).expect(rt, "memory");
+    let mut same = records.len() == wanted.len();
+    for (own, other) in records.iter().zip(wanted) {
         same = same && *own == other;
     }
-    Ok(same)
+    same
+}
+
+// Whether a document shows a pixel as the plain one does.
+fn looks_alike(
+    rt: &impl Abort,
+    alloc: Global,
+    document: &Document,
+    plain: &Plain,
+    (x, y): (i32, i32),
+) -> bool {
+    let at = Pixel {
+        x: x as i64,
+        y: y as i64,
+    };
+    document.colour_at(x, y) == colour_at(rt, alloc, plain, at)
 }
 
 // Whether a document shows some pixels as the plain one does.
-fn look_alike(alloc: Global, dice: &mut Dice, both: &Both) -> Result<bool, OutOfMemory> {
+fn look_alike(rt: &impl Abort, alloc: Global, dice: &mut Dice, both: &Both) -> bool {
     let mut same = true;
     for _ in 0..6u32 {
         let x = dice.below(50) as i32 - 25;
         let y = dice.below(50) as i32 - 25;
-        let at = Pixel {
-            x: x as i64,
-            y: y as i64,
-        };
-        same = same && both.document.colour_at(x, y) == colour_at(alloc, &both.plain, at)?;
+        same = same && looks_alike(rt, alloc, &both.document, &both.plain, (x, y));
     }
-    Ok(same)
+    same
+}
+
+// Whether the plain model answers an edit so.
+fn is_answer(
+    rt: &impl Abort,
+    alloc: Global,
+    plain: &Plain,
+    asked: &Edit,
+    own: &Result<Change, Refusal>,
+) -> bool {
+    are_same(own, &plain.decide(rt, alloc, asked))
 }
 
 // Judges an edit by both, and makes it in both.
-fn answers_agree(
-    rt: &impl Abort,
-    alloc: Global,
-    both: &mut Both,
-    asked: &Edit,
-    number: u32,
-) -> Result<(), Fail> {
+fn answers_agree(rt: &impl Abort, alloc: Global, both: &mut Both, asked: &Edit, number: u32) {
     let own = both.document.decide(alloc, asked);
-    let judged = both.plain.decide(alloc, asked);
-    assert!(rt; are_same(&own, &judged), "answer {number}");
+    let same = is_answer(rt, alloc, &both.plain, asked, &own);
+    assert!(rt; same, "answer {number}");
     if let Ok(change) = &own {
         assert!(rt; both.document.fits(change), "fits {number}");
-        both.make(alloc, change)?;
+        both.make(rt, alloc, change);
     }
-    Ok(())
 }
 
 // An edit at random, judged and made beside the plain model.
-fn edit_agrees(
-    rt: &impl Abort,
-    alloc: Global,
-    dice: &mut Dice,
-    both: &mut Both,
-    number: u32,
-) -> Result<(), Fail> {
-    let asked = edit(alloc, dice, &both.plain)?;
-    answers_agree(rt, alloc, both, &asked, number)?;
-    assert!(rt; agree(alloc, both)?, "records {number}");
-    assert!(rt; look_alike(alloc, dice, both)?, "colours {number}");
-    Ok(())
+fn edit_agrees(rt: &impl Abort, alloc: Global, dice: &mut Dice, both: &mut Both, number: u32) {
+    let asked = edit(rt, alloc, dice, &both.plain);
+    answers_agree(rt, alloc, both, &asked, number);
+    assert!(rt;
+        agree(rt, alloc, &both.document, &both.plain),
+        "records {number}"
+    );
+    assert!(rt; look_alike(rt, alloc, dice, both), "colours {number}");
 }
 
-fn edits_agree(
-    rt: &impl Abort,
-    alloc: Global,
-    dice: &mut Dice,
-    levels: u32,
-    edits: u32,
-) -> Result<(), Fail> {
-    let mut both = Both::nested(alloc, levels)?;
+fn edits_agree(rt: &impl Abort, alloc: Global, dice: &mut Dice, levels: u32, edits: u32) {
+    let mut both = Both::nested(rt, alloc, levels);
     for number in 0..edits {
-        edit_agrees(rt, alloc, dice, &mut both, number)?;
+        edit_agrees(rt, alloc, dice, &mut both, number);
     }
-    Ok(())
 }
 
 #[test]
-fn random_edits_from_an_empty_document(rt: HostRuntime) -> Result<(), Fail> {
+fn random_edits_from_an_empty_document(rt: HostRuntime) {
     let mut dice = Dice::new(1);
     for _ in 0..30u32 {
-        edits_agree(&rt, rt.alloc(), &mut dice, 0, 80)?;
+        edits_agree(&rt, rt.alloc(), &mut dice, 0, 80);
     }
-    Ok(())
 }
 
 #[test]
-fn random_edits_of_nested_groups(rt: HostRuntime) -> Result<(), Fail> {
+fn random_edits_of_nested_groups(rt: HostRuntime) {
     let mut dice = Dice::new(2);
     for levels in 0..30u32 {
-        edits_agree(&rt, rt.alloc(), &mut dice, levels.saturating_add(2), 60)?;
+        edits_agree(&rt, rt.alloc(), &mut dice, levels.saturating_add(2), 60);
     }
-    Ok(())
 }

@@ -5,14 +5,12 @@ use crate::both::Both;
 use crate::plain::Plain;
 use crate::random::{edit, id, parent, pose};
 use crate::viewed::{Pixel, shows};
-use canvas_code::OutOfMemory;
 use canvas_doc::{Document, Edit, Parent, Record};
 use canvas_key::Key;
 use canvas_plane::{PageBox, Pose};
 use canvas_samples::Dice;
 use std::alloc::Global;
 use std::process::Abort;
-use std::test::Fail;
 
 // How wide and high the boxes are.
 const SIDE: u64 = 12;
@@ -42,6 +40,11 @@ fn pose_of(plain: &Plain, path: &[u32]) -> Option<Pose> {
     Some(out)
 }
 
+// What carries the points of a parent to the page, where it is near.
+fn carrier(rt: &impl Abort, alloc: Global, plain: &Plain, parent: Parent) -> Option<Pose> {
+    pose_of(plain, &plain.path(rt, alloc, parent))
+}
+
 fn clip(dice: &mut Dice) -> PageBox {
     let left = dice.near();
     let top = dice.near();
@@ -62,16 +65,20 @@ fn pixel_in(dice: &mut Dice, clip: &PageBox) -> Pixel {
 
 // The children that may show in a box; none where the pose is refused.
 fn meeting<'a>(
+    rt: &impl Abort,
     alloc: Global,
     document: &'a Document,
     parent: Parent,
     out: &Pose,
     clip: &PageBox,
-) -> Result<Vec<&'a Record>, OutOfMemory> {
-    if out.quarter > 3 || out.reach() > FAR {
-        return Ok(Vec::new(alloc));
+) -> Vec<&'a Record> {
+    if out.quarter <= 3 && out.reach() <= FAR {
+        document
+            .children_meeting(alloc, parent, out, clip)
+            .expect(rt, "memory")
+    } else {
+        Vec::new(alloc)
     }
-    document.children_meeting(alloc, parent, out, clip)
 }
 
 // Whether records are children of a parent, each behind the one before it.
@@ -102,100 +109,133 @@ fn has_id(records: &[&Record], id: u32) -> bool {
 
 // The children of a parent that are not among the records.
 fn left_out(
+    rt: &impl Abort,
     alloc: Global,
     plain: &Plain,
     parent: Parent,
     records: &[&Record],
-) -> Result<Vec<u32>, OutOfMemory> {
+) -> Vec<u32> {
     let mut ids = Vec::new(alloc);
     for shape in &plain.records {
         if shape.place.parent == parent && !has_id(records, shape.id) {
-            ids.push(shape.id)?;
+            ids.push(shape.id).expect(rt, "memory");
         }
     }
-    Ok(ids)
+    ids
 }
 
-fn show_nothing(alloc: Global, plain: &Plain, ids: &[u32], at: Pixel) -> Result<bool, OutOfMemory> {
+fn show_nothing(rt: &impl Abort, alloc: Global, plain: &Plain, ids: &[u32], at: Pixel) -> bool {
     for id in ids {
-        if shows(alloc, plain, *id, at)? {
-            return Ok(false);
+        if shows(rt, alloc, plain, *id, at) {
+            return false;
         }
     }
-    Ok(true)
+    true
 }
 
-// Looks at a box from some parent, and counts the children that were left out.
-fn look(rt: &impl Abort, alloc: Global, dice: &mut Dice, both: &Both) -> Result<usize, Fail> {
-    let Both { document, plain } = both;
-    let parent = parent(dice, plain);
-    let path = plain.path(alloc, parent)?;
-    let Some(out) = pose_of(plain, &path) else {
-        return Ok(0);
-    };
-    let clip = clip(dice);
-    let kept = meeting(alloc, document, parent, &out, &clip)?;
-    assert!(rt; are_in_order(plain, parent, &kept));
-    let others = left_out(alloc, plain, parent, &kept)?;
-    for _ in 0..8u32 {
-        let at = pixel_in(dice, &clip);
-        assert!(rt;
-            show_nothing(alloc, plain, &others, at)?,
-            "{parent:?}, {clip:?}"
-        );
-    }
-    Ok(others.len())
-}
-
-// An edit, every other one a turn of what is there.
-fn some_edit(
+// The children of a parent that are left out of a box.
+fn left_out_of(
+    rt: &impl Abort,
     alloc: Global,
-    dice: &mut Dice,
-    plain: &Plain,
-    number: u32,
-) -> Result<Edit, OutOfMemory> {
-    if number % 2 == 0 {
-        return edit(alloc, dice, plain);
-    }
-    Ok(Edit::Pose {
-        id: id(dice, plain),
-        pose: pose(dice),
-    })
+    both: &Both,
+    parent: Parent,
+    out: &Pose,
+    clip: &PageBox,
+) -> Vec<u32> {
+    let kept = meeting(rt, alloc, &both.document, parent, out, clip);
+    assert!(rt; are_in_order(&both.plain, parent, &kept));
+    left_out(rt, alloc, &both.plain, parent, &kept)
 }
 
-// Makes an edit in both where it is allowed.
-fn make(alloc: Global, both: &mut Both, asked: &Edit) -> Result<(), OutOfMemory> {
-    if let Ok(change) = &both.document.decide(alloc, asked) {
-        both.make(alloc, change)?;
-    }
-    Ok(())
-}
-
-// Edits at random, after each of which a box is looked at: how many children were left out.
-fn looks_agree(
+// Looks at some pixels of a box, in which these shapes show nothing.
+fn look_at_pixels(
     rt: &impl Abort,
     alloc: Global,
     dice: &mut Dice,
-    levels: u32,
-) -> Result<usize, Fail> {
-    let mut both = Both::nested(alloc, levels)?;
+    plain: &Plain,
+    ids: &[u32],
+    clip: &PageBox,
+) {
+    for _ in 0..8u32 {
+        let at = pixel_in(dice, clip);
+        assert!(rt; show_nothing(rt, alloc, plain, ids, at), "{clip:?}");
+    }
+}
+
+// Looks at a box from a parent, and counts the children that were left out.
+fn look_from(
+    rt: &impl Abort,
+    alloc: Global,
+    dice: &mut Dice,
+    both: &Both,
+    parent: Parent,
+    out: &Pose,
+) -> usize {
+    let clip = clip(dice);
+    let others = left_out_of(rt, alloc, both, parent, out, &clip);
+    look_at_pixels(rt, alloc, dice, &both.plain, &others, &clip);
+    others.len()
+}
+
+// Looks at a box from some parent, and counts the children that were left out.
+fn look(rt: &impl Abort, alloc: Global, dice: &mut Dice, both: &Both) -> usize {
+    let parent = parent(dice, &both.plain);
+    match carrier(rt, alloc, &both.plain, parent) {
+        Some(out) => look_from(rt, alloc, dice, both, parent, &out),
+        None => 0,
+    }
+}
+
+// An edit, every other one a turn of what is there.
+fn some_edit(rt: &impl Abort, alloc: Global, dice: &mut Dice, plain: &Plain, number: u32) -> Edit {
+    if number % 2 == 0 {
+        edit(rt, alloc, dice, plain)
+    } else {
+        Edit::Pose {
+            id: id(dice, plain),
+            pose: pose(dice),
+        }
+    }
+}
+
+// Makes an edit in both where it is allowed.
+fn make(rt: &impl Abort, alloc: Global, both: &mut Both, asked: &Edit) {
+    if let Ok(change) = &both.document.decide(alloc, asked) {
+        both.make(rt, alloc, change);
+    }
+}
+
+// An edit at random, after which a box is looked at: how many children were left out.
+fn look_agrees(
+    rt: &impl Abort,
+    alloc: Global,
+    dice: &mut Dice,
+    both: &mut Both,
+    number: u32,
+) -> usize {
+    let asked = some_edit(rt, alloc, dice, &both.plain, number);
+    make(rt, alloc, both, &asked);
+    look(rt, alloc, dice, both)
+}
+
+// Edits at random: how many children were left out in all.
+fn looks_agree(rt: &impl Abort, alloc: Global, dice: &mut Dice, levels: u32) -> usize {
+    let mut both = Both::nested(rt, alloc, levels);
     let mut left_out: usize = 0;
     for number in 0..60u32 {
-        let asked = some_edit(alloc, dice, &both.plain, number)?;
-        make(alloc, &mut both, &asked)?;
-        left_out = left_out.saturating_add(look(rt, alloc, dice, &both)?);
+        let more = look_agrees(rt, alloc, dice, &mut both, number);
+        left_out = left_out.saturating_add(more);
     }
-    Ok(left_out)
+    left_out
 }
 
 #[test]
-fn what_is_left_out_shows_nothing(rt: HostRuntime) -> Result<(), Fail> {
+fn what_is_left_out_shows_nothing(rt: HostRuntime) {
     let mut dice = Dice::new(3);
     let mut left_out: usize = 0;
     for levels in 0..20u32 {
-        let more = looks_agree(&rt, rt.alloc(), &mut dice, levels)?;
+        let more = looks_agree(&rt, rt.alloc(), &mut dice, levels);
         left_out = left_out.saturating_add(more);
     }
     assert!(rt; left_out > 500, "only {left_out} left out");
-    Ok(())
 }

@@ -1,13 +1,13 @@
 //! The colour of a pixel by a plain model: of all that holds the pixel, what lies furthest in front.
 
 use crate::plain::{Plain, position_in};
-use canvas_code::OutOfMemory;
 use canvas_doc::{Parent, Record};
 use canvas_key::Key;
 use canvas_plane::{Point, Pose};
 use canvas_samples::WHITE;
 use canvas_shape::{Colour, Kind};
 use std::alloc::Global;
+use std::process::Abort;
 
 /// A pixel of the page.
 #[derive(Clone, Copy)]
@@ -17,27 +17,43 @@ pub(crate) struct Pixel {
 }
 
 /// The colour of a pixel.
-pub(crate) fn colour_at(alloc: Global, plain: &Plain, at: Pixel) -> Result<Colour, OutOfMemory> {
-    let mut best: Option<(Vec<&Key>, Colour)> = None;
+pub(crate) fn colour_at(rt: &impl Abort, alloc: Global, plain: &Plain, at: Pixel) -> Colour {
+    let mut best: Option<&Record> = None;
+    let mut colour = WHITE;
     for shape in &plain.records {
         if let Some(fill) = fill_of(&shape.kind) {
-            let path = plain.path(alloc, Parent::Shape(shape.id))?;
-            if is_seen(plain, &path, path.len(), at) {
-                let place = place_of(alloc, plain, &path)?;
-                let in_front = match &best {
-                    Some((other, _)) => is_behind(other, &place),
-                    None => true,
-                };
-                if in_front {
-                    best = Some((place, fill));
-                }
+            let is_best = is_seen_whole(rt, alloc, plain, shape, at)
+                && is_in_front(rt, alloc, plain, shape, best);
+            if is_best {
+                best = Some(shape);
+                colour = fill;
             }
         }
     }
-    Ok(match best {
-        Some((_, fill)) => fill,
-        None => WHITE,
-    })
+    colour
+}
+
+// Whether a shape is seen at a pixel, with all that it lies in.
+fn is_seen_whole(rt: &impl Abort, alloc: Global, plain: &Plain, shape: &Record, at: Pixel) -> bool {
+    let path = plain.path(rt, alloc, Parent::Shape(shape.id));
+    is_seen(plain, &path, path.len(), at)
+}
+
+// Whether a shape lies in front of another, if there is another.
+fn is_in_front(
+    rt: &impl Abort,
+    alloc: Global,
+    plain: &Plain,
+    shape: &Record,
+    other: Option<&Record>,
+) -> bool {
+    match other {
+        Some(other) => {
+            let behind = place_of(rt, alloc, plain, other.id);
+            is_behind(&behind, &place_of(rt, alloc, plain, shape.id))
+        }
+        None => true,
+    }
 }
 
 fn fill_of(kind: &Kind) -> Option<Colour> {
@@ -52,19 +68,15 @@ fn fill_of(kind: &Kind) -> Option<Colour> {
 
 // The indexes from the page down to a shape. A shape lies behind its children, and what has the lesser
 // index first lies behind.
-fn place_of<'a>(
-    alloc: Global,
-    plain: &'a Plain,
-    path: &[u32],
-) -> Result<Vec<&'a Key>, OutOfMemory> {
+fn place_of<'a>(rt: &impl Abort, alloc: Global, plain: &'a Plain, shape: u32) -> Vec<&'a Key> {
     let mut place = Vec::new(alloc);
-    for id in path {
-        if let Some(shape) = plain.find(*id) {
-            place.push(&shape.place.index)?;
+    for id in &plain.path(rt, alloc, Parent::Shape(shape)) {
+        if let Some(above) = plain.find(*id) {
+            place.push(&above.place.index).expect(rt, "memory");
         }
     }
     place.reverse();
-    Ok(place)
+    place
 }
 
 fn is_behind(place: &[&Key], other: &[&Key]) -> bool {
@@ -80,17 +92,29 @@ fn is_behind(place: &[&Key], other: &[&Key]) -> bool {
 }
 
 /// Whether a shape, with what lies below it, shows something at a pixel, whatever lies about it.
-pub(crate) fn shows(alloc: Global, plain: &Plain, id: u32, at: Pixel) -> Result<bool, OutOfMemory> {
-    for shape in &plain.records {
-        let path = plain.path(alloc, Parent::Shape(shape.id))?;
-        if let Some(above) = position_in(&path, id) {
-            let has_fill = fill_of(&shape.kind).is_some();
-            if has_fill && is_seen(plain, &path, above.saturating_add(1), at) {
-                return Ok(true);
-            }
+pub(crate) fn shows(rt: &impl Abort, alloc: Global, plain: &Plain, id: u32, at: Pixel) -> bool {
+    for part in &plain.records {
+        if fill_of(&part.kind).is_some() && is_seen_below(rt, alloc, plain, part, id, at) {
+            return true;
         }
     }
-    Ok(false)
+    false
+}
+
+// Whether a part of a shape is seen at a pixel, whatever the shape lies in.
+fn is_seen_below(
+    rt: &impl Abort,
+    alloc: Global,
+    plain: &Plain,
+    part: &Record,
+    id: u32,
+    at: Pixel,
+) -> bool {
+    let path = plain.path(rt, alloc, Parent::Shape(part.id));
+    match position_in(&path, id) {
+        Some(above) => is_seen(plain, &path, above.saturating_add(1), at),
+        None => false,
+    }
 }
 
 // Whether of so many shapes of a path none is hidden, and each but a group holds the pixel.

@@ -1,26 +1,20 @@
 //! Each cause for which a saved text is refused, with its position.
-use crate::texts::{GROUP, POSE, assert_told, document, place, record, told};
-use canvas_code::OutOfMemory;
+use crate::texts::{
+    FIRST, GROUP, POSE, assert_told, document, number, place, push_element, record, record_with,
+    told,
+};
 use std::alloc::Global;
 use std::process::Abort;
-use std::test::Fail;
 
 // A document of a format with these records is told so.
-fn assert_records(
-    rt: &impl Abort,
-    alloc: Global,
-    format: u32,
-    records: &str,
-    wanted: &str,
-) -> Result<(), OutOfMemory> {
-    let text = document(alloc, format, 9, records)?;
-    let found = told(alloc, text.as_bytes())?;
+fn assert_records(rt: &impl Abort, alloc: Global, format: u32, records: &str, wanted: &str) {
+    let text = document(rt, alloc, format, 9, records);
+    let found = told(rt, alloc, text.as_bytes());
     assert_eq!(rt; found.as_str(), wanted, "at {records}");
-    Ok(())
 }
 
 #[test]
-fn no_json(rt: HostRuntime) -> Result<(), Fail> {
+fn no_json(rt: HostRuntime) {
     let alloc = rt.alloc();
     assert_told(
         &rt,
@@ -32,14 +26,13 @@ fn no_json(rt: HostRuntime) -> Result<(), Fail> {
             (r#"{"format":1,"next":1e999,"shapes":[]}"#, "50"),
             (r#"{"format":2,"next":1,"shapes":[],}"#, "50"),
         ],
-    )?;
-    let bad = told(alloc, b"\"\xff\"")?;
+    );
+    let bad = told(&rt, alloc, b"\"\xff\"");
     assert_eq!(rt; bad.as_str(), "50");
-    Ok(())
 }
 
 #[test]
-fn no_object_of_three_members(rt: HostRuntime) -> Result<(), Fail> {
+fn no_object_of_three_members(rt: HostRuntime) {
     assert_told(
         &rt,
         rt.alloc(),
@@ -55,12 +48,11 @@ fn no_object_of_three_members(rt: HostRuntime) -> Result<(), Fail> {
             (r#"{"format":1,"name":1,"next":1,"shapes":[]}"#, "60"),
             (r#"{"format":2,"name":1,"next":1,"shapes":[]}"#, "60"),
         ],
-    )?;
-    Ok(())
+    );
 }
 
 #[test]
-fn no_format(rt: HostRuntime) -> Result<(), Fail> {
+fn no_format(rt: HostRuntime) {
     assert_told(
         &rt,
         rt.alloc(),
@@ -74,12 +66,11 @@ fn no_format(rt: HostRuntime) -> Result<(), Fail> {
             (r#"{"format":"2","next":1,"shapes":[]}"#, "60"),
             (r#"{"format":null,"next":1,"shapes":[]}"#, "60"),
         ],
-    )?;
-    Ok(())
+    );
 }
 
 #[test]
-fn no_next_id_or_list(rt: HostRuntime) -> Result<(), Fail> {
+fn no_next_id_or_list(rt: HostRuntime) {
     assert_told(
         &rt,
         rt.alloc(),
@@ -95,8 +86,7 @@ fn no_next_id_or_list(rt: HostRuntime) -> Result<(), Fail> {
             // Before the elements are read.
             (r#"{"format":2,"next":0,"shapes":[7]}"#, "60"),
         ],
-    )?;
-    Ok(())
+    );
 }
 
 // A record of each format with these members before its place, this index and this parent is told so.
@@ -107,17 +97,16 @@ fn assert_members(
     index: &str,
     parent: &str,
     wanted: &str,
-) -> Result<(), OutOfMemory> {
+) {
     for format in [1, 2] {
-        let place = place(alloc, format, index, parent)?;
-        let text = format!(in alloc; "{{{members},{place},\"pose\":{POSE},\"shape\":{GROUP}}}")?;
-        assert_records(rt, alloc, format, text.as_str(), wanted)?;
+        let place = place(rt, alloc, format, index, parent);
+        let text = record_with(rt, alloc, (members, place.as_str()), POSE, GROUP);
+        assert_records(rt, alloc, format, text.as_str(), wanted);
     }
-    Ok(())
 }
 
 #[test]
-fn no_record(rt: HostRuntime) -> Result<(), Fail> {
+fn no_record(rt: HostRuntime) {
     let one = r#""hidden":false,"id":1"#;
     for (members, index, parent, wanted) in [
         (r#""id":1"#, r#""a0""#, "null", "61 at 0"),
@@ -138,38 +127,34 @@ fn no_record(rt: HostRuntime) -> Result<(), Fail> {
         (one, r#""a0""#, "4294967296", "61 at 0"),
         (one, r#""a0""#, "4294967295", "62 at 0"),
     ] {
-        assert_members(&rt, rt.alloc(), members, index, parent, wanted)?;
+        assert_members(&rt, rt.alloc(), members, index, parent, wanted);
     }
-    Ok(())
 }
 
 // A record of a format with these members in the place of its place is none.
-fn assert_no_place(
-    rt: &impl Abort,
-    alloc: Global,
-    format: u32,
-    members: &str,
-) -> Result<(), OutOfMemory> {
-    let text = format!(in alloc;
-        "{{\"hidden\":false,\"id\":1,{members},\"pose\":{POSE},\"shape\":{GROUP}}}"
-    )?;
-    assert_records(rt, alloc, format, text.as_str(), "61 at 0")
+fn assert_no_place(rt: &impl Abort, alloc: Global, format: u32, members: &str) {
+    let text = record_with(rt, alloc, (FIRST, members), POSE, GROUP);
+    assert_records(rt, alloc, format, text.as_str(), "61 at 0");
+}
+
+// A record of another format is none.
+fn assert_no_record_of(rt: &impl Abort, alloc: Global, format: u32, other: u32) {
+    let text = record(rt, alloc, other, 1, "a0", "null", GROUP);
+    assert_records(rt, alloc, format, text.as_str(), "61 at 0");
 }
 
 #[test]
-fn no_element_of_its_own_format(rt: HostRuntime) -> Result<(), Fail> {
+fn no_element_of_its_own_format(rt: HostRuntime) {
     let alloc = rt.alloc();
     for (format, other) in [(1, 2), (2, 1)] {
-        assert_records(&rt, alloc, format, "7", "61 at 0")?;
-        assert_records(&rt, alloc, format, "{}", "61 at 0")?;
-        let text = record(alloc, other, 1, "a0", "null", GROUP)?;
-        assert_records(&rt, alloc, format, text.as_str(), "61 at 0")?;
+        assert_records(&rt, alloc, format, "7", "61 at 0");
+        assert_records(&rt, alloc, format, "{}", "61 at 0");
+        assert_no_record_of(&rt, alloc, format, other);
     }
-    Ok(())
 }
 
 #[test]
-fn no_place(rt: HostRuntime) -> Result<(), Fail> {
+fn no_place(rt: HostRuntime) {
     for (format, members) in [
         (1, r#""index":"a0""#),
         (1, r#""parent":null"#),
@@ -187,25 +172,21 @@ fn no_place(rt: HostRuntime) -> Result<(), Fail> {
         (2, r#""index":"a0","place":{"index":"a0","parent":null}"#),
         (2, r#""parent":null,"place":{"index":"a0","parent":null}"#),
     ] {
-        assert_no_place(&rt, rt.alloc(), format, members)?;
+        assert_no_place(&rt, rt.alloc(), format, members);
     }
-    Ok(())
 }
 
 // A record of each format with this pose is none.
-fn assert_no_pose(rt: &impl Abort, alloc: Global, pose: &str) -> Result<(), OutOfMemory> {
+fn assert_no_pose(rt: &impl Abort, alloc: Global, pose: &str) {
     for format in [1, 2] {
-        let place = place(alloc, format, "\"a0\"", "null")?;
-        let text = format!(in alloc;
-            "{{\"hidden\":false,\"id\":1,{place},\"pose\":{pose},\"shape\":{GROUP}}}"
-        )?;
-        assert_records(rt, alloc, format, text.as_str(), "61 at 0")?;
+        let place = place(rt, alloc, format, "\"a0\"", "null");
+        let text = record_with(rt, alloc, (FIRST, place.as_str()), pose, GROUP);
+        assert_records(rt, alloc, format, text.as_str(), "61 at 0");
     }
-    Ok(())
 }
 
 #[test]
-fn no_pose(rt: HostRuntime) -> Result<(), Fail> {
+fn no_pose(rt: HostRuntime) {
     for pose in [
         "null",
         "{}",
@@ -219,22 +200,20 @@ fn no_pose(rt: HostRuntime) -> Result<(), Fail> {
         r#"{"dx":0,"dy":2147483648,"flip":false,"quarter":0}"#,
         r#"{"dx":1e3,"dy":0,"flip":false,"quarter":0}"#,
     ] {
-        assert_no_pose(&rt, rt.alloc(), pose)?;
+        assert_no_pose(&rt, rt.alloc(), pose);
     }
-    Ok(())
 }
 
 // A record of each format with this shape is none.
-fn assert_no_shape(rt: &impl Abort, alloc: Global, shape: &str) -> Result<(), OutOfMemory> {
+fn assert_no_shape(rt: &impl Abort, alloc: Global, shape: &str) {
     for format in [1, 2] {
-        let text = record(alloc, format, 1, "a0", "null", shape)?;
-        assert_records(rt, alloc, format, text.as_str(), "61 at 0")?;
+        let text = record(rt, alloc, format, 1, "a0", "null", shape);
+        assert_records(rt, alloc, format, text.as_str(), "61 at 0");
     }
-    Ok(())
 }
 
 #[test]
-fn no_shape_with_sides(rt: HostRuntime) -> Result<(), Fail> {
+fn no_shape_with_sides(rt: HostRuntime) {
     for shape in [
         "null",
         "{}",
@@ -251,13 +230,12 @@ fn no_shape_with_sides(rt: HostRuntime) -> Result<(), Fail> {
         r#"{"fill":"000000","kind":"ellipse","w":1}"#,
         r#"{"fill":"000000","h":1,"kind":"ellipse","points":[],"w":1}"#,
     ] {
-        assert_no_shape(&rt, rt.alloc(), shape)?;
+        assert_no_shape(&rt, rt.alloc(), shape);
     }
-    Ok(())
 }
 
 #[test]
-fn no_polygon(rt: HostRuntime) -> Result<(), Fail> {
+fn no_polygon(rt: HostRuntime) {
     for shape in [
         r#"{"fill":"000000","kind":"polygon"}"#,
         r#"{"fill":"000000","kind":"polygon","points":[[0,0],[1,1]]}"#,
@@ -268,53 +246,41 @@ fn no_polygon(rt: HostRuntime) -> Result<(), Fail> {
         r#"{"fill":"000000","kind":"polygon","points":{}}"#,
         r#"{"fill":"000000","h":1,"kind":"polygon","points":[[0,0],[1,1],[0,1]]}"#,
     ] {
-        assert_no_shape(&rt, rt.alloc(), shape)?;
+        assert_no_shape(&rt, rt.alloc(), shape);
     }
-    Ok(())
 }
 
-// A document of these groups of a format, each with its id, index and parent, is told so.
-fn assert_groups(
-    rt: &impl Abort,
-    alloc: Global,
-    format: u32,
-    groups: &[(u32, &str, &str)],
-    wanted: &str,
-) -> Result<(), OutOfMemory> {
+// The text of these groups, each with its id, index and parent.
+fn groups_of(rt: &impl Abort, alloc: Global, format: u32, groups: &[(u32, &str, &str)]) -> String {
     let mut text = String::new(alloc);
-    for (position, (id, index, parent)) in groups.iter().enumerate() {
-        if position != 0 {
-            text.push_str(",")?;
-        }
-        text.push_str(record(alloc, format, *id, index, parent, GROUP)?.as_str())?;
+    for (id, index, parent) in groups {
+        let group = record(rt, alloc, format, *id, index, parent, GROUP);
+        push_element(rt, &mut text, group.as_str());
     }
-    assert_records(rt, alloc, format, text.as_str(), wanted)
+    text
 }
 
-// These groups are no tree in either format.
-fn assert_no_tree(
-    rt: &impl Abort,
-    alloc: Global,
-    groups: &[(u32, &str, &str)],
-    wanted: &str,
-) -> Result<(), OutOfMemory> {
-    assert_groups(rt, alloc, 1, groups, wanted)?;
-    assert_groups(rt, alloc, 2, groups, wanted)
+// A document of these groups is told so in either format.
+fn assert_no_tree(rt: &impl Abort, alloc: Global, groups: &[(u32, &str, &str)], wanted: &str) {
+    for format in [1, 2] {
+        let text = groups_of(rt, alloc, format, groups);
+        assert_records(rt, alloc, format, text.as_str(), wanted);
+    }
 }
 
 #[test]
-fn no_tree(rt: HostRuntime) -> Result<(), Fail> {
+fn no_tree(rt: HostRuntime) {
     let alloc = rt.alloc();
     // An id twice; of the two, the first counts as the parent.
     let twice = [(1, "a0", "null"), (2, "a0", "1"), (1, "a1", "2")];
-    assert_no_tree(&rt, alloc, &twice, "62 at 2")?;
+    assert_no_tree(&rt, alloc, &twice, "62 at 2");
     // No such parent.
     let lost = [(1, "a0", "null"), (2, "a0", "9")];
-    assert_no_tree(&rt, alloc, &lost, "62 at 1")?;
+    assert_no_tree(&rt, alloc, &lost, "62 at 1");
     // A shape below itself.
-    assert_no_tree(&rt, alloc, &[(1, "a0", "1")], "62 at 0")?;
+    assert_no_tree(&rt, alloc, &[(1, "a0", "1")], "62 at 0");
     let round = [(1, "a0", "null"), (2, "a0", "3"), (3, "a0", "2")];
-    assert_no_tree(&rt, alloc, &round, "62 at 1")?;
+    assert_no_tree(&rt, alloc, &round, "62 at 1");
     // Two shapes at one place.
     let crowded = [
         (1, "a0", "null"),
@@ -322,36 +288,57 @@ fn no_tree(rt: HostRuntime) -> Result<(), Fail> {
         (3, "a0", "2"),
         (4, "a1", "null"),
     ];
-    assert_no_tree(&rt, alloc, &crowded, "62 at 3")?;
-    Ok(())
+    assert_no_tree(&rt, alloc, &crowded, "62 at 3");
 }
 
-#[test]
-fn a_leaf_is_no_parent(rt: HostRuntime) -> Result<(), Fail> {
-    let alloc = rt.alloc();
+// A leaf, and a group in it.
+fn leaf_with_child(rt: &impl Abort, alloc: Global, format: u32) -> String {
     let leaf = r#"{"fill":"000000","h":1,"kind":"rect","w":1}"#;
-    for format in [1, 2] {
-        let above = record(alloc, format, 1, "a0", "null", leaf)?;
-        let below = record(alloc, format, 2, "a0", "1", GROUP)?;
-        let text = format!(in alloc; "{above},{below}")?;
-        assert_records(&rt, alloc, format, text.as_str(), "62 at 1")?;
-    }
-    Ok(())
+    let mut text = record(rt, alloc, format, 1, "a0", "null", leaf);
+    let below = record(rt, alloc, format, 2, "a0", "1", GROUP);
+    push_element(rt, &mut text, below.as_str());
+    text
 }
 
 #[test]
-fn least_position(rt: HostRuntime) -> Result<(), Fail> {
-    let alloc = rt.alloc();
-    let good = record(alloc, 2, 1, "a0", "null", GROUP)?;
-    let lost = record(alloc, 2, 2, "a0", "7", GROUP)?;
-    let zero = record(alloc, 2, 0, "a1", "null", GROUP)?;
-    for (text, wanted) in [
-        // What an element is and what its values are is judged together, before the tree.
-        (format!(in alloc; "{good},{lost},{zero},7")?, "61 at 2"),
-        (format!(in alloc; "{good},{lost},7,{zero}")?, "61 at 2"),
-        (format!(in alloc; "{good},{lost},{good}")?, "62 at 1"),
-    ] {
-        assert_records(&rt, alloc, 2, text.as_str(), wanted)?;
+fn a_leaf_is_no_parent(rt: HostRuntime) {
+    for format in [1, 2] {
+        let text = leaf_with_child(&rt, rt.alloc(), format);
+        assert_records(&rt, rt.alloc(), format, text.as_str(), "62 at 1");
     }
-    Ok(())
+}
+
+// An element of a list by its letter.
+fn element(rt: &impl Abort, alloc: Global, letter: char) -> String {
+    match letter {
+        'g' => record(rt, alloc, 2, 1, "a0", "null", GROUP),
+        'l' => record(rt, alloc, 2, 2, "a0", "7", GROUP),
+        'z' => record(rt, alloc, 2, 0, "a1", "null", GROUP),
+        _ => number(rt, alloc, 7),
+    }
+}
+
+// The text of elements by their letters.
+fn elements(rt: &impl Abort, alloc: Global, letters: &[char]) -> String {
+    let mut text = String::new(alloc);
+    for letter in letters {
+        let next = element(rt, alloc, *letter);
+        push_element(rt, &mut text, next.as_str());
+    }
+    text
+}
+
+// Good groups, lost ones with no such parent, zero ids and what is no record.
+#[test]
+fn least_position(rt: HostRuntime) {
+    let rows: [(&[char], &str); 3] = [
+        // What an element is and what its values are is judged together, before the tree.
+        (&['g', 'l', 'z', 'n'], "61 at 2"),
+        (&['g', 'l', 'n', 'z'], "61 at 2"),
+        (&['g', 'l', 'g'], "62 at 1"),
+    ];
+    for (letters, wanted) in rows {
+        let text = elements(&rt, rt.alloc(), letters);
+        assert_records(&rt, rt.alloc(), 2, text.as_str(), wanted);
+    }
 }

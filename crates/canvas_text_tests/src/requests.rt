@@ -4,35 +4,48 @@ ghost use Rattle.canvas_wire.specs.Replies.{IsNamed};
 use canvas_code::name_of;
 use canvas_doc::{Edit, Parent, Spot};
 use canvas_key::Key;
-use canvas_plane::Pose;
+use canvas_plane::{Point, Pose};
 use canvas_shape::{Colour, Kind};
 use canvas_wire::{Reply, Request, RequestReader, WireFault, read_request, write_reply};
-use std::alloc::{AllocError, Global};
+use std::alloc::Global;
 use std::process::Abort;
 use std::str;
-use std::test::Fail;
 
-// The request of a line in words, or the number of the fault.
-fn told(alloc: Global, line: &[u8]) -> Result<String, AllocError> {
-    told_request(alloc, read_request(alloc, line))
-}
-
-fn told_request(alloc: Global, read: Result<Request, WireFault>) -> Result<String, AllocError> {
+// A request in words, or the number of the fault.
+fn told(rt: &impl Abort, alloc: Global, read: Result<Request, WireFault>) -> String {
     match read {
-        Ok(Request::Edit(edit)) => told_edit(alloc, &edit),
-        Ok(Request::Tile { level, col, row }) => {
-            format!(in alloc; "tile {col} {row} at {level}")
-        }
-        Ok(Request::Patch { level, x, y, w, h }) => {
-            format!(in alloc; "patch {x} {y} {w} {h} at {level}")
-        }
-        Ok(Request::Point { x, y }) => format!(in alloc; "point {x} {y}"),
-        Ok(Request::Export) => format!(in alloc; "export"),
-        Err(fault) => format!(in alloc; "{}", fault.code()),
+        Ok(request) => told_request(rt, alloc, &request),
+        Err(fault) => format!(in alloc; "{}", fault.code()).expect(rt, "memory"),
     }
 }
 
-fn told_edit(alloc: Global, edit: &Edit) -> Result<String, AllocError> {
+fn told_request(rt: &impl Abort, alloc: Global, request: &Request) -> String {
+    match request {
+        Request::Edit(edit) => told_edit(rt, alloc, edit),
+        Request::Tile { level, col, row } => {
+            format!(in alloc; "tile {col} {row} at {level}").expect(rt, "memory")
+        }
+        Request::Patch { level, x, y, w, h } => {
+            format!(in alloc; "patch {x} {y} {w} {h} at {level}").expect(rt, "memory")
+        }
+        Request::Point { x, y } => format!(in alloc; "point {x} {y}").expect(rt, "memory"),
+        Request::Export => text(rt, alloc, "export"),
+    }
+}
+
+fn text(rt: &impl Abort, alloc: Global, words: &str) -> String {
+    format!(in alloc; "{words}").expect(rt, "memory")
+}
+
+// A text with more behind it.
+fn with(rt: &impl Abort, start: String, between: &str, more: &str) -> String {
+    let mut text = start;
+    text.push_str(between).expect(rt, "memory");
+    text.push_str(more).expect(rt, "memory");
+    text
+}
+
+fn told_edit(rt: &impl Abort, alloc: Global, edit: &Edit) -> String {
     match edit {
         Edit::Create {
             kind,
@@ -41,114 +54,159 @@ fn told_edit(alloc: Global, edit: &Edit) -> Result<String, AllocError> {
             parent,
             spot,
         } => {
-            let kind = told_kind(alloc, kind)?;
-            let pose = told_pose(alloc, pose)?;
-            let parent = told_parent(alloc, *parent)?;
-            let spot = told_spot(alloc, spot)?;
-            format!(in alloc; "create {kind}; {pose}; {hidden}; {parent}; {spot}")
+            let start = told_new(rt, alloc, kind, pose, *hidden);
+            with_place(rt, alloc, start, *parent, spot)
         }
         Edit::Move { id, parent, spot } => {
-            let parent = told_parent(alloc, *parent)?;
-            let spot = told_spot(alloc, spot)?;
-            format!(in alloc; "move {id}; {parent}; {spot}")
+            let start = numbered(rt, alloc, "move", *id);
+            with_place(rt, alloc, start, *parent, spot)
         }
         Edit::Pose { id, pose } => {
-            let pose = told_pose(alloc, pose)?;
-            format!(in alloc; "pose {id}; {pose}")
+            let start = numbered(rt, alloc, "pose", *id);
+            with(rt, start, "; ", told_pose(rt, alloc, pose).as_str())
         }
         Edit::Reshape { id, kind } => {
-            let kind = told_kind(alloc, kind)?;
-            format!(in alloc; "reshape {id}; {kind}")
+            let start = numbered(rt, alloc, "reshape", *id);
+            with(rt, start, "; ", told_kind(rt, alloc, kind).as_str())
         }
-        Edit::Show { id, hidden } => format!(in alloc; "show {id} {hidden}"),
-        Edit::Delete { id } => format!(in alloc; "delete {id}"),
+        Edit::Show { id, hidden } => {
+            format!(in alloc; "show {id} {hidden}").expect(rt, "memory")
+        }
+        Edit::Delete { id } => numbered(rt, alloc, "delete", *id),
         Edit::Respace { parent } => {
-            let parent = told_parent(alloc, *parent)?;
-            format!(in alloc; "respace {parent}")
+            let start = text(rt, alloc, "respace");
+            with(rt, start, " ", told_parent(rt, alloc, *parent).as_str())
         }
     }
 }
 
-fn told_kind(alloc: Global, kind: &Kind) -> Result<String, AllocError> {
+fn numbered(rt: &impl Abort, alloc: Global, verb: &str, id: u32) -> String {
+    format!(in alloc; "{verb} {id}").expect(rt, "memory")
+}
+
+// A new shape but for its place.
+fn told_new(rt: &impl Abort, alloc: Global, kind: &Kind, pose: &Pose, hidden: bool) -> String {
+    let start = text(rt, alloc, "create");
+    let start = with(rt, start, " ", told_kind(rt, alloc, kind).as_str());
+    let start = with(rt, start, "; ", told_pose(rt, alloc, pose).as_str());
+    with(rt, start, "; ", if hidden { "true" } else { "false" })
+}
+
+fn with_place(
+    rt: &impl Abort,
+    alloc: Global,
+    start: String,
+    parent: Parent,
+    spot: &Spot,
+) -> String {
+    let start = with(rt, start, "; ", told_parent(rt, alloc, parent).as_str());
+    with(rt, start, "; ", told_spot(rt, alloc, spot).as_str())
+}
+
+fn told_kind(rt: &impl Abort, alloc: Global, kind: &Kind) -> String {
     match kind {
-        Kind::Group => format!(in alloc; "group"),
-        Kind::Frame { w, h, fill } => {
-            let fill = match fill {
-                Some(fill) => told_colour(alloc, *fill)?,
-                None => format!(in alloc; "clear")?,
-            };
-            format!(in alloc; "frame {w} {h} {fill}")
-        }
-        Kind::Rect { w, h, fill } => {
-            let fill = told_colour(alloc, *fill)?;
-            format!(in alloc; "rect {w} {h} {fill}")
-        }
-        Kind::Ellipse { w, h, fill } => {
-            let fill = told_colour(alloc, *fill)?;
-            format!(in alloc; "ellipse {w} {h} {fill}")
-        }
+        Kind::Group => text(rt, alloc, "group"),
+        Kind::Frame { w, h, fill } => match fill {
+            Some(fill) => told_box(rt, alloc, "frame", (*w, *h), *fill),
+            None => format!(in alloc; "frame {w} {h} clear").expect(rt, "memory"),
+        },
+        Kind::Rect { w, h, fill } => told_box(rt, alloc, "rect", (*w, *h), *fill),
+        Kind::Ellipse { w, h, fill } => told_box(rt, alloc, "ellipse", (*w, *h), *fill),
         Kind::Polygon { points, fill } => {
-            let mut text = format!(in alloc; "polygon")?;
-            for point in points.as_slice() {
-                let point = format!(in alloc; " {},{}", point.x, point.y)?;
-                text.push_str(point.as_str())?;
-            }
-            let fill = told_colour(alloc, *fill)?;
-            format!(in alloc; "{text} {fill}")
+            let start = told_points(rt, alloc, points.as_slice());
+            with(rt, start, " ", told_colour(rt, alloc, *fill).as_str())
         }
     }
 }
 
-fn told_colour(alloc: Global, colour: Colour) -> Result<String, AllocError> {
+fn told_box(
+    rt: &impl Abort,
+    alloc: Global,
+    kind: &str,
+    (w, h): (u32, u32),
+    fill: Colour,
+) -> String {
+    let start = format!(in alloc; "{kind} {w} {h}").expect(rt, "memory");
+    with(rt, start, " ", told_colour(rt, alloc, fill).as_str())
+}
+
+fn told_points(rt: &impl Abort, alloc: Global, points: &[Point]) -> String {
+    let mut told = text(rt, alloc, "polygon");
+    for point in points {
+        told = with(rt, told, " ", told_point(rt, alloc, point).as_str());
+    }
+    told
+}
+
+fn told_point(rt: &impl Abort, alloc: Global, point: &Point) -> String {
+    format!(in alloc; "{},{}", point.x, point.y).expect(rt, "memory")
+}
+
+fn told_colour(rt: &impl Abort, alloc: Global, colour: Colour) -> String {
     let [red, green, blue] = colour.0;
-    format!(in alloc; "({red} {green} {blue})")
+    format!(in alloc; "({red} {green} {blue})").expect(rt, "memory")
 }
 
-fn told_pose(alloc: Global, pose: &Pose) -> Result<String, AllocError> {
-    format!(in alloc; "{} {} {} {}", pose.dx, pose.dy, pose.quarter, pose.flip)
+fn told_pose(rt: &impl Abort, alloc: Global, pose: &Pose) -> String {
+    format!(in alloc; "{} {} {} {}", pose.dx, pose.dy, pose.quarter, pose.flip).expect(rt, "memory")
 }
 
-fn told_parent(alloc: Global, parent: Parent) -> Result<String, AllocError> {
+fn told_parent(rt: &impl Abort, alloc: Global, parent: Parent) -> String {
     match parent {
-        Parent::Page => format!(in alloc; "page"),
-        Parent::Shape(id) => format!(in alloc; "in {id}"),
+        Parent::Page => text(rt, alloc, "page"),
+        Parent::Shape(id) => format!(in alloc; "in {id}").expect(rt, "memory"),
     }
 }
 
-fn told_spot(alloc: Global, spot: &Spot) -> Result<String, AllocError> {
+fn told_spot(rt: &impl Abort, alloc: Global, spot: &Spot) -> String {
     match spot {
-        Spot::Back => format!(in alloc; "back"),
-        Spot::Front => format!(in alloc; "front"),
-        Spot::Over(id) => format!(in alloc; "over {id}"),
-        Spot::At(key) => told_key(alloc, key),
+        Spot::Back => text(rt, alloc, "back"),
+        Spot::Front => text(rt, alloc, "front"),
+        Spot::Over(id) => format!(in alloc; "over {id}").expect(rt, "memory"),
+        Spot::At(key) => told_key(rt, alloc, key),
     }
 }
 
-fn told_key(alloc: Global, key: &Key) -> Result<String, AllocError> {
+fn told_key(rt: &impl Abort, alloc: Global, key: &Key) -> String {
     match str::from_utf8(key.bytes()) {
-        Ok(text) => format!(in alloc; "at {text}"),
-        Err(_) => format!(in alloc; "at no text"),
+        Ok(text) => format!(in alloc; "at {text}").expect(rt, "memory"),
+        Err(_) => text(rt, alloc, "at no text"),
     }
+}
+
+// A line says this to a reader.
+fn assert_line(
+    rt: &impl Abort,
+    alloc: Global,
+    reader: &mut RequestReader,
+    line: &[u8],
+    wanted: &str,
+) {
+    let request = told(rt, alloc, reader.read(alloc, line));
+    assert_eq!(rt; request.as_str(), wanted, "at {line:?}");
+}
+
+// A line that is read alone says this.
+fn assert_alone(rt: &impl Abort, alloc: Global, line: &[u8], wanted: &str) {
+    let request = told(rt, alloc, read_request(alloc, line));
+    assert_eq!(rt; request.as_str(), wanted, "at {line:?}");
 }
 
 // Each line says what stands beside it to a reader of them all, and the same with a CR before its LF and read alone.
-fn assert_told(rt: &impl Abort, alloc: Global, rows: &[(&str, &str)]) -> Result<(), AllocError> {
+fn assert_told(rt: &impl Abort, alloc: Global, rows: &[(&str, &str)]) {
     let mut reader = RequestReader::new(alloc);
     for row in rows {
         let (line, wanted) = *row;
-        let request = told_request(alloc, reader.read(alloc, line.as_bytes()))?;
-        assert_eq!(rt; request.as_str(), wanted, "at {line}");
-        let with_cr = format!(in alloc; "{line}\r")?;
-        let request = told(alloc, with_cr.as_bytes())?;
-        assert_eq!(rt; request.as_str(), wanted, "at {line} and a CR");
+        assert_line(rt, alloc, &mut reader, line.as_bytes(), wanted);
+        let with_cr = format!(in alloc; "{line}\r").expect(rt, "memory");
+        assert_alone(rt, alloc, with_cr.as_bytes(), wanted);
     }
-    Ok(())
 }
 
 const RECT: &str = "create rect 0 1 (0 0 0); 0 0 0 false; false; page; front";
 
 #[test]
-fn worked_rows(rt: HostRuntime) -> Result<(), Fail> {
+fn worked_rows(rt: HostRuntime) {
     assert_told(
         &rt,
         rt.alloc(),
@@ -219,12 +277,11 @@ fn worked_rows(rt: HostRuntime) -> Result<(), Fail> {
             (r#""#, "50"),
             (r#" "#, "50"),
         ],
-    )?;
-    Ok(())
+    );
 }
 
 #[test]
-fn every_member_of_each_verb(rt: HostRuntime) -> Result<(), Fail> {
+fn every_member_of_each_verb(rt: HostRuntime) {
     assert_told(
         &rt,
         rt.alloc(),
@@ -284,12 +341,11 @@ fn every_member_of_each_verb(rt: HostRuntime) -> Result<(), Fail> {
                 "tile 1 2 at 0",
             ),
         ],
-    )?;
-    Ok(())
+    );
 }
 
 #[test]
-fn missing_and_wrong_members(rt: HostRuntime) -> Result<(), Fail> {
+fn missing_and_wrong_members(rt: HostRuntime) {
     assert_told(
         &rt,
         rt.alloc(),
@@ -384,12 +440,11 @@ fn missing_and_wrong_members(rt: HostRuntime) -> Result<(), Fail> {
             (r#"{"verb":"patch","x":0,"y":0,"w":-1,"h":1}"#, "53"),
             (r#"{"verb":"point","x":0,"y":"0"}"#, "53"),
         ],
-    )?;
-    Ok(())
+    );
 }
 
 #[test]
-fn levels_of_windows(rt: HostRuntime) -> Result<(), Fail> {
+fn levels_of_windows(rt: HostRuntime) {
     assert_told(
         &rt,
         rt.alloc(),
@@ -433,12 +488,11 @@ fn levels_of_windows(rt: HostRuntime) -> Result<(), Fail> {
             (r#"{"verb":"point","x":0,"y":0,"level":0}"#, "54"),
             (r#"{"verb":"export","level":0}"#, "54"),
         ],
-    )?;
-    Ok(())
+    );
 }
 
 #[test]
-fn extra_members_come_last(rt: HostRuntime) -> Result<(), Fail> {
+fn extra_members_come_last(rt: HostRuntime) {
     assert_told(
         &rt,
         rt.alloc(),
@@ -485,12 +539,11 @@ fn extra_members_come_last(rt: HostRuntime) -> Result<(), Fail> {
             ),
             (r#"{"verb":"create","shape":{"kind":"rect","x":1}}"#, "53"),
         ],
-    )?;
-    Ok(())
+    );
 }
 
 #[test]
-fn numbers_and_texts_as_json_has_them(rt: HostRuntime) -> Result<(), Fail> {
+fn numbers_and_texts_as_json_has_them(rt: HostRuntime) {
     assert_told(
         &rt,
         rt.alloc(),
@@ -518,41 +571,49 @@ fn numbers_and_texts_as_json_has_them(rt: HostRuntime) -> Result<(), Fail> {
             (r#"{"v\u0065rb":"d\u0065lete","\u0069d":7}"#, "delete 7"),
             (r#"{"verb":"delete\u0000","id":7}"#, "52"),
         ],
-    )?;
-    Ok(())
+    );
 }
 
-// A request that has lists nested so deep beside its verb: the object is one level more.
-fn nested(alloc: Global, depth: usize) -> Result<String, AllocError> {
-    let mut line = format!(in alloc; "{{\"verb\":\"export\",\"x\":")?;
-    for _ in 0..depth {
-        line.push_str("[")?;
+fn push_all(rt: &impl Abort, line: &mut String, text: &str, count: usize) {
+    for _ in 0..count {
+        line.push_str(text).expect(rt, "memory");
     }
-    for _ in 0..depth {
-        line.push_str("]")?;
-    }
-    line.push_str("}")?;
-    Ok(line)
+}
+
+// A text between so many opening and closing brackets.
+fn bracketed(rt: &impl Abort, alloc: Global, start: &str, depth: usize, end: &str) -> String {
+    let mut line = text(rt, alloc, start);
+    push_all(rt, &mut line, "[", depth);
+    push_all(rt, &mut line, "]", depth);
+    line.push_str(end).expect(rt, "memory");
+    line
 }
 
 #[test]
-fn nesting_and_bytes(rt: HostRuntime) -> Result<(), Fail> {
-    let alloc = rt.alloc();
-    assert_eq!(rt; told(alloc, nested(alloc, 126)?.as_bytes())?.as_str(), "54");
-    assert_eq!(rt; told(alloc, nested(alloc, 127)?.as_bytes())?.as_str(), "50");
-    let brackets = format!(in alloc; "{}{}", "[".repeat(alloc, 200)?, "]".repeat(alloc, 200)?)?;
-    assert_eq!(rt; told(alloc, brackets.as_bytes())?.as_str(), "50");
-    assert_eq!(rt;
-        told(alloc, b"{\"verb\":\"export\",\"x\":\"\xff\"}")?.as_str(),
-        "50"
-    );
-    assert_eq!(rt;
-        told(alloc, b"\xef\xbb\xbf{\"verb\":\"export\"}")?.as_str(),
-        "50"
-    );
-    assert_eq!(rt; told(alloc, b"{\"verb\":\"export\"}\x0b")?.as_str(), "50");
-    assert_eq!(rt; told(alloc, b"{\"verb\":\"ex\x01port\"}")?.as_str(), "50");
-    Ok(())
+fn nesting(rt: HostRuntime) {
+    let request = "{\"verb\":\"export\",\"x\":";
+    // The object is one level more than the lists in it.
+    for (start, depth, end, wanted) in [
+        (request, 126, "}", "54"),
+        (request, 127, "}", "50"),
+        ("", 200, "", "50"),
+    ] {
+        let line = bracketed(&rt, rt.alloc(), start, depth, end);
+        assert_alone(&rt, rt.alloc(), line.as_bytes(), wanted);
+    }
+}
+
+#[test]
+fn bytes_that_are_no_json(rt: HostRuntime) {
+    let lines: [&[u8]; 4] = [
+        b"{\"verb\":\"export\",\"x\":\"\xff\"}",
+        b"\xef\xbb\xbf{\"verb\":\"export\"}",
+        b"{\"verb\":\"export\"}\x0b",
+        b"{\"verb\":\"ex\x01port\"}",
+    ];
+    for line in lines {
+        assert_alone(&rt, rt.alloc(), line, "50");
+    }
 }
 
 #[test]
