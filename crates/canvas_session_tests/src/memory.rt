@@ -114,7 +114,9 @@ fn serve_again<H: Threads + Wait + Sync + Abort>(
     let mut out = Vec::with_capacity(alloc, 256)?;
     let mut board = board(rt, alloc, Document::empty(alloc), 1_000_000);
     assert!(rt; is_counted_right(rt, alloc, &mut board, &mut out, requests, input));
-    let end = end_of(ends, &out).expect(rt, "one of these ends");
+    let end = end_of(ends, &out);
+    assert!(rt; end.is_some());
+    let end = end.expect(rt, "one of these ends");
     if !end.again.is_empty() {
         out.clear();
         assert!(rt; answers_again(rt, alloc, &mut board, &mut out, end));
