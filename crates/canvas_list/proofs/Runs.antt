@@ -1,5 +1,5 @@
 -- The items of a chunk, as a part of a list.
-use Rattle.std.proofs.Common.{◌≡◌, ◌∙◌, ℕ, ◌+◌, ◌<◌, ◌≤◌, List, ◌++◌, take, drop, sym, ap, arith, length, get_or}
+use Rattle.std.proofs.Common.{◌≡◌, ◌∙◌, ℕ, ◌+◌, ◌<◌, List, ◌++◌, take, drop, sym, ap, arith, length, get_or}
 use Rattle.std.proofs.lemmas.List.{get_or-append-add, get_or_append_left}
 use Rattle.canvas_list.specs.Chunks.{joined, IsRun}
 use Rattle.canvas_list.proofs.Joined.{chunk-read, split_at, take-fewer, IsFound}

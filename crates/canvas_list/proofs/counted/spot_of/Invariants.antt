@@ -1,4 +1,4 @@
-use Rattle.std.proofs.Common.{◌≡◌, ◌≤◌, ◌<◌, ◌+◌, ◌-◌, length, take}
+use Rattle.std.proofs.Common.{◌≡◌, ◌<◌, ◌+◌, ◌-◌, length, take}
 use Rattle.std.specs.List.{sum_by}
 use Rattle.canvas_list.proofs.counted.spot_of.Given as goal
 
