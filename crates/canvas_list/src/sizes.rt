@@ -11,7 +11,7 @@ pub(crate) const CHUNK: usize = 12;
 pub(crate) const JOINED_CHUNK: usize = 6;
 
 /// How many chunks a block gets in a list of so many items: about as many as there are blocks, since
-/// a change copies both tables. A block with more than twice as many is halved; two neighbours with
+/// a change copies both tables. A block with twice as many or more is halved; two neighbours with
 /// no more than half as many each become one where an item of theirs is removed.
 pub(crate) fn block_size(items: usize) -> usize
     ensures some { 0 < result }

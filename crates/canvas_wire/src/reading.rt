@@ -51,17 +51,14 @@ impl RequestReader {
     /// The first of these faults that applies is answered: 50 where the line is not JSON, 51 where it
     /// is no object, 52 where `verb` is missing or no verb's name, 53 where a member of the verb, or
     /// of an object inside it, is missing, of the wrong type or out of range, 54 where there is a
-    /// member besides these. 1 is answered only where the allocator refused memory, whatever else the
-    /// line holds; an empty line takes none.
+    /// member besides these. 1 is answered only where the allocator refused memory, or where the line
+    /// has more than 4 GiB less 256 bytes, whatever else it holds; an empty line takes none.
     #[tactic(auto, unfolding(crate::specs::Requests::request_of))]
     pub fn read(&mut self, alloc: Global, line: &[u8]) -> Result<Request, WireFault>
         ensures request { Gives result (request_of line.now) }
         ensures empty { line.now ≡ [] → result ≡ Err BadJson }
     {
-        let tape = match tape_of(alloc, &mut self.scratch, line) {
-            Ok(tape) => tape,
-            Err(fault) => return Err(fault),
-        };
+        let tape = tape_of(alloc, &mut self.scratch, line)?;
         let value = Given::root(&tape);
         if !value.is_object() {
             return Err(WireFault::NotObject);
