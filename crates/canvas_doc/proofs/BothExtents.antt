@@ -1,5 +1,5 @@
 -- The damage of each change, from the extents of its shape before and after, told of the document before it.
-use Rattle.std.proofs.Common.{◌≡◌, ◌≤◌, ◌^◌, ℕ, List, Bool, cond, Option, Some, None, IsSome, refl, sym, ap, ◌∙◌}
+use Rattle.std.proofs.Common.{◌≡◌, ◌≤◌, ◌^◌, ℕ, List, Bool, false, cond, Option, Some, None, IsSome, refl, sym, ap, subst, ◌∙◌}
 use Rattle.std.proofs.lemmas.Bool.{eqb-true}
 use Rattle.canvas_plane.specs.declared.PageBox.{PageBox}
 use Rattle.canvas_plane.specs.declared.Point.{Point}
@@ -13,11 +13,12 @@ use Rattle.canvas_doc.specs.declared.records.Parent.{Parent}
 use Rattle.canvas_doc.specs.declared.records.Parent.TheVariants.{Shape}
 use Rattle.canvas_doc.specs.declared.records.Place.{Place}
 use Rattle.canvas_doc.specs.declared.records.Record.{Record}
-use Rattle.canvas_doc.specs.Contents.{Contents, IsWellFormed, record_of}
+use Rattle.canvas_doc.specs.Contents.{Contents, IsWellFormed, is_container, record_of}
 use Rattle.canvas_doc.specs.Damage.{damage_of, extent_among, extent_at, extent_before_and_after, extent_on_page, own_extent, to_page}
 use Rattle.canvas_doc.specs.Effect.{at_id, effect_of, Fits}
 use Rattle.canvas_doc.specs.Tree.{IsInLimits}
-use Rattle.canvas_doc.proofs.AfterChange.{changed-extent, create-before, create-extent, delete-after, with_changed}
+use Rattle.canvas_doc.proofs.AfterChange.{changed-extent, create-before, create-extent, delete-after, leaf-childless, with_changed}
+use Rattle.canvas_doc.proofs.Childless.{IsChildless}
 use Rattle.canvas_doc.proofs.Extents.{hull-first, hull-is, hull-same, hull-second, IsHull}
 use Rattle.canvas_doc.proofs.Fit.{found-all}
 use Rattle.canvas_doc.proofs.FitMore.{found-has}
@@ -103,6 +104,12 @@ create-damage id kind pose hidden place d w fits box h =
 pub respace-damage : (p : Parent) (d : Contents) → empty_box ≡ damage_of (change.Respace p) d
 unfolding damage_of
 respace-damage p d = refl
+
+-- nothing lies below a leaf that was found
+pub leaf-found : (id : ℕ) (d now : Contents) (r : Record) → IsWellFormed d → d ≡ now → Some r ≡ record_of id d.records → is_container r.kind ≡ false → IsChildless r.id now.records
+leaf-found id d now r w e found leaf =
+    let there : record_of r.id d.records ≡ Some r = ap (λ n. record_of n d.records) (eqb-true r.id id (found-has id d.records r (sym found))) ∙ sym found in
+    subst (λ (c : Contents). IsChildless r.id c.records) e (leaf-childless d w r.id r there leaf)
 
 -- what is changed keeps within the limits
 changed-limits : (d : Contents) (id : ℕ) (f : Record → Record) → ((r : Record) → (f r).id ≡ r.id) → IsWellFormed (with_changed id f d) → IsSome (record_of id d.records) → (r : Record) × IsInLimits (f r)

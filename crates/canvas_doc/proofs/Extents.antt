@@ -18,7 +18,7 @@ use Rattle.canvas_shape.specs.Bounds.{grown_along, grown_to}
 use Rattle.canvas_shape.specs.declared.Kind.{Kind}
 use Rattle.canvas_doc.specs.Children.{children}
 use Rattle.canvas_doc.specs.Contents.{record_of, AreRising}
-use Rattle.canvas_doc.specs.Damage.{extent_among, extent_of, hull_round, own_extent, to_page, to_page_from}
+use Rattle.canvas_doc.specs.Damage.{extent_among, extent_of, extent_on_page, hull_round, own_extent, to_page, to_page_from}
 use Rattle.canvas_doc.specs.PlaceOrder.{IsInPlaceOrder}
 use Rattle.canvas_doc.proofs.ChildrenInOrder.{first-and-rest}
 use Rattle.canvas_doc.proofs.Found.{found-at}
@@ -170,3 +170,9 @@ pub alone-by : (out : Point → Point) (kind : Kind) (pose : Pose) (page : Pose)
 alone-by out kind pose page own whole carries o w =
     let same : carry page ≡ (λ q. out (carry pose q)) = fun_ext carries in
     w ∙ ap (λ x. hull_of x empty_box) o ∙ ap (λ (f : Point → Point). hull_of (own_extent kind f) empty_box) same
+
+-- the box of a record, where a pose carries its parent's points to the page
+pub on-page : (rs inside : List Record) (r : Record) (up : Pose) (box : PageBox) → inside ≡ rs → ((q : Point) → carry up q ≡ to_page 31 inside r.place.parent q) → box ≡ extent_of 31 rs (carry up) r → box ≡ extent_on_page rs (Some r)
+on-page rs inside r up box e carries is =
+    let out : carry up ≡ to_page 31 rs r.place.parent = fun_ext carries ∙ ap (λ l. to_page 31 l r.place.parent) e in
+    is ∙ ap (λ (f : Point → Point). extent_of 31 rs f r) out

@@ -43,49 +43,8 @@ found-none (x ∷ rs) id h =
     let n : (x.id == id) ≡ false = other-id x.id id (h 0 x (omega arith)) in
     rw n (found-none rs id (λ k d l. h (suc k) d (omega arith)))
 
-pub cmp-Equal : (a b : ℕ) → nat_cmp a b ≡ Equal → a ≡ b
-cmp-Equal a b h = grind (arith, nat_tests)
-
-pub cmp-Less : (a b : ℕ) → nat_cmp a b ≡ Less → a < b
-cmp-Less a b h = grind (arith, nat_tests)
-
-pub cmp-Greater : (a b : ℕ) → nat_cmp a b ≡ Greater → b < a
-cmp-Greater a b h = grind (arith, nat_tests)
-
 -- the record at a position has the id
 pub found-here : (rs : List Record) (i id : ℕ) (d : Record) → AreRising rs → i < length rs → (get_or rs i d).id ≡ id → record_of id rs ≡ Some (get_or rs i d)
 found-here rs i id d w h e =
     let r : Record = get_or rs i d in
     sym (found-at rs i id r w h (get_or_default rs i d r h) e)
-
--- ids rise by 1 at least
-gap-above : (n : ℕ) (rs : List Record) (j : ℕ) (d : Record) → AllByRecursion (λ (s : Record). n < s.id) rs → AreRising rs → j < length rs → n + suc j ≤ (get_or rs j d).id
-gap-above n [] j d a w h = absurd (omega arith)
-gap-above n (x ∷ rs) zero d a w h = let l : n < x.id = a.0 in omega arith
-gap-above n (x ∷ rs) (suc j) d a w h =
-    let l : n < x.id = a.0 in
-    let more : x.id + suc j ≤ (get_or rs j d).id = gap-above x.id rs j d w.0 w.1 (omega arith) in
-    omega arith
-
-pub rising-gap : (rs : List Record) (i j : ℕ) (d : Record) → AreRising rs → i ≤ j → j < length rs → (get_or rs i d).id + j ≤ (get_or rs j d).id + i
-rising-gap [] i j d w l h = absurd (omega arith)
-rising-gap (x ∷ rs) zero zero d w l h = omega arith
-rising-gap (x ∷ rs) zero (suc j) d w l h = let more : x.id + suc j ≤ (get_or rs j d).id = gap-above x.id rs j d w.0 w.1 (omega arith) in omega arith
-rising-gap (x ∷ rs) (suc i) zero d w l h = absurd (omega arith)
-rising-gap (x ∷ rs) (suc i) (suc j) d w l h = let more : (get_or rs i d).id + j ≤ (get_or rs j d).id + i = rising-gap rs i j d w.1 (omega arith) (omega arith) in omega arith
-
--- ids before a position that lies far enough below the last
-pub less-before : (rs : List Record) (id k at : ℕ) (last r : Record) → AreRising rs → at < length rs → last ≡ get_or rs at last → k + (last.id - id) < at → (get_or rs k r).id < id
-less-before rs id k at last r w h e l =
-    let there : get_or rs at r ≡ last = get_or_default rs at r last h ∙ sym e in
-    let gap : (get_or rs k r).id + at ≤ (get_or rs at r).id + k = rising-gap rs k at r w (omega arith) h in
-    let ids : (get_or rs at r).id ≡ last.id = ap (λ (x : Record). x.id) there in
-    omega arith
-
--- ids from a position that lies far enough above the first
-pub greater-after : (rs : List Record) (id k : ℕ) (first r : Record) → AreRising rs → first ≡ get_or rs 0 first → k < length rs → id + 1 - first.id ≤ k → id < (get_or rs k r).id
-greater-after rs id k first r w e h l =
-    let there : get_or rs 0 r ≡ first = get_or_default rs 0 r first (omega arith) ∙ sym e in
-    let gap : (get_or rs 0 r).id + k ≤ (get_or rs k r).id + 0 = rising-gap rs 0 k r w (omega arith) h in
-    let ids : (get_or rs 0 r).id ≡ first.id = ap (λ (x : Record). x.id) there in
-    omega arith

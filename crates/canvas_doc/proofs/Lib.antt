@@ -26,6 +26,7 @@ pub mod Placed
 pub mod ByPlace
 pub mod Members
 pub mod Reordered
+pub mod LeftOut
 pub mod ChildrenInOrder
 pub mod PlacePoints
 pub mod PlaceSorted

@@ -375,12 +375,12 @@ pub record IsMoved (order rs after : List Record) (r s : Record) (at k to : ℕ)
   pub one : after ≡ set rs at s
   pub place : IsPlaceOf s.place (remove order k) to
 
-pub moved-from : (order rs now after others : List Record) (r v s w : Record) (at k to : ℕ) → IsInPlaceOrder order rs → rs ≡ now → at < length now → r ≡ get_or rs at r → v ≡ r → IsPlaceOf v.place order k
-    → ((x : Record) → after ≡ set now at (get_or after at x)) → s ≡ get_or after at s → w ≡ s → others ≡ remove order k → IsPlaceOf w.place others to → IsMoved order rs after r s at k to
-moved-from order rs now after others r v s w at k to o e b is same p one there alike left q = record {
+pub moved-from : (order rs now after : List Record) (r v s w : Record) (at k to : ℕ) → IsInPlaceOrder order rs → rs ≡ now → at < length now → r ≡ get_or rs at r → v ≡ r → IsPlaceOf v.place order k
+    → ((x : Record) → after ≡ set now at (get_or after at x)) → s ≡ get_or after at s → w ≡ s → IsPlaceOf w.place (remove order k) to → IsMoved order rs after r s at k to
+moved-from order rs now after r v s w at k to o e b is same p one there alike q = record {
   listed = seen-at order rs now r v at k o e b is same p;
   one = one s ∙ ap (set now at) (sym there) ∙ ap (λ (l : List Record). set l at s) (sym e);
-  place = subst (λ (l : List Record). IsPlaceOf s.place l to) left (subst (λ (x : Record). IsPlaceOf x.place others to) alike q);
+  place = subst (λ (x : Record). IsPlaceOf x.place (remove order k) to) alike q;
 }
 
 pub moved-in_order : (order rs after made : List Record) (r s : Record) (at k to : ℕ) → AreRising rs → AreRising after → HavePlaces after → IsInPlaceOrder order rs → IsMoved order rs after r s at k to → made ≡ insert (remove order k) to s → IsInPlaceOrder made after

@@ -1,41 +1,43 @@
--- A search by id among the positions where the id can stand.
-use Rattle.std.proofs.Common.{◌≡◌, ℕ, ◌+◌, ◌<◌, ◌≤◌, List, None, sym, ◌∙◌, ap, arith, inl, inr, length, get_or}
+-- A search by id: where it stands if no shape was deleted, and else by halves.
+use Rattle.std.proofs.Common.{◌≡◌, ◌≢◌, ℕ, ◌<◌, ◌≤◌, List, Bool, true, false, nat_lt, Some, None, sym, ◌∙◌, ap, arith, inl, inr, length, get_or}
+use Rattle.std.specs.List.{slice_get}
+use Rattle.std.specs.List.Sorted.{IsPartitionPoint, IsPartitionedBy}
 use Rattle.std.proofs.lemmas.Bool.{cases_lt}
+use Rattle.std.proofs.lemmas.Bool.Decides.{nat_tests}
 use Rattle.std.proofs.lemmas.List.{get_or_default}
+use Rattle.std.proofs.lemmas.Option.{get_or_from_slice_get, slice_get-get_or, slice_get_within}
 use Rattle.canvas_doc.specs.declared.records.Record.{Record}
 use Rattle.canvas_doc.specs.Contents.{record_of, AreRising, StandsAt}
-use Rattle.canvas_doc.proofs.Found.{found-here, found-none, rising-gap}
-
-abbrev AreLessBefore : List Record → ℕ → ℕ → Type 0
-AreLessBefore rs id low = (k : ℕ) (r : Record) → k < low → (get_or rs k r).id < id
-
-abbrev AreGreaterFrom : List Record → ℕ → ℕ → Type 0
-AreGreaterFrom rs id end = (k : ℕ) (r : Record) → end ≤ k → k < length rs → id < (get_or rs k r).id
-
-id-here : (rs : List Record) (at : ℕ) (s r : Record) → at < length rs → s ≡ get_or rs at s → (get_or rs at r).id ≡ s.id
-id-here rs at s r h e = ap (λ (x : Record). x.id) (get_or_default rs at r s h ∙ sym e)
-
--- up to a record with a lesser id
-pub less-upto : (rs : List Record) (id at : ℕ) (s : Record) → AreRising rs → at < length rs → s ≡ get_or rs at s → s.id < id → AreLessBefore rs id (at + 1)
-less-upto rs id at s w h e l = λ k r m.
-    let gap : (get_or rs k r).id + at ≤ (get_or rs at r).id + k = rising-gap rs k at r w (omega arith) h in
-    let here : (get_or rs at r).id ≡ s.id = id-here rs at s r h e in
-    omega arith
-
--- from a record with a greater id on
-pub greater-from : (rs : List Record) (id at : ℕ) (s : Record) → AreRising rs → at < length rs → s ≡ get_or rs at s → id < s.id → AreGreaterFrom rs id at
-greater-from rs id at s w h e l = λ k r m n.
-    let gap : (get_or rs at r).id + k ≤ (get_or rs k r).id + at = rising-gap rs at k r w m n in
-    let here : (get_or rs at r).id ≡ s.id = id-here rs at s r h e in
-    omega arith
+use Rattle.canvas_doc.proofs.Found.{found-here, found-none, rising-at}
 
 -- a record with the id
-pub stands-here : (rs : List Record) (id at : ℕ) (s : Record) → AreRising rs → at < length rs → s ≡ get_or rs at s → s.id ≡ id → StandsAt rs id at
-stands-here rs id at s w h e f = (h, λ d. found-here rs at id d w h (id-here rs at s d h e ∙ f))
+pub stands-here : (rs : List Record) (id at : ℕ) (s : Record) → AreRising rs → slice_get rs at ≡ Some s → s.id ≡ id → StandsAt rs id at
+stands-here rs id at s w e f =
+    let h : at < length rs = slice_get_within rs at s e in
+    (h, λ d. found-here rs at id d w h (ap (λ (x : Record). x.id) (get_or_from_slice_get rs at s d e) ∙ f))
 
--- no position is left for the id
-pub stands-nowhere : (rs : List Record) (id low end : ℕ) → AreLessBefore rs id low → AreGreaterFrom rs id end → end ≤ low → record_of id rs ≡ None
-stands-nowhere rs id low end less greater h = sym (found-none rs id (λ k d m e. elim (cases_lt k low) [
-  | inl before ↦ (let lt : (get_or rs k d).id < id = less k d before in absurd (omega arith))
-  | inr from ↦ (let gt : id < (get_or rs k d).id = greater k d (omega arith) m in absurd (omega arith))
+-- the lesser ids come first
+abbrev pub is_less : ℕ → Record → Bool
+is_less id r = nat_lt r.id id
+
+pub less-parted : (rs : List Record) (id : ℕ) → AreRising rs → IsPartitionedBy (is_less id) rs
+less-parted rs id w i j d low b passed = elim (cases_lt i j) [
+  | inl before ↦ (let lesser : (get_or rs i d).id < (get_or rs j d).id = rising-at rs i j d w before b in grind (arith, nat_tests))
+  | inr from ↦ (let same : i ≡ j = omega arith in ap (λ n. is_less id (get_or rs n d)) same ∙ passed)
+]
+
+-- no record has the id
+pub stands-nowhere : (rs : List Record) (id at : ℕ) → AreRising rs → IsPartitionPoint (λ r. is_less id r ≡ true) (λ r. is_less id r ≡ false) rs at
+    → ((r : Record) → slice_get rs at ≡ Some r → r.id ≢ id) → record_of id rs ≡ None
+stands-nowhere rs id at w point absent = sym (found-none rs id (λ k d m e. elim (cases_lt k at) [
+  | inl before ↦ (let less : is_less id (get_or rs k d) ≡ true = point.0 k d (omega arith) before in grind (arith, nat_tests))
+  | inr from ↦ elim (cases_lt at k) [
+    | inl behind ↦
+        (let least : is_less id (get_or rs at d) ≡ false = point.1 at d (omega arith) (omega arith) in
+        let more : (get_or rs at d).id < (get_or rs k d).id = rising-at rs at k d w behind m in
+        grind (arith, nat_tests))
+    | inr here ↦
+        (let same : k ≡ at = omega arith in
+        absurd (absent (get_or rs at d) (slice_get-get_or rs at d (omega arith)) (ap (λ n. (get_or rs n d).id) (sym same) ∙ e)))
+  ]
 ]))

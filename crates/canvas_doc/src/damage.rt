@@ -59,13 +59,10 @@ fn extent_at(document: &Document, id: u32) -> PageBox
     ensures { result ≡ extent_at id document.now.records }
 {
     match find(&document.records, id) {
-        Some(shape) => extent(
-            document,
-            shape.id,
-            &shape.kind,
-            &shape.pose,
-            shape.place.parent,
-        ),
+        Some(shape) => {
+            let up = page_pose(&document.records, STEPS, shape.place.parent);
+            extent_of(document, STEPS, shape, &shape.kind, &shape.pose, &up)
+        }
         None => PageBox::EMPTY,
     }
 }
@@ -74,16 +71,18 @@ fn extent_at(document: &Document, id: u32) -> PageBox
 fn moved_extents(document: &Document, id: u32, place: &Place) -> PageBox
     ensures { (r : Record) → record_of id document.now.records ≡ Some r → result ≡ hull_of (extent_at id document.now.records) (extent_on_page document.now.records (Some (record r { place = place.now }))) }
 {
-    let before = extent_at(document, id);
     match find(&document.records, id) {
         Some(shape) => {
+            let up = page_pose(&document.records, STEPS, shape.place.parent);
+            let before = extent_of(document, STEPS, shape, &shape.kind, &shape.pose, &up);
             if shape.place.parent == place.parent {
                 return before;
             }
-            let moved = extent(document, shape.id, &shape.kind, &shape.pose, place.parent);
+            let new_up = page_pose(&document.records, STEPS, place.parent);
+            let moved = extent_of(document, STEPS, shape, &shape.kind, &shape.pose, &new_up);
             before.hull(&moved)
         }
-        None => before,
+        None => PageBox::EMPTY,
     }
 }
 
@@ -93,13 +92,14 @@ fn posed_extents(document: &Document, id: u32, pose: &Pose) -> PageBox
     requires reach { reach_of pose.now ≤ 2 ^ 20 }
     ensures { (r : Record) → record_of id document.now.records ≡ Some r → result ≡ hull_of (extent_at id document.now.records) (extent_on_page document.now.records (Some (record r { pose = pose.now }))) }
 {
-    let before = extent_at(document, id);
     match find(&document.records, id) {
         Some(shape) => {
-            let posed = extent(document, shape.id, &shape.kind, pose, shape.place.parent);
+            let up = page_pose(&document.records, STEPS, shape.place.parent);
+            let before = extent_of(document, STEPS, shape, &shape.kind, &shape.pose, &up);
+            let posed = extent_of(document, STEPS, shape, &shape.kind, pose, &up);
             before.hull(&posed)
         }
-        None => before,
+        None => PageBox::EMPTY,
     }
 }
 
@@ -108,26 +108,15 @@ fn reshaped_extents(document: &Document, id: u32, kind: &Kind) -> PageBox
     requires { IsSound kind.now }
     ensures { (r : Record) → record_of id document.now.records ≡ Some r → result ≡ hull_of (extent_at id document.now.records) (extent_on_page document.now.records (Some (record r { kind = kind.now }))) }
 {
-    let before = extent_at(document, id);
     match find(&document.records, id) {
         Some(shape) => {
-            let reshaped = extent(document, shape.id, kind, &shape.pose, shape.place.parent);
+            let up = page_pose(&document.records, STEPS, shape.place.parent);
+            let before = extent_of(document, STEPS, shape, &shape.kind, &shape.pose, &up);
+            let reshaped = extent_of(document, STEPS, shape, kind, &shape.pose, &up);
             before.hull(&reshaped)
         }
-        None => before,
+        None => PageBox::EMPTY,
     }
-}
-
-// The extent of a shape of this kind and pose under a parent, with all that lies below the id.
-fn extent(document: &Document, id: u32, kind: &Kind, pose: &Pose, parent: Parent) -> PageBox
-    requires sound { IsSound kind.now }
-    requires quarter { pose.now.quarter ≤ 3 }
-    requires reach { reach_of pose.now ≤ 2 ^ 20 }
-    ensures { let page : Point → Point = λ q. to_page 31 document.now.records parent (carry pose.now q) in result ≡ hull_of (own_extent kind.now page) (extent_among 31 document.now.records (Shape id) page) }
-{
-    let page = pose.then(&page_pose(&document.records, STEPS, parent));
-    let own = own_extent(kind, &page);
-    own.hull(&extent_among(document, STEPS, Parent::Shape(id), &page))
 }
 
 // The extent of a shape of this kind and pose under a parent, with nothing below it.
@@ -183,22 +172,31 @@ fn extent_among(document: &Document, levels: u32, parent: Parent, out: &Pose) ->
     let mut area = PageBox::EMPTY;
     for slot in (start..end).rev() {
         let shape = document.order.at(slot).value();
-        area = extent_of(document, levels - 1, shape, out).hull(&area);
+        let one = extent_of(document, levels - 1, shape, &shape.kind, &shape.pose, out);
+        area = one.hull(&area);
     }
     area
 }
 
-// The box round a shape and all below it.
+// The box round a shape, where it has this kind and pose, and round all below it. A shape that is no
+// group and no frame holds nothing, so nothing is sought below it.
 #[cycle(extents)]
-fn extent_of(document: &Document, levels: u32, shape: &Record, out: &Pose) -> PageBox
-    requires shape { IsInLimits shape.now }
+fn extent_of(
+    document: &Document,
+    levels: u32,
+    shape: &Record,
+    kind: &Kind,
+    pose: &Pose,
+    out: &Pose,
+) -> PageBox
     requires leaf { is_container shape.now.kind ≡ false → All (λ r. is_child (Shape shape.now.id) r ≡ false) document.now.records }
+    requires limits { IsInLimits (record shape.now { kind = kind.now; pose = pose.now }) }
     requires quarter { out.now.quarter ≤ 3 }
     requires reach { reach_of out.now + (levels + 1) * 2 ^ 20 ≤ 2 ^ 26 }
-    ensures { result ≡ extent_of levels document.now.records (carry out.now) shape.now }
+    ensures { result ≡ extent_of levels document.now.records (carry out.now) (record shape.now { kind = kind.now; pose = pose.now }) }
 {
-    let page = shape.pose.then(out);
-    let own = own_extent(&shape.kind, &page);
+    let page = pose.then(out);
+    let own = own_extent(kind, &page);
     if is_container(&shape.kind) {
         own.hull(&extent_among(document, levels, Parent::Shape(shape.id), &page))
     } else {

@@ -20,7 +20,7 @@ use crate::deletion::{Lists, without_below, without_shape};
 use crate::edits::Change;
 use crate::kept_bounds::{bounds_for, raised};
 use crate::lookup::position_of;
-use crate::place_order::{children_range, position_in, shares};
+use crate::place_order::{children_range, position_in, position_without, shares};
 use crate::placed_shapes::{PlacedShape, PlacedShapes};
 use crate::records::{Parent, Place, Record, Records};
 use canvas_code::OutOfMemory;
@@ -128,10 +128,9 @@ impl Document {
     {
         let from = position_in(&self.order, &self.records.at(at).value().place);
         let own = *self.order.bounds_at(from);
-        let others = self.order.without(alloc, from)?;
         let moved = records.at(at);
-        let to = position_in(&others, &moved.value().place);
-        let order = others.with_inserted(alloc, to, moved.share()?, own)?;
+        let to = position_without(&self.order, from, &moved.value().place);
+        let order = self.order.with_moved(alloc, from, to, moved.share()?, own)?;
         raised(alloc, records, order, to, STEPS)
     }
 

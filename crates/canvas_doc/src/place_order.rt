@@ -2,6 +2,7 @@
 //! front to back.
 
 ghost use Rattle.std.specs.Prelude.{◌≡◌, ◌<◌, ◌^◌, IfOk, length};
+ghost use Rattle.std.specs.List.{remove};
 ghost use Rattle.std.specs.List.Sorted.{IsStrictlySortedBy};
 ghost use Rattle.std.specs.Ordering.{is_le, is_lt};
 ghost use Rattle.canvas_doc.specs.Listed.{holder_of};
@@ -76,7 +77,17 @@ pub(crate) fn position_in(order: &PlacedShapes, place: &Place) -> usize
     order.list.partition_point(|placed| by_place(&placed.shape.value().place, place).is_lt())
 }
 
-// The same of an order whose records stand side by side in memory.
+// The same of the order without the record at a position.
+pub(crate) fn position_without(order: &PlacedShapes, from: usize, place: &Place) -> usize
+    requires rising { IsStrictlySortedBy comes_first order.now.shapes }
+    requires from { from < length order.now.shapes }
+    ensures { IsPlaceOf place.now (remove order.now.shapes from) result }
+{
+    let at = position_in(order, place);
+    if from < at { at - 1 } else { at }
+}
+
+// How many records of an order that stand side by side in memory come before a place.
 pub(crate) fn position_among(order: &[Shared<Record>], place: &Place) -> usize
     requires { IsStrictlySortedBy comes_first order.now }
     ensures { IsPlaceOf place.now order.now result }

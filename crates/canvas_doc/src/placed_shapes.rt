@@ -186,6 +186,27 @@ impl PlacedShapes {
         })
     }
 
+    /// The same without the record at a position, and with another one and its bounds in front of what
+    /// then stands at `to`, or at the end.
+    pub(crate) fn with_moved(
+        &self,
+        alloc: Global,
+        from: usize,
+        to: usize,
+        shape: Shared<Record>,
+        bounds: Bounds,
+    ) -> Result<PlacedShapes, OutOfMemory>
+        requires from { from < length self.now.shapes }
+        requires to { to < length self.now.shapes }
+        ensures shapes { IfOk result (λ all. all.shapes ≡ insert (remove self.now.shapes from) to shape) }
+        ensures bounds { IfOk result (λ all. all.bounds ≡ insert (remove self.now.bounds from) to bounds) }
+    {
+        let placed = PlacedShape { shape, bounds };
+        Ok(PlacedShapes {
+            list: self.list.with_moved(alloc, from, to, placed)?,
+        })
+    }
+
     /// The same with others in place of those from `first` up to `end`, which itself stays.
     pub(crate) fn with_spliced(
         &self,

@@ -234,6 +234,31 @@ impl<T: Share> Chunks<T> {
         items.remove(at - count_of(&self.chunks[..part.first]));
         spliced(alloc, &self.chunks, part.first, part.end, items)
     }
+
+    /// The list without the item at a position, and with another one in front of what then stands at
+    /// `to`, or at the end.
+    pub(crate) fn with_moved(
+        &self,
+        alloc: Global,
+        from: usize,
+        to: usize,
+        item: T,
+    ) -> Result<Chunks<T>, OutOfMemory>
+        requires from { from < length self.now }
+        requires to { to < length self.now }
+        ensures { IfOk result (λ list. list ≡ insert (remove self.now from) to item) }
+    {
+        let spot = spot_of(&self.chunks, from);
+        let end = spot.chunk + 1;
+        let count = self.chunks[spot.chunk].count();
+        if to < spot.start || to - spot.start >= count {
+            return self.without(alloc, from)?.with_inserted(alloc, to, item);
+        }
+        let mut items = items_of(alloc, &self.chunks[spot.chunk..end], CHUNK)?;
+        items.remove(from - spot.start);
+        items.insert(to - spot.start, item)?;
+        spliced(alloc, &self.chunks, spot.chunk, end, items)
+    }
 }
 
 // Other items in place of some chunks.

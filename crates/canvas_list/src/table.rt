@@ -246,6 +246,30 @@ impl<T: Share> SharedList<T> {
         let new = without_in(alloc, &self.blocks[part.first..part.end], place)?;
         spliced(alloc, &self.blocks, part.first, part.end, new, size)
     }
+
+    /// The list without the item at a position, and with another one in front of what then stands at
+    /// `to`, or at the end. It copies less than the two changes in turn where both are near.
+    pub fn with_moved(
+        &self,
+        alloc: Global,
+        from: usize,
+        to: usize,
+        item: T,
+    ) -> Result<SharedList<T>, OutOfMemory>
+        requires from { from < length self.now }
+        requires to { to < length self.now }
+        ensures { IfOk result (λ list. list ≡ insert (remove self.now from) to item) }
+    {
+        let spot = spot_of(&self.blocks, from);
+        let end = spot.chunk + 1;
+        let old = self.blocks[spot.chunk].chunks();
+        if to < spot.start || to - spot.start >= old.len() {
+            return self.without(alloc, from)?.with_inserted(alloc, to, item);
+        }
+        let new = old.with_moved(alloc, from - spot.start, to - spot.start, item)?;
+        let size = block_size(self.len());
+        spliced(alloc, &self.blocks, spot.chunk, end, new, size)
+    }
 }
 
 // The chunks of some blocks, without the item at a position.

@@ -54,6 +54,25 @@ impl Both {
         Ok(())
     }
 
+    fn move_item(
+        &mut self,
+        alloc: Global,
+        from: usize,
+        to: usize,
+        value: u32,
+    ) -> Result<(), OutOfMemory>
+        requires list_from { from < length self.old.list }
+        requires list_to { to < length self.old.list }
+        requires plain_from { from < vec_len self.old.plain }
+        requires plain_to { to < vec_len self.old.plain }
+    {
+        self.list = self
+            .list
+            .with_moved(alloc, from, to, shared_number(alloc, value)?)?;
+        self.plain.remove(from);
+        Ok(self.plain.insert(to, value)?)
+    }
+
     fn splice(
         &mut self,
         alloc: Global,
@@ -95,9 +114,11 @@ fn change(
         return both.insert(alloc, at, value);
     }
     let at = dice.below(len);
-    match dice.below(4) {
-        0 | 1 => both.remove(alloc, at),
-        2 => both.replace(alloc, at, value),
+    match dice.below(8) {
+        0..4 => both.remove(alloc, at),
+        4 => both.move_item(alloc, at, dice.below(len), value),
+        5 => both.move_item(alloc, at, (at + dice.below(4)).min(len - 1), value),
+        6 => both.replace(alloc, at, value),
         _ => {
             let end = at + dice.below(SPLICED).min(len - at);
             let values: [u32; SPLICED] = [value; SPLICED];

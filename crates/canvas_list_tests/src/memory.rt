@@ -27,6 +27,9 @@ fn changed(
         3 => list.without(alloc, 300),
         4 => list.with_spliced(alloc, 100, 500, Vec::new(alloc)),
         5 => list.try_clone(alloc),
+        6 => list.with_moved(alloc, 300, 301, item),
+        7 => list.with_moved(alloc, 300, 305, item),
+        8 => list.with_moved(alloc, 300, 599, item),
         _ => SharedList::from_vec(alloc, evens(alloc, COUNT)?),
     }
 }
@@ -37,7 +40,7 @@ fn changes_with_little_memory(rt: HostRuntime) -> Result<(), Fail> {
     let list = SharedList::from_vec(alloc, evens(alloc, COUNT)?)?;
     let plain = plain_evens(alloc, COUNT)?;
     assert!(rt; list.len() == 600);
-    for (sort, len) in (0u32..).zip([600usize, 601, 601, 599, 200, 600, 600]) {
+    for (sort, len) in (0u32..).zip([600usize, 601, 601, 599, 200, 600, 600, 600, 600, 600]) {
         let item = shared_number(alloc, 7)?;
         if let Ok(after) = changed(alloc, &list, item, sort) {
             assert_eq!(rt; after.len(), len, "sort {sort}");

@@ -19,8 +19,8 @@ bounds_at-own-requires c =
     (seen-at c.self.inside.order.shapes c.self.inside.records c.args.self.now.records c.at.result.now c.value.result.now c.args.at c.position_in-from.result
     c.self.invariant.in_order (ap (λ (d : Contents). d.records) c.self.view_is) c.requires.there c.at.ensures c.value.ensures c.position_in-from.ensures).within
 
-pub without-requires : goal.without-requires
-without-requires c =
+pub position_without-to-requires-clause-from : goal.position_without-to-requires-clause-from
+position_without-to-requires-clause-from c =
     (seen-at c.self.inside.order.shapes c.self.inside.records c.args.self.now.records c.at.result.now c.value.result.now c.args.at c.position_in-from.result
     c.self.invariant.in_order (ap (λ (d : Contents). d.records) c.self.view_is) c.requires.there c.at.ensures c.value.ensures c.position_in-from.ensures).within
 
@@ -30,19 +30,16 @@ at-moved-requires c =
     let b : c.args.at < length c.args.self.now.records = c.requires.there in
     omega arith
 
-pub position_in-to-requires : goal.position_in-to-requires
-position_in-to-requires c =
-    let listed = seen-at c.self.inside.order.shapes c.self.inside.records c.args.self.now.records c.at.result.now c.value.result.now c.args.at c.position_in-from.result
-    c.self.invariant.in_order (ap (λ (d : Contents). d.records) c.self.view_is) c.requires.there c.at.ensures c.value.ensures c.position_in-from.ensures in
-    subst (IsStrictlySortedBy comes_first) (sym c.in_ok-others.ensures.shapes) (removed-sorted c.self.inside.order.shapes c.position_in-from.result listed.within c.self.invariant.in_order.rising)
+pub with_moved-requires-clause-from : goal.with_moved-requires-clause-from
+with_moved-requires-clause-from c =
+    (seen-at c.self.inside.order.shapes c.self.inside.records c.args.self.now.records c.at.result.now c.value.result.now c.args.at c.position_in-from.result
+    c.self.invariant.in_order (ap (λ (d : Contents). d.records) c.self.view_is) c.requires.there c.at.ensures c.value.ensures c.position_in-from.ensures).within
 
-pub with_inserted-requires-clause-few : goal.with_inserted-requires-clause-few
-with_inserted-requires-clause-few c =
+pub with_moved-requires-clause-to : goal.with_moved-requires-clause-to
+with_moved-requires-clause-to c =
     let listed = seen-at c.self.inside.order.shapes c.self.inside.records c.args.self.now.records c.at.result.now c.value.result.now c.args.at c.position_in-from.result
     c.self.invariant.in_order (ap (λ (d : Contents). d.records) c.self.view_is) c.requires.there c.at.ensures c.value.ensures c.position_in-from.ensures in
-    let long : length c.self.inside.order.shapes ≡ length c.self.inside.records = c.self.invariant.in_order.long in
-    let few : length c.self.inside.records ≤ most_records = c.self.invariant.well_formed.few in
-    omega (arith, ap length c.in_ok-others.ensures.shapes, length-remove c.self.inside.order.shapes c.position_in-from.result listed.within)
+    omega (arith, listed.within, c.position_without-to.ensures.bound, length-remove c.self.inside.order.shapes c.position_in-from.result listed.within)
 
 pub raised-requires-clause-in_order : goal.raised-requires-clause-in_order
 raised-requires-clause-in_order c =
@@ -52,12 +49,12 @@ raised-requires-clause-in_order c =
     let r : Record = c.at.result.now in
     let s : Record = c.at-moved.result.now in
     let k : ℕ = c.position_in-from.result in
-    let to : ℕ = c.position_in-to.result in
-    let m : IsMoved order rs after r s c.args.at k to = moved-from c.self.inside.order.shapes c.self.inside.records c.args.self.now.records c.args.records.now c.in_ok-others.others.shapes c.at.result.now c.value.result.now c.at-moved.result.now c.value-2.result.now
-    c.args.at c.position_in-from.result c.position_in-to.result c.self.invariant.in_order (ap (λ (d : Contents). d.records) c.self.view_is) c.requires.there c.at.ensures c.value.ensures c.position_in-from.ensures
-    c.requires.one c.at-moved.ensures c.value-2.ensures c.in_ok-others.ensures.shapes c.position_in-to.ensures in
+    let to : ℕ = c.position_without-to.result in
+    let m : IsMoved order rs after r s c.args.at k to = moved-from c.self.inside.order.shapes c.self.inside.records c.args.self.now.records c.args.records.now c.at.result.now c.value.result.now c.at-moved.result.now c.value-2.result.now
+    c.args.at c.position_in-from.result c.position_without-to.result c.self.invariant.in_order (ap (λ (d : Contents). d.records) c.self.view_is) c.requires.there c.at.ensures c.value.ensures c.position_in-from.ensures
+    c.requires.one c.at-moved.ensures c.value-2.ensures c.position_without-to.ensures in
     let made : c.in_ok-order.order.shapes ≡ insert (remove order k) to s =
-    c.in_ok-order.ensures.shapes ∙ ap (λ (l : List Record). insert l to c.in_ok-share.field-0) c.in_ok-others.ensures.shapes ∙ ap (insert (remove order k) to) c.in_ok-share.ensures in
+    c.in_ok-order.ensures.shapes ∙ ap (insert (remove order k) to) c.in_ok-share.ensures in
     let placed : IsInPlaceOrder c.in_ok-order.order.shapes after =
     moved-in_order order rs after c.in_ok-order.order.shapes r s c.args.at k to c.self.invariant.well_formed.rising c.requires.well_formed.rising c.requires.well_formed.places c.self.invariant.in_order m made in
     placed
@@ -70,17 +67,17 @@ raised-requires-clause-but c =
     let r : Record = c.at.result.now in
     let s : Record = c.at-moved.result.now in
     let k : ℕ = c.position_in-from.result in
-    let to : ℕ = c.position_in-to.result in
-    let m : IsMoved order rs after r s c.args.at k to = moved-from c.self.inside.order.shapes c.self.inside.records c.args.self.now.records c.args.records.now c.in_ok-others.others.shapes c.at.result.now c.value.result.now c.at-moved.result.now c.value-2.result.now
-    c.args.at c.position_in-from.result c.position_in-to.result c.self.invariant.in_order (ap (λ (d : Contents). d.records) c.self.view_is) c.requires.there c.at.ensures c.value.ensures c.position_in-from.ensures
-    c.requires.one c.at-moved.ensures c.value-2.ensures c.in_ok-others.ensures.shapes c.position_in-to.ensures in
+    let to : ℕ = c.position_without-to.result in
+    let m : IsMoved order rs after r s c.args.at k to = moved-from c.self.inside.order.shapes c.self.inside.records c.args.self.now.records c.args.records.now c.at.result.now c.value.result.now c.at-moved.result.now c.value-2.result.now
+    c.args.at c.position_in-from.result c.position_without-to.result c.self.invariant.in_order (ap (λ (d : Contents). d.records) c.self.view_is) c.requires.there c.at.ensures c.value.ensures c.position_in-from.ensures
+    c.requires.one c.at-moved.ensures c.value-2.ensures c.position_without-to.ensures in
     let made : c.in_ok-order.order.shapes ≡ insert (remove order k) to s =
-    c.in_ok-order.ensures.shapes ∙ ap (λ (l : List Record). insert l to c.in_ok-share.field-0) c.in_ok-others.ensures.shapes ∙ ap (insert (remove order k) to) c.in_ok-share.ensures in
+    c.in_ok-order.ensures.shapes ∙ ap (insert (remove order k) to) c.in_ok-share.ensures in
     let bounds : List Bounds = c.self.inside.order.bounds in
     let b : Bounds = c.bounds_at-own.result.now in
     let long : length bounds ≡ length order = c.self.invariant.bounded.long in
     let there : k < length order = m.listed.within in
-    let kept : c.in_ok-order.order.bounds ≡ insert (remove bounds k) to b = c.in_ok-order.ensures.bounds ∙ ap (λ (l : List Bounds). insert l to b) c.in_ok-others.ensures.bounds in
+    let kept : c.in_ok-order.order.bounds ≡ insert (remove bounds k) to b = c.in_ok-order.ensures.bounds in
     let e : rs ≡ c.args.self.now.records = ap (λ (d : Contents). d.records) c.self.view_is in
     let old : get_or c.args.self.now.records c.args.at r ≡ r = ap (λ (l : List Record). get_or l c.args.at r) (sym e) ∙ m.listed.here in
     let new : get_or after c.args.at r ≡ s = ap (λ (l : List Record). get_or l c.args.at r) m.one ∙ get_or-set_same rs c.args.at s r m.listed.there in
@@ -97,12 +94,12 @@ raised-requires-clause-reaches c =
     let r : Record = c.at.result.now in
     let s : Record = c.at-moved.result.now in
     let k : ℕ = c.position_in-from.result in
-    let to : ℕ = c.position_in-to.result in
-    let m : IsMoved order rs after r s c.args.at k to = moved-from c.self.inside.order.shapes c.self.inside.records c.args.self.now.records c.args.records.now c.in_ok-others.others.shapes c.at.result.now c.value.result.now c.at-moved.result.now c.value-2.result.now
-    c.args.at c.position_in-from.result c.position_in-to.result c.self.invariant.in_order (ap (λ (d : Contents). d.records) c.self.view_is) c.requires.there c.at.ensures c.value.ensures c.position_in-from.ensures
-    c.requires.one c.at-moved.ensures c.value-2.ensures c.in_ok-others.ensures.shapes c.position_in-to.ensures in
+    let to : ℕ = c.position_without-to.result in
+    let m : IsMoved order rs after r s c.args.at k to = moved-from c.self.inside.order.shapes c.self.inside.records c.args.self.now.records c.args.records.now c.at.result.now c.value.result.now c.at-moved.result.now c.value-2.result.now
+    c.args.at c.position_in-from.result c.position_without-to.result c.self.invariant.in_order (ap (λ (d : Contents). d.records) c.self.view_is) c.requires.there c.at.ensures c.value.ensures c.position_in-from.ensures
+    c.requires.one c.at-moved.ensures c.value-2.ensures c.position_without-to.ensures in
     let made : c.in_ok-order.order.shapes ≡ insert (remove order k) to s =
-    c.in_ok-order.ensures.shapes ∙ ap (λ (l : List Record). insert l to c.in_ok-share.field-0) c.in_ok-others.ensures.shapes ∙ ap (insert (remove order k) to) c.in_ok-share.ensures in
+    c.in_ok-order.ensures.shapes ∙ ap (insert (remove order k) to) c.in_ok-share.ensures in
     let placed : IsInPlaceOrder c.in_ok-order.order.shapes after =
     moved-in_order order rs after c.in_ok-order.order.shapes r s c.args.at k to c.self.invariant.well_formed.rising c.requires.well_formed.rising c.requires.well_formed.places c.self.invariant.in_order m made in
     λ q e. leads-up c.in_ok-order.order.shapes after to q placed c.requires.well_formed.grounded e
@@ -115,12 +112,12 @@ returns-clause-order c =
     let r : Record = c.at.result.now in
     let s : Record = c.at-moved.result.now in
     let k : ℕ = c.position_in-from.result in
-    let to : ℕ = c.position_in-to.result in
-    let m : IsMoved order rs after r s c.args.at k to = moved-from c.self.inside.order.shapes c.self.inside.records c.args.self.now.records c.args.records.now c.in_ok-others.others.shapes c.at.result.now c.value.result.now c.at-moved.result.now c.value-2.result.now
-    c.args.at c.position_in-from.result c.position_in-to.result c.self.invariant.in_order (ap (λ (d : Contents). d.records) c.self.view_is) c.requires.there c.at.ensures c.value.ensures c.position_in-from.ensures
-    c.requires.one c.at-moved.ensures c.value-2.ensures c.in_ok-others.ensures.shapes c.position_in-to.ensures in
+    let to : ℕ = c.position_without-to.result in
+    let m : IsMoved order rs after r s c.args.at k to = moved-from c.self.inside.order.shapes c.self.inside.records c.args.self.now.records c.args.records.now c.at.result.now c.value.result.now c.at-moved.result.now c.value-2.result.now
+    c.args.at c.position_in-from.result c.position_without-to.result c.self.invariant.in_order (ap (λ (d : Contents). d.records) c.self.view_is) c.requires.there c.at.ensures c.value.ensures c.position_in-from.ensures
+    c.requires.one c.at-moved.ensures c.value-2.ensures c.position_without-to.ensures in
     let made : c.in_ok-order.order.shapes ≡ insert (remove order k) to s =
-    c.in_ok-order.ensures.shapes ∙ ap (λ (l : List Record). insert l to c.in_ok-share.field-0) c.in_ok-others.ensures.shapes ∙ ap (insert (remove order k) to) c.in_ok-share.ensures in
+    c.in_ok-order.ensures.shapes ∙ ap (insert (remove order k) to) c.in_ok-share.ensures in
     let placed : IsInPlaceOrder c.in_ok-order.order.shapes after =
     moved-in_order order rs after c.in_ok-order.order.shapes r s c.args.at k to c.self.invariant.well_formed.rising c.requires.well_formed.rising c.requires.well_formed.places c.self.invariant.in_order m made in
     IfOk-weaker c.raised.result (λ all. all.shapes ≡ c.in_ok-order.order.shapes) (λ all. IsInPlaceOrder all.shapes after) (λ all e. subst (λ (l : List Record). IsInPlaceOrder l after) (sym e) placed) c.raised.ensures.shapes

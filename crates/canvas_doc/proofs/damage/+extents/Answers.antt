@@ -16,8 +16,8 @@ use Rattle.canvas_doc.proofs.damage.+extents.Goals as goal
 pub extent_among-returns-then-levels-eq0 : goal.extent_among-returns-then-levels-eq0
 extent_among-returns-then-levels-eq0 t c = extent-none c.args.levels c.args.document.now.records c.args.parent (carry c.args.out.now) (omega arith)
 
-pub extent_among-extent_of-requires : goal.extent_among-extent_of-requires
-extent_among-extent_of-requires t c =
+pub extent_among-extent_of-one-requires : goal.extent_among-extent_of-one-requires
+extent_among-extent_of-one-requires t c =
     let order : List Record = c.document.inside.order.shapes in
     let shape : Record = c.value-shape.result.now in
     let at : ℕ = c.loop-slot.slot - 1 in
@@ -27,13 +27,13 @@ extent_among-extent_of-requires t c =
     let is : shape ≡ get_or order at c.at.result.now = c.value-shape.ensures ∙ c.at.ensures in
     let here : shape ≡ get_or order at shape = is ∙ ap (get_or order at) (sym c.value-shape.ensures) in
     let there : record_of shape.id c.args.document.now.records ≡ Some shape = order-there order c.args.document.now.records at shape ordered well.rising inside here in
-    (search rules, (found-all IsInLimits shape.id c.args.document.now.records shape well.limits there, (leaf-childless c.args.document.now well shape.id shape there, (search rules, search rules))))
+    (search rules, (leaf-childless c.args.document.now well shape.id shape there, (found-all IsInLimits shape.id c.args.document.now.records shape well.limits there, (search rules, search rules))))
 
 pub extent_among-loop-slot-preserved : goal.extent_among-loop-slot-preserved
 extent_among-loop-slot-preserved t c = record {
   from = omega arith;
   round = round-more (extent_of (c.args.levels - 1) c.args.document.now.records (carry c.args.out.now)) c.document.inside.order.shapes c.loop-slot.slot c.children_range-start.result.end c.value-shape.result.now c.at.result.now
-      c.extent_of.result c.loop-slot.area c.hull-area.result (omega arith) c.loop-slot.auto.slot c.children_range-start.ensures.bound (c.value-shape.ensures ∙ c.at.ensures) c.extent_of.ensures c.loop-slot.invariant.round c.hull-area.ensures.value;
+      c.extent_of-one.result c.loop-slot.area c.hull-area.result (omega arith) c.loop-slot.auto.slot c.children_range-start.ensures.bound (c.value-shape.ensures ∙ c.at.ensures) c.extent_of-one.ensures c.loop-slot.invariant.round c.hull-area.ensures.value;
 }
 
 pub extent_among-returns : goal.extent_among-returns
@@ -49,11 +49,11 @@ extent_among-returns t c =
 
 pub extent_of-returns-then-is_container : goal.extent_of-returns-then-is_container
 extent_of-returns-then-is_container t c =
-    extent-by c.args.levels c.args.document.now.records (carry c.args.out.now) c.args.shape.now.id c.args.shape.now.kind c.args.shape.now.pose c.then-page.result c.own_extent-own.result c.extent_among.result c.hull.result
+    extent-by c.args.levels c.args.document.now.records (carry c.args.out.now) c.args.shape.now.id c.args.kind.now c.args.pose.now c.then-page.result c.own_extent-own.result c.extent_among.result c.hull.result
     c.then-page.ensures.carries c.own_extent-own.ensures c.extent_among.ensures c.hull.ensures.value
 
 pub extent_of-returns-else-is_container : goal.extent_of-returns-else-is_container
 extent_of-returns-else-is_container t c =
-    extent-by c.args.levels c.args.document.now.records (carry c.args.out.now) c.args.shape.now.id c.args.shape.now.kind c.args.shape.now.pose c.then-page.result c.own_extent-own.result _ c.hull-else-is_container.result
+    extent-by c.args.levels c.args.document.now.records (carry c.args.out.now) c.args.shape.now.id c.args.kind.now c.args.pose.now c.then-page.result c.own_extent-own.result _ c.hull-else-is_container.result
     c.then-page.ensures.carries c.own_extent-own.ensures
     (sym (extent-childless c.args.levels c.args.shape.now.id c.args.document.now.records (carry c.then-page.result) (c.requires.leaf (sym c.is_container.ensures ∙ c.if-is_container.false)))) c.hull-else-is_container.ensures.value

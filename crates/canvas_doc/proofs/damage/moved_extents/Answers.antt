@@ -5,35 +5,42 @@ use Rattle.canvas_doc.specs.declared.records.Record.{Record}
 use Rattle.canvas_doc.specs.Contents.{Contents, record_of}
 use Rattle.canvas_doc.specs.Damage.{extent_at, extent_on_page}
 use Rattle.canvas_doc.specs.Tree.{IsInLimits}
-use Rattle.canvas_doc.proofs.BothExtents.{same-place}
+use Rattle.canvas_doc.proofs.BothExtents.{leaf-found, same-place}
+use Rattle.canvas_doc.proofs.Extents.{on-page}
 use Rattle.canvas_doc.proofs.Fit.{found-all}
 use Rattle.canvas_doc.proofs.damage.moved_extents.Goals as goal
 
-pub extent-moved-requires-clause-sound : goal.extent-moved-requires-clause-sound
-extent-moved-requires-clause-sound c =
-    let limits : IsInLimits c.in-Some.shape.now = found-all IsInLimits c.args.id c.document.inside.records c.in-Some.shape.now c.document.invariant.well_formed.limits (sym c.in-Some.ensures) in
-    limits.kind
+pub extent_of-before-requires-clause-leaf : goal.extent_of-before-requires-clause-leaf
+extent_of-before-requires-clause-leaf c = leaf-found c.args.id _ c.args.document.now c.in-Some.shape.now c.document.invariant.well_formed c.document.view_is c.in-Some.ensures
 
-pub extent-moved-requires-clause-quarter : goal.extent-moved-requires-clause-quarter
-extent-moved-requires-clause-quarter c =
-    let limits : IsInLimits c.in-Some.shape.now = found-all IsInLimits c.args.id c.document.inside.records c.in-Some.shape.now c.document.invariant.well_formed.limits (sym c.in-Some.ensures) in
-    limits.quarter
+pub extent_of-before-requires-clause-limits : goal.extent_of-before-requires-clause-limits
+extent_of-before-requires-clause-limits c = found-all IsInLimits c.args.id c.document.inside.records c.in-Some.shape.now c.document.invariant.well_formed.limits (sym c.in-Some.ensures)
 
-pub extent-moved-requires-clause-reach : goal.extent-moved-requires-clause-reach
-extent-moved-requires-clause-reach c =
-    let limits : IsInLimits c.in-Some.shape.now = found-all IsInLimits c.args.id c.document.inside.records c.in-Some.shape.now c.document.invariant.well_formed.limits (sym c.in-Some.ensures) in
-    limits.reach
+pub extent_of-moved-requires-clause-leaf : goal.extent_of-moved-requires-clause-leaf
+extent_of-moved-requires-clause-leaf c = leaf-found c.args.id _ c.args.document.now c.in-Some.shape.now c.document.invariant.well_formed c.document.view_is c.in-Some.ensures
+
+pub extent_of-moved-requires-clause-limits : goal.extent_of-moved-requires-clause-limits
+extent_of-moved-requires-clause-limits c = found-all IsInLimits c.args.id c.document.inside.records c.in-Some.shape.now c.document.invariant.well_formed.limits (sym c.in-Some.ensures)
 
 pub returns-else-eq : goal.returns-else-eq
 returns-else-eq c = λ r e.
     let rs : List Record = c.args.document.now.records in
-    let same : c.in-Some.shape.now ≡ r = same_Some c.in-Some.shape.now r (c.in-Some.ensures ∙ ap (λ (d : Contents). record_of c.args.id d.records) c.document.view_is ∙ e) in
-    c.hull.ensures.value ∙ ap (λ b. hull_of b c.extent-moved.result) c.extent_at-before.ensures
-    ∙ ap (hull_of (extent_at c.args.id rs)) (c.extent-moved.ensures ∙ ap (λ (s : Record). extent_on_page rs (Some (record s { place = c.args.place.now }))) same)
+    let shape : Record = c.in-Some.shape.now in
+    let found : Some shape ≡ record_of c.args.id rs = c.in-Some.ensures ∙ ap (λ (d : Contents). record_of c.args.id d.records) c.document.view_is in
+    let same : shape ≡ r = same_Some shape r (found ∙ e) in
+    let before : c.extent_of-before.result ≡ extent_at c.args.id rs =
+    on-page rs c.document.inside.records shape c.page_pose-up.result c.extent_of-before.result (ap (λ (d : Contents). d.records) c.document.view_is) c.page_pose-up.ensures.carries c.extent_of-before.ensures ∙ ap (extent_on_page rs) found in
+    let after : c.extent_of-moved.result ≡ extent_on_page rs (Some (record r { place = c.args.place.now })) =
+    on-page rs c.document.inside.records (record shape { place = c.args.place.now }) c.page_pose-new_up.result c.extent_of-moved.result (ap (λ (d : Contents). d.records) c.document.view_is) c.page_pose-new_up.ensures.carries c.extent_of-moved.ensures
+    ∙ ap (λ (s : Record). extent_on_page rs (Some (record s { place = c.args.place.now }))) same in
+    c.hull.ensures.value ∙ ap (λ b. hull_of b c.extent_of-moved.result) before ∙ ap (hull_of (extent_at c.args.id rs)) after
 
 pub returns-then-eq : goal.returns-then-eq
 returns-then-eq c = λ r e.
+    let rs : List Record = c.args.document.now.records in
     let shape : Record = c.in-Some.shape.now in
-    let same : shape ≡ r = same_Some shape r (c.in-Some.ensures ∙ ap (λ (d : Contents). record_of c.args.id d.records) c.document.view_is ∙ e) in
+    let found : Some shape ≡ record_of c.args.id rs = c.in-Some.ensures ∙ ap (λ (d : Contents). record_of c.args.id d.records) c.document.view_is in
+    let same : shape ≡ r = same_Some shape r (found ∙ e) in
     let parent : shape.place.parent ≡ c.args.place.now.parent = search rules in
-    c.extent_at-before.ensures ∙ same-place c.args.id c.args.document.now.records r c.args.place.now e (ap (λ (s : Record). s.place.parent) (sym same) ∙ parent)
+    on-page rs c.document.inside.records shape c.page_pose-up.result c.extent_of-before.result (ap (λ (d : Contents). d.records) c.document.view_is) c.page_pose-up.ensures.carries c.extent_of-before.ensures ∙ ap (extent_on_page rs) found
+    ∙ same-place c.args.id rs r c.args.place.now e (ap (λ (s : Record). s.place.parent) (sym same) ∙ parent)
