@@ -1,5 +1,4 @@
-//! Tests of documents, which stand apart since `canvas_doc` is large: every refusal of every edit,
-//! lists of records, long histories and want of memory.
+//! Tests of documents: every refusal of every edit, lists of records, long histories and want of memory.
 #![tactic(auto)]
 
 #[cfg(test)]

@@ -29,8 +29,8 @@ impl Line {
     /// Opens a line under a name, with so many seats, 1 to 64, which may accept up to `limit` changes, 1 to 1,000,000.
     /// All seats are at its beginning.
     ///
-    /// Refusals, in this order: `BadSetting` for another number of seats or another limit, `NoSeats` where there was no
-    /// place for one of them, `OutOfMemory`.
+    /// `BadSetting` comes before all else, for another number of seats or another limit; then `OutOfMemory`, or `NoSeats`
+    /// where a reader of the line could not be had.
     pub fn open<B: Lines, R: Wait>(
         rt: &R,
         alloc: Global,

@@ -1,4 +1,4 @@
-//! Tests of lines, which stand apart since they paint: worked examples, settings, want of memory, and twenty-four threads at one line.
+//! Tests of lines: worked examples, settings, want of memory, and twenty-four threads at one line.
 #![tactic(auto)]
 
 #[cfg(test)]

@@ -51,7 +51,7 @@ impl Settings {
 /// and returns after so many connections, when all their sessions have ended.
 ///
 /// A connection that finds all seats taken gets the reply `NoSeats` and is closed, as is one whose thread can't be
-/// started. `BadSetting`, `BadWorkers`, `NoSeats` and `OutOfMemory` come in this order and before the first connection,
+/// started. `BadSetting` and then `BadWorkers` come before all else; `NoSeats` and `OutOfMemory` before the first connection;
 /// `AcceptFault` where no connection can be accepted any more, after all sessions have ended.
 pub fn serve_connections<H: Threads + Wait + Clock + Sync>(
     rt: &H,

@@ -70,7 +70,7 @@ fn tape_of_text<'a>(
     }
 }
 
-/// The tape of a line, if serde_json takes the line. A line of 4 GiB or more is refused as one for
+/// The tape of a line, if serde_json takes the line. A line of more than 4 GiB less 256 bytes is refused as one for
 /// which there is no memory.
 pub(crate) fn tape_of<'a>(
     alloc: Global,
