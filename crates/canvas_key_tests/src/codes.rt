@@ -2,7 +2,7 @@
 
 use canvas_code::name_of;
 
-// Each code with its name, written from the format's own table.
+// Each code with its name, written by hand and not taken from the sources.
 static NAMES: [(u16, &str); 47] = [
     (1, "OutOfMemory"),
     (2, "NoSuchShape"),

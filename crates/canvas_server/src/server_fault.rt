@@ -16,7 +16,7 @@ pub enum ServerFault {
     /// A number of workers outside 1 to 16.
     #[error("BadWorkers")]
     BadWorkers,
-    /// There is no place for a seat.
+    /// A reader of the line could not be had.
     #[error("NoSeats")]
     NoSeats,
     /// Memory could not be had.

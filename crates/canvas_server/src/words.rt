@@ -81,7 +81,7 @@ fn workers_of(word: &str) -> Option<u32>
 }
 
 /// The status with which the program ends at a fault: 3 where a document was refused, 5 at want of memory and where
-/// there is no place for a seat or a view, else 4. A fault of input or output has no code.
+/// a reader of the line or a view could not be had, else 4. A fault of input or output has no code.
 pub fn exit_status(code: Option<u16>) -> u8
     ensures { result ≡ status_of code }
 {
