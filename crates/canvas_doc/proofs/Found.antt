@@ -1,10 +1,7 @@
 -- Looking an id up among records in rising id.
-use Rattle.std.proofs.Common.{◌≡◌, ℕ, zero, suc, ◌+◌, ◌-◌, ◌<◌, ◌≤◌, ◌==◌, List, [], ◌∷◌, true, false, Some, None, refl, sym, ap, ◌∙◌, arith, inl, inr, subst, length, get_or}
+use Rattle.std.proofs.Common.{◌≡◌, ℕ, zero, suc, ◌<◌, ◌==◌, List, [], ◌∷◌, true, false, Some, None, refl, sym, ap, ◌∙◌, arith, inl, inr, subst, length, get_or}
 use Rattle.std.specs.List.{AllByRecursion}
-use Rattle.std.specs.Ordering.{nat_cmp}
-use Rattle.std.specs.declared.cmp.Ordering.TheVariants.{Less, Equal, Greater}
 use Rattle.std.proofs.lemmas.Bool.{cases_Bool, eq-eqb, eqb-true}
-use Rattle.std.proofs.lemmas.Bool.Decides.{nat_tests}
 use Rattle.std.proofs.lemmas.List.{get_or_default}
 use Rattle.canvas_doc.specs.declared.records.Record.{Record}
 use Rattle.canvas_doc.specs.Contents.{record_of, AreRising}

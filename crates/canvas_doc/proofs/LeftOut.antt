@@ -1,5 +1,5 @@
 -- Where a place lies in the order once a record is left out of it.
-use Rattle.std.proofs.Common.{◌≡◌, ℕ, ◌<◌, ◌≤◌, ◌+◌, ◌-◌, List, Bool, nat_lt, ap, ◌∙◌, arith, inl, inr, length, drop, take}
+use Rattle.std.proofs.Common.{◌≡◌, ℕ, ◌<◌, ◌≤◌, ◌+◌, ◌-◌, List, Bool, nat_lt, ap, ◌∙◌, arith, inl, inr, length}
 use Rattle.std.specs.List.{remove}
 use Rattle.std.specs.Ordering.{is_lt}
 use Rattle.std.proofs.lemmas.Bool.{cases_Bool}

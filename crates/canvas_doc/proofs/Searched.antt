@@ -1,10 +1,9 @@
 -- A search by id: where it stands if no shape was deleted, and else by halves.
-use Rattle.std.proofs.Common.{◌≡◌, ◌≢◌, ℕ, ◌<◌, ◌≤◌, List, Bool, true, false, nat_lt, Some, None, sym, ◌∙◌, ap, arith, inl, inr, length, get_or}
+use Rattle.std.proofs.Common.{◌≡◌, ◌≢◌, ℕ, ◌<◌, List, Bool, true, false, nat_lt, Some, None, sym, ◌∙◌, ap, arith, inl, inr, length, get_or}
 use Rattle.std.specs.List.{slice_get}
 use Rattle.std.specs.List.Sorted.{IsPartitionPoint, IsPartitionedBy}
 use Rattle.std.proofs.lemmas.Bool.{cases_lt}
 use Rattle.std.proofs.lemmas.Bool.Decides.{nat_tests}
-use Rattle.std.proofs.lemmas.List.{get_or_default}
 use Rattle.std.proofs.lemmas.Option.{get_or_from_slice_get, slice_get-get_or, slice_get_within}
 use Rattle.canvas_doc.specs.declared.records.Record.{Record}
 use Rattle.canvas_doc.specs.Contents.{record_of, AreRising, StandsAt}
