@@ -40,19 +40,17 @@ split_at cs k c h =
     ∙ joined-append (take k cs) (drop k cs)
     ∙ ap (λ l. joined (take k cs) ++ joined l) (drop_more cs k c h)
 
+-- the items of the first chunks and those of the others are all
+pub sum-parted : {X : Type 0} (cs : List (List X)) (j : ℕ) → length (joined cs) ≡ length (joined (take j cs)) + length (joined (drop j cs))
+sum-parted cs j = ap (λ l. length (joined l)) (sym (take-append-drop j cs)) ∙ ap length (joined-append (take j cs) (drop j cs)) ∙ length-append (joined (take j cs)) (joined (drop j cs))
+
 -- the first chunks have no more items than all
 pub take-fewer : {X : Type 0} (cs : List (List X)) (j : ℕ) → length (joined (take j cs)) ≤ length (joined cs)
-take-fewer cs j =
-    let all : length (joined cs) ≡ length (joined (take j cs)) + length (joined (drop j cs)) =
-    ap (λ l. length (joined l)) (sym (take-append-drop j cs)) ∙ ap length (joined-append (take j cs) (drop j cs)) ∙ length-append (joined (take j cs)) (joined (drop j cs)) in
-    omega arith
+take-fewer cs j = omega (arith, sum-parted cs j)
 
 -- and so do the last ones
 pub drop-fewer : {X : Type 0} (cs : List (List X)) (j : ℕ) → length (joined (drop j cs)) ≤ length (joined cs)
-drop-fewer cs j =
-    let all : length (joined cs) ≡ length (joined (take j cs)) + length (joined (drop j cs)) =
-    ap (λ l. length (joined l)) (sym (take-append-drop j cs)) ∙ ap length (joined-append (take j cs) (drop j cs)) ∙ length-append (joined (take j cs)) (joined (drop j cs)) in
-    omega arith
+drop-fewer cs j = omega (arith, sum-parted cs j)
 
 -- fewer chunks have no more items
 pub fewer : {X : Type 0} (cs : List (List X)) (i j : ℕ) → i ≤ j → length (joined (take i cs)) ≤ length (joined (take j cs))

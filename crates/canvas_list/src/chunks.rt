@@ -1,6 +1,6 @@
 //! A part of a list, as a table of its chunks.
 
-ghost use Rattle.std.specs.Prelude.{◌≡◌, ◌<◌, ◌≤◌, ◌+◌, ◌*◌, ◌^◌, ◌++◌, [], IfOk, false, take, drop, length, slice_set, slice_index_or};
+ghost use Rattle.std.specs.Prelude.{◌≡◌, ◌<◌, ◌≤◌, ◌+◌, ◌*◌, ◌^◌, ◌++◌, ◌∷◌, [], IfOk, false, take, drop, length, slice_set, slice_index_or};
 ghost use Rattle.std.specs.List.{insert, remove, slice_get};
 ghost use Rattle.canvas_list.specs.Chunks.{joined};
 
@@ -69,10 +69,15 @@ impl<T: Drop> Chunks<T> {
         self.chunks[0].first()
     }
 
-    /// Whether there is no room for one more chunk, and none for one more item in the last one, in a
-    /// block that gets so many chunks.
-    pub(crate) fn is_full(&self, size: usize) -> bool {
-        self.chunks.len() >= size && is_full(&self.chunks)
+    /// Whether there is no room for one more chunk in a block that gets so many, and none for one more
+    /// item in the last one.
+    pub(crate) fn ends_full(&self, size: usize) -> bool {
+        self.chunks.len() >= size && ends_full(&self.chunks)
+    }
+
+    /// The same of the first one.
+    pub(crate) fn starts_full(&self, size: usize) -> bool {
+        self.chunks.len() >= size && starts_full(&self.chunks)
     }
 
     /// Whether there are more chunks than a block has that gets so many.
@@ -199,7 +204,9 @@ impl<T: Share> Chunks<T> {
         spliced(alloc, &self.chunks, spot.chunk, end, items)
     }
 
-    /// The list with one more item before the one at a position, or at the end.
+    /// The list with one more item before the one at a position, or at the end. At both ends it goes to a
+    /// chunk of its own where the one there is full, so items that are put in one after another fill
+    /// whole chunks.
     pub(crate) fn with_inserted(
         &self,
         alloc: Global,
@@ -210,11 +217,11 @@ impl<T: Share> Chunks<T> {
         requires few { length self.now + 1 < 2 ^ 32 }
         ensures { IfOk result (λ list. list ≡ insert self.now at item) }
     {
-        if at == self.len() && is_full(&self.chunks) {
-            let mut items = Vec::with_capacity(alloc, 1)?;
-            items.push(item)?;
-            let end = self.chunks.len();
-            return spliced(alloc, &self.chunks, end, end, items);
+        if at == self.len() && ends_full(&self.chunks) {
+            return with_chunk(alloc, &self.chunks, self.chunks.len(), item);
+        }
+        if at == 0 && starts_full(&self.chunks) {
+            return with_chunk(alloc, &self.chunks, 0, item);
         }
         let spot = spot_of(&self.chunks, at);
         let end = spot.chunk + 1;
@@ -280,11 +287,35 @@ fn spliced<T: Drop>(
         .and_all(&chunks[end..])
 }
 
+// One more chunk, of one item, before the one at a place or at the end.
+fn with_chunk<T: Drop>(
+    alloc: Global,
+    chunks: &[Chunk<T>],
+    place: usize,
+    item: T,
+) -> Result<Chunks<T>, OutOfMemory>
+    requires within { place ≤ length chunks.now }
+    requires few { length (joined chunks.now) + 1 < 2 ^ 32 }
+    ensures { IfOk result (λ list. list ≡ joined (take place chunks.now) ++ item ∷ joined (drop place chunks.now)) }
+{
+    let mut items = Vec::with_capacity(alloc, 1)?;
+    items.push(item)?;
+    spliced(alloc, chunks, place, place, items)
+}
+
 // Whether the last chunk has no room for one more item, or there is no chunk.
-fn is_full<T: Drop>(chunks: &[Chunk<T>]) -> bool
+fn ends_full<T: Drop>(chunks: &[Chunk<T>]) -> bool
     ensures { result ≡ false → 0 < length chunks.now }
 {
     match chunks.last() {
+        None => true,
+        Some(chunk) => chunk.count() == CHUNK,
+    }
+}
+
+// Whether the first chunk has no room for one more item, or there is no chunk.
+fn starts_full<T: Drop>(chunks: &[Chunk<T>]) -> bool {
+    match chunks.first() {
         None => true,
         Some(chunk) => chunk.count() == CHUNK,
     }

@@ -12,7 +12,8 @@ pub(crate) const JOINED_CHUNK: usize = 6;
 
 /// How many chunks a block gets in a list of so many items: about as many as there are blocks, since
 /// a change copies both tables. A block with twice as many or more is halved; two neighbours with
-/// no more than half as many each become one where an item of theirs is removed.
+/// no more than half as many each become one where an item of theirs is removed. Where an item comes
+/// into a list with twice as many blocks or more, most of them small, all blocks are made anew.
 pub(crate) fn block_size(items: usize) -> usize
     ensures some { 0 < result }
     ensures few { result ≤ 32 }

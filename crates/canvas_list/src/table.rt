@@ -1,6 +1,6 @@
 //! The list, as a table of its blocks.
 
-ghost use Rattle.std.specs.Prelude.{◌≡◌, ◌↔◌, ◌<◌, ◌≤◌, ◌+◌, ◌^◌, ◌++◌, [], IfOk, IsTrue, false, take, drop, length, slice_set, slice_index_or};
+ghost use Rattle.std.specs.Prelude.{◌≡◌, ◌↔◌, ◌<◌, ◌≤◌, ◌+◌, ◌^◌, ◌++◌, ◌∷◌, [], IfOk, IsTrue, false, take, drop, length, slice_set, slice_index_or};
 ghost use Rattle.std.specs.List.{insert, remove, slice_get};
 ghost use Rattle.std.specs.Option.{option_copied};
 ghost use Rattle.canvas_list.specs.Chunks.{joined};
@@ -168,6 +168,19 @@ impl<T: Drop> SharedList<T> {
         list.and_block(alloc, part)
     }
 
+    // The same items in fewer blocks, where there are many and most are small: they were made while the
+    // list was short.
+    fn balanced(self, alloc: Global, size: usize) -> Result<SharedList<T>, OutOfMemory>
+        requires { 0 < size }
+        ensures { IfOk result (λ list. list ≡ self) }
+    {
+        if self.blocks.len() / 2 < size || !are_small(&self.blocks, size) {
+            return Ok(self);
+        }
+        let chunks = chunks_of(alloc, &self.blocks)?;
+        SharedList::empty(alloc).and_chunks(alloc, chunks, size)
+    }
+
     /// More blocks, which are shared.
     pub(crate) fn and_all(self, more: &[Block<T>]) -> Result<SharedList<T>, OutOfMemory>
         requires { length self + length (joined more.now) < 2 ^ 32 }
@@ -222,16 +235,17 @@ impl<T: Share> SharedList<T> {
         ensures { IfOk result (λ list. list ≡ insert self.now at item) }
     {
         let size = block_size(self.len());
-        if at == self.len() && is_full(&self.blocks, size) {
-            let one = Chunks::empty(alloc).with_inserted(alloc, 0, item)?;
-            let end = self.blocks.len();
-            return spliced(alloc, &self.blocks, end, end, one, size);
+        if at == self.len() && ends_full(&self.blocks, size) {
+            return with_block(alloc, &self.blocks, self.blocks.len(), item, size);
+        }
+        if at == 0 && starts_full(&self.blocks, size) {
+            return with_block(alloc, &self.blocks, 0, item, size);
         }
         let spot = spot_of(&self.blocks, at);
         let end = spot.chunk + 1;
         let old = self.blocks[spot.chunk].chunks();
         let new = old.with_inserted(alloc, at - spot.start, item)?;
-        spliced(alloc, &self.blocks, spot.chunk, end, new, size)
+        spliced(alloc, &self.blocks, spot.chunk, end, new, size)?.balanced(alloc, size)
     }
 
     /// The list without the item at a position.
@@ -309,14 +323,48 @@ fn spliced<T: Drop>(
         .and_all(&blocks[end..])
 }
 
+// One more block, of one item, before the one at a place or at the end.
+fn with_block<T: Share>(
+    alloc: Global,
+    blocks: &[Block<T>],
+    place: usize,
+    item: T,
+    size: usize,
+) -> Result<SharedList<T>, OutOfMemory>
+    requires some { 0 < size }
+    requires within { place ≤ length blocks.now }
+    requires few { length (joined blocks.now) + 1 < 2 ^ 32 }
+    ensures { IfOk result (λ list. list ≡ joined (take place blocks.now) ++ item ∷ joined (drop place blocks.now)) }
+{
+    let one = Chunks::empty(alloc).with_inserted(alloc, 0, item)?;
+    spliced(alloc, blocks, place, place, one, size)?.balanced(alloc, size)
+}
+
 // Whether the last block has no room for one more item at its end, or there is no block.
-fn is_full<T: Drop>(blocks: &[Block<T>], size: usize) -> bool
+fn ends_full<T: Drop>(blocks: &[Block<T>], size: usize) -> bool
     ensures { result ≡ false → 0 < length blocks.now }
 {
     match blocks.last() {
         None => true,
-        Some(block) => block.chunks().is_full(size),
+        Some(block) => block.chunks().ends_full(size),
     }
+}
+
+// Whether the first block has no room for one more item at its start, or there is no block.
+fn starts_full<T: Drop>(blocks: &[Block<T>], size: usize) -> bool {
+    match blocks.first() {
+        None => true,
+        Some(block) => block.chunks().starts_full(size),
+    }
+}
+
+// Whether blocks have fewer chunks each, taken together, than a block gets.
+fn are_small<T: Drop>(blocks: &[Block<T>], size: usize) -> bool {
+    let mut chunks: usize = 0;
+    for block in blocks {
+        chunks = chunks.saturating_add(block.chunks().chunks().len());
+    }
+    chunks / blocks.len().max(1) < size
 }
 
 // A block, with one beside it if both are small.

@@ -160,6 +160,24 @@ fn changes_beside_a_plain_list(rt: HostRuntime) -> Result<(), Fail> {
 }
 
 #[test]
+fn items_come_in_front_of_one_another(rt: HostRuntime) -> Result<(), Fail> {
+    let alloc = rt.alloc();
+    let list = SharedList::empty(alloc);
+    let plain = Vec::new(alloc);
+    let mut both = Both { list, plain };
+    for value in 0..3_000u32 {
+        if both.list.len() < MOST {
+            both.insert(alloc, 0, value)?;
+        }
+        if value % 127 == 0 {
+            assert!(rt; has(&both.list, &both.plain), "after {value}");
+        }
+    }
+    assert!(rt; has(&both.list, &both.plain));
+    Ok(())
+}
+
+#[test]
 fn a_change_leaves_the_list_before_it(rt: HostRuntime) -> Result<(), Fail> {
     let alloc = rt.alloc();
     let mut dice = Dice { state: 54_321 };

@@ -5,12 +5,12 @@ use Rattle.canvas_list.specs.Chunks.{joined}
 use Rattle.canvas_list.proofs.Joined.{found, has-chunk, len-is, search-some}
 use Rattle.canvas_list.proofs.Spliced.{inserted, of-spot, sum-parts, IsOfSpot}
 use Rattle.canvas_list.proofs.chunks.Chunks.with_inserted.Goals as goal
-use Rattle.canvas_list.proofs.chunks.Chunks.with_inserted.Goals.{else-at-len-via-then-at-len+else-is_full, else-at-len-via-else-at-len}
+use Rattle.canvas_list.proofs.chunks.Chunks.with_inserted.Goals.{else-at-len-via-then-at-len+else-ends_full, else-at-len-via-else-at-len}
 
 pub spot_of-spot-requires : goal.spot_of-spot-requires
 spot_of-spot-requires g c =
     let some : 0 < length c.self.inside.chunks.items = elim c.else-at-len.branch [
-      | else-at-len-via-then-at-len+else-is_full w ↦ omega (arith, w.if-is_full.ensures refl, ap length w.deref.ensures.value)
+      | else-at-len-via-then-at-len+else-ends_full w ↦ omega (arith, w.if-ends_full.ensures refl, ap length w.deref.ensures.value)
       | else-at-len-via-else-at-len w ↦ has-chunk c.self.inside.chunks.items c.args.self.now c.args.at c.self.view_is (omega (arith, len-is c.self.inside.chunks.items c.self.inside.count c.args.self.now c.self.invariant c.self.view_is, c.requires.within, w.if-at-len.false))
     ] in
     search-some c.self.inside.chunks.items c.deref-2.result.now c.deref-2.ensures.value some
@@ -22,24 +22,24 @@ slice_bounds-items_of-end g c =
 
 pub insert-requires : goal.insert-requires
 insert-requires g c =
-    let p : IsOfSpot c.self.inside.chunks.items c.args.self.now c.spot_of-spot.result.chunk c.spot_of-spot.result.start c.args.at c.in_ok-items-2.items.items = of-spot c.self.inside.chunks.items c.deref-3.result.now c.deref-2.result.now c.args.self.now c.self.inside.count c.spot_of-spot.result.chunk c.spot_of-spot.result.start c.args.at c.in_ok-items-2.items.items c.self.invariant c.deref-2.ensures.value c.spot_of-spot.ensures c.self.view_is c.deref-3.ensures.value c.in_ok-items-2.ensures in
-    omega (arith, p.place.behind c.requires.within, c.in_ok-items-2.items.ok)
+    let p : IsOfSpot c.self.inside.chunks.items c.args.self.now c.spot_of-spot.result.chunk c.spot_of-spot.result.start c.args.at c.in_ok-items.items.items = of-spot c.self.inside.chunks.items c.deref-3.result.now c.deref-2.result.now c.args.self.now c.self.inside.count c.spot_of-spot.result.chunk c.spot_of-spot.result.start c.args.at c.in_ok-items.items.items c.self.invariant c.deref-2.ensures.value c.spot_of-spot.ensures c.self.view_is c.deref-3.ensures.value c.in_ok-items.ensures in
+    omega (arith, p.place.behind c.requires.within, c.in_ok-items.items.ok)
 
-pub spliced-requires-2-clause-small : goal.spliced-requires-2-clause-small
-spliced-requires-2-clause-small g c =
-    let p : IsOfSpot c.self.inside.chunks.items c.args.self.now c.spot_of-spot.result.chunk c.spot_of-spot.result.start c.args.at c.in_ok-items-2.items.items = of-spot c.self.inside.chunks.items c.deref-3.result.now c.deref-2.result.now c.args.self.now c.self.inside.count c.spot_of-spot.result.chunk c.spot_of-spot.result.start c.args.at c.in_ok-items-2.items.items c.self.invariant c.deref-2.ensures.value c.spot_of-spot.ensures c.self.view_is c.deref-3.ensures.value c.in_ok-items-2.ensures in
+pub spliced-requires-clause-small : goal.spliced-requires-clause-small
+spliced-requires-clause-small g c =
+    let p : IsOfSpot c.self.inside.chunks.items c.args.self.now c.spot_of-spot.result.chunk c.spot_of-spot.result.start c.args.at c.in_ok-items.items.items = of-spot c.self.inside.chunks.items c.deref-3.result.now c.deref-2.result.now c.args.self.now c.self.inside.count c.spot_of-spot.result.chunk c.spot_of-spot.result.start c.args.at c.in_ok-items.items.items c.self.invariant c.deref-2.ensures.value c.spot_of-spot.ensures c.self.view_is c.deref-3.ensures.value c.in_ok-items.ensures in
     omega (
       arith,
       ap length c.in_ok-insert.ensures.items,
-      length-insert c.in_ok-items-2.items.items (c.args.at - c.spot_of-spot.result.start) c.args.item (p.place.behind c.requires.within),
+      length-insert c.in_ok-items.items.items (c.args.at - c.spot_of-spot.result.start) c.args.item (p.place.behind c.requires.within),
       c.requires.few,
-      sum-parts c.self.inside.chunks.items c.deref-4.result.now c.args.self.now c.spot_of-spot.result.chunk (c.spot_of-spot.result.chunk + 1) c.spot_of-spot.result.start c.in_ok-items-2.items.items p.part c.deref-4.ensures.value,
+      sum-parts c.self.inside.chunks.items c.deref-4.result.now c.args.self.now c.spot_of-spot.result.chunk (c.spot_of-spot.result.chunk + 1) c.spot_of-spot.result.start c.in_ok-items.items.items p.part c.deref-4.ensures.value,
     )
 
 pub returns : goal.returns
 returns g c =
-    let p : IsOfSpot c.self.inside.chunks.items c.args.self.now c.spot_of-spot.result.chunk c.spot_of-spot.result.start c.args.at c.in_ok-items-2.items.items = of-spot c.self.inside.chunks.items c.deref-3.result.now c.deref-2.result.now c.args.self.now c.self.inside.count c.spot_of-spot.result.chunk c.spot_of-spot.result.start c.args.at c.in_ok-items-2.items.items c.self.invariant c.deref-2.ensures.value c.spot_of-spot.ensures c.self.view_is c.deref-3.ensures.value c.in_ok-items-2.ensures in
+    let p : IsOfSpot c.self.inside.chunks.items c.args.self.now c.spot_of-spot.result.chunk c.spot_of-spot.result.start c.args.at c.in_ok-items.items.items = of-spot c.self.inside.chunks.items c.deref-3.result.now c.deref-2.result.now c.args.self.now c.self.inside.count c.spot_of-spot.result.chunk c.spot_of-spot.result.start c.args.at c.in_ok-items.items.items c.self.invariant c.deref-2.ensures.value c.spot_of-spot.ensures c.self.view_is c.deref-3.ensures.value c.in_ok-items.ensures in
     let new : List g.row.T.Denot = c.insert.new.self.items in
     let same : joined (take c.spot_of-spot.result.chunk c.deref-4.result.now) ++ new ++ joined (drop (c.spot_of-spot.result.chunk + 1) c.deref-4.result.now) ≡ insert c.args.self.now c.args.at c.args.item =
-    inserted c.self.inside.chunks.items c.deref-4.result.now c.args.self.now c.spot_of-spot.result.chunk (c.spot_of-spot.result.chunk + 1) c.spot_of-spot.result.start c.args.at c.in_ok-items-2.items.items new c.args.item p.part p.place c.deref-4.ensures.value c.in_ok-insert.ensures.items c.requires.within in
-    subst (λ (l : List g.row.T.Denot). IfOk c.spliced-2.result (λ (list : List g.row.T.Denot). list ≡ l)) same c.spliced-2.ensures
+    inserted c.self.inside.chunks.items c.deref-4.result.now c.args.self.now c.spot_of-spot.result.chunk (c.spot_of-spot.result.chunk + 1) c.spot_of-spot.result.start c.args.at c.in_ok-items.items.items new c.args.item p.part p.place c.deref-4.ensures.value c.in_ok-insert.ensures.items c.requires.within in
+    subst (λ (l : List g.row.T.Denot). IfOk c.spliced.result (λ (list : List g.row.T.Denot). list ≡ l)) same c.spliced.ensures
