@@ -20,7 +20,7 @@ const IN_TURN: u32 = 8;
 /// How many records a document has of which each layout is timed.
 const MANY: u32 = 4_096;
 
-/// How many records the documents have by which the growth of costs is seen, all on the page.
+/// How many records the documents have by which the growth of costs is seen, all made shape by shape.
 const SIZES: [u32; 4] = [10, 100, 1_000, 16_384];
 
 /// Times each edit of each layout, and of larger and smaller documents.
@@ -33,7 +33,7 @@ pub fn time_all<R: Clock + Print>(rt: &R, alloc: Global) -> Result<(), Fault> {
         time_restoring(rt, alloc, layout)?;
     }
     for records in SIZES {
-        time_edits(rt, alloc, Layout::Flat, records)?;
+        time_edits(rt, alloc, Layout::Grown, records)?;
     }
     Ok(())
 }

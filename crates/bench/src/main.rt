@@ -4,7 +4,6 @@
 
 mod edits;
 mod fault;
-mod lists;
 mod painting;
 mod saving;
 mod scenes;
@@ -22,8 +21,6 @@ use std::env;
 enum Subject {
     /// The row spans of leaves.
     Spans,
-    /// Lists that share their items.
-    Lists,
     /// Edits of documents, and their restoring.
     Edits,
     /// Scenes of tiles, and their painting.
@@ -43,7 +40,6 @@ impl Subject {
     fn named(word: &str) -> Option<Subject> {
         match word {
             "spans" => Some(Subject::Spans),
-            "lists" => Some(Subject::Lists),
             "edits" => Some(Subject::Edits),
             "scenes" => Some(Subject::Scenes),
             "painting" => Some(Subject::Painting),
@@ -57,12 +53,11 @@ impl Subject {
 
 fn main(rt: HostRuntime) -> Result<(), Fault> {
     let Some(subject) = asked(&rt)? else {
-        println!(rt; "usage: bench spans|lists|edits|scenes|painting|saving|seats|versions")?;
+        println!(rt; "usage: bench spans|edits|scenes|painting|saving|seats|versions")?;
         return Ok(());
     };
     match subject {
         Subject::Spans => spans::time_all(&rt),
-        Subject::Lists => lists::time_all(&rt, rt.alloc()),
         Subject::Edits => edits::time_all(&rt, rt.alloc()),
         Subject::Scenes => scenes::time_all(&rt),
         Subject::Painting => painting::time_all(&rt, rt.alloc()),

@@ -33,7 +33,7 @@ fn with_children(layout: Layout) -> Parent {
 /// The root of a large subtree that can go elsewhere, and where.
 fn moved(layout: Layout, records: u32) -> (u32, Parent) {
     match layout {
-        Layout::Flat => (leaf_of(records), Parent::Page),
+        Layout::Flat | Layout::Grown => (leaf_of(records), Parent::Page),
         Layout::Deep => (32, Parent::Page),
         _ => (66, Parent::Shape(2)),
     }

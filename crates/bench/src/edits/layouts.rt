@@ -1,14 +1,15 @@
 //! Documents to be edited.
 
 use crate::fault::Fault;
+use crate::shapes::with_shape;
 use canvas_doc::{Document, MOST_RECORDS, Parent, Place, Record};
 use canvas_key::fresh;
 use canvas_plane::{Point, Pose};
 use canvas_shape::{Colour, Kind, Points};
 use std::alloc::Global;
 
-/// How records hang together. Ids begin at 2, as where the first shape was deleted. Indexes stand in no order of the ids, with a
-/// gap behind each, so that new indexes are other ones.
+/// How records hang together. In all but `Grown` ids begin at 2, as where the first shape was deleted, and indexes stand in no order of
+/// the ids, with a gap behind each, so that new indexes are other ones.
 #[derive(Clone, Copy)]
 pub enum Layout {
     /// Groups on the page, each with 63 rectangles.
@@ -17,16 +18,19 @@ pub enum Layout {
     Triangles,
     /// Rectangles on the page.
     Flat,
+    /// Rectangles on the page, each put in front of those before it.
+    Grown,
     /// A group at each depth up to 31, with all rectangles in the lowest.
     Deep,
 }
 
 impl Layout {
     /// All layouts.
-    pub const ALL: [Layout; 4] = [
+    pub const ALL: [Layout; 5] = [
         Layout::Grouped,
         Layout::Triangles,
         Layout::Flat,
+        Layout::Grown,
         Layout::Deep,
     ];
 
@@ -36,6 +40,7 @@ impl Layout {
             Layout::Grouped => "grouped",
             Layout::Triangles => "triangles",
             Layout::Flat => "flat",
+            Layout::Grown => "grown",
             Layout::Deep => "deep",
         }
     }
@@ -69,7 +74,7 @@ fn triangle(alloc: Global, side: u32) -> Result<Points, Fault> {
 fn hung(layout: Layout, id: u32) -> (Parent, bool) {
     let within = id % 64;
     match layout {
-        Layout::Flat => (Parent::Page, false),
+        Layout::Flat | Layout::Grown => (Parent::Page, false),
         Layout::Deep => {
             let up = id.saturating_sub(1).min(32);
             let parent = if id == 2 {
@@ -121,7 +126,20 @@ fn record(alloc: Global, layout: Layout, id: u32) -> Result<Record, Fault> {
 
 /// The document of the first records of a layout.
 pub fn document(alloc: Global, layout: Layout, count: u32) -> Result<Document, Fault> {
-    restored(alloc, records(alloc, layout, count)?)
+    match layout {
+        Layout::Grown => grown(alloc, count),
+        _ => restored(alloc, records(alloc, layout, count)?),
+    }
+}
+
+// A document of so many rectangles, made by as many edits.
+fn grown(alloc: Global, count: u32) -> Result<Document, Fault> {
+    let mut document = Document::empty(alloc);
+    for _ in 0..count {
+        let kind = leaf(alloc, Layout::Grown, 5)?;
+        document = with_shape(alloc, document, kind, Pose::STILL, Parent::Page)?;
+    }
+    Ok(document)
 }
 
 /// The document of records, where there are not too many.
