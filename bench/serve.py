@@ -14,7 +14,7 @@ import re
 import subprocess
 import sys
 import tempfile
-import time
+from contextlib import contextmanager
 from pathlib import Path
 
 from requests import TOP, hundred
@@ -55,16 +55,30 @@ def document():
     return model.saved()
 
 
-def measure(client, server, port, seconds):
+@contextmanager
+def served(file):
+    """The program as a server of a file's document, and its port. It is a new one each time, since one accepts a million edits."""
+    port = free_port()
+    server = started([str(PROGRAM), "serve", f"127.0.0.1:{port}", str(file), WORKERS])
+    try:
+        yield server, port
+    finally:
+        server.kill()
+        server.wait()
+
+
+def measure(client, file, seconds):
     for what, body in BODIES.items():
         echo_port = free_port()
         echo = started([client, "echo", str(echo_port), str(body)])
         for clients in (1, 8, 60):
-            rate, half, most = asked(client, port, what, clients, seconds)
+            with served(file) as (server, port):
+                rate, half, most = asked(client, port, what, clients, seconds)
+                memory = memory_of(server)
             fixed, fixed_half, fixed_most = asked(client, echo_port, what, clients, seconds)
             print(f"{what}, {clients} clients: {rate:,.0f} requests/s, p50 {half:.0f}, p99 {most:.0f} microseconds; "
                   f"fixed bytes {fixed:,.0f} requests/s, {fixed_half:.0f}, {fixed_most:.0f}; share {rate / fixed:.2f}; "
-                  f"memory {memory_of(server)} KiB", flush=True)
+                  f"memory {memory} KiB", flush=True)
         echo.kill()
         echo.wait()
 
@@ -93,17 +107,13 @@ def main():
     seconds = float(sys.argv[1]) if len(sys.argv) > 1 else 3
     subprocess.run([str(PROGRAM), "script"], stdin=subprocess.DEVNULL, check=True)
     with tempfile.TemporaryDirectory() as folder:
-        client, file, port = f"{folder}/serve_client", Path(folder) / "document.json", free_port()
+        client, file = f"{folder}/serve_client", Path(folder) / "document.json"
         subprocess.run(["cc", "-O2", "-pthread", "-o", client, str(TOP / "bench" / "serve_client.c")], check=True)
         file.write_bytes(document())
-        server = started([str(PROGRAM), "serve", f"127.0.0.1:{port}", str(file), WORKERS])
-        try:
-            measure(client, server, port, seconds)
+        measure(client, file, seconds)
+        with served(file) as (server, port):
             measure_kept(client, server, port, seconds)
             measure_viewers(client, port, seconds)
-        finally:
-            server.kill()
-            server.wait()
 
 
 if __name__ == "__main__":
