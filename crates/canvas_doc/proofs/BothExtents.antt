@@ -1,6 +1,7 @@
 -- The damage of each change, from the extents of its shape before and after, told of the document before it.
 use Rattle.std.proofs.Common.{◌≡◌, ◌≤◌, ◌^◌, ℕ, List, Bool, false, cond, Option, Some, None, IsSome, refl, sym, ap, subst, ◌∙◌}
 use Rattle.std.proofs.lemmas.Bool.{eqb-true}
+use Rattle.std.proofs.lemmas.Option.{same_Some}
 use Rattle.canvas_plane.specs.declared.PageBox.{PageBox}
 use Rattle.canvas_plane.specs.declared.Point.{Point}
 use Rattle.canvas_plane.specs.declared.Pose.{Pose}
@@ -61,6 +62,15 @@ changed-on_page d w id f k after r e =
 -- the box is that round the extents of a shape as it stands and as it is changed, both in one document
 abbrev pub IsRoundBoth : ℕ → (Record → Record) → List Record → PageBox → Type 0
 IsRoundBoth id f rs box = (r : Record) → record_of id rs ≡ Some r → box ≡ hull_of (extent_at id rs) (extent_on_page rs (Some (f r)))
+
+-- the hull of both extents, by the record that was found
+pub round-both : (d now : Contents) → d ≡ now → (id : ℕ) (f : Record → Record) (shape : Record) → Some shape ≡ record_of id d.records → (before after box : PageBox) → before ≡ extent_on_page now.records (Some shape) → after ≡ extent_on_page now.records (Some (f shape)) → box ≡ hull_of before after
+    → IsRoundBoth id f now.records box
+round-both d now e id f shape found before after box b a h = λ r there.
+    let rs : List Record = now.records in
+    let here : Some shape ≡ record_of id rs = found ∙ ap (λ (d : Contents). record_of id d.records) e in
+    let same : shape ≡ r = same_Some shape r (here ∙ there) in
+    h ∙ ap (λ x. hull_of x after) (b ∙ ap (extent_on_page rs) here) ∙ ap (hull_of (extent_at id rs)) (a ∙ ap (λ (s : Record). extent_on_page rs (Some (f s))) same)
 
 -- the damage of a change of one record
 changed-damage : (d : Contents) → IsWellFormed d → (id : ℕ) (f : Record → Record) → ((r : Record) → (f r).id ≡ r.id) → IsWellFormed (with_changed id f d) → IsSome (record_of id d.records) → (box : PageBox) → IsRoundBoth id f d.records box

@@ -1,11 +1,10 @@
 use Rattle.std.proofs.Common.{◌≡◌, ◌∙◌, List, Some, sym, ap, rules}
 use Rattle.std.proofs.lemmas.Option.{same_Some}
-use Rattle.canvas_plane.specs.Page.{hull_of}
 use Rattle.canvas_doc.specs.declared.records.Record.{Record}
 use Rattle.canvas_doc.specs.Contents.{Contents, record_of}
-use Rattle.canvas_doc.specs.Damage.{extent_at, extent_on_page}
+use Rattle.canvas_doc.specs.Damage.{extent_on_page}
 use Rattle.canvas_doc.specs.Tree.{IsInLimits}
-use Rattle.canvas_doc.proofs.BothExtents.{leaf-found, same-place}
+use Rattle.canvas_doc.proofs.BothExtents.{leaf-found, round-both, same-place}
 use Rattle.canvas_doc.proofs.Extents.{on-page}
 use Rattle.canvas_doc.proofs.Fit.{found-all}
 use Rattle.canvas_doc.proofs.damage.moved_extents.Goals as goal
@@ -23,17 +22,14 @@ pub extent_of-moved-requires-clause-limits : goal.extent_of-moved-requires-claus
 extent_of-moved-requires-clause-limits c = found-all IsInLimits c.args.id c.document.inside.records c.in-Some.shape.now c.document.invariant.well_formed.limits (sym c.in-Some.ensures)
 
 pub returns-else-eq : goal.returns-else-eq
-returns-else-eq c = λ r e.
+returns-else-eq c =
     let rs : List Record = c.args.document.now.records in
     let shape : Record = c.in-Some.shape.now in
-    let found : Some shape ≡ record_of c.args.id rs = c.in-Some.ensures ∙ ap (λ (d : Contents). record_of c.args.id d.records) c.document.view_is in
-    let same : shape ≡ r = same_Some shape r (found ∙ e) in
-    let before : c.extent_of-before.result ≡ extent_at c.args.id rs =
-    on-page rs c.document.inside.records shape c.page_pose-up.result c.extent_of-before.result (ap (λ (d : Contents). d.records) c.document.view_is) c.page_pose-up.ensures.carries c.extent_of-before.ensures ∙ ap (extent_on_page rs) found in
-    let after : c.extent_of-moved.result ≡ extent_on_page rs (Some (record r { place = c.args.place.now })) =
-    on-page rs c.document.inside.records (record shape { place = c.args.place.now }) c.page_pose-new_up.result c.extent_of-moved.result (ap (λ (d : Contents). d.records) c.document.view_is) c.page_pose-new_up.ensures.carries c.extent_of-moved.ensures
-    ∙ ap (λ (s : Record). extent_on_page rs (Some (record s { place = c.args.place.now }))) same in
-    c.hull.ensures.value ∙ ap (λ b. hull_of b c.extent_of-moved.result) before ∙ ap (hull_of (extent_at c.args.id rs)) after
+    let all : c.document.inside.records ≡ rs = ap (λ (d : Contents). d.records) c.document.view_is in
+    round-both _ c.args.document.now c.document.view_is c.args.id (λ r. record r { place = c.args.place.now }) shape c.in-Some.ensures c.extent_of-before.result c.extent_of-moved.result _
+    (on-page rs c.document.inside.records shape c.page_pose-up.result c.extent_of-before.result all c.page_pose-up.ensures.carries c.extent_of-before.ensures)
+    (on-page rs c.document.inside.records (record shape { place = c.args.place.now }) c.page_pose-new_up.result c.extent_of-moved.result all c.page_pose-new_up.ensures.carries c.extent_of-moved.ensures)
+    c.hull.ensures.value
 
 pub returns-then-eq : goal.returns-then-eq
 returns-then-eq c = λ r e.

@@ -1,11 +1,8 @@
-use Rattle.std.proofs.Common.{◌≡◌, ◌∙◌, List, Some, sym, ap}
-use Rattle.std.proofs.lemmas.Option.{same_Some}
-use Rattle.canvas_plane.specs.Page.{hull_of}
+use Rattle.std.proofs.Common.{◌≡◌, List, sym, ap}
 use Rattle.canvas_doc.specs.declared.records.Record.{Record}
-use Rattle.canvas_doc.specs.Contents.{Contents, record_of}
-use Rattle.canvas_doc.specs.Damage.{extent_at, extent_on_page}
+use Rattle.canvas_doc.specs.Contents.{Contents}
 use Rattle.canvas_doc.specs.Tree.{IsInLimits}
-use Rattle.canvas_doc.proofs.BothExtents.{leaf-found}
+use Rattle.canvas_doc.proofs.BothExtents.{leaf-found, round-both}
 use Rattle.canvas_doc.proofs.Extents.{on-page}
 use Rattle.canvas_doc.proofs.Fit.{found-all}
 use Rattle.canvas_doc.proofs.damage.reshaped_extents.Goals as goal
@@ -25,14 +22,11 @@ extent_of-reshaped-requires-clause-limits c =
     record { quarter = limits.quarter; reach = limits.reach; kind = c.requires; key = limits.key }
 
 pub returns-in-Some : goal.returns-in-Some
-returns-in-Some c = λ r e.
+returns-in-Some c =
     let rs : List Record = c.args.document.now.records in
     let shape : Record = c.in-Some.shape.now in
-    let found : Some shape ≡ record_of c.args.id rs = c.in-Some.ensures ∙ ap (λ (d : Contents). record_of c.args.id d.records) c.document.view_is in
-    let same : shape ≡ r = same_Some shape r (found ∙ e) in
-    let before : c.extent_of-before.result ≡ extent_at c.args.id rs =
-    on-page rs c.document.inside.records shape c.page_pose-up.result c.extent_of-before.result (ap (λ (d : Contents). d.records) c.document.view_is) c.page_pose-up.ensures.carries c.extent_of-before.ensures ∙ ap (extent_on_page rs) found in
-    let after : c.extent_of-reshaped.result ≡ extent_on_page rs (Some (record r { kind = c.args.kind.now })) =
-    on-page rs c.document.inside.records (record shape { kind = c.args.kind.now }) c.page_pose-up.result c.extent_of-reshaped.result (ap (λ (d : Contents). d.records) c.document.view_is) c.page_pose-up.ensures.carries c.extent_of-reshaped.ensures
-    ∙ ap (λ (s : Record). extent_on_page rs (Some (record s { kind = c.args.kind.now }))) same in
-    c.hull.ensures.value ∙ ap (λ b. hull_of b c.extent_of-reshaped.result) before ∙ ap (hull_of (extent_at c.args.id rs)) after
+    let all : c.document.inside.records ≡ rs = ap (λ (d : Contents). d.records) c.document.view_is in
+    round-both _ c.args.document.now c.document.view_is c.args.id (λ r. record r { kind = c.args.kind.now }) shape c.in-Some.ensures c.extent_of-before.result c.extent_of-reshaped.result _
+    (on-page rs c.document.inside.records shape c.page_pose-up.result c.extent_of-before.result all c.page_pose-up.ensures.carries c.extent_of-before.ensures)
+    (on-page rs c.document.inside.records (record shape { kind = c.args.kind.now }) c.page_pose-up.result c.extent_of-reshaped.result all c.page_pose-up.ensures.carries c.extent_of-reshaped.ensures)
+    c.hull.ensures.value
