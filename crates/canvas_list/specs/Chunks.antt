@@ -8,6 +8,11 @@ pub record FitsChunk {X : Type 0} (items : List X) : Type 0 where
   pub some : 0 < length items
   pub few : length items ≤ CHUNK
 
+-- a number of items that a chunk may get
+pub record IsChunkSize (size : ℕ) : Type 0 where
+  pub some : 0 < size
+  pub few : size ≤ CHUNK
+
 -- the items of all chunks, in order
 abbrev pub joined : {X : Type 0} → List (List X) → List X
 joined [] = []

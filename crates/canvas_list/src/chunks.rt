@@ -2,12 +2,12 @@
 
 ghost use Rattle.std.specs.Prelude.{◌≡◌, ◌<◌, ◌≤◌, ◌+◌, ◌*◌, ◌^◌, ◌++◌, ◌∷◌, [], IfOk, false, take, drop, length, slice_set, slice_index_or};
 ghost use Rattle.std.specs.List.{insert, remove, slice_get};
-ghost use Rattle.canvas_list.specs.Chunks.{joined};
+ghost use Rattle.canvas_list.specs.Chunks.{joined, IsChunkSize};
 
 use crate::chunk::{Chunk, items_of};
 use crate::counted::{Counted, count_of, spot_of};
 use crate::share::Share;
-use crate::sizes::{CHUNK, JOINED_CHUNK};
+use crate::sizes::{CHUNK, PartSizes};
 use canvas_code::OutOfMemory;
 use std::alloc::Global;
 use std::marker::Model;
@@ -69,15 +69,15 @@ impl<T: Drop> Chunks<T> {
         self.chunks[0].first()
     }
 
-    /// Whether there is no room for one more chunk in a block that gets so many, and none for one more
-    /// item in the last one.
-    pub(crate) fn ends_full(&self, size: usize) -> bool {
-        self.chunks.len() >= size && ends_full(&self.chunks)
+    /// Whether there is no room for one more chunk in the block, and none for one more item in the last
+    /// one.
+    pub(crate) fn ends_full(&self, sizes: PartSizes) -> bool {
+        self.chunks.len() >= sizes.block && ends_full(&self.chunks, sizes.chunk)
     }
 
     /// The same of the first one.
-    pub(crate) fn starts_full(&self, size: usize) -> bool {
-        self.chunks.len() >= size && starts_full(&self.chunks)
+    pub(crate) fn starts_full(&self, sizes: PartSizes) -> bool {
+        self.chunks.len() >= sizes.block && starts_full(&self.chunks, sizes.chunk)
     }
 
     /// Whether there are more chunks than a block has that gets so many.
@@ -130,20 +130,32 @@ impl<T: Drop> Chunks<T> {
         })
     }
 
-    /// More items, in some chunks.
-    pub(crate) fn and_items(self, alloc: Global, items: Vec<T>) -> Result<Chunks<T>, OutOfMemory>
-        requires { length self + length items.items < 2 ^ 32 }
+    /// More items, in chunks that get so many.
+    pub(crate) fn and_items(
+        self,
+        alloc: Global,
+        items: Vec<T>,
+        size: usize,
+    ) -> Result<Chunks<T>, OutOfMemory>
+        requires size { IsChunkSize size }
+        requires small { length self + length items.items < 2 ^ 32 }
         ensures { IfOk result (λ list. list ≡ self ++ items.items) }
     {
         if items.len() <= 2 * CHUNK {
-            self.and_few(alloc, items)
+            self.and_few(alloc, items, size)
         } else {
-            self.and_shared(&Chunks::from_vec(alloc, items)?)
+            self.and_shared(&Chunks::from_vec(alloc, items, size)?)
         }
     }
 
-    /// More items, in one chunk or in two.
-    pub(crate) fn and_few(self, alloc: Global, items: Vec<T>) -> Result<Chunks<T>, OutOfMemory>
+    /// More items, in one chunk, or in two where they are more than so many.
+    pub(crate) fn and_few(
+        self,
+        alloc: Global,
+        items: Vec<T>,
+        size: usize,
+    ) -> Result<Chunks<T>, OutOfMemory>
+        requires size { IsChunkSize size }
         requires few { length items.items ≤ 2 * CHUNK }
         requires small { length self + length items.items < 2 ^ 32 }
         ensures { IfOk result (λ list. list ≡ self ++ items.items) }
@@ -151,7 +163,7 @@ impl<T: Drop> Chunks<T> {
         if items.is_empty() {
             return Ok(self);
         }
-        if items.len() <= CHUNK {
+        if items.len() <= size {
             return self.and(Chunk::new(alloc, items)?);
         }
         let mut first = items;
@@ -201,56 +213,65 @@ impl<T: Share> Chunks<T> {
         let end = spot.chunk + 1;
         let mut items = items_of(alloc, &self.chunks[spot.chunk..end], CHUNK)?;
         items[at - spot.start] = item;
-        spliced(alloc, &self.chunks, spot.chunk, end, items)
+        spliced(alloc, &self.chunks, spot.chunk, end, items, CHUNK)
     }
 
     /// The list with one more item before the one at a position, or at the end. At both ends it goes to a
     /// chunk of its own where the one there is full, so items that are put in one after another fill
-    /// whole chunks.
+    /// whole chunks. A chunk gets so many items.
     pub(crate) fn with_inserted(
         &self,
         alloc: Global,
         at: usize,
         item: T,
+        size: usize,
     ) -> Result<Chunks<T>, OutOfMemory>
+        requires size { IsChunkSize size }
         requires within { at ≤ length self.now }
         requires few { length self.now + 1 < 2 ^ 32 }
         ensures { IfOk result (λ list. list ≡ insert self.now at item) }
     {
-        if at == self.len() && ends_full(&self.chunks) {
+        if at == self.len() && ends_full(&self.chunks, size) {
             return with_chunk(alloc, &self.chunks, self.chunks.len(), item);
         }
-        if at == 0 && starts_full(&self.chunks) {
+        if at == 0 && starts_full(&self.chunks, size) {
             return with_chunk(alloc, &self.chunks, 0, item);
         }
         let spot = spot_of(&self.chunks, at);
         let end = spot.chunk + 1;
         let mut items = items_of(alloc, &self.chunks[spot.chunk..end], CHUNK + 1)?;
         items.insert(at - spot.start, item)?;
-        spliced(alloc, &self.chunks, spot.chunk, end, items)
+        spliced(alloc, &self.chunks, spot.chunk, end, items, size)
     }
 
-    /// The list without the item at a position.
-    pub(crate) fn without(&self, alloc: Global, at: usize) -> Result<Chunks<T>, OutOfMemory>
+    /// The list without the item at a position, where a chunk gets so many items.
+    pub(crate) fn without(
+        &self,
+        alloc: Global,
+        at: usize,
+        size: usize,
+    ) -> Result<Chunks<T>, OutOfMemory>
         requires { at < length self.now }
         ensures { IfOk result (λ list. list ≡ remove self.now at) }
     {
         let spot = spot_of(&self.chunks, at);
-        let part = small_about(&self.chunks, spot.chunk);
+        let part = small_about(&self.chunks, spot.chunk, size);
         let mut items = items_of(alloc, &self.chunks[part.first..part.end], CHUNK)?;
         items.remove(at - count_of(&self.chunks[..part.first]));
-        spliced(alloc, &self.chunks, part.first, part.end, items)
+        spliced(alloc, &self.chunks, part.first, part.end, items, CHUNK)
     }
 
     /// The list without the item at a position, and with another one in front of what then stands at
-    /// `to`, or at the end.
+    /// `to`, or at the end. A chunk gets so many items.
     pub(crate) fn with_moved(
         &self,
         alloc: Global,
         from: usize,
         to: usize,
         item: T,
+        size: usize,
     ) -> Result<Chunks<T>, OutOfMemory>
+        requires size { IsChunkSize size }
         requires from { from < length self.now }
         requires to { to < length self.now }
         ensures { IfOk result (λ list. list ≡ insert (remove self.now from) to item) }
@@ -259,23 +280,27 @@ impl<T: Share> Chunks<T> {
         let end = spot.chunk + 1;
         let count = self.chunks[spot.chunk].count();
         if to < spot.start || to - spot.start >= count {
-            return self.without(alloc, from)?.with_inserted(alloc, to, item);
+            return self
+                .without(alloc, from, size)?
+                .with_inserted(alloc, to, item, size);
         }
         let mut items = items_of(alloc, &self.chunks[spot.chunk..end], CHUNK)?;
         items.remove(from - spot.start);
         items.insert(to - spot.start, item)?;
-        spliced(alloc, &self.chunks, spot.chunk, end, items)
+        spliced(alloc, &self.chunks, spot.chunk, end, items, CHUNK)
     }
 }
 
-// Other items in place of some chunks.
+// Other items in place of some chunks, in chunks that get so many.
 fn spliced<T: Drop>(
     alloc: Global,
     chunks: &[Chunk<T>],
     first: usize,
     end: usize,
     items: Vec<T>,
+    size: usize,
 ) -> Result<Chunks<T>, OutOfMemory>
+    requires size { IsChunkSize size }
     requires first { first ≤ end }
     requires end { end ≤ length chunks.now }
     requires small { length (joined (take first chunks.now)) + length items.items + length (joined (drop end chunks.now)) < 2 ^ 32 }
@@ -283,7 +308,7 @@ fn spliced<T: Drop>(
 {
     Chunks::with_room(alloc, chunks.len() + 2)?
         .and_all(&chunks[..first])?
-        .and_items(alloc, items)?
+        .and_items(alloc, items, size)?
         .and_all(&chunks[end..])
 }
 
@@ -300,24 +325,24 @@ fn with_chunk<T: Drop>(
 {
     let mut items = Vec::with_capacity(alloc, 1)?;
     items.push(item)?;
-    spliced(alloc, chunks, place, place, items)
+    spliced(alloc, chunks, place, place, items, CHUNK)
 }
 
 // Whether the last chunk has no room for one more item, or there is no chunk.
-fn ends_full<T: Drop>(chunks: &[Chunk<T>]) -> bool
+fn ends_full<T: Drop>(chunks: &[Chunk<T>], size: usize) -> bool
     ensures { result ≡ false → 0 < length chunks.now }
 {
     match chunks.last() {
         None => true,
-        Some(chunk) => chunk.count() == CHUNK,
+        Some(chunk) => chunk.count() >= size,
     }
 }
 
 // Whether the first chunk has no room for one more item, or there is no chunk.
-fn starts_full<T: Drop>(chunks: &[Chunk<T>]) -> bool {
+fn starts_full<T: Drop>(chunks: &[Chunk<T>], size: usize) -> bool {
     match chunks.first() {
         None => true,
-        Some(chunk) => chunk.count() == CHUNK,
+        Some(chunk) => chunk.count() >= size,
     }
 }
 
@@ -328,21 +353,21 @@ pub(crate) struct Part {
     pub(crate) end: usize,
 }
 
-// A chunk, with one beside it if both are small.
-fn small_about<T: Drop>(chunks: &[Chunk<T>], chunk: usize) -> Part
+// A chunk, with one beside it if both are small, where a chunk gets so many items.
+fn small_about<T: Drop>(chunks: &[Chunk<T>], chunk: usize, size: usize) -> Part
     requires { chunk < length chunks.now }
     ensures first { result.first ≤ chunk }
     ensures end { chunk < result.end }
     ensures within { result.end ≤ length chunks.now }
 {
     let count = chunks[chunk].count();
-    if chunk > 0 && chunks[chunk - 1].count() + count <= JOINED_CHUNK {
+    if chunk > 0 && chunks[chunk - 1].count() + count <= size / 2 {
         return Part {
             first: chunk - 1,
             end: chunk + 1,
         };
     }
-    if chunk + 1 < chunks.len() && count + chunks[chunk + 1].count() <= JOINED_CHUNK {
+    if chunk + 1 < chunks.len() && count + chunks[chunk + 1].count() <= size / 2 {
         return Part {
             first: chunk,
             end: chunk + 2,

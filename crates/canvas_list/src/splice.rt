@@ -1,13 +1,14 @@
 //! Other items in place of a range of a list.
 
 ghost use Rattle.std.specs.Prelude.{◌≡◌, ◌<◌, ◌≤◌, ◌+◌, ◌^◌, ◌++◌, IfOk, take, drop, length};
+ghost use Rattle.canvas_list.specs.Chunks.{IsChunkSize};
 
 use crate::chunk::push_shared;
 use crate::chunk_items::ChunkItems;
 use crate::chunks::Chunks;
 use crate::items::Items;
 use crate::share::Share;
-use crate::sizes::block_size;
+use crate::sizes::PartSizes;
 use crate::table::SharedList;
 use canvas_code::OutOfMemory;
 use std::alloc::Global;
@@ -26,9 +27,9 @@ impl<T: Share> SharedList<T> {
         requires few { length self.now + length items.items < 2 ^ 32 }
         ensures { IfOk result (λ list. list ≡ take first self.now ++ items.items ++ drop end self.now) }
     {
-        let size = block_size(self.len() - (end - first) + items.len());
+        let sizes = PartSizes::of(self.len() - (end - first) + items.len());
         let before = self.iter_before(first);
-        list_between(alloc, &before, items, &self.iter_from(end), size)
+        list_between(alloc, &before, items, &self.iter_from(end), sizes)
     }
 }
 
@@ -38,42 +39,47 @@ fn list_between<T: Share>(
     before: &Items<'_, T>,
     items: Vec<T>,
     behind: &Items<'_, T>,
-    size: usize,
+    sizes: PartSizes,
 ) -> Result<SharedList<T>, OutOfMemory>
-    requires some { 0 < size }
+    requires size { IsChunkSize sizes.chunk }
+    requires some { 0 < sizes.block }
     requires few { length before.now + length items.items + length behind.now < 2 ^ 32 }
     ensures { IfOk result (λ list. list ≡ before.now ++ items.items ++ behind.now) }
 {
-    let first = chunks_between(alloc, &before.front, Vec::new(alloc), &ChunkItems::none())?;
-    let middle = chunks_between(alloc, &before.back, items, &behind.front)?;
-    let last = chunks_between(alloc, &ChunkItems::none(), Vec::new(alloc), &behind.back)?;
+    let PartSizes { chunk, block } = sizes;
+    let none = ChunkItems::none();
+    let first = chunks_between(alloc, &before.front, Vec::new(alloc), &none, chunk)?;
+    let middle = chunks_between(alloc, &before.back, items, &behind.front, chunk)?;
+    let last = chunks_between(alloc, &none, Vec::new(alloc), &behind.back, chunk)?;
     SharedList::empty(alloc)
-        .and_chunks(alloc, first, size)?
+        .and_chunks(alloc, first, block)?
         .and_all(before.blocks)?
-        .and_chunks(alloc, middle, size)?
+        .and_chunks(alloc, middle, block)?
         .and_all(behind.blocks)?
-        .and_chunks(alloc, last, size)
+        .and_chunks(alloc, last, block)
 }
 
-// The same of parts of lists.
+// The same of parts of lists, in chunks that get so many items.
 fn chunks_between<T: Share>(
     alloc: Global,
     before: &ChunkItems<'_, T>,
     items: Vec<T>,
     behind: &ChunkItems<'_, T>,
+    size: usize,
 ) -> Result<Chunks<T>, OutOfMemory>
-    requires { length before.now + length items.items + length behind.now < 2 ^ 32 }
+    requires size { IsChunkSize size }
+    requires few { length before.now + length items.items + length behind.now < 2 ^ 32 }
     ensures { IfOk result (λ chunks. chunks ≡ before.now ++ items.items ++ behind.now) }
 {
     let first = items_between(alloc, before.front, Vec::new(alloc), &[])?;
     let middle = items_between(alloc, before.back, items, behind.front)?;
     let last = items_between(alloc, &[], Vec::new(alloc), behind.back)?;
     Chunks::empty(alloc)
-        .and_items(alloc, first)?
+        .and_items(alloc, first, size)?
         .and_all(before.chunks)?
-        .and_items(alloc, middle)?
+        .and_items(alloc, middle, size)?
         .and_all(behind.chunks)?
-        .and_items(alloc, last)
+        .and_items(alloc, last, size)
 }
 
 // Items, others, and more items.

@@ -3,14 +3,14 @@
 ghost use Rattle.std.specs.Prelude.{◌≡◌, ◌↔◌, ◌<◌, ◌≤◌, ◌+◌, ◌^◌, ◌++◌, ◌∷◌, [], IfOk, IsTrue, false, take, drop, length, slice_set, slice_index_or};
 ghost use Rattle.std.specs.List.{insert, remove, slice_get};
 ghost use Rattle.std.specs.Option.{option_copied};
-ghost use Rattle.canvas_list.specs.Chunks.{joined};
+ghost use Rattle.canvas_list.specs.Chunks.{joined, IsChunkSize};
 
 use crate::block::{Block, chunks_of};
 use crate::chunk::Chunk;
 use crate::chunks::{Chunks, Part};
 use crate::counted::{Counted, count_of, spot_of};
 use crate::share::Share;
-use crate::sizes::block_size;
+use crate::sizes::PartSizes;
 use canvas_code::OutOfMemory;
 use std::alloc::Global;
 use std::marker::Model;
@@ -168,13 +168,13 @@ impl<T: Drop> SharedList<T> {
         list.and_block(alloc, part)
     }
 
-    // The same items in fewer blocks, where there are many and most are small: they were made while the
-    // list was short.
+    // The same items in fewer blocks, where there are many and these have few chunks in the mean: they
+    // were made while the list was short.
     fn balanced(self, alloc: Global, size: usize) -> Result<SharedList<T>, OutOfMemory>
         requires { 0 < size }
         ensures { IfOk result (λ list. list ≡ self) }
     {
-        if self.blocks.len() / 2 < size || !are_small(&self.blocks, size) {
+        if self.blocks.len() < size.saturating_add(size / 2) || !are_small(&self.blocks, size) {
             return Ok(self);
         }
         let chunks = chunks_of(alloc, &self.blocks)?;
@@ -219,7 +219,7 @@ impl<T: Share> SharedList<T> {
             spot.chunk,
             end,
             new,
-            block_size(self.len()),
+            PartSizes::of(self.len()).block,
         )
     }
 
@@ -234,18 +234,19 @@ impl<T: Share> SharedList<T> {
         requires few { length self.now + 1 < 2 ^ 32 }
         ensures { IfOk result (λ list. list ≡ insert self.now at item) }
     {
-        let size = block_size(self.len());
-        if at == self.len() && ends_full(&self.blocks, size) {
-            return with_block(alloc, &self.blocks, self.blocks.len(), item, size);
+        let sizes = PartSizes::of(self.len());
+        if at == self.len() && ends_full(&self.blocks, sizes) {
+            return with_block(alloc, &self.blocks, self.blocks.len(), item, sizes);
         }
-        if at == 0 && starts_full(&self.blocks, size) {
-            return with_block(alloc, &self.blocks, 0, item, size);
+        if at == 0 && starts_full(&self.blocks, sizes) {
+            return with_block(alloc, &self.blocks, 0, item, sizes);
         }
         let spot = spot_of(&self.blocks, at);
         let end = spot.chunk + 1;
         let old = self.blocks[spot.chunk].chunks();
-        let new = old.with_inserted(alloc, at - spot.start, item)?;
-        spliced(alloc, &self.blocks, spot.chunk, end, new, size)?.balanced(alloc, size)
+        let new = old.with_inserted(alloc, at - spot.start, item, sizes.chunk)?;
+        let more = spliced(alloc, &self.blocks, spot.chunk, end, new, sizes.block)?;
+        more.balanced(alloc, sizes.block)
     }
 
     /// The list without the item at a position.
@@ -254,11 +255,16 @@ impl<T: Share> SharedList<T> {
         ensures { IfOk result (λ list. list ≡ remove self.now at) }
     {
         let spot = spot_of(&self.blocks, at);
-        let size = block_size(self.len());
-        let part = small_about(&self.blocks, spot.chunk, size);
+        let sizes = PartSizes::of(self.len());
+        let part = small_about(&self.blocks, spot.chunk, sizes.block);
         let place = at - count_of(&self.blocks[..part.first]);
-        let new = without_in(alloc, &self.blocks[part.first..part.end], place)?;
-        spliced(alloc, &self.blocks, part.first, part.end, new, size)
+        let new = without_in(
+            alloc,
+            &self.blocks[part.first..part.end],
+            place,
+            sizes.chunk,
+        )?;
+        spliced(alloc, &self.blocks, part.first, part.end, new, sizes.block)
     }
 
     /// The list without the item at a position, and with another one in front of what then stands at
@@ -280,26 +286,27 @@ impl<T: Share> SharedList<T> {
         if to < spot.start || to - spot.start >= old.len() {
             return self.without(alloc, from)?.with_inserted(alloc, to, item);
         }
-        let new = old.with_moved(alloc, from - spot.start, to - spot.start, item)?;
-        let size = block_size(self.len());
-        spliced(alloc, &self.blocks, spot.chunk, end, new, size)
+        let sizes = PartSizes::of(self.len());
+        let new = old.with_moved(alloc, from - spot.start, to - spot.start, item, sizes.chunk)?;
+        spliced(alloc, &self.blocks, spot.chunk, end, new, sizes.block)
     }
 }
 
-// The chunks of some blocks, without the item at a position.
+// The chunks of some blocks, without the item at a position, where a chunk gets so many items.
 fn without_in<T: Share>(
     alloc: Global,
     blocks: &[Block<T>],
     at: usize,
+    size: usize,
 ) -> Result<Chunks<T>, OutOfMemory>
     requires within { at < length (joined blocks.now) }
     requires few { length (joined blocks.now) < 2 ^ 32 }
     ensures { IfOk result (λ chunks. chunks ≡ remove (joined blocks.now) at) }
 {
     if blocks.len() == 1 {
-        return blocks[0].chunks().without(alloc, at);
+        return blocks[0].chunks().without(alloc, at, size);
     }
-    chunks_of(alloc, blocks)?.without(alloc, at)
+    chunks_of(alloc, blocks)?.without(alloc, at, size)
 }
 
 // Other chunks in place of some blocks, where a block gets about so many.
@@ -329,32 +336,33 @@ fn with_block<T: Share>(
     blocks: &[Block<T>],
     place: usize,
     item: T,
-    size: usize,
+    sizes: PartSizes,
 ) -> Result<SharedList<T>, OutOfMemory>
-    requires some { 0 < size }
+    requires size { IsChunkSize sizes.chunk }
+    requires some { 0 < sizes.block }
     requires within { place ≤ length blocks.now }
     requires few { length (joined blocks.now) + 1 < 2 ^ 32 }
     ensures { IfOk result (λ list. list ≡ joined (take place blocks.now) ++ item ∷ joined (drop place blocks.now)) }
 {
-    let one = Chunks::empty(alloc).with_inserted(alloc, 0, item)?;
-    spliced(alloc, blocks, place, place, one, size)?.balanced(alloc, size)
+    let one = Chunks::empty(alloc).with_inserted(alloc, 0, item, sizes.chunk)?;
+    spliced(alloc, blocks, place, place, one, sizes.block)?.balanced(alloc, sizes.block)
 }
 
 // Whether the last block has no room for one more item at its end, or there is no block.
-fn ends_full<T: Drop>(blocks: &[Block<T>], size: usize) -> bool
+fn ends_full<T: Drop>(blocks: &[Block<T>], sizes: PartSizes) -> bool
     ensures { result ≡ false → 0 < length blocks.now }
 {
     match blocks.last() {
         None => true,
-        Some(block) => block.chunks().ends_full(size),
+        Some(block) => block.chunks().ends_full(sizes),
     }
 }
 
 // Whether the first block has no room for one more item at its start, or there is no block.
-fn starts_full<T: Drop>(blocks: &[Block<T>], size: usize) -> bool {
+fn starts_full<T: Drop>(blocks: &[Block<T>], sizes: PartSizes) -> bool {
     match blocks.first() {
         None => true,
-        Some(block) => block.chunks().starts_full(size),
+        Some(block) => block.chunks().starts_full(sizes),
     }
 }
 

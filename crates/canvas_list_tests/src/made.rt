@@ -52,7 +52,7 @@ fn goes_away(alloc: Global, list: &Numbers, mut plain: Vec<u32>) -> Result<bool,
 fn lists_made_at_once(rt: HostRuntime) -> Result<(), Fail> {
     let alloc = rt.alloc();
     for count in [
-        0u32, 1, 11, 12, 13, 47, 48, 49, 383, 384, 385, 1_535, 1_536, 1_537, 3_000, 6_144,
+        0u32, 1, 5, 6, 7, 23, 24, 25, 95, 96, 97, 383, 384, 385, 1_535, 1_536, 1_537, 3_000, 6_144,
     ] {
         let list = SharedList::from_vec(alloc, evens(alloc, count)?)?;
         let plain = plain_evens(alloc, count)?;

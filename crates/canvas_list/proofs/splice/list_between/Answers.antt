@@ -7,8 +7,8 @@ use Rattle.canvas_list.proofs.splice.list_between.Goals as goal
 pub and_chunks-requires-3-clause-few : goal.and_chunks-requires-3-clause-few
 and_chunks-requires-3-clause-few g c =
     let same : c.in_ok-and_all-2.field-0 ++ c.in_ok-last.last ≡ c.args.before.now ++ c.args.items.items ++ c.args.behind.now =
-    between c.before-2.inside.front (joined c.before-2.inside.blocks.now) c.before-2.inside.back c.args.items.items c.behind.inside.front (joined c.behind.inside.blocks.now) c.behind.inside.back c.args.before.now c.args.behind.now c.in_ok-first.first c.in_ok-middle.middle c.in_ok-last.last c.none.result c.none-2.result c.new.result.items c.new-2.result.items c.empty.result c.in_ok-and_chunks.field-0 c.in_ok-and_all.field-0 c.in_ok-and_chunks-2.field-0 c.in_ok-and_all-2.field-0
-    c.empty.ensures c.none.ensures c.none-2.ensures c.new.ensures.items c.new-2.ensures.items c.in_ok-first.ensures c.in_ok-middle.ensures c.in_ok-last.ensures c.in_ok-and_chunks.ensures c.in_ok-and_all.ensures c.in_ok-and_chunks-2.ensures c.in_ok-and_all-2.ensures c.before-2.view_is c.behind.view_is in
+    between c.before-2.inside.front (joined c.before-2.inside.blocks.now) c.before-2.inside.back c.args.items.items c.behind.inside.front (joined c.behind.inside.blocks.now) c.behind.inside.back c.args.before.now c.args.behind.now c.in_ok-first.first c.in_ok-middle.middle c.in_ok-last.last c.none-none.result c.none-none.result c.new.result.items c.new-2.result.items c.empty.result c.in_ok-and_chunks.field-0 c.in_ok-and_all.field-0 c.in_ok-and_chunks-2.field-0 c.in_ok-and_all-2.field-0
+    c.empty.ensures c.none-none.ensures c.none-none.ensures c.new.ensures.items c.new-2.ensures.items c.in_ok-first.ensures c.in_ok-middle.ensures c.in_ok-last.ensures c.in_ok-and_chunks.ensures c.in_ok-and_all.ensures c.in_ok-and_chunks-2.ensures c.in_ok-and_all-2.ensures c.before-2.view_is c.behind.view_is in
     omega (
       arith,
       ap length same,
@@ -21,6 +21,6 @@ and_chunks-requires-3-clause-few g c =
 pub returns : goal.returns
 returns g c =
     let same : c.in_ok-and_all-2.field-0 ++ c.in_ok-last.last ≡ c.args.before.now ++ c.args.items.items ++ c.args.behind.now =
-    between c.before-2.inside.front (joined c.before-2.inside.blocks.now) c.before-2.inside.back c.args.items.items c.behind.inside.front (joined c.behind.inside.blocks.now) c.behind.inside.back c.args.before.now c.args.behind.now c.in_ok-first.first c.in_ok-middle.middle c.in_ok-last.last c.none.result c.none-2.result c.new.result.items c.new-2.result.items c.empty.result c.in_ok-and_chunks.field-0 c.in_ok-and_all.field-0 c.in_ok-and_chunks-2.field-0 c.in_ok-and_all-2.field-0
-    c.empty.ensures c.none.ensures c.none-2.ensures c.new.ensures.items c.new-2.ensures.items c.in_ok-first.ensures c.in_ok-middle.ensures c.in_ok-last.ensures c.in_ok-and_chunks.ensures c.in_ok-and_all.ensures c.in_ok-and_chunks-2.ensures c.in_ok-and_all-2.ensures c.before-2.view_is c.behind.view_is in
+    between c.before-2.inside.front (joined c.before-2.inside.blocks.now) c.before-2.inside.back c.args.items.items c.behind.inside.front (joined c.behind.inside.blocks.now) c.behind.inside.back c.args.before.now c.args.behind.now c.in_ok-first.first c.in_ok-middle.middle c.in_ok-last.last c.none-none.result c.none-none.result c.new.result.items c.new-2.result.items c.empty.result c.in_ok-and_chunks.field-0 c.in_ok-and_all.field-0 c.in_ok-and_chunks-2.field-0 c.in_ok-and_all-2.field-0
+    c.empty.ensures c.none-none.ensures c.none-none.ensures c.new.ensures.items c.new-2.ensures.items c.in_ok-first.ensures c.in_ok-middle.ensures c.in_ok-last.ensures c.in_ok-and_chunks.ensures c.in_ok-and_all.ensures c.in_ok-and_chunks-2.ensures c.in_ok-and_all-2.ensures c.before-2.view_is c.behind.view_is in
     subst (λ (l : List g.row.T.Denot). IfOk c.and_chunks-3.result (λ (list : List g.row.T.Denot). list ≡ l)) same c.and_chunks-3.ensures
