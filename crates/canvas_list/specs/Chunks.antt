@@ -1,17 +1,12 @@
 -- A list in chunks.
 use Rattle.std.specs.Prelude.{ℕ, ◌≡◌, ◌<◌, ◌≤◌, ◌+◌, ◌^◌, List, [], ◌∷◌, ◌++◌, length, take, sum_by, slice_index_or, Bool, false}
 use Rattle.std.specs.List.{All}
-use Rattle.canvas_list.specs.declared.sizes.TheConstants.{CHUNK}
+use Rattle.canvas_list.specs.declared.sizes.TheConstants.{MOST_IN_CHUNK}
 
--- a chunk has an item, and no more than fit
-pub record FitsChunk {X : Type 0} (items : List X) : Type 0 where
-  pub some : 0 < length items
-  pub few : length items ≤ CHUNK
-
--- a number of items that a chunk may get
-pub record IsChunkSize (size : ℕ) : Type 0 where
-  pub some : 0 < size
-  pub few : size ≤ CHUNK
+-- a number of items that a chunk may have
+pub record FitsChunk (items : ℕ) : Type 0 where
+  pub some : 0 < items
+  pub few : items ≤ MOST_IN_CHUNK
 
 -- the items of all chunks, in order
 abbrev pub joined : {X : Type 0} → List (List X) → List X

@@ -6,7 +6,7 @@ ghost use Rattle.canvas_list.specs.Chunks.{joined};
 
 use crate::counted::Counted;
 use crate::share::Share;
-use crate::sizes::CHUNK;
+use crate::sizes::MOST_IN_CHUNK;
 use canvas_code::OutOfMemory;
 use std::alloc::Global;
 use std::marker::Model;
@@ -29,13 +29,13 @@ impl<T> Model for Chunk<T> {
 
     ghost view = { λ chunk. (arc_value chunk.items).items };
 
-    ghost invariant = { λ chunk. FitsChunk (arc_value chunk.items).items × (chunk.count ≡ length (arc_value chunk.items).items) };
+    ghost invariant = { λ chunk. FitsChunk (length (arc_value chunk.items).items) × (chunk.count ≡ length (arc_value chunk.items).items) };
 }
 
 impl<T: Drop> Chunk<T> {
     pub(crate) fn new(alloc: Global, items: Vec<T>) -> Result<Chunk<T>, OutOfMemory>
         requires some { 0 < length items.items }
-        requires few { length items.items ≤ CHUNK }
+        requires few { length items.items ≤ MOST_IN_CHUNK }
         ensures { IfOk result (λ chunk. chunk ≡ items.items) }
     {
         let count = items.len() as u32;
@@ -60,7 +60,7 @@ impl<T: Drop> Chunk<T> {
     pub(crate) fn items(&self) -> &[T]
         ensures same { result.now ≡ self.now }
         ensures some { 0 < length self.now }
-        ensures few { length self.now ≤ CHUNK }
+        ensures few { length self.now ≤ MOST_IN_CHUNK }
     {
         &self.items
     }

@@ -2,12 +2,12 @@
 
 ghost use Rattle.std.specs.Prelude.{◌≡◌, ◌<◌, ◌≤◌, ◌+◌, ◌*◌, ◌^◌, ◌++◌, ◌∷◌, [], IfOk, false, take, drop, length, slice_set, slice_index_or};
 ghost use Rattle.std.specs.List.{insert, remove, slice_get};
-ghost use Rattle.canvas_list.specs.Chunks.{joined, IsChunkSize};
+ghost use Rattle.canvas_list.specs.Chunks.{joined, FitsChunk};
 
 use crate::chunk::{Chunk, items_of};
 use crate::counted::{Counted, count_of, spot_of};
 use crate::share::Share;
-use crate::sizes::{CHUNK, PartSizes};
+use crate::sizes::{MOST_IN_CHUNK, PartSizes};
 use canvas_code::OutOfMemory;
 use std::alloc::Global;
 use std::marker::Model;
@@ -72,30 +72,30 @@ impl<T: Drop> Chunks<T> {
     /// Whether there is no room for one more chunk in the block, and none for one more item in the last
     /// one.
     pub(crate) fn ends_full(&self, sizes: PartSizes) -> bool {
-        self.chunks.len() >= sizes.block && ends_full(&self.chunks, sizes.chunk)
+        self.chunks.len() >= sizes.per_block && ends_full(&self.chunks, sizes.per_chunk)
     }
 
     /// The same of the first one.
     pub(crate) fn starts_full(&self, sizes: PartSizes) -> bool {
-        self.chunks.len() >= sizes.block && starts_full(&self.chunks, sizes.chunk)
+        self.chunks.len() >= sizes.per_block && starts_full(&self.chunks, sizes.per_chunk)
     }
 
     /// Whether there are more chunks than a block has that gets so many.
-    pub(crate) fn is_over(&self, size: usize) -> bool {
-        self.chunks.len() / 2 >= size
+    pub(crate) fn is_over(&self, per_block: usize) -> bool {
+        self.chunks.len() / 2 >= per_block
     }
 
     /// Whether there are few chunks for a block that gets so many.
-    pub(crate) fn is_small(&self, size: usize) -> bool {
-        self.chunks.len() <= size / 2
+    pub(crate) fn is_small(&self, per_block: usize) -> bool {
+        self.chunks.len() <= per_block / 2
     }
 
     /// How many chunks a part has, where these are put into blocks of much the same size, each of
     /// which gets about so many.
-    pub(crate) fn part_len(&self, size: usize) -> usize
-        requires { 0 < size }
+    pub(crate) fn part_len(&self, per_block: usize) -> usize
+        requires { 0 < per_block }
     {
-        let parts = self.chunks.len() / size;
+        let parts = self.chunks.len() / per_block;
         (self.chunks.len() / parts.max(1)).saturating_add(1)
     }
 
@@ -135,16 +135,16 @@ impl<T: Drop> Chunks<T> {
         self,
         alloc: Global,
         items: Vec<T>,
-        size: usize,
+        per_chunk: usize,
     ) -> Result<Chunks<T>, OutOfMemory>
-        requires size { IsChunkSize size }
+        requires chunk { FitsChunk per_chunk }
         requires small { length self + length items.items < 2 ^ 32 }
         ensures { IfOk result (λ list. list ≡ self ++ items.items) }
     {
-        if items.len() <= 2 * CHUNK {
-            self.and_few(alloc, items, size)
+        if items.len() <= 2 * per_chunk {
+            self.and_few(alloc, items, per_chunk)
         } else {
-            self.and_shared(&Chunks::from_vec(alloc, items, size)?)
+            self.and_shared(&Chunks::from_vec(alloc, items, per_chunk)?)
         }
     }
 
@@ -153,17 +153,17 @@ impl<T: Drop> Chunks<T> {
         self,
         alloc: Global,
         items: Vec<T>,
-        size: usize,
+        per_chunk: usize,
     ) -> Result<Chunks<T>, OutOfMemory>
-        requires size { IsChunkSize size }
-        requires few { length items.items ≤ 2 * CHUNK }
+        requires chunk { FitsChunk per_chunk }
+        requires few { length items.items ≤ 2 * MOST_IN_CHUNK }
         requires small { length self + length items.items < 2 ^ 32 }
         ensures { IfOk result (λ list. list ≡ self ++ items.items) }
     {
         if items.is_empty() {
             return Ok(self);
         }
-        if items.len() <= size {
+        if items.len() <= per_chunk {
             return self.and(Chunk::new(alloc, items)?);
         }
         let mut first = items;
@@ -199,21 +199,24 @@ impl<T: Drop> Chunks<T> {
 }
 
 impl<T: Share> Chunks<T> {
-    /// The list with another item at a position.
+    /// The list with another item at a position. A chunk gets so many items.
     pub(crate) fn with_replaced(
         &self,
         alloc: Global,
         at: usize,
         item: T,
+        per_chunk: usize,
     ) -> Result<Chunks<T>, OutOfMemory>
-        requires { at < length self.now }
+        requires chunk { FitsChunk per_chunk }
+        requires within { at < length self.now }
         ensures { IfOk result (λ list. list ≡ slice_set self.now at item) }
     {
         let spot = spot_of(&self.chunks, at);
         let end = spot.chunk + 1;
-        let mut items = items_of(alloc, &self.chunks[spot.chunk..end], CHUNK)?;
+        let count = self.chunks[spot.chunk].count();
+        let mut items = items_of(alloc, &self.chunks[spot.chunk..end], count)?;
         items[at - spot.start] = item;
-        spliced(alloc, &self.chunks, spot.chunk, end, items, CHUNK)
+        spliced(alloc, &self.chunks, spot.chunk, end, items, per_chunk)
     }
 
     /// The list with one more item before the one at a position, or at the end. At both ends it goes to a
@@ -224,41 +227,44 @@ impl<T: Share> Chunks<T> {
         alloc: Global,
         at: usize,
         item: T,
-        size: usize,
+        per_chunk: usize,
     ) -> Result<Chunks<T>, OutOfMemory>
-        requires size { IsChunkSize size }
+        requires chunk { FitsChunk per_chunk }
         requires within { at ≤ length self.now }
         requires few { length self.now + 1 < 2 ^ 32 }
         ensures { IfOk result (λ list. list ≡ insert self.now at item) }
     {
-        if at == self.len() && ends_full(&self.chunks, size) {
-            return with_chunk(alloc, &self.chunks, self.chunks.len(), item);
+        if at == self.len() && ends_full(&self.chunks, per_chunk) {
+            return with_chunk(alloc, &self.chunks, self.chunks.len(), item, per_chunk);
         }
-        if at == 0 && starts_full(&self.chunks, size) {
-            return with_chunk(alloc, &self.chunks, 0, item);
+        if at == 0 && starts_full(&self.chunks, per_chunk) {
+            return with_chunk(alloc, &self.chunks, 0, item, per_chunk);
         }
         let spot = spot_of(&self.chunks, at);
         let end = spot.chunk + 1;
-        let mut items = items_of(alloc, &self.chunks[spot.chunk..end], CHUNK + 1)?;
+        let count = self.chunks[spot.chunk].count();
+        let mut items = items_of(alloc, &self.chunks[spot.chunk..end], count + 1)?;
         items.insert(at - spot.start, item)?;
-        spliced(alloc, &self.chunks, spot.chunk, end, items, size)
+        spliced(alloc, &self.chunks, spot.chunk, end, items, per_chunk)
     }
 
-    /// The list without the item at a position, where a chunk gets so many items.
+    /// The list without the item at a position. A chunk gets so many items.
     pub(crate) fn without(
         &self,
         alloc: Global,
         at: usize,
-        size: usize,
+        per_chunk: usize,
     ) -> Result<Chunks<T>, OutOfMemory>
-        requires { at < length self.now }
+        requires chunk { FitsChunk per_chunk }
+        requires within { at < length self.now }
         ensures { IfOk result (λ list. list ≡ remove self.now at) }
     {
         let spot = spot_of(&self.chunks, at);
-        let part = small_about(&self.chunks, spot.chunk, size);
-        let mut items = items_of(alloc, &self.chunks[part.first..part.end], CHUNK)?;
+        let part = small_about(&self.chunks, spot.chunk, per_chunk);
+        let count = self.chunks[spot.chunk].count();
+        let mut items = items_of(alloc, &self.chunks[part.first..part.end], count)?;
         items.remove(at - count_of(&self.chunks[..part.first]));
-        spliced(alloc, &self.chunks, part.first, part.end, items, CHUNK)
+        spliced(alloc, &self.chunks, part.first, part.end, items, per_chunk)
     }
 
     /// The list without the item at a position, and with another one in front of what then stands at
@@ -269,9 +275,9 @@ impl<T: Share> Chunks<T> {
         from: usize,
         to: usize,
         item: T,
-        size: usize,
+        per_chunk: usize,
     ) -> Result<Chunks<T>, OutOfMemory>
-        requires size { IsChunkSize size }
+        requires chunk { FitsChunk per_chunk }
         requires from { from < length self.now }
         requires to { to < length self.now }
         ensures { IfOk result (λ list. list ≡ insert (remove self.now from) to item) }
@@ -281,13 +287,13 @@ impl<T: Share> Chunks<T> {
         let count = self.chunks[spot.chunk].count();
         if to < spot.start || to - spot.start >= count {
             return self
-                .without(alloc, from, size)?
-                .with_inserted(alloc, to, item, size);
+                .without(alloc, from, per_chunk)?
+                .with_inserted(alloc, to, item, per_chunk);
         }
-        let mut items = items_of(alloc, &self.chunks[spot.chunk..end], CHUNK)?;
+        let mut items = items_of(alloc, &self.chunks[spot.chunk..end], count)?;
         items.remove(from - spot.start);
         items.insert(to - spot.start, item)?;
-        spliced(alloc, &self.chunks, spot.chunk, end, items, CHUNK)
+        spliced(alloc, &self.chunks, spot.chunk, end, items, per_chunk)
     }
 }
 
@@ -298,9 +304,9 @@ fn spliced<T: Drop>(
     first: usize,
     end: usize,
     items: Vec<T>,
-    size: usize,
+    per_chunk: usize,
 ) -> Result<Chunks<T>, OutOfMemory>
-    requires size { IsChunkSize size }
+    requires chunk { FitsChunk per_chunk }
     requires first { first ≤ end }
     requires end { end ≤ length chunks.now }
     requires small { length (joined (take first chunks.now)) + length items.items + length (joined (drop end chunks.now)) < 2 ^ 32 }
@@ -308,7 +314,7 @@ fn spliced<T: Drop>(
 {
     Chunks::with_room(alloc, chunks.len() + 2)?
         .and_all(&chunks[..first])?
-        .and_items(alloc, items, size)?
+        .and_items(alloc, items, per_chunk)?
         .and_all(&chunks[end..])
 }
 
@@ -318,31 +324,33 @@ fn with_chunk<T: Drop>(
     chunks: &[Chunk<T>],
     place: usize,
     item: T,
+    per_chunk: usize,
 ) -> Result<Chunks<T>, OutOfMemory>
+    requires chunk { FitsChunk per_chunk }
     requires within { place ≤ length chunks.now }
     requires few { length (joined chunks.now) + 1 < 2 ^ 32 }
     ensures { IfOk result (λ list. list ≡ joined (take place chunks.now) ++ item ∷ joined (drop place chunks.now)) }
 {
     let mut items = Vec::with_capacity(alloc, 1)?;
     items.push(item)?;
-    spliced(alloc, chunks, place, place, items, CHUNK)
+    spliced(alloc, chunks, place, place, items, per_chunk)
 }
 
 // Whether the last chunk has no room for one more item, or there is no chunk.
-fn ends_full<T: Drop>(chunks: &[Chunk<T>], size: usize) -> bool
+fn ends_full<T: Drop>(chunks: &[Chunk<T>], per_chunk: usize) -> bool
     ensures { result ≡ false → 0 < length chunks.now }
 {
     match chunks.last() {
         None => true,
-        Some(chunk) => chunk.count() >= size,
+        Some(chunk) => chunk.count() >= per_chunk,
     }
 }
 
 // Whether the first chunk has no room for one more item, or there is no chunk.
-fn starts_full<T: Drop>(chunks: &[Chunk<T>], size: usize) -> bool {
+fn starts_full<T: Drop>(chunks: &[Chunk<T>], per_chunk: usize) -> bool {
     match chunks.first() {
         None => true,
-        Some(chunk) => chunk.count() >= size,
+        Some(chunk) => chunk.count() >= per_chunk,
     }
 }
 
@@ -354,20 +362,20 @@ pub(crate) struct Part {
 }
 
 // A chunk, with one beside it if both are small, where a chunk gets so many items.
-fn small_about<T: Drop>(chunks: &[Chunk<T>], chunk: usize, size: usize) -> Part
+fn small_about<T: Drop>(chunks: &[Chunk<T>], chunk: usize, per_chunk: usize) -> Part
     requires { chunk < length chunks.now }
     ensures first { result.first ≤ chunk }
     ensures end { chunk < result.end }
     ensures within { result.end ≤ length chunks.now }
 {
     let count = chunks[chunk].count();
-    if chunk > 0 && chunks[chunk - 1].count() + count <= size / 2 {
+    if chunk > 0 && chunks[chunk - 1].count() + count <= per_chunk / 2 {
         return Part {
             first: chunk - 1,
             end: chunk + 1,
         };
     }
-    if chunk + 1 < chunks.len() && count + chunks[chunk + 1].count() <= size / 2 {
+    if chunk + 1 < chunks.len() && count + chunks[chunk + 1].count() <= per_chunk / 2 {
         return Part {
             first: chunk,
             end: chunk + 2,

@@ -1,7 +1,7 @@
 //! Lists made of all its items at once.
 
 ghost use Rattle.std.specs.Prelude.{◌≡◌, ◌<◌, ◌^◌, IfOk, length};
-ghost use Rattle.canvas_list.specs.Chunks.{IsChunkSize};
+ghost use Rattle.canvas_list.specs.Chunks.{FitsChunk};
 
 use crate::chunk::Chunk;
 use crate::chunks::Chunks;
@@ -15,22 +15,22 @@ impl<T: Drop> Chunks<T> {
     pub(crate) fn from_vec(
         alloc: Global,
         items: Vec<T>,
-        size: usize,
+        per_chunk: usize,
     ) -> Result<Chunks<T>, OutOfMemory>
-        requires size { IsChunkSize size }
+        requires chunk { FitsChunk per_chunk }
         requires few { length items.items < 2 ^ 32 }
         ensures { IfOk result (λ chunks. chunks ≡ items.items) }
     {
-        let mut list = Chunks::with_room(alloc, items.len() / size + 1)?;
-        let mut fresh = Vec::with_capacity(alloc, size)?;
+        let mut list = Chunks::with_room(alloc, items.len() / per_chunk + 1)?;
+        let mut fresh = Vec::with_capacity(alloc, per_chunk)?;
         for item in items {
             fresh.push(item)?;
-            if fresh.len() == size {
+            if fresh.len() == per_chunk {
                 list = list.and(Chunk::new(alloc, fresh)?)?;
-                fresh = Vec::with_capacity(alloc, size)?;
+                fresh = Vec::with_capacity(alloc, per_chunk)?;
             }
         }
-        list.and_few(alloc, fresh, size)
+        list.and_few(alloc, fresh, per_chunk)
     }
 }
 
@@ -41,16 +41,16 @@ impl<T: Drop> SharedList<T> {
         ensures { IfOk result (λ list. list ≡ items.items) }
     {
         let sizes = PartSizes::of(items.len());
-        let whole = sizes.chunk * sizes.block;
+        let whole = sizes.per_chunk * sizes.per_block;
         let mut list = SharedList::with_room(alloc, items.len() / whole + 1)?;
         let mut fresh = Vec::new(alloc);
         for item in items {
             fresh.push(item)?;
             if fresh.len() == whole {
-                list = list.and_block(alloc, Chunks::from_vec(alloc, fresh, sizes.chunk)?)?;
+                list = list.and_block(alloc, Chunks::from_vec(alloc, fresh, sizes.per_chunk)?)?;
                 fresh = Vec::new(alloc);
             }
         }
-        list.and_block(alloc, Chunks::from_vec(alloc, fresh, sizes.chunk)?)
+        list.and_block(alloc, Chunks::from_vec(alloc, fresh, sizes.per_chunk)?)
     }
 }

@@ -1,7 +1,7 @@
 //! Other items in place of a range of a list.
 
 ghost use Rattle.std.specs.Prelude.{◌≡◌, ◌<◌, ◌≤◌, ◌+◌, ◌^◌, ◌++◌, IfOk, take, drop, length};
-ghost use Rattle.canvas_list.specs.Chunks.{IsChunkSize};
+ghost use Rattle.canvas_list.specs.Chunks.{FitsChunk};
 
 use crate::chunk::push_shared;
 use crate::chunk_items::ChunkItems;
@@ -41,22 +41,25 @@ fn list_between<T: Share>(
     behind: &Items<'_, T>,
     sizes: PartSizes,
 ) -> Result<SharedList<T>, OutOfMemory>
-    requires size { IsChunkSize sizes.chunk }
-    requires some { 0 < sizes.block }
+    requires chunk { FitsChunk sizes.per_chunk }
+    requires some { 0 < sizes.per_block }
     requires few { length before.now + length items.items + length behind.now < 2 ^ 32 }
     ensures { IfOk result (λ list. list ≡ before.now ++ items.items ++ behind.now) }
 {
-    let PartSizes { chunk, block } = sizes;
+    let PartSizes {
+        per_chunk,
+        per_block,
+    } = sizes;
     let none = ChunkItems::none();
-    let first = chunks_between(alloc, &before.front, Vec::new(alloc), &none, chunk)?;
-    let middle = chunks_between(alloc, &before.back, items, &behind.front, chunk)?;
-    let last = chunks_between(alloc, &none, Vec::new(alloc), &behind.back, chunk)?;
+    let first = chunks_between(alloc, &before.front, Vec::new(alloc), &none, per_chunk)?;
+    let middle = chunks_between(alloc, &before.back, items, &behind.front, per_chunk)?;
+    let last = chunks_between(alloc, &none, Vec::new(alloc), &behind.back, per_chunk)?;
     SharedList::empty(alloc)
-        .and_chunks(alloc, first, block)?
+        .and_chunks(alloc, first, per_block)?
         .and_all(before.blocks)?
-        .and_chunks(alloc, middle, block)?
+        .and_chunks(alloc, middle, per_block)?
         .and_all(behind.blocks)?
-        .and_chunks(alloc, last, block)
+        .and_chunks(alloc, last, per_block)
 }
 
 // The same of parts of lists, in chunks that get so many items.
@@ -65,9 +68,9 @@ fn chunks_between<T: Share>(
     before: &ChunkItems<'_, T>,
     items: Vec<T>,
     behind: &ChunkItems<'_, T>,
-    size: usize,
+    per_chunk: usize,
 ) -> Result<Chunks<T>, OutOfMemory>
-    requires size { IsChunkSize size }
+    requires chunk { FitsChunk per_chunk }
     requires few { length before.now + length items.items + length behind.now < 2 ^ 32 }
     ensures { IfOk result (λ chunks. chunks ≡ before.now ++ items.items ++ behind.now) }
 {
@@ -75,11 +78,11 @@ fn chunks_between<T: Share>(
     let middle = items_between(alloc, before.back, items, behind.front)?;
     let last = items_between(alloc, &[], Vec::new(alloc), behind.back)?;
     Chunks::empty(alloc)
-        .and_items(alloc, first, size)?
+        .and_items(alloc, first, per_chunk)?
         .and_all(before.chunks)?
-        .and_items(alloc, middle, size)?
+        .and_items(alloc, middle, per_chunk)?
         .and_all(behind.chunks)?
-        .and_items(alloc, last, size)
+        .and_items(alloc, last, per_chunk)
 }
 
 // Items, others, and more items.

@@ -3,7 +3,7 @@
 ghost use Rattle.std.specs.Prelude.{◌≡◌, ◌↔◌, ◌<◌, ◌≤◌, ◌+◌, ◌^◌, ◌++◌, ◌∷◌, [], IfOk, IsTrue, false, take, drop, length, slice_set, slice_index_or};
 ghost use Rattle.std.specs.List.{insert, remove, slice_get};
 ghost use Rattle.std.specs.Option.{option_copied};
-ghost use Rattle.canvas_list.specs.Chunks.{joined, IsChunkSize};
+ghost use Rattle.canvas_list.specs.Chunks.{joined, FitsChunk};
 
 use crate::block::{Block, chunks_of};
 use crate::chunk::Chunk;
@@ -134,16 +134,16 @@ impl<T: Drop> SharedList<T> {
         self,
         alloc: Global,
         chunks: Chunks<T>,
-        size: usize,
+        per_block: usize,
     ) -> Result<SharedList<T>, OutOfMemory>
-        requires some { 0 < size }
+        requires some { 0 < per_block }
         requires few { length self + length chunks < 2 ^ 32 }
         ensures { IfOk result (λ list. list ≡ self ++ chunks) }
     {
-        if !chunks.is_over(size) {
+        if !chunks.is_over(per_block) {
             return self.and_block(alloc, chunks);
         }
-        self.and_parts(alloc, chunks.chunks(), chunks.part_len(size))
+        self.and_parts(alloc, chunks.chunks(), chunks.part_len(per_block))
     }
 
     // More chunks, which are shared, in blocks of so many.
@@ -168,17 +168,19 @@ impl<T: Drop> SharedList<T> {
         list.and_block(alloc, part)
     }
 
-    // The same items in fewer blocks, where there are many and these have few chunks in the mean: they
-    // were made while the list was short.
-    fn balanced(self, alloc: Global, size: usize) -> Result<SharedList<T>, OutOfMemory>
-        requires { 0 < size }
+    // The same items in fewer blocks, where there are many and these have few chunks each: most likely
+    // they were made while the list was short.
+    fn balanced(self, alloc: Global, per_block: usize) -> Result<SharedList<T>, OutOfMemory>
+        requires { 0 < per_block }
         ensures { IfOk result (λ list. list ≡ self) }
     {
-        if self.blocks.len() < size.saturating_add(size / 2) || !are_small(&self.blocks, size) {
+        if self.blocks.len() < per_block.saturating_add(per_block / 2)
+            || !have_few_chunks(&self.blocks, per_block)
+        {
             return Ok(self);
         }
         let chunks = chunks_of(alloc, &self.blocks)?;
-        SharedList::empty(alloc).and_chunks(alloc, chunks, size)
+        SharedList::empty(alloc).and_chunks(alloc, chunks, per_block)
     }
 
     /// More blocks, which are shared.
@@ -212,15 +214,9 @@ impl<T: Share> SharedList<T> {
         let spot = spot_of(&self.blocks, at);
         let end = spot.chunk + 1;
         let old = self.blocks[spot.chunk].chunks();
-        let new = old.with_replaced(alloc, at - spot.start, item)?;
-        spliced(
-            alloc,
-            &self.blocks,
-            spot.chunk,
-            end,
-            new,
-            PartSizes::of(self.len()).block,
-        )
+        let sizes = PartSizes::of(self.len());
+        let new = old.with_replaced(alloc, at - spot.start, item, sizes.per_chunk)?;
+        spliced(alloc, &self.blocks, spot.chunk, end, new, sizes.per_block)
     }
 
     /// The list with one more item before the one at a position, or at the end.
@@ -244,9 +240,9 @@ impl<T: Share> SharedList<T> {
         let spot = spot_of(&self.blocks, at);
         let end = spot.chunk + 1;
         let old = self.blocks[spot.chunk].chunks();
-        let new = old.with_inserted(alloc, at - spot.start, item, sizes.chunk)?;
-        let more = spliced(alloc, &self.blocks, spot.chunk, end, new, sizes.block)?;
-        more.balanced(alloc, sizes.block)
+        let new = old.with_inserted(alloc, at - spot.start, item, sizes.per_chunk)?;
+        let list = spliced(alloc, &self.blocks, spot.chunk, end, new, sizes.per_block)?;
+        list.balanced(alloc, sizes.per_block)
     }
 
     /// The list without the item at a position.
@@ -256,15 +252,22 @@ impl<T: Share> SharedList<T> {
     {
         let spot = spot_of(&self.blocks, at);
         let sizes = PartSizes::of(self.len());
-        let part = small_about(&self.blocks, spot.chunk, sizes.block);
+        let part = small_about(&self.blocks, spot.chunk, sizes.per_block);
         let place = at - count_of(&self.blocks[..part.first]);
         let new = without_in(
             alloc,
             &self.blocks[part.first..part.end],
             place,
-            sizes.chunk,
+            sizes.per_chunk,
         )?;
-        spliced(alloc, &self.blocks, part.first, part.end, new, sizes.block)
+        spliced(
+            alloc,
+            &self.blocks,
+            part.first,
+            part.end,
+            new,
+            sizes.per_block,
+        )
     }
 
     /// The list without the item at a position, and with another one in front of what then stands at
@@ -287,26 +290,33 @@ impl<T: Share> SharedList<T> {
             return self.without(alloc, from)?.with_inserted(alloc, to, item);
         }
         let sizes = PartSizes::of(self.len());
-        let new = old.with_moved(alloc, from - spot.start, to - spot.start, item, sizes.chunk)?;
-        spliced(alloc, &self.blocks, spot.chunk, end, new, sizes.block)
+        let new = old.with_moved(
+            alloc,
+            from - spot.start,
+            to - spot.start,
+            item,
+            sizes.per_chunk,
+        )?;
+        spliced(alloc, &self.blocks, spot.chunk, end, new, sizes.per_block)
     }
 }
 
-// The chunks of some blocks, without the item at a position, where a chunk gets so many items.
+// The chunks of some blocks, without the item at a position. A chunk gets so many items.
 fn without_in<T: Share>(
     alloc: Global,
     blocks: &[Block<T>],
     at: usize,
-    size: usize,
+    per_chunk: usize,
 ) -> Result<Chunks<T>, OutOfMemory>
+    requires chunk { FitsChunk per_chunk }
     requires within { at < length (joined blocks.now) }
     requires few { length (joined blocks.now) < 2 ^ 32 }
     ensures { IfOk result (λ chunks. chunks ≡ remove (joined blocks.now) at) }
 {
     if blocks.len() == 1 {
-        return blocks[0].chunks().without(alloc, at, size);
+        return blocks[0].chunks().without(alloc, at, per_chunk);
     }
-    chunks_of(alloc, blocks)?.without(alloc, at, size)
+    chunks_of(alloc, blocks)?.without(alloc, at, per_chunk)
 }
 
 // Other chunks in place of some blocks, where a block gets about so many.
@@ -316,9 +326,9 @@ fn spliced<T: Drop>(
     first: usize,
     end: usize,
     new: Chunks<T>,
-    size: usize,
+    per_block: usize,
 ) -> Result<SharedList<T>, OutOfMemory>
-    requires some { 0 < size }
+    requires some { 0 < per_block }
     requires first { first ≤ end }
     requires end { end ≤ length blocks.now }
     requires small { length (joined (take first blocks.now)) + length new + length (joined (drop end blocks.now)) < 2 ^ 32 }
@@ -326,7 +336,7 @@ fn spliced<T: Drop>(
 {
     SharedList::with_room(alloc, blocks.len() + 2)?
         .and_all(&blocks[..first])?
-        .and_chunks(alloc, new, size)?
+        .and_chunks(alloc, new, per_block)?
         .and_all(&blocks[end..])
 }
 
@@ -338,14 +348,14 @@ fn with_block<T: Share>(
     item: T,
     sizes: PartSizes,
 ) -> Result<SharedList<T>, OutOfMemory>
-    requires size { IsChunkSize sizes.chunk }
-    requires some { 0 < sizes.block }
+    requires chunk { FitsChunk sizes.per_chunk }
+    requires some { 0 < sizes.per_block }
     requires within { place ≤ length blocks.now }
     requires few { length (joined blocks.now) + 1 < 2 ^ 32 }
     ensures { IfOk result (λ list. list ≡ joined (take place blocks.now) ++ item ∷ joined (drop place blocks.now)) }
 {
-    let one = Chunks::empty(alloc).with_inserted(alloc, 0, item, sizes.chunk)?;
-    spliced(alloc, blocks, place, place, one, sizes.block)?.balanced(alloc, sizes.block)
+    let one = Chunks::empty(alloc).with_inserted(alloc, 0, item, sizes.per_chunk)?;
+    spliced(alloc, blocks, place, place, one, sizes.per_block)?.balanced(alloc, sizes.per_block)
 }
 
 // Whether the last block has no room for one more item at its end, or there is no block.
@@ -366,35 +376,36 @@ fn starts_full<T: Drop>(blocks: &[Block<T>], sizes: PartSizes) -> bool {
     }
 }
 
-// Whether blocks have fewer chunks each, taken together, than a block gets.
-fn are_small<T: Drop>(blocks: &[Block<T>], size: usize) -> bool {
+// Whether blocks have well fewer chunks in the mean than a block gets. Blocks that were just made anew
+// do not, nor once one more was put at an end: so they are not made anew again and again.
+fn have_few_chunks<T: Drop>(blocks: &[Block<T>], per_block: usize) -> bool {
     let mut chunks: usize = 0;
     for block in blocks {
         chunks = chunks.saturating_add(block.chunks().chunks().len());
     }
-    chunks / blocks.len().max(1) < size
+    chunks / blocks.len().max(1) < per_block.saturating_mul(7) / 8
 }
 
 // A block, with one beside it if both are small.
-fn small_about<T: Drop>(blocks: &[Block<T>], block: usize, size: usize) -> Part
+fn small_about<T: Drop>(blocks: &[Block<T>], block: usize, per_block: usize) -> Part
     requires { block < length blocks.now }
     ensures first { result.first ≤ block }
     ensures end { block < result.end }
     ensures within { result.end ≤ length blocks.now }
 {
-    if !blocks[block].chunks().is_small(size) {
+    if !blocks[block].chunks().is_small(per_block) {
         return Part {
             first: block,
             end: block + 1,
         };
     }
-    if block > 0 && blocks[block - 1].chunks().is_small(size) {
+    if block > 0 && blocks[block - 1].chunks().is_small(per_block) {
         return Part {
             first: block - 1,
             end: block + 1,
         };
     }
-    if block + 1 < blocks.len() && blocks[block + 1].chunks().is_small(size) {
+    if block + 1 < blocks.len() && blocks[block + 1].chunks().is_small(per_block) {
         return Part {
             first: block,
             end: block + 2,

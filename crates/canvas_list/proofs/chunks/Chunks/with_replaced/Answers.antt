@@ -7,7 +7,7 @@ use Rattle.canvas_list.proofs.chunks.Chunks.with_replaced.Goals as goal
 
 pub spot_of-spot-requires : goal.spot_of-spot-requires
 spot_of-spot-requires g c =
-    search-some c.self.inside.chunks.items c.deref.result.now c.deref.ensures.value (has-chunk c.self.inside.chunks.items c.args.self.now c.args.at c.self.view_is c.requires)
+    search-some c.self.inside.chunks.items c.deref.result.now c.deref.ensures.value (has-chunk c.self.inside.chunks.items c.args.self.now c.args.at c.self.view_is c.requires.within)
 
 pub slice_bounds-items_of-end : goal.slice_bounds-items_of-end
 slice_bounds-items_of-end g c =
@@ -17,7 +17,7 @@ slice_bounds-items_of-end g c =
 pub index_mut-requires : goal.index_mut-requires
 index_mut-requires g c =
     let p : IsOfSpot c.self.inside.chunks.items c.args.self.now c.spot_of-spot.result.chunk c.spot_of-spot.result.start c.args.at c.in_ok-items.items.items = of-spot c.self.inside.chunks.items c.deref-2.result.now c.deref.result.now c.args.self.now c.self.inside.count c.spot_of-spot.result.chunk c.spot_of-spot.result.start c.args.at c.in_ok-items.items.items c.self.invariant c.deref.ensures.value c.spot_of-spot.ensures c.self.view_is c.deref-2.ensures.value c.in_ok-items.ensures in
-    omega (arith, p.place.before c.requires, c.in_ok-items.items.ok)
+    omega (arith, p.place.before c.requires.within, c.in_ok-items.items.ok)
 
 pub spliced-requires-clause-small : goal.spliced-requires-clause-small
 spliced-requires-clause-small g c =
@@ -35,5 +35,5 @@ returns g c =
     let p : IsOfSpot c.self.inside.chunks.items c.args.self.now c.spot_of-spot.result.chunk c.spot_of-spot.result.start c.args.at c.in_ok-items.items.items = of-spot c.self.inside.chunks.items c.deref-2.result.now c.deref.result.now c.args.self.now c.self.inside.count c.spot_of-spot.result.chunk c.spot_of-spot.result.start c.args.at c.in_ok-items.items.items c.self.invariant c.deref.ensures.value c.spot_of-spot.ensures c.self.view_is c.deref-2.ensures.value c.in_ok-items.ensures in
     let new : List g.row.T.Denot = slice_set c.in_ok-items.items.items (c.args.at - c.spot_of-spot.result.start) c.args.item in
     let same : joined (take c.spot_of-spot.result.chunk c.deref-3.result.now) ++ new ++ joined (drop (c.spot_of-spot.result.chunk + 1) c.deref-3.result.now) ≡ slice_set c.args.self.now c.args.at c.args.item =
-    replaced c.self.inside.chunks.items c.deref-3.result.now c.args.self.now c.spot_of-spot.result.chunk (c.spot_of-spot.result.chunk + 1) c.spot_of-spot.result.start c.args.at c.in_ok-items.items.items new c.args.item p.part p.place c.deref-3.ensures.value refl c.requires in
+    replaced c.self.inside.chunks.items c.deref-3.result.now c.args.self.now c.spot_of-spot.result.chunk (c.spot_of-spot.result.chunk + 1) c.spot_of-spot.result.start c.args.at c.in_ok-items.items.items new c.args.item p.part p.place c.deref-3.ensures.value refl c.requires.within in
     subst (λ (l : List g.row.T.Denot). IfOk c.spliced.result (λ (list : List g.row.T.Denot). list ≡ l)) same c.spliced.ensures

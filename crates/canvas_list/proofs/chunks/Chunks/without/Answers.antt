@@ -8,7 +8,7 @@ use Rattle.canvas_list.proofs.chunks.Chunks.without.Goals as goal
 
 pub spot_of-spot-requires : goal.spot_of-spot-requires
 spot_of-spot-requires g c =
-    search-some c.self.inside.chunks.items c.deref.result.now c.deref.ensures.value (has-chunk c.self.inside.chunks.items c.args.self.now c.args.at c.self.view_is c.requires)
+    search-some c.self.inside.chunks.items c.deref.result.now c.deref.ensures.value (has-chunk c.self.inside.chunks.items c.args.self.now c.args.at c.self.view_is c.requires.within)
 
 pub small_about-part-requires : goal.small_about-part-requires
 small_about-part-requires g c =
@@ -26,7 +26,7 @@ overflow_sub-at g c =
 pub remove-requires : goal.remove-requires
 remove-requires g c =
     let p : IsOfPart c.self.inside.chunks.items c.args.self.now c.small_about-part.result.first c.small_about-part.result.end c.count_of.result c.args.at c.in_ok-items.items.items = of-part c.self.inside.chunks.items c.deref-3.result.now c.deref.result.now c.deref-4.result.now c.args.self.now c.self.inside.count c.spot_of-spot.result.chunk c.spot_of-spot.result.start c.small_about-part.result.first c.small_about-part.result.end c.count_of.result c.args.at c.in_ok-items.items.items c.self.invariant c.deref.ensures.value c.spot_of-spot.ensures c.self.view_is c.deref-3.ensures.value c.small_about-part.ensures.first c.small_about-part.ensures.end c.deref-4.ensures.value c.count_of.ensures c.in_ok-items.ensures in
-    omega (arith, p.place.before c.requires, c.in_ok-items.items.ok)
+    omega (arith, p.place.before c.requires.within, c.in_ok-items.items.ok)
 
 pub spliced-requires-clause-small : goal.spliced-requires-clause-small
 spliced-requires-clause-small g c =
@@ -34,7 +34,7 @@ spliced-requires-clause-small g c =
     omega (
       arith,
       ap length c.remove.ensures.items,
-      length-remove c.in_ok-items.items.items (c.args.at - c.count_of.result) (p.place.before c.requires),
+      length-remove c.in_ok-items.items.items (c.args.at - c.count_of.result) (p.place.before c.requires.within),
       len-is c.self.inside.chunks.items c.self.inside.count c.args.self.now c.self.invariant c.self.view_is,
       c.self.invariant.is_small,
       sum-parts c.self.inside.chunks.items c.deref-5.result.now c.args.self.now c.small_about-part.result.first c.small_about-part.result.end c.count_of.result c.in_ok-items.items.items p.part c.deref-5.ensures.value,
@@ -45,5 +45,5 @@ returns g c =
     let p : IsOfPart c.self.inside.chunks.items c.args.self.now c.small_about-part.result.first c.small_about-part.result.end c.count_of.result c.args.at c.in_ok-items.items.items = of-part c.self.inside.chunks.items c.deref-3.result.now c.deref.result.now c.deref-4.result.now c.args.self.now c.self.inside.count c.spot_of-spot.result.chunk c.spot_of-spot.result.start c.small_about-part.result.first c.small_about-part.result.end c.count_of.result c.args.at c.in_ok-items.items.items c.self.invariant c.deref.ensures.value c.spot_of-spot.ensures c.self.view_is c.deref-3.ensures.value c.small_about-part.ensures.first c.small_about-part.ensures.end c.deref-4.ensures.value c.count_of.ensures c.in_ok-items.ensures in
     let new : List g.row.T.Denot = c.remove.new.self.items in
     let same : joined (take c.small_about-part.result.first c.deref-5.result.now) ++ new ++ joined (drop c.small_about-part.result.end c.deref-5.result.now) ≡ remove c.args.self.now c.args.at =
-    removed c.self.inside.chunks.items c.deref-5.result.now c.args.self.now c.small_about-part.result.first c.small_about-part.result.end c.count_of.result c.args.at c.in_ok-items.items.items new p.part p.place c.deref-5.ensures.value c.remove.ensures.items c.requires in
+    removed c.self.inside.chunks.items c.deref-5.result.now c.args.self.now c.small_about-part.result.first c.small_about-part.result.end c.count_of.result c.args.at c.in_ok-items.items.items new p.part p.place c.deref-5.ensures.value c.remove.ensures.items c.requires.within in
     subst (λ (l : List g.row.T.Denot). IfOk c.spliced.result (λ (list : List g.row.T.Denot). list ≡ l)) same c.spliced.ensures

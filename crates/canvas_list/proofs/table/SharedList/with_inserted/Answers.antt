@@ -56,4 +56,4 @@ returns g c =
     let p : IsOfSpot c.self.inside.blocks.items c.args.self.now c.spot_of-spot.result.chunk c.spot_of-spot.result.start c.args.at c.chunks-old.result.now = of-block c.self.inside.blocks.items c.deref-2.result.now c.args.self.now c.self.inside.count c.spot_of-spot.result.chunk c.spot_of-spot.result.start c.args.at c.index.result.now c.chunks-old.result.now c.self.invariant c.deref-2.ensures.value c.spot_of-spot.ensures c.self.view_is c.index.ensures c.chunks-old.ensures.same in
     let same : joined (take c.spot_of-spot.result.chunk c.deref-3.result.now) ++ c.in_ok-new.new ++ joined (drop (c.spot_of-spot.result.chunk + 1) c.deref-3.result.now) ≡ insert c.args.self.now c.args.at c.args.item =
     inserted c.self.inside.blocks.items c.deref-3.result.now c.args.self.now c.spot_of-spot.result.chunk (c.spot_of-spot.result.chunk + 1) c.spot_of-spot.result.start c.args.at c.chunks-old.result.now c.in_ok-new.new c.args.item p.part p.place c.deref-3.ensures.value c.in_ok-new.ensures c.requires.within in
-    subst (λ (l : List g.row.T.Denot). IfOk c.balanced.result (λ (list : List g.row.T.Denot). list ≡ l)) (c.in_ok-more.ensures ∙ same) c.balanced.ensures
+    subst (λ (l : List g.row.T.Denot). IfOk c.balanced.result (λ (list : List g.row.T.Denot). list ≡ l)) (c.in_ok-list.ensures ∙ same) c.balanced.ensures

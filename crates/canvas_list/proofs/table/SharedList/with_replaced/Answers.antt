@@ -15,8 +15,8 @@ index-requires g c =
     let f : IsFound c.self.inside.blocks.items c.self.inside.count c.spot_of-spot.result.chunk c.spot_of-spot.result.start c.args.at = found c.self.inside.blocks.items c.deref.result.now c.self.inside.count c.spot_of-spot.result.chunk c.spot_of-spot.result.start c.args.at c.self.invariant c.deref.ensures.value c.spot_of-spot.ensures in
     omega (arith, f.within)
 
-pub with_replaced-requires : goal.with_replaced-requires
-with_replaced-requires g c =
+pub with_replaced-requires-clause-within : goal.with_replaced-requires-clause-within
+with_replaced-requires-clause-within g c =
     let p : IsOfSpot c.self.inside.blocks.items c.args.self.now c.spot_of-spot.result.chunk c.spot_of-spot.result.start c.args.at c.chunks-old.result.now = of-block c.self.inside.blocks.items c.deref.result.now c.args.self.now c.self.inside.count c.spot_of-spot.result.chunk c.spot_of-spot.result.start c.args.at c.index.result.now c.chunks-old.result.now c.self.invariant c.deref.ensures.value c.spot_of-spot.ensures c.self.view_is c.index.ensures c.chunks-old.ensures.same in
     p.place.before c.requires
 
