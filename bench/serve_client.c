@@ -20,7 +20,7 @@
 #include <time.h>
 #include <unistd.h>
 
-enum { MOST_CLIENTS = 64, MOST_TIMES = 1 << 22, ROOM = 1 << 18 };
+enum { MOST_CLIENTS = 64, MOST_TIMES = 1 << 24, ROOM = 1 << 18 };
 
 typedef struct {
     pthread_t thread;
