@@ -4,7 +4,7 @@ use Rattle.canvas_doc.specs.declared.edits.Change.{Change}
 use Rattle.canvas_doc.specs.declared.edits.Edit.{Edit}
 use Rattle.canvas_doc.specs.Contents.{Contents}
 use Rattle.canvas_doc.specs.Decision.{decision_of}
-use Rattle.canvas_doc.specs.Effect.{effect_of, Fits}
+use Rattle.canvas_doc.specs.Effect.{Fits}
 use Rattle.canvas_board.specs.declared.fault.BoardFault.{BoardFault}
 use Rattle.canvas_board.specs.declared.fault.BoardFault.TheVariants.{OutOfMemory, Refused, VersionsSpent, Behind, Strangers, BadWorkers, BadSetting, NoView}
 use Rattle.canvas_board.specs.Seen.{Seen}
@@ -29,9 +29,9 @@ Opens document limit (Err (Strangers own found)) = ⊥
 Opens document limit (Err BadWorkers) = ⊥
 Opens document limit (Err NoView) = ⊥
 
--- what an edit makes of a document: the change that is decided and its effect, or the refusal
-abbrev pub Makes : Contents → Edit → Result (Change × Contents) BoardFault → Type 0
-Makes document edit (Ok made) = (decision_of edit document ≡ Ok made.0) × (made.1 ≡ effect_of made.0 document) × Fits made.0 document
+-- what an edit of a document is: the change that is decided, which fits, or the refusal
+abbrev pub Makes : Contents → Edit → Result Change BoardFault → Type 0
+Makes document edit (Ok change) = (decision_of edit document ≡ Ok change) × Fits change document
 Makes document edit (Err (Refused why)) = decision_of edit document ≡ Err why
 Makes document edit (Err OutOfMemory) = (change : Change) × (decision_of edit document ≡ Ok change)
 Makes document edit (Err VersionsSpent) = ⊥

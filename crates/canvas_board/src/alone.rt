@@ -1,4 +1,5 @@
-ghost use Rattle.std.specs.Prelude.{◌≡◌};
+ghost use Rattle.std.specs.Prelude.{◌≡◌, IfOk, OnErr};
+ghost use Rattle.canvas_doc.specs.Effect.{effect_of};
 ghost use Rattle.canvas_board.specs.Alone.{Makes, Opens};
 
 use crate::answers::{Dot, MOST_BYTES, Picture, Saved};
@@ -71,11 +72,10 @@ impl Board for Alone {
         if self.number >= self.limit {
             return Err(BoardFault::VersionsSpent);
         }
-        match made(self.alloc, &self.document, edit) {
+        match make(self.alloc, &mut self.document, edit) {
             Err(fault) => Err(fault),
-            Ok((change, after)) => {
+            Ok(change) => {
                 let id = change.new_id();
-                self.document = after;
                 self.number += 1;
                 let history = mem::replace(&mut self.history, History::new());
                 self.history = history.with(change);
@@ -121,16 +121,18 @@ impl Board for Alone {
     }
 }
 
-// The change that an edit makes of a document, and the document after it.
-fn made(alloc: Global, document: &Document, edit: &Edit) -> Result<(Change, Document), BoardFault>
-    ensures { Makes document.now edit.now result }
+// Makes an edit in a document, and answers the change that it is.
+fn make(alloc: Global, document: &mut Document, edit: &Edit) -> Result<Change, BoardFault>
+    ensures change { Makes document.old edit.now result }
+    ensures effect { IfOk result (λ change. document.new ≡ effect_of change document.old) }
+    ensures same { OnErr result (document.new ≡ document.old) }
 {
     match document.decide(alloc, edit) {
         Err(Refusal::OutOfMemory) => Err(BoardFault::OutOfMemory),
         Err(why) => Err(BoardFault::Refused(why)),
-        Ok(change) => match document.with(alloc, &change) {
+        Ok(change) => match document.apply(alloc, &change) {
             Err(_) => Err(BoardFault::OutOfMemory),
-            Ok(after) => Ok((change, after)),
+            Ok(()) => Ok(change),
         },
     }
 }

@@ -32,6 +32,7 @@ pub mod PlacePoints
 pub mod PlaceSorted
 pub mod Misplaced
 pub mod InOrder
+pub mod InPlace
 pub mod RestoredWell
 pub mod Saved
 pub mod Searched

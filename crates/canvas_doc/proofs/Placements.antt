@@ -1,14 +1,17 @@
 -- Records by place and their bounds, as one list is read and changed.
-use Rattle.std.proofs.Common.{◌≡◌, ℕ, suc, ◌+◌, ◌-◌, ◌<◌, ◌≤◌, List, [], ◌∷◌, ◌++◌, Bool, true, false, ap, sym, subst, ◌∙◌, arith, map, length, get_or, take, drop}
+use Rattle.std.proofs.Common.{◌≡◌, ℕ, suc, ◌+◌, ◌-◌, ◌<◌, ◌≤◌, List, [], ◌∷◌, ◌++◌, Bool, true, false, ap, sym, subst, ◌∙◌, arith, map, length, get_or, set, take, drop}
 use Rattle.std.specs.List.{AllWithin, insert, remove, take-map, drop-map}
 use Rattle.std.specs.List.Sorted.{IsPartitionPoint, IsPartitionedBy}
 use Rattle.std.proofs.Math.ListN.{get_or-map}
 use Rattle.std.proofs.lemmas.List as list
-use Rattle.std.proofs.lemmas.List.{append_assoc, drop-drop, length-map, map-append, take-append-drop}
+use Rattle.std.proofs.lemmas.List.{append_assoc, drop-drop, length-map, map-append, map-set, take-append-drop}
+use Rattle.canvas_list.specs.declared.in_place.ItemChange.{ItemChange}
+use Rattle.canvas_list.specs.declared.in_place.ItemChange.TheVariants.{Replace, Remove, Insert}
+use Rattle.canvas_list.specs.Changed.{changed_if, IsPositionOf}
 use Rattle.canvas_doc.specs.declared.bounds.Bounds.{Bounds}
 use Rattle.canvas_doc.specs.declared.placed_shapes.PlacedShape.{PlacedShape}
 use Rattle.canvas_doc.specs.declared.records.Record.{Record}
-use Rattle.canvas_doc.specs.Placements.{Placements, placements_of}
+use Rattle.canvas_doc.specs.Placements.{Placements, bounds_change, placements_of, shape_change}
 
 abbrev pub shape_of : PlacedShape → Record
 shape_of placed = placed.shape
@@ -99,3 +102,22 @@ module _ (all : List PlacedShape) (p : Placements) (is : placements_of all ≡ p
   point q at b found parted =
       subst (λ l. IsPartitionPoint (λ r. q r ≡ true) (λ r. q r ≡ false) l at) shapes-are
       (map-point shape_of q all at b (found (map-parted shape_of q all (subst (IsPartitionedBy q) (sym shapes-are) parted))))
+
+-- ---- a change in place
+
+pub place-changed : (list : List PlacedShape) (all : Placements) (at : ℕ) (ch : ItemChange PlacedShape) → placements_of list ≡ all → IsPositionOf (shape_change ch) at all.shapes → IsPositionOf ch at list
+place-changed list all at (Replace placed) e h = omega (arith, length-map list shape_of, ap length (shapes-are list all e))
+place-changed list all at Remove e h = omega (arith, length-map list shape_of, ap length (shapes-are list all e))
+place-changed list all at (Insert placed) e h = (omega (arith, h.0, length-map list shape_of, ap length (shapes-are list all e)), omega (arith, h.1, length-map list shape_of, ap length (shapes-are list all e)))
+
+pub shapes-changed : (list new : List PlacedShape) (all : Placements) (at : ℕ) (ch : ItemChange PlacedShape) (made : Bool) → placements_of list ≡ all → new ≡ changed_if made ch at list → map shape_of new ≡ changed_if made (shape_change ch) at all.shapes
+shapes-changed list new all at ch false e is = ap (map shape_of) is ∙ shapes-are list all e
+shapes-changed list new all at (Replace placed) true e is = ap (map shape_of) is ∙ map-set shape_of list at placed ∙ ap (λ l. set l at placed.shape) (shapes-are list all e)
+shapes-changed list new all at Remove true e is = ap (map shape_of) is ∙ map-remove shape_of list at ∙ ap (λ l. remove l at) (shapes-are list all e)
+shapes-changed list new all at (Insert placed) true e is = ap (map shape_of) is ∙ map-insert shape_of list at placed ∙ ap (λ l. insert l at placed.shape) (shapes-are list all e)
+
+pub bounds-changed : (list new : List PlacedShape) (all : Placements) (at : ℕ) (ch : ItemChange PlacedShape) (made : Bool) → placements_of list ≡ all → new ≡ changed_if made ch at list → map bounds_of new ≡ changed_if made (bounds_change ch) at all.bounds
+bounds-changed list new all at ch false e is = ap (map bounds_of) is ∙ bounds-are list all e
+bounds-changed list new all at (Replace placed) true e is = ap (map bounds_of) is ∙ map-set bounds_of list at placed ∙ ap (λ l. set l at placed.bounds) (bounds-are list all e)
+bounds-changed list new all at Remove true e is = ap (map bounds_of) is ∙ map-remove bounds_of list at ∙ ap (λ l. remove l at) (bounds-are list all e)
+bounds-changed list new all at (Insert placed) true e is = ap (map bounds_of) is ∙ map-insert bounds_of list at placed ∙ ap (λ l. insert l at placed.bounds) (bounds-are list all e)

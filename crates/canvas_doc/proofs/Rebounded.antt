@@ -17,7 +17,7 @@ use Rattle.canvas_doc.specs.declared.bounds.Bounds.{Bounds}
 use Rattle.canvas_doc.specs.declared.records.Parent.{Parent}
 use Rattle.canvas_doc.specs.declared.records.Parent.TheVariants.{Page, Shape}
 use Rattle.canvas_doc.specs.declared.records.Record.{Record}
-use Rattle.canvas_doc.specs.Bounds.{AreBounds, AreBoundsBut, HoldsOwn, IsCarriedWithin, HaveOneShape}
+use Rattle.canvas_doc.specs.Bounds.{AreBounds, AreBoundsBut, HoldsOwn, IsCarriedWithin, IsHeldAbove, HaveOneShape}
 use Rattle.canvas_doc.specs.Children.{is_child, same_parent}
 use Rattle.canvas_doc.specs.Contents.{record_of, is_container, reaches_from, reaches_page, AreRising}
 use Rattle.canvas_doc.specs.Effect.{rank_of, respaced}
@@ -131,34 +131,78 @@ module _ (at : ℕ) (order now : List Record) (bounds then : List Bounds) (r : R
   with-new : length then ≡ length now → AreBoundsBut at now then
   with-new long = record { long = long; own = new-own; below = new-below }
 
+  -- the same, where the group above holds the new bounds
+  held-new : length then ≡ length now → is_child (Shape r.id) r ≡ false → IsHeldAbove order bounds r b → AreBounds now then
+  held-new long alone above = record {
+    long = long;
+    own = new-own;
+    below = λ i j s t c d e f g h child shown group. elim (cases_Bool (j == at)) [
+      | inl q ↦ (
+          let same : j ≡ at = eqb-true j at q in
+          let one : r ≡ t = same_Some r t (sym shape ∙ ap (slice_get now) (sym same) ∙ f) in
+          let other : b ≡ d = same_Some b d (sym box ∙ ap (slice_get then) (sym same) ∙ h) in
+          let under : is_child (Shape s.id) r ≡ true = ap (is_child (Shape s.id)) one ∙ child in
+          elim (cases_Bool (i == at)) [
+            | inl p ↦ (
+                let itself : r ≡ s = same_Some r s (sym shape ∙ ap (slice_get now) (sym (eqb-true i at p)) ∙ e) in
+                absurd (true≢false (sym under ∙ ap (λ (x : Record). is_child (Shape x.id) r) (sym itself) ∙ alone)))
+            | inr p ↦ (
+                let n = others i (λ z. true≢false (sym (eq-eqb i at z) ∙ p)) in
+                subst (λ x. IsCarriedWithin s.pose x c) other (above.holds n.from s c (sym n.shape ∙ e) (sym n.box ∙ g) under shown group))
+          ])
+      | inr q ↦ new-below i j s t c d (λ z. true≢false (sym (eq-eqb j at z) ∙ q)) e f g h child shown group
+    ];
+  }
+
+-- where the others stand beside one more
+more-beside : (order : List Record) (bounds : List Bounds) (at : ℕ) (r : Record) (b : Bounds) → at ≤ length order → at ≤ length bounds → (j : ℕ) → j ≢ at → MovedBeside at order (insert order at r) bounds (insert bounds at b) j
+more-beside order bounds at r b within fits = λ j ne. elim (cases_Bool (nat_lt j at)) [
+  | inl t ↦ (
+      let before : j < at = grind (arith, nat_tests) in
+      record { from = j; shape = insert-before order at j r before within; box = insert-before bounds at j b before fits })
+  | inr f ↦ (
+      let behind : at ≤ j - 1 = grind (arith, nat_tests) in
+      let next : j ≡ suc (j - 1) = grind (arith, nat_tests) in
+      record {
+        from = j - 1;
+        shape = ap (slice_get (insert order at r)) next ∙ insert-behind order at (j - 1) r behind within;
+        box = ap (slice_get (insert bounds at b)) next ∙ insert-behind bounds at (j - 1) b behind fits;
+      })
+]
+
+-- where the others stand beside one that was changed
+set-beside : (order : List Record) (bounds : List Bounds) (at : ℕ) (r : Record) (b : Bounds) → (j : ℕ) → j ≢ at → MovedBeside at order (set order at r) bounds (set bounds at b) j
+set-beside order bounds at r b = λ j ne. record { from = j; shape = set-elsewhere order at j r ne; box = set-elsewhere bounds at j b ne }
+
 -- one more record
 pub put : (order : List Record) (bounds : List Bounds) (at : ℕ) (r : Record) (b : Bounds) → AreBounds order bounds → at ≤ length order → Suits order bounds r b → AreBoundsBut at (insert order at r) (insert bounds at b)
 put order bounds at r b kept within suits =
     let same : length bounds ≡ length order = kept.long in
     let fits : at ≤ length bounds = omega arith in
-    with-new at order (insert order at r) bounds (insert bounds at b) r b kept suits (insert-there order at r within) (insert-there bounds at b fits)
-    (λ j ne. elim (cases_Bool (nat_lt j at)) [
-      | inl t ↦ (
-          let before : j < at = grind (arith, nat_tests) in
-          record { from = j; shape = insert-before order at j r before within; box = insert-before bounds at j b before fits })
-      | inr f ↦ (
-          let behind : at ≤ j - 1 = grind (arith, nat_tests) in
-          let next : j ≡ suc (j - 1) = grind (arith, nat_tests) in
-          record {
-            from = j - 1;
-            shape = ap (slice_get (insert order at r)) next ∙ insert-behind order at (j - 1) r behind within;
-            box = ap (slice_get (insert bounds at b)) next ∙ insert-behind bounds at (j - 1) b behind fits;
-          })
-    ])
+    with-new at order (insert order at r) bounds (insert bounds at b) r b kept suits (insert-there order at r within) (insert-there bounds at b fits) (more-beside order bounds at r b within fits)
     (length-insert bounds at b fits ∙ ap (λ n. n + 1) same ∙ sym (length-insert order at r within))
+
+-- the same, where the group above holds it
+pub put-held : (order : List Record) (bounds : List Bounds) (at : ℕ) (r : Record) (b : Bounds) → AreBounds order bounds → at ≤ length order → Suits order bounds r b → is_child (Shape r.id) r ≡ false → IsHeldAbove order bounds r b → AreBounds (insert order at r) (insert bounds at b)
+put-held order bounds at r b kept within suits alone above =
+    let same : length bounds ≡ length order = kept.long in
+    let fits : at ≤ length bounds = omega arith in
+    held-new at order (insert order at r) bounds (insert bounds at b) r b kept suits (insert-there order at r within) (insert-there bounds at b fits) (more-beside order bounds at r b within fits)
+    (length-insert bounds at b fits ∙ ap (λ n. n + 1) same ∙ sym (length-insert order at r within)) alone above
 
 -- another record in the place of one
 pub changed : (order : List Record) (bounds : List Bounds) (at : ℕ) (r : Record) (b : Bounds) → AreBounds order bounds → at < length order → Suits order bounds r b → AreBoundsBut at (set order at r) (set bounds at b)
 changed order bounds at r b kept within suits =
     let same : length bounds ≡ length order = kept.long in
-    with-new at order (set order at r) bounds (set bounds at b) r b kept suits (set-there order at r within) (set-there bounds at b (omega arith))
-    (λ j ne. record { from = j; shape = set-elsewhere order at j r ne; box = set-elsewhere bounds at j b ne })
+    with-new at order (set order at r) bounds (set bounds at b) r b kept suits (set-there order at r within) (set-there bounds at b (omega arith)) (set-beside order bounds at r b)
     (length-set bounds at b ∙ same ∙ sym (length-set order at r))
+
+-- the same, where the group above holds it
+pub changed-held : (order : List Record) (bounds : List Bounds) (at : ℕ) (r : Record) (b : Bounds) → AreBounds order bounds → at < length order → Suits order bounds r b → is_child (Shape r.id) r ≡ false → IsHeldAbove order bounds r b → AreBounds (set order at r) (set bounds at b)
+changed-held order bounds at r b kept within suits alone above =
+    let same : length bounds ≡ length order = kept.long in
+    held-new at order (set order at r) bounds (set bounds at b) r b kept suits (set-there order at r within) (set-there bounds at b (omega arith)) (set-beside order bounds at r b)
+    (length-set bounds at b ∙ same ∙ sym (length-set order at r)) alone above
 
 -- ---- records that all come from those of another list
 
@@ -221,10 +265,19 @@ module _ (order : List Record) (bounds : List Bounds) (at : ℕ) where
         carried-same r s c b e (kept.below at o.0 r t b c shape o.1 box o.2 (ap (λ n. is_child (Shape n) t) (sym e.id) ∙ child) (sym e.hidden ∙ shown) (sym e.kind ∙ group));
   }
 
+  -- a group that holds a record's bounds still does
+  held-taken : (s : Record) (b : Bounds) → IsHeldAbove order bounds s b → IsHeldAbove (remove order at) (remove bounds at) s b
+  held-taken s b above = record { holds = λ i r c e f child shown group. (let o = one-of i r c e f in above.holds o.0 r c o.1 o.2 child shown group) }
+
 -- a record at another place, with its bounds
 pub moved : (order : List Record) (bounds : List Bounds) (from to : ℕ) (r s : Record) (b : Bounds) → AreBounds order bounds → slice_get order from ≡ Some r → slice_get bounds from ≡ Some b → HaveOneShape r s → to ≤ length (remove order from) → AreBoundsBut to (insert (remove order from) to s) (insert (remove bounds from) to b)
 moved order bounds from to r s b kept shape box e within =
     put (remove order from) (remove bounds from) to s b (taken order bounds from kept (slice_get_within order from r shape)) within (suits-moved order bounds from r s b kept shape box e)
+
+-- the same, where the group at the other place holds it
+pub moved-held : (order : List Record) (bounds : List Bounds) (from to : ℕ) (r s : Record) (b : Bounds) → AreBounds order bounds → slice_get order from ≡ Some r → slice_get bounds from ≡ Some b → HaveOneShape r s → to ≤ length (remove order from) → is_child (Shape s.id) s ≡ false → IsHeldAbove order bounds s b → AreBounds (insert (remove order from) to s) (insert (remove bounds from) to b)
+moved-held order bounds from to r s b kept shape box e within alone above =
+    put-held (remove order from) (remove bounds from) to s b (taken order bounds from kept (slice_get_within order from r shape)) within (suits-moved order bounds from r s b kept shape box e) alone (held-taken order bounds from s b above)
 
 -- ---- new indexes
 

@@ -15,7 +15,7 @@ use Rattle.canvas_doc.specs.declared.bounds.Bounds.{Bounds}
 use Rattle.canvas_doc.specs.declared.records.Parent.{Parent}
 use Rattle.canvas_doc.specs.declared.records.Parent.TheVariants.{Page, Shape}
 use Rattle.canvas_doc.specs.declared.records.Record.{Record}
-use Rattle.canvas_doc.specs.Bounds.{holds_on_page, is_empty, is_group, is_whole, left_top, right_bottom, AreBounds, AreBoundsBut, AreWithin, HoldChildren, HoldChildrenBut, HoldsOwn, IsCarriedWithin, IsGroupAt, IsGroupPosition, IsWithinBounds}
+use Rattle.canvas_doc.specs.Bounds.{holds_on_page, is_empty, is_group, is_whole, left_top, right_bottom, AreBounds, AreBoundsBut, AreWithin, HoldChildren, HoldChildrenBut, HoldsOwn, IsCarriedWithin, IsGroupAt, IsGroupPosition, IsHeldAbove, IsWithinBounds}
 use Rattle.canvas_doc.specs.Children.{is_child, same_parent}
 use Rattle.canvas_doc.specs.Contents.{AreRising, reaches_page, record_of}
 use Rattle.canvas_doc.specs.PlaceOrder.{IsInPlaceOrder, IsPlaceOf}
@@ -238,6 +238,20 @@ module _ (order rs : List Record) (o : IsInPlaceOrder order rs) (rising : AreRis
       let child : c ≡ d = one-item bounds at c d step.own ed in
       let box : h ≡ b = sym (same-at bounds i k b h place eb step.held) in
       subst (λ (x : Record). IsCarriedWithin x.pose d b) is (subst (IsCarriedWithin g.pose d) box (subst (λ x. IsCarriedWithin g.pose x h) child held)))
+
+  -- no group holds a record
+  pub none-above : (bounds : List Bounds) (s : Record) (c : Bounds) → ((g : Record) → ¬ IsGroupAt s.place.parent rs g) → IsHeldAbove order bounds s c
+  none-above bounds s c none = record { holds = λ i r b ei eb child shown group. absurd (none r (group-of i r s ei child group shown)) }
+
+  -- a group was found, whose bounds are wide enough for others of a record
+  pub found-above : (bounds : List Bounds) (k : ℕ) (s g : Record) (c h : Bounds) → IsGroupAt s.place.parent rs g → slice_get order k ≡ Some g → slice_get bounds k ≡ Some h → IsCarriedWithin g.pose c h → IsHeldAbove order bounds s c
+  found-above bounds k s g c h group there held within = record {
+    holds = λ i r b ei eb child shown kind.
+        let is : g ≡ r = sym (one-group s.place.parent rs r g (group-of i r s ei child kind shown) group) in
+        let place : i ≡ k = one-place i k r ei (subst (λ x. slice_get order k ≡ Some x) is there) in
+        let box : h ≡ b = sym (same-at bounds i k b h place eb held) in
+        subst (λ (x : Record). IsCarriedWithin x.pose c b) is (subst (IsCarriedWithin g.pose c) box within);
+  }
 
   -- the group's bounds are made wide enough; then those about the group may not be
   pub widened : (bounds : List Bounds) (at k : ℕ) (s g : Record) (c h w : Bounds) → IsStep order rs bounds at k s g c h → HoldChildrenBut at order bounds → IsCarriedWithin g.pose c w → IsWithinBounds h w → HoldChildrenBut k order (set bounds k w)

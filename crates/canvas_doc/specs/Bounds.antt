@@ -109,6 +109,10 @@ pub record AreWithin (bounds after : List Bounds) : Type 0 where
   pub long : length after ≡ length bounds
   pub each : (k : ℕ) (b c : Bounds) → slice_get bounds k ≡ Some b → slice_get after k ≡ Some c → IsWithinBounds b c
 
+-- the bounds of the shown group of the order in which a record hangs hold the record's, if it hangs in one
+pub record IsHeldAbove (order : List Record) (bounds : List Bounds) (s : Record) (c : Bounds) : Type 0 where
+  pub holds : (i : ℕ) (r : Record) (b : Bounds) → slice_get order i ≡ Some r → slice_get bounds i ≡ Some b → is_child (Shape r.id) s ≡ true → r.hidden ≡ false → r.kind ≡ Group → IsCarriedWithin r.pose c b
+
 -- a record differs from another in nothing but its place
 pub record HaveOneShape (r s : Record) : Type 0 where
   pub id : s.id ≡ r.id

@@ -218,7 +218,12 @@ impl Document {
     }
 }
 
-fn changed_by(alloc: Global, shape: &Record, change: &Change) -> Result<Record, OutOfMemory>
+// A record after a change.
+pub(crate) fn changed_by(
+    alloc: Global,
+    shape: &Record,
+    change: &Change,
+) -> Result<Record, OutOfMemory>
     ensures { IfOk result (λ after. after ≡ changed_by change.now shape.now) }
 {
     match change {
@@ -305,7 +310,7 @@ fn shown(alloc: Global, shape: &Record, hidden: bool) -> Result<Record, OutOfMem
 }
 
 // The position of the only record that a change replaces, if there is one.
-fn changed_position(records: &Records, change: &Change) -> Option<usize>
+pub(crate) fn changed_position(records: &Records, change: &Change) -> Option<usize>
     requires { AreRising records.now }
     ensures { MatchOption result (map (changed_by change.now) records.now ≡ records.now) (λ at. ReplacesAt change.now records.now at) }
 {

@@ -8,7 +8,7 @@ ghost use Rattle.canvas_shape.specs.declared.Kind.TheVariants.{Group};
 ghost use Rattle.canvas_doc.specs.declared.bounds.Bounds.{Bounds};
 ghost use Rattle.canvas_doc.specs.declared.records.Parent.TheVariants.{Shape};
 ghost use Rattle.canvas_doc.specs.declared.records.Record.{Record};
-ghost use Rattle.canvas_doc.specs.Bounds.{is_empty, is_group, AreBounds, AreBoundsBut, AreWithin, HoldChildren, HoldChildrenBut, HoldsOwn, IsCarriedWithin, IsGroupAt, IsGroupPosition, IsWithinBounds};
+ghost use Rattle.canvas_doc.specs.Bounds.{is_empty, is_group, AreBounds, AreBoundsBut, AreWithin, HoldChildren, HoldChildrenBut, HoldsOwn, IsCarriedWithin, IsGroupAt, IsGroupPosition, IsHeldAbove, IsWithinBounds};
 ghost use Rattle.canvas_doc.specs.Children.{is_child};
 ghost use Rattle.canvas_doc.specs.Contents.{reaches_page, AreRising};
 ghost use Rattle.canvas_doc.specs.PlaceOrder.{comes_first, IsInPlaceOrder};
@@ -51,6 +51,26 @@ fn children_hull(order: &PlacedShapes, id: u32) -> Bounds
         hull = hull.hull(&placed.bounds);
     }
     hull
+}
+
+// Whether the bounds of the shown group in which a shape hangs hold the shape's, if it hangs in one.
+pub(crate) fn is_held_above(
+    records: &Records,
+    order: &PlacedShapes,
+    shape: &Record,
+    bounds: &Bounds,
+) -> bool
+    requires in_order { IsInPlaceOrder order.now.shapes records.now }
+    requires rising { AreRising records.now }
+    requires limits { All IsInLimits records.now }
+    requires long { length order.now.bounds ≡ length order.now.shapes }
+    ensures { result ≡ true → IsHeldAbove order.now.shapes order.now.bounds shape.now bounds.now }
+{
+    let Some(group) = shown_group(records, shape.place.parent) else {
+        return true;
+    };
+    let up = position_in(order, &group.place);
+    order.bounds_at(up).contains(&bounds.carried(&group.pose))
 }
 
 // The order, the bounds of the groups above a record made wide enough to hold the record's.

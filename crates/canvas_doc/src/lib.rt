@@ -16,6 +16,7 @@ mod deletion;
 mod edits;
 mod effects;
 mod fits;
+mod in_place;
 mod kept_bounds;
 mod lookup;
 mod order;

@@ -6,7 +6,7 @@ ghost use Rattle.std.specs.Option.{option_copied};
 ghost use Rattle.canvas_doc.specs.declared.records.Record.{Record};
 ghost use Rattle.canvas_doc.specs.Contents.{record_of, AreRising, StandsAt};
 
-use crate::records::{Record, Records};
+use crate::records::{Record, Records, hint_of_id};
 
 // The record of an id.
 pub(crate) fn find(records: &Records, id: u32) -> Option<&Record>
@@ -20,7 +20,7 @@ pub(crate) fn find(records: &Records, id: u32) -> Option<&Record>
 }
 
 // The position of an id. While no shape was deleted the ids are 1, 2, 3 and so on, so it is first sought where it stands
-// then, and else by halves.
+// then, and else near its hint.
 pub(crate) fn position_of(records: &Records, id: u32) -> Option<usize>
     requires { AreRising records.now }
     ensures { MatchOption result (record_of id records.now ≡ None) (λ at. StandsAt records.now id at) }
@@ -29,7 +29,7 @@ pub(crate) fn position_of(records: &Records, id: u32) -> Option<usize>
     if stands_at(records, own, id) {
         return Some(own);
     }
-    let at = records.partition_point(|shape| shape.value().id < id);
+    let at = records.partition_point_near(hint_of_id(id), |shape| shape.value().id < id);
     if stands_at(records, at, id) {
         Some(at)
     } else {

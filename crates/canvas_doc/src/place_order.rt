@@ -13,7 +13,7 @@ use crate::bounds::Bounds;
 use crate::placed_shapes::{PlacedShape, PlacedShapes};
 use crate::records::{Parent, Place, Record, Records};
 use canvas_code::OutOfMemory;
-use canvas_list::{Share, Shared};
+use canvas_list::{Hint, Share, Shared};
 use std::alloc::Global;
 use std::cmp::Ordering;
 use std::ops::Range;
@@ -50,8 +50,12 @@ pub(crate) fn children_range(order: &PlacedShapes, parent: Parent) -> Range<usiz
     ensures { AreChildrenWithin parent order.now.shapes result.start result.end }
 {
     let all = &order.list;
-    let start = all.partition_point(|placed| comes_before(placed.shape.value(), parent));
-    let end = all.partition_point(|placed| comes_before_or_hangs(placed.shape.value(), parent));
+    let start = all.partition_point_near(hint_under(parent, 0), |placed| {
+        comes_before(placed.shape.value(), parent)
+    });
+    let end = all.partition_point_near(hint_under(parent, u64::MAX), |placed| {
+        comes_before_or_hangs(placed.shape.value(), parent)
+    });
     start..end
 }
 
@@ -74,7 +78,11 @@ pub(crate) fn position_in(order: &PlacedShapes, place: &Place) -> usize
     requires { IsStrictlySortedBy comes_first order.now.shapes }
     ensures { IsPlaceOf place.now order.now.shapes result }
 {
-    order.list.partition_point(|placed| by_place(&placed.shape.value().place, place).is_lt())
+    order
+        .list
+        .partition_point_near(hint_of_place(place), |placed| {
+            by_place(&placed.shape.value().place, place).is_lt()
+        })
 }
 
 // The same of the order without the record at a position.
@@ -111,6 +119,31 @@ fn by_parent(parent: Parent, other: Parent) -> Ordering
     ensures { result ≡ by_parent parent other }
 {
     holder_of(parent).cmp(&holder_of(other))
+}
+
+/// Where a record stands in the order by place: by the parent, and then by the first bytes of its index, where
+/// the greater comes first.
+pub(crate) fn hint_of_place(place: &Place) -> Hint {
+    hint_under(place.parent, !first_bytes(place.index.bytes()))
+}
+
+// The page comes before all shapes.
+#[inline(always)]
+fn hint_under(parent: Parent, minor: u64) -> Hint {
+    let major = match parent {
+        Parent::Page => 0,
+        Parent::Shape(id) => id,
+    };
+    Hint { major, minor }
+}
+
+// The first eight bytes as a number, and zeros where there are fewer.
+fn first_bytes(bytes: &[u8]) -> u64 {
+    let mut number: u64 = 0;
+    for at in 0..8 {
+        number = number << 8 | u64::from(bytes.get(at).copied().unwrap_or(0));
+    }
+    number
 }
 
 // The id of a shape as a parent.

@@ -3,12 +3,14 @@
 ghost use Rattle.std.specs.Prelude.{◌≡◌, ◌≤◌, ◌<◌, ◌+◌, ◌++◌, ◌^◌, [], IfOk, drop, length, map, slice_index_or, slice_set, take};
 ghost use Rattle.std.specs.List.{insert, remove, slice_get};
 ghost use Rattle.std.specs.Option.{option_copied};
-ghost use Rattle.canvas_doc.specs.Placements.{placements_of};
+ghost use Rattle.canvas_list.specs.Changed.{changed_if, IsPositionOf};
+ghost use Rattle.canvas_doc.specs.Placements.{bounds_change, placements_of, shape_change};
 
 use crate::bounds::Bounds;
-use crate::records::Record;
+use crate::place_order::hint_of_place;
+use crate::records::{Record, Records};
 use canvas_code::OutOfMemory;
-use canvas_list::{Reader, Share, Shared, SharedList};
+use canvas_list::{Hint, ItemChange, Reader, Share, Shared, SharedList};
 use std::alloc::Global;
 use std::marker::Model;
 
@@ -26,6 +28,11 @@ impl Share for PlacedShape {
             shape: self.shape.share()?,
             bounds: self.bounds,
         })
+    }
+
+    #[inline(always)]
+    fn hint(&self) -> Hint {
+        hint_of_place(&self.shape.value().place)
     }
 }
 
@@ -205,6 +212,25 @@ impl PlacedShapes {
         Ok(PlacedShapes {
             list: self.list.with_moved(alloc, from, to, placed)?,
         })
+    }
+
+    /// Changes a record here with its bounds, and one of other records: both in place, or neither.
+    pub(crate) fn change_both(
+        &mut self,
+        at: usize,
+        change: ItemChange<PlacedShape>,
+        records: &mut Records,
+        other_at: usize,
+        other_change: ItemChange<Shared<Record>>,
+    ) -> bool
+        requires place { IsPositionOf (shape_change change) at self.old.shapes }
+        requires other { IsPositionOf other_change other_at records.old }
+        ensures shapes { self.new.shapes ≡ changed_if result (shape_change change) at self.old.shapes }
+        ensures bounds { self.new.bounds ≡ changed_if result (bounds_change change) at self.old.bounds }
+        ensures other { records.new ≡ changed_if result other_change other_at records.old }
+    {
+        self.list
+            .change_both(at, change, records, other_at, other_change)
     }
 
     /// The same with others in place of those from `first` up to `end`, which itself stays.

@@ -4,7 +4,7 @@ ghost use Rattle.std.specs.Prelude.{◌≡◌, IfOk};
 
 use canvas_code::OutOfMemory;
 use canvas_key::Key;
-use canvas_list::{Shared, SharedList};
+use canvas_list::{Hint, Hinted, Shared, SharedList};
 use canvas_plane::Pose;
 use canvas_shape::Kind;
 use std::alloc::Global;
@@ -59,6 +59,23 @@ impl Place {
             parent: self.parent,
             index: self.index.copy(),
         }
+    }
+}
+
+// Ids rise along the list of a document's records.
+impl Hinted for Record {
+    #[inline(always)]
+    fn hint(&self) -> Hint {
+        hint_of_id(self.id)
+    }
+}
+
+/// Where the record of an id stands among records in rising id.
+#[inline(always)]
+pub(crate) fn hint_of_id(id: u32) -> Hint {
+    Hint {
+        major: id,
+        minor: 0,
     }
 }
 

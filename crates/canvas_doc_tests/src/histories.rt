@@ -17,8 +17,8 @@ fn creation(id: u32) -> Edit {
     create(rectangle(id, 1, RED), parent, Spot::At(fresh(id)))
 }
 
-// The edit that is made after so many. The first 13 put shapes at the end.
-fn edit_after(made: u32) -> Edit {
+/// The edit that is made after so many. The first 13 put shapes at the end.
+pub(crate) fn edit_after(made: u32) -> Edit {
     match made {
         0..=12 => creation(made.saturating_add(190)),
         13 => Edit::Respace { parent: GROUP },
@@ -104,19 +104,22 @@ fn are_its(document: &Document, listed: &[&Record], wanted: &[Record]) -> bool {
     same
 }
 
-fn has_records(rt: &impl Abort, alloc: Global, document: &Document, made: u32) -> bool {
+/// Whether a document has the records that are there after so many edits.
+pub(crate) fn has_records(rt: &impl Abort, alloc: Global, document: &Document, made: u32) -> bool {
     let wanted = records_after(rt, alloc, made);
     let listed = document.records_in_order(alloc).expect(rt, "memory");
     are_its(document, &listed, &wanted)
 }
 
-fn all_have_records(rt: &impl Abort, alloc: Global, documents: &[Document]) {
+/// Each of the documents has those that are there after as many edits as stand in front of it.
+pub(crate) fn all_have_records(rt: &impl Abort, alloc: Global, documents: &[Document]) {
     for (document, made) in documents.iter().zip(0..23u32) {
         assert!(rt; has_records(rt, alloc, document, made), "after {made}");
     }
 }
 
-fn first_document(rt: &impl Abort, alloc: Global) -> Document {
+/// The document before the first edit.
+pub(crate) fn first_document(rt: &impl Abort, alloc: Global) -> Document {
     restored(alloc, records_after(rt, alloc, 0), 190).expect(rt, "a document")
 }
 
@@ -177,8 +180,8 @@ fn crowd(rt: &impl Abort, alloc: Global) -> Vec<Record> {
     records
 }
 
-// An edit of each sort in turn, and at times the deletion of a group.
-fn edit_in_turn(dice: &mut Dice, number: u32) -> Edit {
+/// An edit of each sort in turn, and at times the deletion of a group.
+pub(crate) fn edit_in_turn(dice: &mut Dice, number: u32) -> Edit {
     let id = dice.below(750) as u32 + 1;
     let group = dice.below(8) as u32 + 1;
     let parent = Parent::Shape(group);
@@ -221,8 +224,8 @@ fn whole_edit(number: u32, group: u32) -> Edit {
     }
 }
 
-// The document after an edit, or what it was where the edit is refused.
-fn edited_if_accepted(alloc: Global, document: Document, edit: &Edit) -> Document {
+/// The document after an edit, or what it was where the edit is refused.
+pub(crate) fn edited_if_accepted(alloc: Global, document: Document, edit: &Edit) -> Document {
     edited(alloc, &document, edit).unwrap_or(document)
 }
 
@@ -242,15 +245,16 @@ fn next_version(
     after
 }
 
-// What a document is, told by its records, the children of the page and some colours.
+/// What a document is, told by its records, the children of the page and some colours.
 #[derive(PartialEq, Drop)]
-struct Told {
+pub(crate) struct Told {
     records: Vec<Record>,
     page: Vec<u32>,
     colours: Vec<Colour>,
 }
 
-fn tell(rt: &impl Abort, alloc: Global, document: &Document) -> Told {
+/// What a document is.
+pub(crate) fn tell(rt: &impl Abort, alloc: Global, document: &Document) -> Told {
     Told {
         records: copied(rt, alloc, document),
         page: page_of(rt, alloc, document),
@@ -284,14 +288,22 @@ fn colours_of(rt: &impl Abort, alloc: Global, document: &Document) -> Vec<Colour
     colours
 }
 
-type Version = (Told, Document);
+/// A document, and what it was.
+pub(crate) type Version = (Told, Document);
 
-fn push_version(rt: &impl Abort, alloc: Global, versions: &mut Vec<Version>, document: Document) {
+/// Keeps a document with what it is.
+pub(crate) fn push_version(
+    rt: &impl Abort,
+    alloc: Global,
+    versions: &mut Vec<Version>,
+    document: Document,
+) {
     let told = tell(rt, alloc, &document);
     versions.push((told, document)).expect(rt, "memory");
 }
 
-fn crowd_document(rt: &impl Abort, alloc: Global) -> Document {
+/// Eight groups with some 700 shapes.
+pub(crate) fn crowd_document(rt: &impl Abort, alloc: Global) -> Document {
     restored(alloc, crowd(rt, alloc), 701).expect(rt, "a document")
 }
 
@@ -321,7 +333,8 @@ fn versions(rt: &impl Abort, alloc: Global, more: u32) -> Vec<Version> {
     versions
 }
 
-fn is_what_it_was(rt: &impl Abort, alloc: Global, (was, version): &Version) -> bool {
+/// Whether a version still is what it was when it was kept.
+pub(crate) fn is_what_it_was(rt: &impl Abort, alloc: Global, (was, version): &Version) -> bool {
     tell(rt, alloc, version) == *was
 }
 

@@ -4,6 +4,8 @@
 #[cfg(test)]
 mod histories;
 #[cfg(test)]
+mod in_place;
+#[cfg(test)]
 mod memory;
 #[cfg(test)]
 mod refused;

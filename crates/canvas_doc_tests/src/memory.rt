@@ -1,6 +1,7 @@
 //! Edits of which a growth may be refused: run with each allocation refused in turn, they answer want of
 //! memory or what they answer with ample memory, and leave the document as it was.
 
+use crate::in_place::make;
 use canvas_code::OutOfMemory;
 use canvas_doc::{Document, Edit, Parent, Record, Refusal, Spot, TreeFault};
 use canvas_key::fresh;
@@ -113,6 +114,68 @@ fn edits_with_little_memory(rt: HostRuntime) -> Result<(), Fail> {
             "edit {number}"
         );
         assert!(rt; are_same(&document, &copy), "edit {number}");
+    }
+    Ok(())
+}
+
+// Whether documents have the same records, and the same colours where their shapes lie.
+fn look_same(document: &Document, other: &Document) -> bool {
+    let mut same = are_same(document, other);
+    for at in 0..8i32 {
+        same = same && document.colour_at(at, 3) == other.colour_at(at, 3);
+    }
+    same
+}
+
+// Whether only want of memory kept an edit from being made in place, which left the document as it was, and the edit
+// is made afterwards.
+fn is_made_in_place_once_there_is_memory(
+    alloc: Global,
+    document: &mut Document,
+    before: &Document,
+    after: &Document,
+    edit: &Edit,
+) -> Result<bool, Refusal> {
+    match make(alloc, document, edit) {
+        Ok(()) => Ok(look_same(document, after)),
+        Err(Refusal::OutOfMemory) => {
+            let is_as_before = look_same(document, before);
+            make(alloc, document, edit)?;
+            Ok(is_as_before && look_same(document, after))
+        }
+        Err(refusal) => Err(refusal),
+    }
+}
+
+// One edit of a document that shares its records with a clone or with none.
+fn change_in_place(
+    rt: &impl Abort,
+    alloc: Global,
+    number: u32,
+    is_shared: bool,
+) -> Result<(), Refusal> {
+    let before = document(alloc)?;
+    let mut own = document(alloc)?;
+    let edit = edit(alloc, number)?;
+    let after = edited(alloc, &before, &edit)?;
+    let clone = if is_shared {
+        own.try_clone(alloc)?
+    } else {
+        before.try_clone(alloc)?
+    };
+    assert!(rt;
+        is_made_in_place_once_there_is_memory(alloc, &mut own, &before, &after, &edit)?,
+        "edit {number}"
+    );
+    assert!(rt; look_same(&clone, &before), "edit {number}");
+    Ok(())
+}
+
+#[test]
+fn changes_in_place_with_little_memory(rt: HostRuntime) -> Result<(), Fail> {
+    for number in 0..EDITS {
+        change_in_place(&rt, rt.alloc(), number, false)?;
+        change_in_place(&rt, rt.alloc(), number, true)?;
     }
     Ok(())
 }

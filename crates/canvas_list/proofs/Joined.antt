@@ -101,6 +101,10 @@ few-before cs ds n i t e =
     let sum_at : sum_by length (take i ds) ≡ length (joined (take i cs)) = sum-joined (take i ds) ∙ ap (λ l. length (joined (take i l))) e in
     omega (arith, t.has_len, t.is_small, take-fewer cs i)
 
+-- all chunks have few items
+pub few-all : {X : Type 0} (cs ds : List (List X)) (n : ℕ) → IsTable cs n → ds ≡ cs → sum_by length ds < 2 ^ 32
+few-all cs ds n t e = omega (arith, sum-joined ds, ap (λ l. length (joined l)) e, t.has_len, t.is_small)
+
 -- how many items the first chunks have
 pub start-read : {X : Type 0} (cs ds : List (List X)) (i s : ℕ) → ds ≡ cs → s ≡ sum_by length (take i ds) → s ≡ length (joined (take i cs))
 start-read cs ds i s e is = is ∙ sum-joined (take i ds) ∙ ap (λ l. length (joined (take i l))) e

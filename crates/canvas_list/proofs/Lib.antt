@@ -1,5 +1,6 @@
 pub mod Between
 pub mod Blocks
+pub mod InPlace
 pub mod Joined
 pub mod Parted
 pub mod Runs

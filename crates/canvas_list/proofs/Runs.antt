@@ -1,28 +1,40 @@
 -- The items of a chunk, as a part of a list.
-use Rattle.std.proofs.Common.{◌≡◌, ◌∙◌, ℕ, ◌+◌, ◌<◌, List, ◌++◌, take, drop, sym, ap, arith, length, get_or}
+use Rattle.std.proofs.Common.{◌≡◌, ◌∙◌, ℕ, ◌+◌, ◌-◌, ◌<◌, ◌≤◌, Bool, true, false, List, ◌++◌, take, drop, sym, ap, inl, inr, arith, length, get_or}
+use Rattle.std.specs.List.Sorted.{IsPartitionedBy}
+use Rattle.std.proofs.lemmas.Bool.{cases_Bool, cases_lt, true≢false}
 use Rattle.std.proofs.lemmas.List.{get_or-append-add, get_or_append_left}
 use Rattle.canvas_list.specs.Chunks.{joined, IsRun}
-use Rattle.canvas_list.proofs.Joined.{chunk-read, split_at, take-fewer, IsFound}
+use Rattle.canvas_list.proofs.Parted.{IsPoint}
+use Rattle.std.specs.List.{sum_by}
+use Rattle.canvas_list.proofs.Joined.{chunk-read, split_at, start-read, take-fewer, IsFound}
 
-pub run-of-chunk : {X : Type 0} (cs : List (List X)) (xs : List X) (n k s at : ℕ) (c items : List X) → IsFound cs n k s at → joined cs ≡ xs → c ≡ get_or cs k c → items ≡ c → IsRun xs items s
-run-of-chunk {X} cs xs n k s at c items f all is same =
+-- the items of a chunk, where it starts
+pub run-of-part : {X : Type 0} (cs : List (List X)) (xs : List X) (k s : ℕ) (c items : List X) → k < length cs → s ≡ length (joined (take k cs)) → joined cs ≡ xs → c ≡ get_or cs k c → items ≡ c → IsRun xs items s
+run-of-part {X} cs xs k s c items within start all is same =
     let front : List X = joined (take k cs) in
     let rest : List X = joined (drop (k + 1) cs) in
-    let parts : joined cs ≡ front ++ (items ++ rest) = split_at cs k c f.within ∙ ap (λ l. front ++ (l ++ rest)) (sym (same ∙ is)) in
+    let parts : joined cs ≡ front ++ (items ++ rest) = split_at cs k c within ∙ ap (λ l. front ++ (l ++ rest)) (sym (same ∙ is)) in
     record {
-      within = omega (arith, f.start, chunk-read cs k c items f.within is same, take-fewer cs (k + 1), ap length all);
+      within = omega (arith, start, chunk-read cs k c items within is same, take-fewer cs (k + 1), ap length all);
       same =
           λ i x h.
           sym (get_or_append_left items rest x i h)
           ∙ sym (get_or-append-add front (items ++ rest) i x)
-          ∙ ap (λ j. get_or (front ++ (items ++ rest)) (j + i) x) (sym f.start)
+          ∙ ap (λ j. get_or (front ++ (items ++ rest)) (j + i) x) (sym start)
           ∙ ap (λ l. get_or l (s + i) x) (sym parts ∙ all);
     }
+
+pub run-of-chunk : {X : Type 0} (cs : List (List X)) (xs : List X) (n k s at : ℕ) (c items : List X) → IsFound cs n k s at → joined cs ≡ xs → c ≡ get_or cs k c → items ≡ c → IsRun xs items s
+run-of-chunk cs xs n k s at c items f all is same = run-of-part cs xs k s c items f.within f.start all is same
 
 -- a position stands in the items of its chunk
 pub chunk-holds : {X : Type 0} (cs : List (List X)) (n k s at : ℕ) (c items : List X) → IsFound cs n k s at → c ≡ get_or cs k c → items ≡ c → at < n → at < s + length items
 chunk-holds cs n k s at c items f is same h =
     omega (arith, f.start, f.before, chunk-read cs k c items f.within is same)
+
+-- the items of a chunk that was found by how many items stand before it
+pub run-near : {X : Type 0} (cs ds : List (List X)) (xs : List X) (k s : ℕ) (c items : List X) → ds ≡ cs → k < length ds → s ≡ sum_by length (take k ds) → joined cs ≡ xs → c ≡ get_or cs k c → items ≡ c → IsRun xs items s
+run-near cs ds xs k s c items e within is all here same = run-of-part cs xs k s c items (omega (arith, ap length e)) (start-read cs ds k s e is) all here same
 
 -- a part of a part
 pub run-of-run : {X : Type 0} (xs block items : List X) (s t : ℕ) → IsRun xs block s → IsRun block items t → IsRun xs items (s + t)
@@ -34,3 +46,37 @@ run-of-run xs block items s t outer inner = record {
       let place : s + (t + i) ≡ s + t + i = omega arith in
       inner.same i x h ∙ outer.same (t + i) x there ∙ ap (λ j. get_or xs j x) place;
 }
+
+-- in a part of a list those that pass a test come first, too
+pub parted-run : {X : Type 0} (p : X → Bool) (xs items : List X) (start : ℕ) → IsRun xs items start → IsPartitionedBy p xs → IsPartitionedBy p items
+parted-run p xs items start run parted = λ i j d low high passed.
+    let fits : start + length items ≤ length xs = run.within in
+    ap p (run.same i d (omega arith)) ∙ parted (start + i) (start + j) d (omega arith) (omega arith) (ap p (sym (run.same j d high)) ∙ passed)
+
+-- where the items of a part that pass a test end, those of the list do: inside of the part, or at that end of the list
+pub point-in-run : {X : Type 0} (p : X → Bool) (xs items : List X) (start passed : ℕ) → IsRun xs items start → IsPartitionedBy p xs → IsPoint p items passed → passed ≤ length items → (passed ≡ 0 → start ≡ 0) → (passed ≡ length items → start + passed ≡ length xs) → IsPoint p xs (start + passed)
+point-in-run {X} p xs items start passed run parted point within first end =
+    let last : ℕ = passed - 1 in
+    let fits : start + length items ≤ length xs = run.within in (
+      λ i d low high. elim (cases_lt 0 passed) [
+        | inl some ↦ (
+            let before : p (get_or xs (start + last) d) ≡ true = ap p (sym (run.same last d (omega arith))) ∙ point.0 last d (omega arith) (omega arith) in
+            elim (cases_lt i (start + last)) [
+              | inl l ↦ parted i (start + last) d (omega arith) (omega arith) before
+              | inr l ↦ (let same : i ≡ start + last = omega arith in ap (λ n. p (get_or xs n d)) same ∙ before)
+            ])
+        | inr none ↦ (let at : start ≡ 0 = first (omega arith) in absurd (omega arith))
+      ],
+      λ i d low high. elim (cases_lt passed (length items)) [
+        | inl more ↦ (
+            let here : p (get_or xs (start + passed) d) ≡ false = ap p (sym (run.same passed d more)) ∙ point.1 passed d (omega arith) more in
+            elim (cases_lt (start + passed) i) [
+              | inl l ↦ elim (cases_Bool (p (get_or xs i d))) [
+                | inl t ↦ absurd (true≢false (sym (parted (start + passed) i d (omega arith) high t) ∙ here))
+                | inr f ↦ f
+              ]
+              | inr l ↦ (let same : i ≡ start + passed = omega arith in ap (λ n. p (get_or xs n d)) same ∙ here)
+            ])
+        | inr all ↦ (let at : start + passed ≡ length xs = end (omega arith) in absurd (omega arith))
+      ],
+    )

@@ -2,10 +2,15 @@
 
 ghost use Rattle.std.specs.Prelude.{◌≡◌, ◌<◌, ◌^◌, IfOk, length};
 ghost use Rattle.std.specs.List.{slice_get};
-ghost use Rattle.canvas_list.specs.Chunks.{joined};
+ghost use Rattle.canvas_list.specs.Chunks.{joined, FitsChunk};
+ghost use Rattle.canvas_list.specs.Changed.{changed_if, IsPositionOf};
 
 use crate::chunks::Chunks;
 use crate::counted::Counted;
+use crate::hint::Hint;
+use crate::in_place::ItemChange;
+use crate::share::Share;
+use crate::table::SharedList;
 use canvas_code::OutOfMemory;
 use std::alloc::Global;
 use std::marker::Model;
@@ -15,8 +20,9 @@ use std::sync::Arc;
 #[derive(Drop)]
 pub(crate) struct Block<T> {
     chunks: Arc<Chunks<T>>,
-    // How many items they have, which is asked without a look at them.
+    // How many items they have, and where the first most likely stands, which are asked without a look at them.
     count: u32,
+    hint: Hint,
 }
 
 impl<T> Model for Block<T> {
@@ -30,15 +36,17 @@ impl<T> Model for Block<T> {
     ghost invariant = { λ block. (0 < length (arc_value block.chunks)) × (block.count ≡ length (arc_value block.chunks)) };
 }
 
-impl<T: Drop> Block<T> {
+impl<T: Share> Block<T> {
     pub(crate) fn new(alloc: Global, chunks: Chunks<T>) -> Result<Block<T>, OutOfMemory>
         requires { 0 < length chunks }
         ensures { IfOk result (λ block. block ≡ chunks) }
     {
         let count = chunks.len() as u32;
+        let hint = chunks.first().hint();
         Ok(Block {
             chunks: Arc::new(alloc, chunks)?,
             count,
+            hint,
         })
     }
 
@@ -50,6 +58,7 @@ impl<T: Drop> Block<T> {
         Ok(Block {
             chunks: Arc::try_clone(&self.chunks)?,
             count: self.count,
+            hint: self.hint,
         })
     }
 
@@ -59,6 +68,51 @@ impl<T: Drop> Block<T> {
         ensures some { 0 < length self.now }
     {
         &self.chunks
+    }
+
+    /// Changes an item in place, if no other list shares the block and no other block the item's chunk. A
+    /// chunk gets so many items.
+    pub(crate) fn change(&mut self, at: usize, change: ItemChange<T>, per_chunk: usize) -> bool
+        requires chunk { FitsChunk per_chunk }
+        requires place { IsPositionOf change at self.old }
+        ensures { self.new ≡ changed_if result change at self.old }
+    {
+        let Some(chunks) = Arc::get_mut(&mut self.chunks) else {
+            return false;
+        };
+        let made = chunks.change(at, change, per_chunk);
+        self.count = chunks.len() as u32;
+        if at == 0 {
+            self.hint = chunks.first().hint();
+        }
+        made
+    }
+
+    /// The same together with a change of a list: both are made in place, or neither.
+    pub(crate) fn change_both<U: Share>(
+        &mut self,
+        at: usize,
+        change: ItemChange<T>,
+        per_chunk: usize,
+        other: &mut SharedList<U>,
+        other_at: usize,
+        other_change: ItemChange<U>,
+    ) -> bool
+        requires chunk { FitsChunk per_chunk }
+        requires place { IsPositionOf change at self.old }
+        requires other { IsPositionOf other_change other_at other.old }
+        ensures items { self.new ≡ changed_if result change at self.old }
+        ensures other { other.new ≡ changed_if result other_change other_at other.old }
+    {
+        let Some(chunks) = Arc::get_mut(&mut self.chunks) else {
+            return false;
+        };
+        let made = chunks.change_both(at, change, per_chunk, other, other_at, other_change);
+        self.count = chunks.len() as u32;
+        if at == 0 {
+            self.hint = chunks.first().hint();
+        }
+        made
     }
 
     /// The first item.
@@ -77,10 +131,15 @@ impl<T> Counted for Block<T> {
     fn count(&self) -> usize {
         self.count as usize
     }
+
+    #[inline(always)]
+    fn hint(&self) -> Hint {
+        self.hint
+    }
 }
 
 /// The chunks of some blocks, as those of one.
-pub(crate) fn chunks_of<T: Drop>(
+pub(crate) fn chunks_of<T: Share>(
     alloc: Global,
     blocks: &[Block<T>],
 ) -> Result<Chunks<T>, OutOfMemory>

@@ -2,11 +2,15 @@
 
 ghost use Rattle.std.specs.Prelude.{◌≡◌, ◌<◌, ◌≤◌, ◌++◌, IfOk, OnOk, length};
 ghost use Rattle.std.specs.List.{slice_get};
-ghost use Rattle.canvas_list.specs.Chunks.{joined};
+ghost use Rattle.canvas_list.specs.Chunks.{joined, FitsChunk};
+ghost use Rattle.canvas_list.specs.Changed.{changed_if, IsPositionOf};
 
 use crate::counted::Counted;
+use crate::hint::Hint;
+use crate::in_place::{ItemChange, change_items, make_room};
 use crate::share::Share;
 use crate::sizes::MOST_IN_CHUNK;
+use crate::table::SharedList;
 use canvas_code::OutOfMemory;
 use std::alloc::Global;
 use std::marker::Model;
@@ -16,8 +20,9 @@ use std::sync::Arc;
 #[derive(Drop)]
 pub(crate) struct Chunk<T> {
     items: Arc<Vec<T>>,
-    // How many there are, which is asked without a look at them.
+    // How many there are, and where the first most likely stands, which are asked without a look at them.
     count: u32,
+    hint: Hint,
 }
 
 impl<T> Model for Chunk<T> {
@@ -32,16 +37,18 @@ impl<T> Model for Chunk<T> {
     ghost invariant = { λ chunk. FitsChunk (length (arc_value chunk.items).items) × (chunk.count ≡ length (arc_value chunk.items).items) };
 }
 
-impl<T: Drop> Chunk<T> {
+impl<T: Share> Chunk<T> {
     pub(crate) fn new(alloc: Global, items: Vec<T>) -> Result<Chunk<T>, OutOfMemory>
         requires some { 0 < length items.items }
         requires few { length items.items ≤ MOST_IN_CHUNK }
         ensures { IfOk result (λ chunk. chunk ≡ items.items) }
     {
         let count = items.len() as u32;
+        let hint = items[0].hint();
         Ok(Chunk {
             items: Arc::new(alloc, items)?,
             count,
+            hint,
         })
     }
 
@@ -53,6 +60,7 @@ impl<T: Drop> Chunk<T> {
         Ok(Chunk {
             items: Arc::try_clone(&self.items)?,
             count: self.count,
+            hint: self.hint,
         })
     }
 
@@ -63,6 +71,57 @@ impl<T: Drop> Chunk<T> {
         ensures few { length self.now ≤ MOST_IN_CHUNK }
     {
         &self.items
+    }
+
+    /// Changes an item in place, if no other block shares the chunk, and answers whether it did. A chunk gets
+    /// so many items.
+    pub(crate) fn change(&mut self, at: usize, change: ItemChange<T>, per_chunk: usize) -> bool
+        requires chunk { FitsChunk per_chunk }
+        requires place { IsPositionOf change at self.old }
+        ensures { self.new ≡ changed_if result change at self.old }
+    {
+        let Some(items) = Arc::get_mut(&mut self.items) else {
+            return false;
+        };
+        if !make_room(items, &change, per_chunk) {
+            return false;
+        }
+        change_items(items, at, change);
+        self.count = items.len() as u32;
+        if at == 0 {
+            self.hint = items[0].hint();
+        }
+        true
+    }
+
+    /// The same together with a change of a list: both are made in place, or neither.
+    pub(crate) fn change_both<U: Share>(
+        &mut self,
+        at: usize,
+        change: ItemChange<T>,
+        per_chunk: usize,
+        other: &mut SharedList<U>,
+        other_at: usize,
+        other_change: ItemChange<U>,
+    ) -> bool
+        requires chunk { FitsChunk per_chunk }
+        requires place { IsPositionOf change at self.old }
+        requires other { IsPositionOf other_change other_at other.old }
+        ensures items { self.new ≡ changed_if result change at self.old }
+        ensures other { other.new ≡ changed_if result other_change other_at other.old }
+    {
+        let Some(items) = Arc::get_mut(&mut self.items) else {
+            return false;
+        };
+        if !make_room(items, &change, per_chunk) || !other.change(other_at, other_change) {
+            return false;
+        }
+        change_items(items, at, change);
+        self.count = items.len() as u32;
+        if at == 0 {
+            self.hint = items[0].hint();
+        }
+        true
     }
 
     /// The first item.
@@ -80,6 +139,11 @@ impl<T> Counted for Chunk<T> {
     #[inline(always)]
     fn count(&self) -> usize {
         self.count as usize
+    }
+
+    #[inline(always)]
+    fn hint(&self) -> Hint {
+        self.hint
     }
 }
 

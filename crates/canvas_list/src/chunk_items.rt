@@ -6,6 +6,7 @@ ghost use Rattle.std.specs.Iterator.{YieldsFirstRef, YieldsLastRef, item_count};
 use crate::chunk::Chunk;
 use crate::chunks::Chunks;
 use crate::counted::spot_of;
+use crate::share::Share;
 use std::marker::Model;
 
 /// The items of some chunks that are left to go over, in order, seen as the list of them.
@@ -25,7 +26,7 @@ impl<'a, T> Model for ChunkItems<'a, T> {
     ghost view = { λ items. items.front.now ++ joined items.chunks.now ++ items.back.now };
 }
 
-impl<'a, T: Drop> ChunkItems<'a, T> {
+impl<'a, T: Share> ChunkItems<'a, T> {
     /// No items.
     pub(crate) fn none() -> ChunkItems<'a, T>
         ensures { result ≡ [] }
@@ -38,7 +39,7 @@ impl<'a, T: Drop> ChunkItems<'a, T> {
     }
 }
 
-impl<'a, T: Drop> Iterator for ChunkItems<'a, T> {
+impl<'a, T: Share> Iterator for ChunkItems<'a, T> {
     type Item = &'a T;
 
     ghost next_gives = { YieldsFirstRef (λ items. items) };
@@ -63,7 +64,7 @@ impl<'a, T: Drop> Iterator for ChunkItems<'a, T> {
     }
 }
 
-impl<'a, T: Drop> DoubleEndedIterator for ChunkItems<'a, T> {
+impl<'a, T: Share> DoubleEndedIterator for ChunkItems<'a, T> {
     ghost next_back_gives = { YieldsLastRef (λ items. items) };
 
     #[inline(always)]
@@ -85,7 +86,7 @@ impl<'a, T: Drop> DoubleEndedIterator for ChunkItems<'a, T> {
     }
 }
 
-impl<T: Drop> Chunks<T> {
+impl<T: Share> Chunks<T> {
     /// All items.
     pub(crate) fn iter(&self) -> ChunkItems<'_, T>
         ensures items { result ≡ self.now }

@@ -30,7 +30,7 @@ impl<T> Model for Chunks<T> {
     ghost invariant = { λ list. IsTable list.chunks.items list.count };
 }
 
-impl<T: Drop> Chunks<T> {
+impl<T: Share> Chunks<T> {
     /// No items.
     pub(crate) fn empty(alloc: Global) -> Chunks<T>
         ensures { result ≡ [] }
@@ -298,7 +298,7 @@ impl<T: Share> Chunks<T> {
 }
 
 // Other items in place of some chunks, in chunks that get so many.
-fn spliced<T: Drop>(
+fn spliced<T: Share>(
     alloc: Global,
     chunks: &[Chunk<T>],
     first: usize,
@@ -319,7 +319,7 @@ fn spliced<T: Drop>(
 }
 
 // One more chunk, of one item, before the one at a place or at the end.
-fn with_chunk<T: Drop>(
+fn with_chunk<T: Share>(
     alloc: Global,
     chunks: &[Chunk<T>],
     place: usize,
@@ -337,7 +337,7 @@ fn with_chunk<T: Drop>(
 }
 
 // Whether the last chunk has no room for one more item, or there is no chunk.
-fn ends_full<T: Drop>(chunks: &[Chunk<T>], per_chunk: usize) -> bool
+fn ends_full<T: Share>(chunks: &[Chunk<T>], per_chunk: usize) -> bool
     ensures { result ≡ false → 0 < length chunks.now }
 {
     match chunks.last() {
@@ -347,7 +347,7 @@ fn ends_full<T: Drop>(chunks: &[Chunk<T>], per_chunk: usize) -> bool
 }
 
 // Whether the first chunk has no room for one more item, or there is no chunk.
-fn starts_full<T: Drop>(chunks: &[Chunk<T>], per_chunk: usize) -> bool {
+fn starts_full<T: Share>(chunks: &[Chunk<T>], per_chunk: usize) -> bool {
     match chunks.first() {
         None => true,
         Some(chunk) => chunk.count() >= per_chunk,
@@ -362,7 +362,7 @@ pub(crate) struct Part {
 }
 
 // A chunk, with one beside it if both are small, where a chunk gets so many items.
-fn small_about<T: Drop>(chunks: &[Chunk<T>], chunk: usize, per_chunk: usize) -> Part
+pub(crate) fn small_about<T: Share>(chunks: &[Chunk<T>], chunk: usize, per_chunk: usize) -> Part
     requires { chunk < length chunks.now }
     ensures first { result.first ≤ chunk }
     ensures end { chunk < result.end }

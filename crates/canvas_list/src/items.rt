@@ -6,6 +6,7 @@ ghost use Rattle.std.specs.Iterator.{YieldsFirstRef, YieldsLastRef, item_count};
 use crate::block::Block;
 use crate::chunk_items::ChunkItems;
 use crate::counted::spot_of;
+use crate::share::Share;
 use crate::table::SharedList;
 use std::marker::Model;
 
@@ -26,7 +27,7 @@ impl<'a, T> Model for Items<'a, T> {
     ghost view = { λ items. items.front ++ joined items.blocks.now ++ items.back };
 }
 
-impl<'a, T: Drop> Iterator for Items<'a, T> {
+impl<'a, T: Share> Iterator for Items<'a, T> {
     type Item = &'a T;
 
     ghost next_gives = { YieldsFirstRef (λ items. items) };
@@ -47,7 +48,7 @@ impl<'a, T: Drop> Iterator for Items<'a, T> {
     }
 }
 
-impl<'a, T: Drop> DoubleEndedIterator for Items<'a, T> {
+impl<'a, T: Share> DoubleEndedIterator for Items<'a, T> {
     ghost next_back_gives = { YieldsLastRef (λ items. items) };
 
     #[inline(always)]
@@ -64,7 +65,7 @@ impl<'a, T: Drop> DoubleEndedIterator for Items<'a, T> {
     }
 }
 
-impl<T: Drop> SharedList<T> {
+impl<T: Share> SharedList<T> {
     /// All items.
     pub fn iter(&self) -> Items<'_, T>
         ensures items { result ≡ self.now }

@@ -1,5 +1,6 @@
 //! Lists that share their items: a list after a change holds the very blocks that the change left as
-//! they were, and the very chunks of the block that it changed.
+//! they were, and the very chunks of the block that it changed. What no other list shares can be changed
+//! in place.
 #![tactic(auto)]
 
 mod block;
@@ -7,6 +8,8 @@ mod chunk;
 mod chunk_items;
 mod chunks;
 mod counted;
+mod hint;
+mod in_place;
 mod items;
 mod made;
 mod reader;
@@ -16,6 +19,8 @@ mod sizes;
 mod splice;
 mod table;
 
+pub use hint::{Hint, Hinted};
+pub use in_place::ItemChange;
 pub use items::Items;
 pub use reader::Reader;
 pub use share::{Share, Shared};

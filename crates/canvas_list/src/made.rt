@@ -5,12 +5,13 @@ ghost use Rattle.canvas_list.specs.Chunks.{FitsChunk};
 
 use crate::chunk::Chunk;
 use crate::chunks::Chunks;
+use crate::share::Share;
 use crate::sizes::PartSizes;
 use crate::table::SharedList;
 use canvas_code::OutOfMemory;
 use std::alloc::Global;
 
-impl<T: Drop> Chunks<T> {
+impl<T: Share> Chunks<T> {
     /// The items of a `Vec`, so many in a chunk.
     pub(crate) fn from_vec(
         alloc: Global,
@@ -34,7 +35,7 @@ impl<T: Drop> Chunks<T> {
     }
 }
 
-impl<T: Drop> SharedList<T> {
+impl<T: Share> SharedList<T> {
     /// The items of a `Vec`.
     pub fn from_vec(alloc: Global, items: Vec<T>) -> Result<SharedList<T>, OutOfMemory>
         requires { length items.items < 2 ^ 32 }

@@ -1,10 +1,12 @@
 //! Reading a list at positions that often stand side by side.
 
-ghost use Rattle.std.specs.Prelude.{◌≡◌, ◌<◌, ◌≤◌, ◌+◌, length, slice_index_or};
+ghost use Rattle.std.specs.Prelude.{◌≡◌, ◌<◌, ◌≤◌, ◌+◌, ◌^◌, IfSome, length, slice_index_or, true};
 ghost use Rattle.canvas_list.specs.Chunks.{IsRun};
 
 use crate::chunks::Chunks;
-use crate::counted::spot_of;
+use crate::counted::{spot_near, spot_of};
+use crate::hint::Hint;
+use crate::share::Share;
 use crate::table::SharedList;
 use std::marker::Model;
 
@@ -29,7 +31,7 @@ impl<'a, T> Model for Reader<'a, T> {
     ghost invariant = { λ reader. IsRun reader.list.now reader.items.now reader.start };
 }
 
-impl<'a, T: Drop> Reader<'a, T> {
+impl<'a, T: Share> Reader<'a, T> {
     /// The item at a position.
     #[inline(always)]
     pub fn at(&mut self, at: usize) -> &'a T
@@ -49,11 +51,25 @@ impl<'a, T: Drop> Reader<'a, T> {
 /// Items that stand side by side in a list, and where they start.
 #[derive(Drop)]
 pub(crate) struct Run<'a, T> {
-    items: &'a [T],
-    start: usize,
+    pub(crate) items: &'a [T],
+    pub(crate) start: usize,
 }
 
-impl<T: Drop> SharedList<T> {
+impl<T: Share> Run<'_, T> {
+    // Whether the place behind so many of its items has both its neighbours among them, or is an end of the
+    // list, which has `len` items.
+    #[inline(always)]
+    pub(crate) fn has_end(&self, passed: usize, len: usize) -> bool
+        requires few { self.now.start + length self.now.items.now < 2 ^ 32 }
+        requires within { passed ≤ length self.now.items.now }
+        ensures first { result ≡ true → passed ≡ 0 → self.now.start ≡ 0 }
+        ensures last { result ≡ true → passed ≡ length self.now.items.now → self.now.start + passed ≡ len }
+    {
+        (passed > 0 || self.start == 0) && (passed < self.items.len() || self.start + passed == len)
+    }
+}
+
+impl<T: Share> SharedList<T> {
     /// A reader of the list.
     pub fn reader(&self) -> Reader<'_, T>
         ensures { result ≡ self.now }
@@ -79,9 +95,26 @@ impl<T: Drop> SharedList<T> {
             start: spot.start + run.start,
         }
     }
+
+    /// The items of the chunk in which those that come before a hint end, most likely, if there is an item.
+    #[inline(always)]
+    pub(crate) fn run_near(&self, hint: Hint) -> Option<Run<'_, T>>
+        ensures run { IfSome result (λ run. IsRun self.now run.items.now run.start) }
+        ensures few { IfSome result (λ run. run.start + length run.items.now < 2 ^ 32) }
+    {
+        if self.blocks.is_empty() {
+            return None;
+        }
+        let spot = spot_near(&self.blocks, hint);
+        let run = self.blocks[spot.chunk].chunks().run_near(hint);
+        Some(Run {
+            items: run.items,
+            start: spot.start + run.start,
+        })
+    }
 }
 
-impl<T: Drop> Chunks<T> {
+impl<T: Share> Chunks<T> {
     // The items of the chunk of a position.
     fn run_at(&self, at: usize) -> Run<'_, T>
         requires { at < length self.now }
@@ -90,6 +123,19 @@ impl<T: Drop> Chunks<T> {
         ensures upto { at < result.start + length result.items.now }
     {
         let spot = spot_of(&self.chunks, at);
+        Run {
+            items: self.chunks[spot.chunk].items(),
+            start: spot.start,
+        }
+    }
+
+    // The items of the chunk in which those that come before a hint end, most likely.
+    #[inline(always)]
+    fn run_near(&self, hint: Hint) -> Run<'_, T>
+        requires { 0 < length self.now }
+        ensures { IsRun self.now result.items.now result.start }
+    {
+        let spot = spot_near(&self.chunks, hint);
         Run {
             items: self.chunks[spot.chunk].items(),
             start: spot.start,

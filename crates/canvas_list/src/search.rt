@@ -9,10 +9,12 @@ use crate::block::Block;
 use crate::chunk::Chunk;
 use crate::chunks::Chunks;
 use crate::counted::count_of;
+use crate::hint::Hint;
+use crate::share::Share;
 use crate::table::SharedList;
 use std::marker::Model;
 
-impl<T: Drop> SharedList<T> {
+impl<T: Share> SharedList<T> {
     /// The position of the first item for which `pred` answers false, where those for which it answers
     /// true come first.
     pub fn partition_point<P: Fn(&T) -> bool>(&self, pred: P) -> usize
@@ -34,7 +36,26 @@ impl<T: Drop> SharedList<T> {
     }
 }
 
-impl<T: Drop> Chunks<T> {
+impl<T: Share> SharedList<T> {
+    /// The same, begun where a hint points to: it is quick where the items that pass are those whose hints come
+    /// before it, and they end inside a chunk or at an end of the list.
+    #[inline(always)]
+    pub fn partition_point_near<P: Fn(&T) -> bool>(&self, hint: Hint, pred: P) -> usize
+        requires { P.IsAlwaysCallable pred }
+        ensures bound { result ≤ length self.now }
+        ensures partitioned { (p : T → Bool) → ComputesKey P.FnMut p pred → IsPartitionedBy p self.now → IsPartitionPoint (λ y. p y ≡ true) (λ y. p y ≡ false) self.now result }
+    {
+        if let Some(run) = self.run_near(hint) {
+            let passed = run.items.partition_point(&pred);
+            if run.has_end(passed, self.len()) {
+                return run.start + passed;
+            }
+        }
+        self.partition_point(pred)
+    }
+}
+
+impl<T: Share> Chunks<T> {
     /// The position of the first item for which `pred` answers false, where those for which it answers
     /// true come first.
     pub(crate) fn partition_point<P: Fn(&T) -> bool>(&self, pred: &P) -> usize

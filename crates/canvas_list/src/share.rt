@@ -2,6 +2,7 @@
 
 ghost use Rattle.std.specs.Prelude.{◌≡◌, IfOk};
 
+use crate::hint::{Hint, Hinted};
 use canvas_code::OutOfMemory;
 use std::alloc::Global;
 use std::marker::Model;
@@ -13,6 +14,9 @@ pub trait Share: Drop {
     /// An equal value.
     fn share(&self) -> Result<Self, OutOfMemory>
         ensures { IfOk result (λ other. other ≡ self.now) };
+
+    /// Where it most likely stands in a list.
+    fn hint(&self) -> Hint;
 }
 
 /// A value that lies in one place for all its owners, seen as that value.
@@ -48,11 +52,16 @@ impl<T: Drop> Shared<T> {
     }
 }
 
-impl<T: Drop> Share for Shared<T> {
+impl<T: Drop + Hinted> Share for Shared<T> {
     #[inline(always)]
     fn share(&self) -> Result<Shared<T>, OutOfMemory> {
         Ok(Shared {
             value: Arc::try_clone(&self.value)?,
         })
+    }
+
+    #[inline(always)]
+    fn hint(&self) -> Hint {
+        self.value.hint()
     }
 }

@@ -22,8 +22,8 @@ pub(crate) struct PartSizes {
 }
 
 impl PartSizes {
-    /// The sizes in a list of so many items. A change counts up an owner of each item of one chunk, of
-    /// each chunk of one block, and of each block of the list: so all three grow with the list.
+    /// The sizes in a list of so many items. A change that makes a new list counts up an owner of each item of
+    /// one chunk, of each chunk of one block, and of each block of the list: so all three grow with the list.
     pub(crate) fn of(items: usize) -> PartSizes
         ensures chunk { FitsChunk result.per_chunk }
         ensures some { 0 < result.per_block }

@@ -34,7 +34,7 @@ impl<T> Model for SharedList<T> {
     ghost invariant = { λ list. IsTable list.blocks.items list.count };
 }
 
-impl<T: Drop> SharedList<T> {
+impl<T: Share> SharedList<T> {
     /// No items.
     pub fn empty(alloc: Global) -> SharedList<T>
         ensures { result ≡ [] }
@@ -320,7 +320,7 @@ fn without_in<T: Share>(
 }
 
 // Other chunks in place of some blocks, where a block gets about so many.
-fn spliced<T: Drop>(
+fn spliced<T: Share>(
     alloc: Global,
     blocks: &[Block<T>],
     first: usize,
@@ -359,7 +359,7 @@ fn with_block<T: Share>(
 }
 
 // Whether the last block has no room for one more item at its end, or there is no block.
-fn ends_full<T: Drop>(blocks: &[Block<T>], sizes: PartSizes) -> bool
+fn ends_full<T: Share>(blocks: &[Block<T>], sizes: PartSizes) -> bool
     ensures { result ≡ false → 0 < length blocks.now }
 {
     match blocks.last() {
@@ -369,7 +369,7 @@ fn ends_full<T: Drop>(blocks: &[Block<T>], sizes: PartSizes) -> bool
 }
 
 // Whether the first block has no room for one more item at its start, or there is no block.
-fn starts_full<T: Drop>(blocks: &[Block<T>], sizes: PartSizes) -> bool {
+fn starts_full<T: Share>(blocks: &[Block<T>], sizes: PartSizes) -> bool {
     match blocks.first() {
         None => true,
         Some(block) => block.chunks().starts_full(sizes),
@@ -378,7 +378,7 @@ fn starts_full<T: Drop>(blocks: &[Block<T>], sizes: PartSizes) -> bool {
 
 // Whether blocks have well fewer chunks in the mean than a block gets. Blocks that were just made anew
 // do not, nor once one more was put at an end: so they are not made anew again and again.
-fn have_few_chunks<T: Drop>(blocks: &[Block<T>], per_block: usize) -> bool {
+fn have_few_chunks<T: Share>(blocks: &[Block<T>], per_block: usize) -> bool {
     let mut chunks: usize = 0;
     for block in blocks {
         chunks = chunks.saturating_add(block.chunks().chunks().len());
@@ -387,7 +387,7 @@ fn have_few_chunks<T: Drop>(blocks: &[Block<T>], per_block: usize) -> bool {
 }
 
 // A block, with one beside it if both are small.
-fn small_about<T: Drop>(blocks: &[Block<T>], block: usize, per_block: usize) -> Part
+fn small_about<T: Share>(blocks: &[Block<T>], block: usize, per_block: usize) -> Part
     requires { block < length blocks.now }
     ensures first { result.first ≤ block }
     ensures end { block < result.end }

@@ -15,11 +15,11 @@ const MOST: usize = 50_000;
 
 const SPLICED: usize = 40;
 
-// A list, and the plain list that has the same numbers.
+/// A list, and the plain list that has the same numbers.
 #[derive(Drop)]
-struct Both {
-    list: Numbers,
-    plain: Vec<u32>,
+pub(crate) struct Both {
+    pub(crate) list: Numbers,
+    pub(crate) plain: Vec<u32>,
 }
 
 impl Both {

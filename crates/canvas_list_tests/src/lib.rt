@@ -6,10 +6,16 @@ mod changes;
 #[cfg(test)]
 mod dice;
 #[cfg(test)]
+mod in_place;
+#[cfg(test)]
 mod made;
 #[cfg(test)]
 mod memory;
 #[cfg(test)]
 mod numbers;
 #[cfg(test)]
+mod picks;
+#[cfg(test)]
 mod reader;
+#[cfg(test)]
+mod together;

@@ -6,7 +6,7 @@ ghost use Rattle.std.specs.List.Sorted.{IsNonDecreasingBy, IsPartitionPoint};
 
 use crate::numbers::{Numbers, evens, has, plain_evens};
 use canvas_code::OutOfMemory;
-use canvas_list::SharedList;
+use canvas_list::{Hint, SharedList};
 use std::alloc::Global;
 use std::test::Fail;
 
@@ -18,13 +18,36 @@ fn place_of(list: &Numbers, least: u32) -> usize
     list.partition_point(|number| number.value().value < least)
 }
 
+// The same, begun where a hint points to.
+fn place_near(list: &Numbers, hint: u32, least: u32) -> usize
+    requires { IsNonDecreasingBy (λ number. number.value) list.now }
+    ensures { IsPartitionPoint (λ number. number.value < least) (λ number. least ≤ number.value) list.now result }
+{
+    let hint = Hint {
+        major: hint,
+        minor: 0,
+    };
+    list.partition_point_near(hint, |number| number.value().value < least)
+}
+
+// Whether a number is found, wherever the search for it begins.
+fn finds(list: &Numbers, value: u32, place: usize) -> bool
+    requires { IsNonDecreasingBy (λ number. number.value) list.now }
+{
+    place_of(list, value) == place
+        && place_near(list, value, value) == place
+        && place_near(list, value / 2, value) == place
+        && place_near(list, u32::MAX, value) == place
+}
+
 // Whether each number stands where it should, and each odd one before the next even one.
 fn finds_all(list: &Numbers, count: u32) -> bool
     requires rising { IsNonDecreasingBy (λ number. number.value) list.now }
     requires few { count ≤ 100000 }
 {
     for value in 0..2 * count + 3 {
-        if place_of(list, value) != (value as usize).div_ceil(2).min(count as usize) {
+        let place = (value as usize).div_ceil(2).min(count as usize);
+        if !finds(list, value, place) {
             return false;
         }
     }

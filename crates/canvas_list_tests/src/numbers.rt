@@ -5,13 +5,22 @@ ghost use Rattle.std.specs.List.Sorted.{IsNonDecreasingBy};
 
 use crate::reader::reads_on;
 use canvas_code::OutOfMemory;
-use canvas_list::{Items, Shared, SharedList};
+use canvas_list::{Hint, Hinted, Items, Shared, SharedList};
 use std::alloc::Global;
 
 /// A number.
 #[derive(Drop)]
 pub(crate) struct Number {
     pub(crate) value: u32,
+}
+
+impl Hinted for Number {
+    fn hint(&self) -> Hint {
+        Hint {
+            major: self.value,
+            minor: 0,
+        }
+    }
 }
 
 pub(crate) type Numbers = SharedList<Shared<Number>>;

@@ -8,20 +8,30 @@ use Rattle.canvas_board.proofs.alone.AloneBoard.edit.Goals as goal
 
 pub invariant_of-self : goal.invariant_of-self
 invariant_of-self g c =
+    let i = c.self.inside in (
+      c.in-Err.ensures.same ∙ c.self.invariant.0,
+      c.self.invariant.1,
+      c.self.invariant.2,
+      c.self.invariant.3,
+      c.self.invariant.4,
+    )
+
+pub invariant_of-self-in-Ok : goal.invariant_of-self-in-Ok
+invariant_of-self-in-Ok g c =
     let i = c.self.inside in
     let grown : c.with.result ≡ i.history ++ c.in-Ok.change ∷ [] = c.with.ensures ∙ ap (λ (l : List Change). l ++ c.in-Ok.change ∷ []) c.replace-history.ensures.value in (
-      current-more i.opening.value i.history c.with.result i.document c.in-Ok.after c.in-Ok.change c.self.invariant.0 c.in-Ok.ensures.1 grown,
+      current-more i.opening.value i.history c.with.result i.document c.make.new.document c.in-Ok.change c.self.invariant.0 c.in-Ok.ensures.effect grown,
       omega (arith, c.self.invariant.1, ap length grown, length-append i.history (c.in-Ok.change ∷ [])),
       omega (arith, c.if-self.false),
       c.self.invariant.3,
-      all_fit-more i.opening.value i.history c.with.result i.document c.in-Ok.change c.self.invariant.0 c.self.invariant.4 c.in-Ok.ensures.2 grown,
+      all_fit-more i.opening.value i.history c.with.result i.document c.in-Ok.change c.self.invariant.0 c.self.invariant.4 c.in-Ok.ensures.change.1 grown,
     )
 
 pub returns-in-Err : goal.returns-in-Err
 returns-in-Err g c =
     let i = c.self.inside in
-    subst (λ (s : Seen). Edits s c.args.edit.now (Err c.in-Err.fault) s) c.self.view_is (
-    refused-alone i.opening.value i.limit i.history i.document c.args.edit.now c.in-Err.fault c.self.invariant.0 c.self.invariant.4 (omega (arith, c.self.invariant.1, c.if-self.false)) c.in-Err.ensures
+    subst (λ (s : Seen). Edits s c.args.edit.now (Err c.in-Err.fault) (alone_board i.opening.value i.limit i.history)) c.self.view_is (
+    refused-alone i.opening.value i.limit i.history i.document c.args.edit.now c.in-Err.fault c.self.invariant.0 c.self.invariant.4 (omega (arith, c.self.invariant.1, c.if-self.false)) c.in-Err.ensures.change
     )
 
 pub returns-in-Ok : goal.returns-in-Ok
@@ -30,6 +40,6 @@ returns-in-Ok g c =
     let grown : c.with.result ≡ i.history ++ c.in-Ok.change ∷ [] = c.with.ensures ∙ ap (λ (l : List Change). l ++ c.in-Ok.change ∷ []) c.replace-history.ensures.value in
     subst (λ (s : Seen). Accepts s c.args.edit.now (record { number = i.number + 1; id = c.new_id-id.result }) (alone_board i.opening.value i.limit c.with.result)) c.self.view_is (
     accepts-alone i.opening.value i.limit i.history c.with.result i.document c.args.edit.now c.in-Ok.change (record { number = i.number + 1; id = c.new_id-id.result })
-    c.self.invariant.0 c.self.invariant.4 (omega (arith, c.self.invariant.1, c.if-self.false)) c.in-Ok.ensures.0 c.in-Ok.ensures.2 grown
+    c.self.invariant.0 c.self.invariant.4 (omega (arith, c.self.invariant.1, c.if-self.false)) c.in-Ok.ensures.change.0 c.in-Ok.ensures.change.1 grown
     (omega (arith, c.self.invariant.1, ap length grown, length-append i.history (c.in-Ok.change ∷ []))) c.new_id-id.ensures
     )

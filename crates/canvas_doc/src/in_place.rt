@@ -1,0 +1,203 @@
+//! Changes of a document in place, where it shares with no other what they touch. Each inner call answers
+//! whether it made the change; where it did not, the document is as it was, and `apply` goes by `with`.
+
+ghost use Rattle.std.specs.Prelude.{◌≡◌, ◌<◌, ◌+◌, ◌++◌, ◌∷◌, [], OnErr, OnOk, cond, length, true};
+ghost use Rattle.std.specs.List.{remove};
+ghost use Rattle.canvas_doc.specs.declared.records.Record.{Record};
+ghost use Rattle.canvas_doc.specs.Bounds.{HaveOneShape};
+ghost use Rattle.canvas_doc.specs.Contents.{IsWellFormed};
+ghost use Rattle.canvas_doc.specs.Effect.{changed_by};
+
+use crate::Document;
+use crate::edits::Change;
+use crate::effects::{changed_by, changed_position};
+use crate::kept_bounds::{bounds_for, is_held_above};
+use crate::lookup::position_of;
+use crate::place_order::{children_range, position_in, position_without};
+use crate::placed_shapes::PlacedShape;
+use crate::records::{Parent, Record};
+use canvas_code::OutOfMemory;
+use canvas_list::{ItemChange, Share, Shared};
+use std::alloc::Global;
+
+impl Document {
+    ghost use Rattle.canvas_doc.specs.Effect.{changes_one, effect_of, Fits};
+    ghost use Rattle.canvas_doc.specs.declared.edits.Change.TheVariants.{Delete};
+
+    /// Makes a change that fits in the document itself, in place where that can be done. Want of memory is the
+    /// only refusal, and leaves the document as it was.
+    pub fn apply(&mut self, alloc: Global, change: &Change) -> Result<(), OutOfMemory>
+        requires { Fits change.now self.old }
+        ensures effect { OnOk result (self.new ≡ effect_of change.now self.old) }
+        ensures same { OnErr result (self.new ≡ self.old) }
+    {
+        if !self.make_in_place(alloc, change) {
+            *self = self.with(alloc, change)?;
+        }
+        Ok(())
+    }
+
+    // Makes a change in place.
+    fn make_in_place(&mut self, alloc: Global, change: &Change) -> bool
+        requires { Fits change.now self.old }
+        ensures { self.new ≡ cond result (effect_of change.now self.old) self.old }
+    {
+        match change {
+            Change::Create {
+                id,
+                kind,
+                pose,
+                hidden,
+                place,
+            } => {
+                let Ok(kind) = kind.try_clone(alloc) else {
+                    return false;
+                };
+                let shape = Record {
+                    id: *id,
+                    kind,
+                    place: place.copy(),
+                    pose: *pose,
+                    hidden: *hidden,
+                };
+                self.add_in_place(alloc, shape)
+            }
+            Change::Delete { id } => self.remove_in_place(*id),
+            Change::Pose { .. } => self.replace_in_place(alloc, change),
+            Change::Reshape { .. } => self.replace_in_place(alloc, change),
+            Change::Show { .. } => self.replace_in_place(alloc, change),
+            Change::Move { .. } => self.move_in_place(alloc, change),
+            Change::Respace { .. } => false,
+        }
+    }
+
+    // Makes a change of one shape's pose, kind or mark, whose group's bounds hold it after the change, too.
+    fn replace_in_place(&mut self, alloc: Global, change: &Change) -> bool
+        requires one { changes_one change.now ≡ true }
+        requires place { (r : Record) → (changed_by change.now r).place ≡ r.place }
+        requires fits { Fits change.now self.old }
+        ensures { self.new ≡ cond result (effect_of change.now self.old) self.old }
+    {
+        let Some(at) = changed_position(&self.records, change) else {
+            return false;
+        };
+        let Ok(new) = changed_by(alloc, self.records.at(at).value(), change) else {
+            return false;
+        };
+        let from = position_in(&self.order, &new.place);
+        let bounds = bounds_for(&self.order, &new);
+        if !is_held_above(&self.records, &self.order, &new, &bounds) {
+            return false;
+        }
+        let Ok(new) = Shared::new(alloc, new) else {
+            return false;
+        };
+        let Ok(shape) = new.share() else {
+            return false;
+        };
+        let placed = PlacedShape { shape, bounds };
+        self.order.change_both(
+            from,
+            ItemChange::Replace(placed),
+            &mut self.records,
+            at,
+            ItemChange::Replace(new),
+        )
+    }
+
+    // Moves a shape, if its new group's bounds hold it: the order is a new list, and the records are changed in
+    // place.
+    fn move_in_place(&mut self, alloc: Global, change: &Change) -> bool
+        requires one { changes_one change.now ≡ true }
+        requires shape { (r : Record) → HaveOneShape r (changed_by change.now r) }
+        requires fits { Fits change.now self.old }
+        ensures { self.new ≡ cond result (effect_of change.now self.old) self.old }
+    {
+        let Some(at) = changed_position(&self.records, change) else {
+            return false;
+        };
+        let old = self.records.at(at).value();
+        let Ok(new) = changed_by(alloc, old, change) else {
+            return false;
+        };
+        let from = position_in(&self.order, &old.place);
+        let to = position_without(&self.order, from, &new.place);
+        let bounds = *self.order.bounds_at(from);
+        if !is_held_above(&self.records, &self.order, &new, &bounds) {
+            return false;
+        }
+        let Ok(new) = Shared::new(alloc, new) else {
+            return false;
+        };
+        let Ok(shape) = new.share() else {
+            return false;
+        };
+        let Ok(order) = self.order.with_moved(alloc, from, to, shape, bounds) else {
+            return false;
+        };
+        if !self.records.change(at, ItemChange::Replace(new)) {
+            return false;
+        }
+        self.order = order;
+        true
+    }
+
+    // Adds a record, which its group's bounds hold.
+    fn add_in_place(&mut self, alloc: Global, shape: Record) -> bool
+        requires { IsWellFormed (record { records = self.old.records ++ shape ∷ []; next = self.old.next + 1 }) }
+        ensures { self.new ≡ cond result (record { records = self.old.records ++ shape ∷ []; next = self.old.next + 1 }) self.old }
+    {
+        let at = position_in(&self.order, &shape.place);
+        let last = self.records.len();
+        let bounds = bounds_for(&self.order, &shape);
+        if !is_held_above(&self.records, &self.order, &shape, &bounds) {
+            return false;
+        }
+        let Ok(new) = Shared::new(alloc, shape) else {
+            return false;
+        };
+        let Ok(shape) = new.share() else {
+            return false;
+        };
+        let placed = PlacedShape { shape, bounds };
+        let made = self.order.change_both(
+            at,
+            ItemChange::Insert(placed),
+            &mut self.records,
+            last,
+            ItemChange::Insert(new),
+        );
+        if made {
+            self.next += 1;
+        }
+        made
+    }
+
+    // Takes a shape away, if nothing lies below it.
+    fn remove_in_place(&mut self, id: u32) -> bool
+        requires { Fits (Delete id) self.old }
+        ensures { self.new ≡ cond result (effect_of (Delete id) self.old) self.old }
+    {
+        let below = children_range(&self.order, Parent::Shape(id));
+        match position_of(&self.records, id) {
+            Some(at) if below.start == below.end => self.remove_at_in_place(at),
+            _ => false,
+        }
+    }
+
+    // Takes the record at a position away, below which nothing lies.
+    fn remove_at_in_place(&mut self, at: usize) -> bool
+        requires there { at < length self.old.records }
+        requires well_formed { IsWellFormed (record { records = remove self.old.records at; next = self.old.next }) }
+        ensures { self.new ≡ cond result (record { records = remove self.old.records at; next = self.old.next }) self.old }
+    {
+        let from = position_in(&self.order, &self.records.at(at).value().place);
+        self.order.change_both(
+            from,
+            ItemChange::Remove,
+            &mut self.records,
+            at,
+            ItemChange::Remove,
+        )
+    }
+}

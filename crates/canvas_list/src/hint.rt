@@ -1,0 +1,26 @@
+//! Where an item most likely stands.
+
+/// Where an item most likely stands in a list. A list notes it of the first item of each of its parts, and a
+/// search begins where it points to. It may be anything: where hints do not rise along the list, a search
+/// takes longer and finds the same.
+#[derive(Clone, Copy)]
+pub struct Hint {
+    /// By this first.
+    pub major: u32,
+    /// And then by this.
+    pub minor: u64,
+}
+
+impl Hint {
+    /// Whether it points before another.
+    #[inline(always)]
+    pub(crate) fn is_before(self, other: Hint) -> bool {
+        self.major < other.major || (self.major == other.major && self.minor < other.minor)
+    }
+}
+
+/// A value that tells where it most likely stands.
+pub trait Hinted {
+    /// Its hint.
+    fn hint(&self) -> Hint;
+}

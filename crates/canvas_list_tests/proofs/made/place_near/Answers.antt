@@ -1,0 +1,10 @@
+use Rattle.std.proofs.Common.{ltb, ltb-false, ltb-true, rules}
+use Rattle.std.proofs.lemmas.List.Sorted.{IsPartitionPoint-from_clause, IsPartitionedBy-ltb}
+use Rattle.canvas_list_tests.specs.declared.numbers.Number.{Number}
+use Rattle.canvas_list_tests.proofs.made.place_near.Goals as goal
+
+pub returns : goal.returns
+returns c =
+    let parted = IsPartitionedBy-ltb (λ (n : Number). n.value) c.args.list.now c.args.least c.requires in
+    let point = IsPartitionPoint-from_clause (λ (n : Number). ltb n.value c.args.least) c.args.list.now c.partition_point_near.result c.partition_point_near.ensures.partitioned parted (λ a r f called. search rules) in
+    ((λ k d l m. ltb-true _ _ (point.0 k d l m)), (λ k d l m. ltb-false _ _ (point.1 k d l m)))
