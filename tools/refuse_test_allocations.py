@@ -17,7 +17,10 @@ from pathlib import Path
 TOP = Path(__file__).resolve().parent.parent
 TESTS = {
     "canvas_list_tests": ["memory::changes_with_little_memory"],
-    "canvas_doc_tests": ["memory::edits_with_little_memory", "memory::refusals_with_little_memory", "memory::restored_with_little_memory"],
+    "canvas_doc_tests": [
+        "memory::edits_with_little_memory", "memory::changes_in_place_with_little_memory", "memory::refusals_with_little_memory",
+        "memory::restored_with_little_memory",
+    ],
     "canvas_line_tests": ["memory::an_edit_that_wanted_memory_is_made_again"],
     "canvas_shape_tests": ["memory::spans_with_little_memory", "memory::clones_with_little_memory"],
     "canvas_picture_tests": [

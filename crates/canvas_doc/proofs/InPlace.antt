@@ -1,5 +1,5 @@
 -- A document's lists after a change in place.
-use Rattle.std.proofs.Common.{◌≡◌, ◌∙◌, ℕ, Bool, true, false, Some, ◌<◌, List, [], ◌∷◌, ◌++◌, refl, sym, ap, subst, arith, length, get_or, set}
+use Rattle.std.proofs.Common.{◌≡◌, ◌∙◌, ℕ, Bool, true, false, Some, ◌<◌, List, [], ◌∷◌, ◌++◌, refl, sym, ap, subst, arith, length, get_or, set, ◌≤◌, filter, not}
 use Rattle.std.specs.List.{Contains, insert, remove, slice_get}
 use Rattle.std.proofs.Math.ListN.{length-set}
 use Rattle.std.proofs.lemmas.List.{get_or_default, get_or-set_same}
@@ -11,11 +11,14 @@ use Rattle.canvas_doc.specs.declared.bounds.Bounds.{Bounds}
 use Rattle.canvas_doc.specs.declared.records.Record.{Record}
 use Rattle.canvas_doc.specs.declared.records.Place.{Place}
 use Rattle.canvas_doc.specs.Bounds.{HaveOneShape, IsHeldAbove}
-use Rattle.canvas_doc.specs.Contents.{AreRising, Contents, IsWellFormed}
+use Rattle.canvas_doc.specs.Contents.{AreRising, Contents, IsWellFormed, StandsAt}
 use Rattle.canvas_doc.specs.declared.edits.Change.{Change}
-use Rattle.canvas_doc.specs.Effect.{changed_by, changes_one, effect_of, ReplacesAt}
-use Rattle.canvas_doc.specs.PlaceOrder.{IsInPlaceOrder, IsKeptInOrder, IsPlaceOf}
+use Rattle.canvas_doc.specs.declared.edits.Change.TheVariants.{Delete}
+use Rattle.canvas_doc.specs.declared.records.Parent.TheVariants.{Shape}
+use Rattle.canvas_doc.specs.Effect.{changed_by, changes_one, effect_of, is_in_subtree, ReplacesAt}
+use Rattle.canvas_doc.specs.PlaceOrder.{AreChildrenWithin, IsInPlaceOrder, IsKeptInOrder, IsPlaceOf}
 use Rattle.canvas_doc.specs.Tree.{HavePlaces, IsInLimits}
+use Rattle.canvas_doc.proofs.Childless.{childless-deleted, childless-from_range}
 use Rattle.canvas_doc.proofs.OneChanged.{made-whole, whole-is}
 use Rattle.canvas_doc.proofs.Rebounded as rebounded
 use Rattle.canvas_doc.proofs.Rebounded.{no-own_child, Suits}
@@ -131,3 +134,11 @@ module _ (d : Contents) (order : List Record) (bounds : List Bounds) (kept : IsK
       let now : Contents = record { records = rs; next = d.next } in
       kept-is now (set order k s) made (set bounds k box) boxes f g
       (replaced-kept d order bounds kept now (subst (λ (l : List Record). IsWellFormed (record { records = l; next = d.next })) (sym e) well) s box at k within place p e suits above)
+
+-- ---- a shape below which nothing lies
+
+-- without it one record is gone
+pub deleted-one : (id at : ℕ) (d now : Contents) (order : List Record) (low high : ℕ) → d ≡ now → IsWellFormed d → IsInPlaceOrder order d.records → StandsAt d.records id at → AreChildrenWithin (Shape id) order low high → high ≤ low → effect_of (Delete id) now ≡ record { records = remove now.records at; next = now.next }
+deleted-one id at d now order low high same well o there within none =
+    let left : filter (λ r. not (is_in_subtree id d.records r)) d.records ≡ remove d.records at = childless-deleted id at d.records well.rising there (childless-from_range id order d.records low high o within none) in
+    subst (λ (e : Contents). effect_of (Delete id) e ≡ record { records = remove e.records at; next = e.next }) same (ap (λ (l : List Record). record { records = l; next = d.next }) left)

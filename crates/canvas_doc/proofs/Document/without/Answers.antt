@@ -1,31 +1,18 @@
-use Rattle.std.proofs.Common.{◌≡◌, List, IfOk, ap, arith, filter, not, subst, sym}
-use Rattle.std.specs.List.{remove}
-use Rattle.canvas_doc.specs.declared.records.Record.{Record}
+use Rattle.std.proofs.Common.{◌≡◌, IfOk, arith, subst, sym}
 use Rattle.canvas_doc.specs.Contents.{Contents, IsWellFormed}
-use Rattle.canvas_doc.specs.Effect.{is_in_subtree}
-use Rattle.canvas_doc.proofs.Childless.{childless-deleted, childless-from_range}
+use Rattle.canvas_doc.proofs.InPlace.{deleted-one}
 use Rattle.canvas_doc.proofs.Document.without.Goals as goal
 
 pub without_one-requires-clause-well_formed : goal.without_one-requires-clause-well_formed
 without_one-requires-clause-well_formed c =
-    let rs : List Record = c.self.inside.records in
-    let now : Contents = c.args.self.now in
-    let e : rs ≡ now.records = ap (λ (d : Contents). d.records) c.self.view_is in
-    let left : filter (λ r. not (is_in_subtree c.args.id rs r)) rs ≡ remove rs c.in-Some.at =
-    childless-deleted c.args.id c.in-Some.at rs c.self.invariant.well_formed.rising c.in-Some.ensures
-    (childless-from_range c.args.id c.self.inside.order.shapes rs c.children_range-below.result.start c.children_range-below.result.end c.self.invariant.in_order c.children_range-below.ensures (omega (arith, c.if-below.true))) in
-    let same : filter (λ r. not (is_in_subtree c.args.id now.records r)) now.records ≡ remove now.records c.in-Some.at =
-    subst (λ (l : List Record). filter (λ r. not (is_in_subtree c.args.id l r)) l ≡ remove l c.in-Some.at) e left in
-    subst (λ (l : List Record). IsWellFormed (record { records = l; next = now.next })) same c.requires.left
+    subst IsWellFormed
+    (deleted-one c.args.id c.in-Some.at (record { records = c.self.inside.records; next = c.self.inside.next }) c.args.self.now c.self.inside.order.shapes c.children_range-below.result.start c.children_range-below.result.end
+    c.self.view_is c.self.invariant.well_formed c.self.invariant.in_order c.in-Some.ensures c.children_range-below.ensures (omega (arith, c.if-below.true)))
+    c.requires.left
 
 pub returns-in-Some : goal.returns-in-Some
 returns-in-Some c =
-    let rs : List Record = c.self.inside.records in
-    let now : Contents = c.args.self.now in
-    let e : rs ≡ now.records = ap (λ (d : Contents). d.records) c.self.view_is in
-    let left : filter (λ r. not (is_in_subtree c.args.id rs r)) rs ≡ remove rs c.in-Some.at =
-    childless-deleted c.args.id c.in-Some.at rs c.self.invariant.well_formed.rising c.in-Some.ensures
-    (childless-from_range c.args.id c.self.inside.order.shapes rs c.children_range-below.result.start c.children_range-below.result.end c.self.invariant.in_order c.children_range-below.ensures (omega (arith, c.if-below.true))) in
-    let same : filter (λ r. not (is_in_subtree c.args.id now.records r)) now.records ≡ remove now.records c.in-Some.at =
-    subst (λ (l : List Record). filter (λ r. not (is_in_subtree c.args.id l r)) l ≡ remove l c.in-Some.at) e left in
-    subst (λ (l : List Record). IfOk c.without_one.result (λ after. after ≡ record { records = l; next = now.next })) (sym same) c.without_one.ensures
+    subst (λ (d : Contents). IfOk c.without_one.result (λ after. after ≡ d))
+    (sym (deleted-one c.args.id c.in-Some.at (record { records = c.self.inside.records; next = c.self.inside.next }) c.args.self.now c.self.inside.order.shapes c.children_range-below.result.start c.children_range-below.result.end
+    c.self.view_is c.self.invariant.well_formed c.self.invariant.in_order c.in-Some.ensures c.children_range-below.ensures (omega (arith, c.if-below.true))))
+    c.without_one.ensures
