@@ -11,14 +11,15 @@ use Rattle.canvas_doc.specs.declared.bounds.Bounds.{Bounds}
 use Rattle.canvas_doc.specs.declared.records.Record.{Record}
 use Rattle.canvas_doc.specs.declared.records.Place.{Place}
 use Rattle.canvas_doc.specs.Bounds.{HaveOneShape, IsHeldAbove}
-use Rattle.canvas_doc.specs.Contents.{AreRising, Contents, IsWellFormed, StandsAt}
+use Rattle.canvas_doc.specs.Contents.{is_container, AreRising, Contents, IsStanding, IsWellFormed, StandsAt}
 use Rattle.canvas_doc.specs.declared.edits.Change.{Change}
 use Rattle.canvas_doc.specs.declared.edits.Change.TheVariants.{Delete}
 use Rattle.canvas_doc.specs.declared.records.Parent.TheVariants.{Shape}
 use Rattle.canvas_doc.specs.Effect.{changed_by, changes_one, effect_of, is_in_subtree, ReplacesAt}
 use Rattle.canvas_doc.specs.PlaceOrder.{AreChildrenWithin, IsInPlaceOrder, IsKeptInOrder, IsPlaceOf}
 use Rattle.canvas_doc.specs.Tree.{HavePlaces, IsInLimits}
-use Rattle.canvas_doc.proofs.Childless.{childless-deleted, childless-from_range}
+use Rattle.canvas_doc.proofs.AfterChange.{leaf-childless}
+use Rattle.canvas_doc.proofs.Childless.{childless-deleted, childless-from_range, IsChildless}
 use Rattle.canvas_doc.proofs.OneChanged.{made-whole, whole-is}
 use Rattle.canvas_doc.proofs.Rebounded as rebounded
 use Rattle.canvas_doc.proofs.Rebounded.{no-own_child, Suits}
@@ -138,7 +139,13 @@ module _ (d : Contents) (order : List Record) (bounds : List Bounds) (kept : IsK
 -- ---- a shape below which nothing lies
 
 -- without it one record is gone
-pub deleted-one : (id at : ℕ) (d now : Contents) (order : List Record) (low high : ℕ) → d ≡ now → IsWellFormed d → IsInPlaceOrder order d.records → StandsAt d.records id at → AreChildrenWithin (Shape id) order low high → high ≤ low → effect_of (Delete id) now ≡ record { records = remove now.records at; next = now.next }
-deleted-one id at d now order low high same well o there within none =
-    let left : filter (λ r. not (is_in_subtree id d.records r)) d.records ≡ remove d.records at = childless-deleted id at d.records well.rising there (childless-from_range id order d.records low high o within none) in
+deleted-childless : (id at : ℕ) (d now : Contents) → d ≡ now → IsWellFormed d → StandsAt d.records id at → IsChildless id d.records → effect_of (Delete id) now ≡ record { records = remove now.records at; next = now.next }
+deleted-childless id at d now same well there none =
+    let left : filter (λ r. not (is_in_subtree id d.records r)) d.records ≡ remove d.records at = childless-deleted id at d.records well.rising there none in
     subst (λ (e : Contents). effect_of (Delete id) e ≡ record { records = remove e.records at; next = e.next }) same (ap (λ (l : List Record). record { records = l; next = d.next }) left)
+
+pub deleted-leaf : (id at : ℕ) (d now : Contents) (r : Record) → d ≡ now → IsWellFormed d → IsStanding d.records id at r → is_container r.kind ≡ false → effect_of (Delete id) now ≡ record { records = remove now.records at; next = now.next }
+deleted-leaf id at d now r same well standing leaf = deleted-childless id at d now same well standing.there (leaf-childless d well id r standing.found leaf)
+
+pub deleted-one : (id at : ℕ) (d now : Contents) (order : List Record) (low high : ℕ) → d ≡ now → IsWellFormed d → IsInPlaceOrder order d.records → StandsAt d.records id at → AreChildrenWithin (Shape id) order low high → high ≤ low → effect_of (Delete id) now ≡ record { records = remove now.records at; next = now.next }
+deleted-one id at d now order low high same well o there within none = deleted-childless id at d now same well there (childless-from_range id order d.records low high o within none)

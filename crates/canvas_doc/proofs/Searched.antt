@@ -1,4 +1,4 @@
--- A search by id: where it stands if no shape was deleted, and else by halves.
+-- A search by id.
 use Rattle.std.proofs.Common.{◌≡◌, ◌≢◌, ℕ, ◌<◌, List, Bool, true, false, nat_lt, Some, None, sym, ◌∙◌, ap, arith, inl, inr, length, get_or}
 use Rattle.std.specs.List.{slice_get}
 use Rattle.std.specs.List.Sorted.{IsPartitionPoint, IsPartitionedBy}
@@ -6,14 +6,19 @@ use Rattle.std.proofs.lemmas.Bool.{cases_lt}
 use Rattle.std.proofs.lemmas.Bool.Decides.{nat_tests}
 use Rattle.std.proofs.lemmas.Option.{get_or_from_slice_get, slice_get-get_or, slice_get_within}
 use Rattle.canvas_doc.specs.declared.records.Record.{Record}
-use Rattle.canvas_doc.specs.Contents.{record_of, AreRising, StandsAt}
+use Rattle.canvas_doc.specs.Contents.{record_of, AreRising, IsStanding, StandsAt}
 use Rattle.canvas_doc.proofs.Found.{found-here, found-none, rising-at}
 
 -- a record with the id
-pub stands-here : (rs : List Record) (id at : ℕ) (s : Record) → AreRising rs → slice_get rs at ≡ Some s → s.id ≡ id → StandsAt rs id at
+stands-here : (rs : List Record) (id at : ℕ) (s : Record) → AreRising rs → slice_get rs at ≡ Some s → s.id ≡ id → StandsAt rs id at
 stands-here rs id at s w e f =
     let h : at < length rs = slice_get_within rs at s e in
     (h, λ d. found-here rs at id d w h (ap (λ (x : Record). x.id) (get_or_from_slice_get rs at s d e) ∙ f))
+
+pub is-standing : (rs : List Record) (id at : ℕ) (s : Record) → AreRising rs → slice_get rs at ≡ Some s → s.id ≡ id → IsStanding rs id at s
+is-standing rs id at s w e f =
+    let there : StandsAt rs id at = stands-here rs id at s w e f in
+    record { there = there; found = there.1 s ∙ ap Some (get_or_from_slice_get rs at s s e) }
 
 -- the lesser ids come first
 abbrev pub is_less : ℕ → Record → Bool

@@ -183,10 +183,10 @@ fn judge_reshape(records: &Records, id: u32, kind: &Kind) -> Result<(), Refusal>
     requires { AreRising records.now }
     ensures { result ≡ reshape_judgement id kind.now records.now }
 {
-    if !has_shape(records, id) {
+    let Some(shape) = find(records, id) else {
         return Err(Refusal::NoSuchShape);
-    }
-    if is_another_kind(kind, find(records, id)) {
+    };
+    if !same_variant(&shape.kind, kind) {
         return Err(Refusal::WrongKind);
     }
     if !kind.has_sides() {
@@ -241,15 +241,6 @@ pub(crate) fn is_pose(pose: &Pose) -> bool
     ensures { result ≡ is_pose pose.now }
 {
     pose.check().is_ok()
-}
-
-fn is_another_kind(kind: &Kind, shape: Option<&Record>) -> bool
-    ensures { result ≡ is_another_kind kind.now (option_copied shape.entry) }
-{
-    match shape {
-        Some(shape) => !same_variant(&shape.kind, kind),
-        None => false,
-    }
 }
 
 fn same_variant(a: &Kind, b: &Kind) -> bool

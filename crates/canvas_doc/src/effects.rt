@@ -1,6 +1,6 @@
 //! The document after a change.
 
-ghost use Rattle.std.specs.Prelude.{◌≡◌, ◌+◌, ◌-◌, ◌≤◌, ◌<◌, ◌++◌, ◌∷◌, [], map, filter, length, ◌==◌, IfOk, MatchOption, None, drop, false, take, true, slice_index_or, slice_set};
+ghost use Rattle.std.specs.Prelude.{◌≡◌, ◌+◌, ◌-◌, ◌≤◌, ◌<◌, ◌++◌, ◌∷◌, [], map, filter, length, ◌==◌, IfOk, IfSome, MatchOption, None, drop, false, take, true, slice_index_or, slice_set};
 ghost use Rattle.std.specs.List.{remove};
 ghost use Rattle.std.specs.List.Sorted.{IsStrictlySortedBy};
 ghost use Rattle.std.specs.Option.{unwrap_or};
@@ -15,14 +15,14 @@ ghost use Rattle.canvas_doc.specs.PlaceOrder.{comes_first, AreChildrenWithin, Is
 ghost use Rattle.canvas_doc.specs.Tree.{HavePlaces};
 
 use crate::Document;
-use crate::ancestry::STEPS;
+use crate::ancestry::{STEPS, is_container};
 use crate::deletion::{Lists, without_below, without_shape};
 use crate::edits::Change;
 use crate::kept_bounds::{bounds_for, raised};
-use crate::lookup::position_of;
-use crate::place_order::{children_range, position_in, position_without, shares};
+use crate::lookup::{locate, position_of};
+use crate::place_order::{children_range, position_in, position_without};
 use crate::placed_shapes::{PlacedShape, PlacedShapes};
-use crate::records::{Parent, Place, Record, Records};
+use crate::records::{ListedRecord, Parent, Place, Record, Records};
 use canvas_code::OutOfMemory;
 use canvas_key::fresh;
 use canvas_list::{Share, Shared};
@@ -77,8 +77,9 @@ impl Document {
         let at = position_in(&self.order, &shape.place);
         let last = self.records.len();
         let own = bounds_for(&self.order, &shape);
-        let shape = Shared::new(alloc, shape)?;
-        let records = self.records.with_inserted(alloc, last, shape.share()?)?;
+        let new = ListedRecord::new(alloc, shape)?;
+        let shape = new.shared()?;
+        let records = self.records.with_inserted(alloc, last, new)?;
         let more = self.order.with_inserted(alloc, at, shape, own)?;
         let order = raised(alloc, &records, more, at, STEPS)?;
         Ok(Document {
@@ -98,8 +99,8 @@ impl Document {
             return self.try_clone(alloc);
         };
         let old = self.records.at(at).value();
-        let new = Shared::new(alloc, changed_by(alloc, old, change)?)?;
-        let records = self.records.with_replaced(alloc, at, new.share()?)?;
+        let new = ListedRecord::new(alloc, changed_by(alloc, old, change)?)?;
+        let records = self.records.with_replaced(alloc, at, new)?;
         let order = match change {
             Change::Move { .. } => self.moved(alloc, &records, at)?,
             _ => self.replaced(alloc, &records, at)?,
@@ -130,7 +131,9 @@ impl Document {
         let own = *self.order.bounds_at(from);
         let moved = records.at(at);
         let to = position_without(&self.order, from, &moved.value().place);
-        let order = self.order.with_moved(alloc, from, to, moved.share()?, own)?;
+        let order = self
+            .order
+            .with_moved(alloc, from, to, moved.shared()?, own)?;
         raised(alloc, records, order, to, STEPS)
     }
 
@@ -154,7 +157,7 @@ impl Document {
         let own = bounds_for(&self.order, replaced.value());
         let order = self
             .order
-            .with_replaced(alloc, from, replaced.share()?, own)?;
+            .with_replaced(alloc, from, replaced.shared()?, own)?;
         raised(alloc, records, order, from, STEPS)
     }
 
@@ -163,11 +166,25 @@ impl Document {
         requires { Fits (Delete id) self.now }
         ensures { IfOk result (λ after. after ≡ effect_of (Delete id) self.now) }
     {
-        let below = children_range(&self.order, Parent::Shape(id));
-        match position_of(&self.records, id) {
-            Some(at) if below.start == below.end => self.without_one(alloc, at),
-            _ => self.without_subtree(alloc, id),
+        match self.childless_position(id) {
+            Some(at) => self.without_one(alloc, at),
+            None => self.without_subtree(alloc, id),
         }
+    }
+
+    // The position of a shape, if there is such a one and nothing lies below it.
+    pub(crate) fn childless_position(&self, id: u32) -> Option<usize>
+        ensures there { IfSome result (λ at. at < length self.now.records) }
+        ensures alone { IfSome result (λ at. effect_of (Delete id) self.now ≡ record { records = remove self.now.records at; next = self.now.next }) }
+    {
+        let found = locate(&self.records, id)?;
+        if is_container(&found.shape.kind) {
+            let below = children_range(&self.order, Parent::Shape(id));
+            if below.start < below.end {
+                return None;
+            }
+        }
+        Some(found.at)
     }
 
     // The document without the record at a position, below which nothing lies.
@@ -356,10 +373,9 @@ fn respaced_children(
         let placed = all.at(at);
         let rank = (end - 1 - at) as u32;
         let respaced = respaced(alloc, placed.shape.value(), rank)?;
-        children.push(PlacedShape {
-            shape: Shared::new(alloc, respaced)?,
-            bounds: placed.bounds,
-        })?;
+        let shape = Shared::new(alloc, respaced)?;
+        let child = PlacedShape::new(shape, placed.bounds);
+        children.push(child)?;
     }
     Ok(children)
 }
@@ -392,11 +408,22 @@ fn with_each(
     requires once { HaveIds (placements_of others.now).shapes }
     ensures { IfOk result (λ all. all ≡ map (λ r. unwrap_or (record_of r.id (placements_of others.now).shapes) r) records.now) }
 {
-    let mut all = shares(alloc, records)?;
+    let mut all = listed(alloc, records)?;
     for other in others {
         if let Some(at) = position_of(records, other.shape.value().id) {
-            all[at] = other.shape.share()?;
+            all[at] = ListedRecord::of(other.shape.share()?);
         }
     }
     Records::from_vec(alloc, all)
+}
+
+// All records, side by side, for one more list.
+fn listed(alloc: Global, records: &Records) -> Result<Vec<ListedRecord>, OutOfMemory>
+    ensures { IfOk result (λ all. all.items ≡ records.now) }
+{
+    let mut all = Vec::with_capacity(alloc, records.len())?;
+    for shape in records.iter() {
+        all.push(shape.share()?)?;
+    }
+    Ok(all)
 }

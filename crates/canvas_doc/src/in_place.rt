@@ -12,12 +12,11 @@ use crate::Document;
 use crate::edits::Change;
 use crate::effects::{changed_by, changed_position};
 use crate::kept_bounds::{bounds_for, is_held_above};
-use crate::lookup::position_of;
-use crate::place_order::{children_range, position_in, position_without};
+use crate::place_order::{position_in, position_without};
 use crate::placed_shapes::PlacedShape;
-use crate::records::{Parent, Record};
+use crate::records::{ListedRecord, Record};
 use canvas_code::OutOfMemory;
-use canvas_list::{ItemChange, Share, Shared};
+use canvas_list::ItemChange;
 use std::alloc::Global;
 
 impl Document {
@@ -89,13 +88,13 @@ impl Document {
         if !is_held_above(&self.records, &self.order, &new, &bounds) {
             return false;
         }
-        let Ok(new) = Shared::new(alloc, new) else {
+        let Ok(new) = ListedRecord::new(alloc, new) else {
             return false;
         };
-        let Ok(shape) = new.share() else {
+        let Ok(shape) = new.shared() else {
             return false;
         };
-        let placed = PlacedShape { shape, bounds };
+        let placed = PlacedShape::new(shape, bounds);
         self.order.change_both(
             from,
             ItemChange::Replace(placed),
@@ -126,10 +125,10 @@ impl Document {
         if !is_held_above(&self.records, &self.order, &new, &bounds) {
             return false;
         }
-        let Ok(new) = Shared::new(alloc, new) else {
+        let Ok(new) = ListedRecord::new(alloc, new) else {
             return false;
         };
-        let Ok(shape) = new.share() else {
+        let Ok(shape) = new.shared() else {
             return false;
         };
         let Ok(order) = self.order.with_moved(alloc, from, to, shape, bounds) else {
@@ -153,13 +152,13 @@ impl Document {
         if !is_held_above(&self.records, &self.order, &shape, &bounds) {
             return false;
         }
-        let Ok(new) = Shared::new(alloc, shape) else {
+        let Ok(new) = ListedRecord::new(alloc, shape) else {
             return false;
         };
-        let Ok(shape) = new.share() else {
+        let Ok(shape) = new.shared() else {
             return false;
         };
-        let placed = PlacedShape { shape, bounds };
+        let placed = PlacedShape::new(shape, bounds);
         let made = self.order.change_both(
             at,
             ItemChange::Insert(placed),
@@ -178,10 +177,9 @@ impl Document {
         requires { Fits (Delete id) self.old }
         ensures { self.new ≡ cond result (effect_of (Delete id) self.old) self.old }
     {
-        let below = children_range(&self.order, Parent::Shape(id));
-        match position_of(&self.records, id) {
-            Some(at) if below.start == below.end => self.remove_at_in_place(at),
-            _ => false,
+        match self.childless_position(id) {
+            Some(at) => self.remove_at_in_place(at),
+            None => false,
         }
     }
 

@@ -138,10 +138,7 @@ fn placed_with(
 {
     let mut all = Vec::with_capacity(alloc, order.len())?;
     for (shape, held) in order.into_iter().zip(bounds) {
-        all.push(PlacedShape {
-            shape,
-            bounds: *held,
-        })?;
+        all.push(PlacedShape::new(shape, *held))?;
     }
     PlacedShapes::from_vec(alloc, all)
 }

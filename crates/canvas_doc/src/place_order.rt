@@ -33,13 +33,13 @@ pub(crate) fn in_place_order(
 }
 
 // All records, side by side.
-pub(crate) fn shares(alloc: Global, records: &Records) -> Result<Vec<Shared<Record>>, OutOfMemory>
+fn shares(alloc: Global, records: &Records) -> Result<Vec<Shared<Record>>, OutOfMemory>
     ensures all { IfOk result (λ all. all.items ≡ records.now) }
     ensures few { length records.now < 2 ^ 32 }
 {
     let mut all = Vec::with_capacity(alloc, records.len())?;
     for shape in records.iter() {
-        all.push(shape.share()?)?;
+        all.push(shape.shared()?)?;
     }
     Ok(all)
 }
@@ -140,8 +140,10 @@ fn hint_under(parent: Parent, minor: u64) -> Hint {
 // The first eight bytes as a number, and zeros where there are fewer.
 fn first_bytes(bytes: &[u8]) -> u64 {
     let mut number: u64 = 0;
-    for at in 0..8 {
-        number = number << 8 | u64::from(bytes.get(at).copied().unwrap_or(0));
+    let mut room: u32 = 64;
+    for byte in bytes.iter().take(8) {
+        room = room.saturating_sub(8);
+        number |= u64::from(*byte).wrapping_shl(room);
     }
     number
 }

@@ -8,17 +8,34 @@ ghost use Rattle.canvas_doc.specs.Placements.{bounds_change, placements_of, shap
 
 use crate::bounds::Bounds;
 use crate::place_order::hint_of_place;
-use crate::records::{Record, Records};
+use crate::records::{ListedRecord, Record, Records};
 use canvas_code::OutOfMemory;
 use canvas_list::{Hint, ItemChange, Reader, Share, Shared, SharedList};
 use std::alloc::Global;
 use std::marker::Model;
 
-/// A record, and bounds of what it and all below it may show.
+/// A record, and bounds of what it and all below it may show. The hint of its place stands beside it, so that a
+/// search among the items of a list reads no record but those beside which it ends.
 #[derive(Drop)]
 pub(crate) struct PlacedShape {
     pub(crate) shape: Shared<Record>,
     pub(crate) bounds: Bounds,
+    hint: Hint,
+}
+
+impl PlacedShape {
+    #[inline(always)]
+    pub(crate) fn new(shape: Shared<Record>, bounds: Bounds) -> PlacedShape
+        ensures shape { result.shape ≡ shape }
+        ensures bounds { result.bounds ≡ bounds }
+    {
+        let hint = hint_of_place(&shape.value().place);
+        PlacedShape {
+            shape,
+            bounds,
+            hint,
+        }
+    }
 }
 
 impl Share for PlacedShape {
@@ -27,12 +44,13 @@ impl Share for PlacedShape {
         Ok(PlacedShape {
             shape: self.shape.share()?,
             bounds: self.bounds,
+            hint: self.hint,
         })
     }
 
     #[inline(always)]
     fn hint(&self) -> Hint {
-        hint_of_place(&self.shape.value().place)
+        self.hint
     }
 }
 
@@ -142,7 +160,7 @@ impl PlacedShapes {
         ensures shapes { IfOk result (λ all. all.shapes ≡ slice_set self.now.shapes at shape) }
         ensures bounds { IfOk result (λ all. all.bounds ≡ slice_set self.now.bounds at bounds) }
     {
-        let placed = PlacedShape { shape, bounds };
+        let placed = PlacedShape::new(shape, bounds);
         Ok(PlacedShapes {
             list: self.list.with_replaced(alloc, at, placed)?,
         })
@@ -176,7 +194,7 @@ impl PlacedShapes {
         ensures shapes { IfOk result (λ all. all.shapes ≡ insert self.now.shapes at shape) }
         ensures bounds { IfOk result (λ all. all.bounds ≡ insert self.now.bounds at bounds) }
     {
-        let placed = PlacedShape { shape, bounds };
+        let placed = PlacedShape::new(shape, bounds);
         Ok(PlacedShapes {
             list: self.list.with_inserted(alloc, at, placed)?,
         })
@@ -208,7 +226,7 @@ impl PlacedShapes {
         ensures shapes { IfOk result (λ all. all.shapes ≡ insert (remove self.now.shapes from) to shape) }
         ensures bounds { IfOk result (λ all. all.bounds ≡ insert (remove self.now.bounds from) to bounds) }
     {
-        let placed = PlacedShape { shape, bounds };
+        let placed = PlacedShape::new(shape, bounds);
         Ok(PlacedShapes {
             list: self.list.with_moved(alloc, from, to, placed)?,
         })
@@ -221,7 +239,7 @@ impl PlacedShapes {
         change: ItemChange<PlacedShape>,
         records: &mut Records,
         other_at: usize,
-        other_change: ItemChange<Shared<Record>>,
+        other_change: ItemChange<ListedRecord>,
     ) -> bool
         requires place { IsPositionOf (shape_change change) at self.old.shapes }
         requires other { IsPositionOf other_change other_at records.old }

@@ -1,13 +1,15 @@
 //! Records: the shapes of a document, each with its place in the page tree.
 
 ghost use Rattle.std.specs.Prelude.{◌≡◌, IfOk};
+ghost use Rattle.canvas_doc.specs.declared.records.Record.{Record};
 
 use canvas_code::OutOfMemory;
 use canvas_key::Key;
-use canvas_list::{Hint, Hinted, Shared, SharedList};
+use canvas_list::{Hint, Hinted, Share, Shared, SharedList};
 use canvas_plane::Pose;
 use canvas_shape::Kind;
 use std::alloc::Global;
+use std::marker::Model;
 
 /// What a record hangs from: the page, or a group or a frame.
 #[derive(Clone, Copy, Debug, PartialEq, Eq)]
@@ -47,7 +49,79 @@ pub struct Record {
 
 /// Records in some order, which documents share, seen as the list of them: the lists of a document
 /// after a change hold the very records that the change left as they were.
-pub(crate) type Records = SharedList<Shared<Record>>;
+pub(crate) type Records = SharedList<ListedRecord>;
+
+/// A record in such a list, seen as the record. Its id stands beside it, so that a search among the items of a
+/// list reads no record but those beside which it ends.
+#[derive(Drop)]
+pub(crate) struct ListedRecord {
+    shape: Shared<Record>,
+    id: u32,
+}
+
+impl Model for ListedRecord {
+    ghost Value = { Record };
+
+    ghost view = { λ listed. listed.shape };
+}
+
+impl ListedRecord {
+    /// A record with its first owner, a list.
+    #[inline(always)]
+    pub(crate) fn new(alloc: Global, shape: Record) -> Result<ListedRecord, OutOfMemory>
+        ensures { IfOk result (λ listed. listed ≡ shape) }
+    {
+        Ok(ListedRecord::of(Shared::new(alloc, shape)?))
+    }
+
+    /// A record that has an owner.
+    #[inline(always)]
+    pub(crate) fn of(shape: Shared<Record>) -> ListedRecord
+        ensures { result ≡ shape }
+    {
+        let id = shape.value().id;
+        ListedRecord { shape, id }
+    }
+
+    /// The record.
+    #[inline(always)]
+    pub(crate) fn value(&self) -> &Record
+        ensures { result.now ≡ self.now }
+    {
+        self.shape.value()
+    }
+
+    /// The record for one more owner.
+    #[inline(always)]
+    pub(crate) fn shared(&self) -> Result<Shared<Record>, OutOfMemory>
+        ensures { IfOk result (λ shape. shape ≡ self.now) }
+    {
+        self.shape.share()
+    }
+}
+
+// Ids rise along the list of a document's records.
+impl Hinted for Record {
+    #[inline(always)]
+    fn hint(&self) -> Hint {
+        hint_of_id(self.id)
+    }
+}
+
+impl Share for ListedRecord {
+    #[inline(always)]
+    fn share(&self) -> Result<ListedRecord, OutOfMemory> {
+        Ok(ListedRecord {
+            shape: self.shape.share()?,
+            id: self.id,
+        })
+    }
+
+    #[inline(always)]
+    fn hint(&self) -> Hint {
+        hint_of_id(self.id)
+    }
+}
 
 impl Place {
     /// An equal place.
@@ -59,14 +133,6 @@ impl Place {
             parent: self.parent,
             index: self.index.copy(),
         }
-    }
-}
-
-// Ids rise along the list of a document's records.
-impl Hinted for Record {
-    #[inline(always)]
-    fn hint(&self) -> Hint {
-        hint_of_id(self.id)
     }
 }
 

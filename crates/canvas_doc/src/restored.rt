@@ -14,10 +14,9 @@ ghost use Rattle.canvas_doc.specs.Listed.{GivesFirsts, holder_of, has_place};
 use crate::ancestry::{STEPS, is_container};
 use crate::kept_bounds::bounded;
 use crate::place_order::{holder_of, in_place_order};
-use crate::records::Records;
+use crate::records::{ListedRecord, Records};
 use crate::{Document, Parent, Record};
 use canvas_code::OutOfMemory;
-use canvas_list::Shared;
 use std::alloc::{AllocError, Global};
 use std::collections::{BTreeMap, BTreeSet};
 use thiserror::Error;
@@ -149,7 +148,7 @@ fn shared(alloc: Global, records: Vec<Record>) -> Result<Records, OutOfMemory>
 {
     let mut all = Vec::with_capacity(alloc, records.len())?;
     for shape in records {
-        all.push(Shared::new(alloc, shape)?)?;
+        all.push(ListedRecord::new(alloc, shape)?)?;
     }
     Records::from_vec(alloc, all)
 }

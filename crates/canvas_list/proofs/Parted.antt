@@ -5,7 +5,7 @@ use Rattle.std.specs.List.{slice_get, sum_by, All}
 use Rattle.std.specs.List.Sorted.{IsPartitionPoint, IsPartitionedBy}
 use Rattle.std.proofs.lemmas.Bool.{both_ways, cases_lt}
 use Rattle.std.proofs.lemmas.List.{get_or-append-add, get_or_append_left, length-append, take_all}
-use Rattle.canvas_list.specs.Chunks.{first_passes, joined, IsTable}
+use Rattle.canvas_list.specs.Chunks.{first_passes, joined, IsEnd, IsTable}
 use Rattle.canvas_list.proofs.Joined.{fewer, joined_more, some-chunk, split_at, start-read, take-fewer}
 
 -- the items before a place pass a test, and those from it on fail it
@@ -156,3 +156,21 @@ pub point-bound : {X : Type 0} (cs ds : List (List X)) (n : ℕ) (xs : List X) (
 point-bound cs ds n xs k q s bs c items t all e within b read is same bound =
     let h : k < length cs = omega (arith, ap length e) in
     omega (arith, start-read cs bs k s b read, ap length all, ap length (same ∙ is), chunk-end cs k c h, take-fewer cs (k + 1))
+
+-- where the items that pass end in a list in which these come first
+pub point-is : {X : Type 0} (p : X → Bool) (xs : List X) (at : ℕ) → IsPartitionedBy p xs → IsEnd p xs at → at ≤ length xs → IsPoint p xs at
+point-is {X} p xs at parted end within = (
+  (λ i x l m.
+      let last : ℕ = at - 1 in
+      let before : p (get_or xs last x) ≡ true = end.before last x (omega arith) in
+      parted i last x (omega arith) (omega arith) before),
+  (λ i x l m.
+      let here : p (get_or xs at x) ≡ false = end.there x (omega arith) in
+      fails (p (get_or xs i x)) (λ t. both_ways (p (get_or xs at x)) here (parted at i x l m t))),
+)
+
+pub point-ends : {X : Type 0} (p : X → Bool) (xs : List X) (at : ℕ) → IsPoint p xs at → at ≤ length xs → IsEnd p xs at
+point-ends p xs at point within = record {
+  before = λ i x e. point.0 i x (omega arith) (omega arith);
+  there = λ x h. point.1 at x (omega arith) h;
+}

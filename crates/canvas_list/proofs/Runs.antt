@@ -1,10 +1,11 @@
 -- The items of a chunk, as a part of a list.
-use Rattle.std.proofs.Common.{◌≡◌, ◌∙◌, ℕ, ◌+◌, ◌-◌, ◌<◌, ◌≤◌, Bool, true, false, List, ◌++◌, take, drop, sym, ap, inl, inr, arith, length, get_or}
+use Rattle.std.proofs.Common.{◌≡◌, ◌∙◌, ℕ, ◌+◌, ◌-◌, ◌<◌, ◌≤◌, Bool, true, false, List, ◌++◌, take, drop, Some, sym, ap, inl, inr, arith, length, get_or}
+use Rattle.std.specs.List.{slice_get}
 use Rattle.std.specs.List.Sorted.{IsPartitionedBy}
-use Rattle.std.proofs.lemmas.Bool.{cases_Bool, cases_lt, true≢false}
+use Rattle.std.proofs.lemmas.Bool.{cases_lt}
 use Rattle.std.proofs.lemmas.List.{get_or-append-add, get_or_append_left}
-use Rattle.canvas_list.specs.Chunks.{joined, IsRun}
-use Rattle.canvas_list.proofs.Parted.{IsPoint}
+use Rattle.std.proofs.lemmas.Option.{slice_get-get_or}
+use Rattle.canvas_list.specs.Chunks.{joined, IsEnd, IsRun}
 use Rattle.std.specs.List.{sum_by}
 use Rattle.canvas_list.proofs.Joined.{chunk-read, split_at, start-read, take-fewer, IsFound}
 
@@ -53,30 +54,20 @@ parted-run p xs items start run parted = λ i j d low high passed.
     let fits : start + length items ≤ length xs = run.within in
     ap p (run.same i d (omega arith)) ∙ parted (start + i) (start + j) d (omega arith) (omega arith) (ap p (sym (run.same j d high)) ∙ passed)
 
--- where the items of a part that pass a test end, those of the list do: inside of the part, or at that end of the list
-pub point-in-run : {X : Type 0} (p : X → Bool) (xs items : List X) (start passed : ℕ) → IsRun xs items start → IsPartitionedBy p xs → IsPoint p items passed → passed ≤ length items → (passed ≡ 0 → start ≡ 0) → (passed ≡ length items → start + passed ≡ length xs) → IsPoint p xs (start + passed)
-point-in-run {X} p xs items start passed run parted point within first end =
-    let last : ℕ = passed - 1 in
-    let fits : start + length items ≤ length xs = run.within in (
-      λ i d low high. elim (cases_lt 0 passed) [
-        | inl some ↦ (
-            let before : p (get_or xs (start + last) d) ≡ true = ap p (sym (run.same last d (omega arith))) ∙ point.0 last d (omega arith) (omega arith) in
-            elim (cases_lt i (start + last)) [
-              | inl l ↦ parted i (start + last) d (omega arith) (omega arith) before
-              | inr l ↦ (let same : i ≡ start + last = omega arith in ap (λ n. p (get_or xs n d)) same ∙ before)
-            ])
-        | inr none ↦ (let at : start ≡ 0 = first (omega arith) in absurd (omega arith))
-      ],
-      λ i d low high. elim (cases_lt passed (length items)) [
-        | inl more ↦ (
-            let here : p (get_or xs (start + passed) d) ≡ false = ap p (sym (run.same passed d more)) ∙ point.1 passed d (omega arith) more in
-            elim (cases_lt (start + passed) i) [
-              | inl l ↦ elim (cases_Bool (p (get_or xs i d))) [
-                | inl t ↦ absurd (true≢false (sym (parted (start + passed) i d (omega arith) high t) ∙ here))
-                | inr f ↦ f
-              ]
-              | inr l ↦ (let same : i ≡ start + passed = omega arith in ap (λ n. p (get_or xs n d)) same ∙ here)
-            ])
-        | inr all ↦ (let at : start + passed ≡ length xs = end (omega arith) in absurd (omega arith))
-      ],
-    )
+-- an item of a part, in the list
+pub read-run : {X : Type 0} (xs items : List X) (start i : ℕ) (x : X) → IsRun xs items start → i < length items → Some (get_or items i x) ≡ slice_get xs (start + i)
+read-run xs items start i x run h = ap Some (run.same i x h) ∙ sym (slice_get-get_or xs (start + i) x (omega (arith, run.within)))
+
+-- where the items of a part that pass a test end, those of the list do, where the one before stands in the part, and the one there fails, too, or there is none
+pub end-of-run : {X : Type 0} (p : X → Bool) (xs items : List X) (start passed : ℕ) → IsRun xs items start → passed ≤ length items → (passed ≡ 0 → start ≡ 0) → ((x : X) → passed ≡ length items → start + passed < length xs → p (get_or xs (start + passed) x) ≡ false) → IsEnd p items passed → IsEnd p xs (start + passed)
+end-of-run p xs items start passed run within first behind end = record {
+  before =
+      λ i x e.
+      let some : 0 < passed = elim (cases_lt 0 passed) [ inl h ↦ h | inr h ↦ (let none : start ≡ 0 = first (omega arith) in absurd (omega arith)) ] in
+      let place : i ≡ start + (passed - 1) = omega arith in
+      ap (λ n. p (get_or xs n x)) place ∙ ap p (sym (run.same (passed - 1) x (omega arith))) ∙ end.before (passed - 1) x (omega arith);
+  there = λ x h. elim (cases_lt passed (length items)) [
+    | inl inside ↦ ap p (sym (run.same passed x inside)) ∙ end.there x inside
+    | inr past ↦ behind x (omega arith) h
+  ];
+}

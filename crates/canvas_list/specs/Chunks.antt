@@ -1,5 +1,5 @@
 -- A list in chunks.
-use Rattle.std.specs.Prelude.{ℕ, ◌≡◌, ◌<◌, ◌≤◌, ◌+◌, ◌^◌, List, [], ◌∷◌, ◌++◌, length, take, sum_by, slice_index_or, Bool, false}
+use Rattle.std.specs.Prelude.{ℕ, ◌≡◌, ◌<◌, ◌≤◌, ◌+◌, ◌^◌, List, [], ◌∷◌, ◌++◌, length, take, sum_by, slice_index_or, Bool, true, false}
 use Rattle.std.specs.List.{All}
 use Rattle.canvas_list.specs.declared.sizes.TheConstants.{MOST_IN_CHUNK}
 
@@ -35,3 +35,8 @@ first_passes p (item ∷ items) = p item
 pub record IsRun {X : Type 0} (xs items : List X) (start : ℕ) : Type 0 where
   pub within : start + length items ≤ length xs
   pub same : (i : ℕ) (x : X) → i < length items → slice_index_or items i x ≡ slice_index_or xs (start + i) x
+
+-- a place where the items that pass a test may end: the one before it passes, and the one there fails
+pub record IsEnd {X : Type 0} (p : X → Bool) (xs : List X) (at : ℕ) : Type 0 where
+  pub before : (i : ℕ) (x : X) → i + 1 ≡ at → p (slice_index_or xs i x) ≡ true
+  pub there : (x : X) → at < length xs → p (slice_index_or xs at x) ≡ false

@@ -23,5 +23,6 @@ pub use hint::{Hint, Hinted};
 pub use in_place::ItemChange;
 pub use items::Items;
 pub use reader::Reader;
+pub use search::Found;
 pub use share::{Share, Shared};
 pub use table::SharedList;

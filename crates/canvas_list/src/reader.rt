@@ -55,20 +55,6 @@ pub(crate) struct Run<'a, T> {
     pub(crate) start: usize,
 }
 
-impl<T: Share> Run<'_, T> {
-    // Whether the place behind so many of its items has both its neighbours among them, or is an end of the
-    // list, which has `len` items.
-    #[inline(always)]
-    pub(crate) fn has_end(&self, passed: usize, len: usize) -> bool
-        requires few { self.now.start + length self.now.items.now < 2 ^ 32 }
-        requires within { passed ≤ length self.now.items.now }
-        ensures first { result ≡ true → passed ≡ 0 → self.now.start ≡ 0 }
-        ensures last { result ≡ true → passed ≡ length self.now.items.now → self.now.start + passed ≡ len }
-    {
-        (passed > 0 || self.start == 0) && (passed < self.items.len() || self.start + passed == len)
-    }
-}
-
 impl<T: Share> SharedList<T> {
     /// A reader of the list.
     pub fn reader(&self) -> Reader<'_, T>

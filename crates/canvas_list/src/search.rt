@@ -1,15 +1,18 @@
 //! Where the items that pass a test end, in a list where these come first.
 
-ghost use Rattle.std.specs.Prelude.{◌≡◌, ◌≤◌, Bool, true, false, length};
+ghost use Rattle.std.specs.Prelude.{◌≡◌, ◌≤◌, ◌<◌, ◌+◌, ◌^◌, Bool, IfSome, true, false, length};
 ghost use Rattle.std.specs.Fn.{ComputesKey};
+ghost use Rattle.std.specs.List.{slice_get};
 ghost use Rattle.std.specs.List.Sorted.{IsPartitionedBy, IsPartitionPoint};
-ghost use Rattle.canvas_list.specs.Chunks.{first_passes};
+ghost use Rattle.std.specs.Option.{option_copied};
+ghost use Rattle.canvas_list.specs.Chunks.{first_passes, IsEnd, IsRun};
 
 use crate::block::Block;
 use crate::chunk::Chunk;
 use crate::chunks::Chunks;
 use crate::counted::count_of;
 use crate::hint::Hint;
+use crate::reader::Run;
 use crate::share::Share;
 use crate::table::SharedList;
 use std::marker::Model;
@@ -36,23 +39,122 @@ impl<T: Share> SharedList<T> {
     }
 }
 
+/// Where the items that pass a test end in a list, and the item there, if that is not the end of the list.
+#[derive(Drop)]
+pub struct Found<'a, T> {
+    /// How many items pass.
+    pub at: usize,
+    /// The first one that fails.
+    pub item: Option<&'a T>,
+}
+
 impl<T: Share> SharedList<T> {
     /// The same, begun where a hint points to: it is quick where the items that pass are those whose hints come
-    /// before it, and they end inside a chunk or at an end of the list.
+    /// before it.
     #[inline(always)]
     pub fn partition_point_near<P: Fn(&T) -> bool>(&self, hint: Hint, pred: P) -> usize
         requires { P.IsAlwaysCallable pred }
         ensures bound { result ≤ length self.now }
         ensures partitioned { (p : T → Bool) → ComputesKey P.FnMut p pred → IsPartitionedBy p self.now → IsPartitionPoint (λ y. p y ≡ true) (λ y. p y ≡ false) self.now result }
     {
+        self.found_near(hint, pred).at
+    }
+
+    /// The same with the item that stands there.
+    #[inline(always)]
+    pub fn found_near<P: Fn(&T) -> bool>(&self, hint: Hint, pred: P) -> Found<'_, T>
+        requires { P.IsAlwaysCallable pred }
+        ensures bound { result.at ≤ length self.now }
+        ensures item { option_copied result.item ≡ slice_get self.now result.at }
+        ensures partitioned { (p : T → Bool) → ComputesKey P.FnMut p pred → IsPartitionedBy p self.now → IsPartitionPoint (λ y. p y ≡ true) (λ y. p y ≡ false) self.now result.at }
+    {
         if let Some(run) = self.run_near(hint) {
-            let passed = run.items.partition_point(&pred);
-            if run.has_end(passed, self.len()) {
-                return run.start + passed;
+            let passed = run.passed(hint, &pred);
+            if let Some(found) = self.found_behind(&run, passed, &pred) {
+                return found;
             }
         }
-        self.partition_point(pred)
+        let at = self.partition_point(pred);
+        Found {
+            at,
+            item: self.get(at),
+        }
     }
+}
+
+impl<T: Share> SharedList<T> {
+    // The end behind so many items of a part, if it is there: the item before it is one of them, or there is none, and
+    // the one there fails the test, or there is none.
+    #[inline(always)]
+    fn found_behind<'a, P: Fn(&T) -> bool>(
+        &'a self,
+        run: &Run<'a, T>,
+        passed: usize,
+        pred: &P,
+    ) -> Option<Found<'a, T>>
+        requires callable { P.IsAlwaysCallable pred.now }
+        requires run { IsRun self.now run.now.items.now run.now.start }
+        requires few { run.now.start + length run.now.items.now < 2 ^ 32 }
+        requires passed { passed ≤ length run.now.items.now }
+        ensures bound { IfSome result (λ found. found.at ≤ length self.now) }
+        ensures item { IfSome result (λ found. option_copied found.item ≡ slice_get self.now found.at) }
+        ensures end { IfSome result (λ found. (p : T → Bool) → ComputesKey P.FnMut p pred.now → IsEnd p run.now.items.now passed → IsEnd p self.now found.at) }
+    {
+        let at = run.start + passed;
+        if passed == 0 && at > 0 {
+            return None;
+        }
+        if passed < run.items.len() {
+            let item = Some(&run.items[passed]);
+            return Some(Found { at, item });
+        }
+        let item = self.get(at);
+        match item {
+            Some(next) if passes(next, pred) => None,
+            _ => Some(Found { at, item }),
+        }
+    }
+}
+
+// What a test answers.
+#[inline(always)]
+fn passes<T, P: Fn(&T) -> bool>(item: &T, pred: &P) -> bool
+    requires { P.IsAlwaysCallable pred.now }
+    ensures { (p : T → Bool) → ComputesKey P.FnMut p pred.now → result ≡ p item.now }
+{
+    pred(item)
+}
+
+impl<T: Share> Run<'_, T> {
+    // How many of its items pass a test. They are counted by their hints, and where these are wrong by the test.
+    #[inline(always)]
+    fn passed<P: Fn(&T) -> bool>(&self, hint: Hint, pred: &P) -> usize
+        requires { P.IsAlwaysCallable pred.now }
+        ensures bound { result ≤ length self.now.items.now }
+        ensures end { (p : T → Bool) → ComputesKey P.FnMut p pred.now → IsPartitionedBy p self.now.items.now → IsEnd p self.now.items.now result }
+    {
+        let near = self
+            .items
+            .partition_point(|item| item.hint().is_before(hint));
+        if is_end(self.items, near, pred) {
+            near
+        } else {
+            self.items.partition_point(pred)
+        }
+    }
+}
+
+// Whether the item before a place passes a test, and the one there fails it, as far as there are such items.
+#[inline(always)]
+fn is_end<T, P: Fn(&T) -> bool>(items: &[T], at: usize, pred: &P) -> bool
+    requires callable { P.IsAlwaysCallable pred.now }
+    requires within { at ≤ length items.now }
+    ensures { result ≡ true → (p : T → Bool) → ComputesKey P.FnMut p pred.now → IsEnd p items.now at }
+{
+    if at > 0 && !passes(&items[at - 1], pred) {
+        return false;
+    }
+    at == items.len() || !passes(&items[at], pred)
 }
 
 impl<T: Share> Chunks<T> {

@@ -30,6 +30,20 @@ fn place_near(list: &Numbers, hint: u32, least: u32) -> usize
     list.partition_point_near(hint, |number| number.value().value < least)
 }
 
+// The number that stands there.
+fn number_near(list: &Numbers, hint: u32, least: u32) -> Option<u32> {
+    let hint = Hint {
+        major: hint,
+        minor: 0,
+    };
+    let found = list.found_near(hint, |number| number.value().value < least);
+    Some(found.item?.value().value)
+}
+
+fn number_at(list: &Numbers, place: usize) -> Option<u32> {
+    Some(list.get(place)?.value().value)
+}
+
 // Whether a number is found, wherever the search for it begins.
 fn finds(list: &Numbers, value: u32, place: usize) -> bool
     requires { IsNonDecreasingBy (λ number. number.value) list.now }
@@ -38,6 +52,8 @@ fn finds(list: &Numbers, value: u32, place: usize) -> bool
         && place_near(list, value, value) == place
         && place_near(list, value / 2, value) == place
         && place_near(list, u32::MAX, value) == place
+        && number_near(list, value, value) == number_at(list, place)
+        && number_near(list, value / 2, value) == number_at(list, place)
 }
 
 // Whether each number stands where it should, and each odd one before the next even one.

@@ -46,7 +46,7 @@ invariant_of-self-2 c =
     let shape : HaveOneShape r s = one-shape c.args.change.now d c.args.self.now c.in-Some.at r c.value-old.result.now s c.self.view_is c.requires.one c.in-Some.ensures c.at.ensures c.value-old.ensures c.in-Ok.ensures c.requires.shape in
     kept-is now (insert (remove order k) to s) c.in-Ok-with_moved.order.shapes (insert (remove c.self.inside.order.bounds k) to c.bounds_at.result.now) c.in-Ok-with_moved.order.bounds
     (subst (λ (x : Record). c.in-Ok-with_moved.order.shapes ≡ insert (remove order k) to x) c.in-Ok-new.ensures
-    (subst (λ (x : Record). c.in-Ok-with_moved.order.shapes ≡ insert (remove order k) to x) c.in-Ok-share.ensures c.in-Ok-with_moved.ensures.shapes))
+    (subst (λ (x : Record). c.in-Ok-with_moved.order.shapes ≡ insert (remove order k) to x) c.in-Ok-shared.ensures c.in-Ok-with_moved.ensures.shapes))
     c.in-Ok-with_moved.ensures.bounds
     (moved-kept d order c.self.inside.order.bounds c.self.invariant now well r s c.bounds_at.result.now c.in-Some.at k to c.in-Some.ensures.there c.at.ensures shape
     (subst (λ (x : Record). IsPlaceOf x.place order k) c.value-old.ensures c.position_in-from.ensures) c.position_without-to.ensures made c.bounds_at.ensures (c.if-not-is_held_above.ensures refl))

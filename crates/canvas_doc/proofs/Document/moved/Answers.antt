@@ -53,7 +53,7 @@ raised-requires-clause-in_order c =
     c.args.at c.position_in-from.result c.position_without-to.result c.self.invariant.in_order (ap (λ (d : Contents). d.records) c.self.view_is) c.requires.there c.at.ensures c.value.ensures c.position_in-from.ensures
     c.requires.one c.at-moved.ensures c.value-2.ensures c.position_without-to.ensures in
     let made : c.in_ok-order.order.shapes ≡ insert (remove order k) to s =
-    c.in_ok-order.ensures.shapes ∙ ap (insert (remove order k) to) c.in_ok-share.ensures in
+    c.in_ok-order.ensures.shapes ∙ ap (insert (remove order k) to) c.in_ok-shared.ensures in
     let placed : IsInPlaceOrder c.in_ok-order.order.shapes after =
     moved-in_order order rs after c.in_ok-order.order.shapes r s c.args.at k to c.self.invariant.well_formed.rising c.requires.well_formed.rising c.requires.well_formed.places c.self.invariant.in_order m made in
     placed
@@ -71,7 +71,7 @@ raised-requires-clause-but c =
     c.args.at c.position_in-from.result c.position_without-to.result c.self.invariant.in_order (ap (λ (d : Contents). d.records) c.self.view_is) c.requires.there c.at.ensures c.value.ensures c.position_in-from.ensures
     c.requires.one c.at-moved.ensures c.value-2.ensures c.position_without-to.ensures in
     let made : c.in_ok-order.order.shapes ≡ insert (remove order k) to s =
-    c.in_ok-order.ensures.shapes ∙ ap (insert (remove order k) to) c.in_ok-share.ensures in
+    c.in_ok-order.ensures.shapes ∙ ap (insert (remove order k) to) c.in_ok-shared.ensures in
     let bounds : List Bounds = c.self.inside.order.bounds in
     let b : Bounds = c.bounds_at-own.result.now in
     let long : length bounds ≡ length order = c.self.invariant.bounded.long in
@@ -98,7 +98,7 @@ raised-requires-clause-reaches c =
     c.args.at c.position_in-from.result c.position_without-to.result c.self.invariant.in_order (ap (λ (d : Contents). d.records) c.self.view_is) c.requires.there c.at.ensures c.value.ensures c.position_in-from.ensures
     c.requires.one c.at-moved.ensures c.value-2.ensures c.position_without-to.ensures in
     let made : c.in_ok-order.order.shapes ≡ insert (remove order k) to s =
-    c.in_ok-order.ensures.shapes ∙ ap (insert (remove order k) to) c.in_ok-share.ensures in
+    c.in_ok-order.ensures.shapes ∙ ap (insert (remove order k) to) c.in_ok-shared.ensures in
     let placed : IsInPlaceOrder c.in_ok-order.order.shapes after =
     moved-in_order order rs after c.in_ok-order.order.shapes r s c.args.at k to c.self.invariant.well_formed.rising c.requires.well_formed.rising c.requires.well_formed.places c.self.invariant.in_order m made in
     λ q e. leads-up c.in_ok-order.order.shapes after to q placed c.requires.well_formed.grounded e
@@ -116,7 +116,7 @@ returns-clause-order c =
     c.args.at c.position_in-from.result c.position_without-to.result c.self.invariant.in_order (ap (λ (d : Contents). d.records) c.self.view_is) c.requires.there c.at.ensures c.value.ensures c.position_in-from.ensures
     c.requires.one c.at-moved.ensures c.value-2.ensures c.position_without-to.ensures in
     let made : c.in_ok-order.order.shapes ≡ insert (remove order k) to s =
-    c.in_ok-order.ensures.shapes ∙ ap (insert (remove order k) to) c.in_ok-share.ensures in
+    c.in_ok-order.ensures.shapes ∙ ap (insert (remove order k) to) c.in_ok-shared.ensures in
     let placed : IsInPlaceOrder c.in_ok-order.order.shapes after =
     moved-in_order order rs after c.in_ok-order.order.shapes r s c.args.at k to c.self.invariant.well_formed.rising c.requires.well_formed.rising c.requires.well_formed.places c.self.invariant.in_order m made in
     IfOk-weaker c.raised.result (λ all. all.shapes ≡ c.in_ok-order.order.shapes) (λ all. IsInPlaceOrder all.shapes after) (λ all e. subst (λ (l : List Record). IsInPlaceOrder l after) (sym e) placed) c.raised.ensures.shapes

@@ -1,18 +1,9 @@
-use Rattle.std.proofs.Common.{◌≡◌, arith, cond, subst, sym}
+use Rattle.std.proofs.Common.{◌≡◌, cond, subst, sym}
 use Rattle.canvas_doc.specs.Contents.{Contents, IsWellFormed}
-use Rattle.canvas_doc.proofs.InPlace.{deleted-one}
 use Rattle.canvas_doc.proofs.Document.remove_in_place.Goals as goal
 
 pub remove_at_in_place-requires-clause-well_formed : goal.remove_at_in_place-requires-clause-well_formed
-remove_at_in_place-requires-clause-well_formed c =
-    subst IsWellFormed
-    (deleted-one c.args.id c.in-Some.at (record { records = c.self.inside.records; next = c.self.inside.next }) c.args.self.now c.self.inside.order.shapes c.children_range-below.result.start c.children_range-below.result.end
-    c.self.view_is c.self.invariant.well_formed c.self.invariant.in_order c.in-Some.ensures c.children_range-below.ensures (omega (arith, c.if-below.true)))
-    c.requires.left
+remove_at_in_place-requires-clause-well_formed c = subst IsWellFormed c.in-Some.ensures.alone c.requires.left
 
 pub returns-in-Some : goal.returns-in-Some
-returns-in-Some c =
-    subst (λ (d : Contents). c.remove_at_in_place.new.self ≡ cond c.remove_at_in_place.result d c.args.self.now)
-    (sym (deleted-one c.args.id c.in-Some.at (record { records = c.self.inside.records; next = c.self.inside.next }) c.args.self.now c.self.inside.order.shapes c.children_range-below.result.start c.children_range-below.result.end
-    c.self.view_is c.self.invariant.well_formed c.self.invariant.in_order c.in-Some.ensures c.children_range-below.ensures (omega (arith, c.if-below.true))))
-    c.remove_at_in_place.ensures
+returns-in-Some c = subst (λ (d : Contents). c.remove_at_in_place.new.self ≡ cond c.remove_at_in_place.result d c.args.self.now) (sym c.in-Some.ensures.alone) c.remove_at_in_place.ensures

@@ -1,6 +1,7 @@
-use Rattle.std.proofs.Common.{◌≡◌, get_or, refl, subst}
+use Rattle.std.proofs.Common.{◌≡◌, ◌∙◌, get_or, refl, subst}
 use Rattle.canvas_list.specs.declared.in_place.ItemChange.TheVariants.{Replace}
 use Rattle.canvas_list.specs.Changed.{changed_if}
+use Rattle.canvas_doc.specs.declared.bounds.Bounds.{Bounds}
 use Rattle.canvas_doc.specs.declared.records.Record.{Record}
 use Rattle.canvas_doc.specs.Contents.{Contents}
 use Rattle.canvas_doc.proofs.InPlace.{one-limits, one-place, one-well, replaced-at, replaced-if}
@@ -27,7 +28,7 @@ invariant_of-self c =
     c.change_both.result c.in-Ok.new c.bounds_for-bounds.result c.in-Some.at c.position_in-from.result
     (subst (λ (x : Record). c.change_both.new.records ≡ changed_if c.change_both.result (Replace x) c.in-Some.at d.records) c.in-Ok-new.ensures c.change_both.ensures.other)
     (subst (λ (x : Record). c.change_both.new.self.shapes ≡ changed_if c.change_both.result (Replace x) c.position_in-from.result c.self.inside.order.shapes) c.in-Ok-new.ensures
-    (subst (λ (x : Record). c.change_both.new.self.shapes ≡ changed_if c.change_both.result (Replace x) c.position_in-from.result c.self.inside.order.shapes) c.in-Ok-share.ensures c.change_both.ensures.shapes))
-    c.change_both.ensures.bounds
+    (subst (λ (x : Record). c.change_both.new.self.shapes ≡ changed_if c.change_both.result (Replace x) c.position_in-from.result c.self.inside.order.shapes) (c.new-placed.ensures.shape ∙ c.in-Ok-shared.ensures) c.change_both.ensures.shapes))
+    (subst (λ (b : Bounds). c.change_both.new.self.bounds ≡ changed_if c.change_both.result (Replace b) c.position_in-from.result c.self.inside.order.bounds) c.new-placed.ensures.bounds c.change_both.ensures.bounds)
     (one-well c.args.change.now d c.args.self.now c.in-Some.at c.at.result.now c.value.result.now c.in-Ok.new c.self.view_is c.requires.one c.in-Some.ensures c.at.ensures c.value.ensures c.in-Ok.ensures c.requires.fits.left)
     c.in-Some.ensures.there place c.position_in-from.ensures (record { own = c.bounds_for-bounds.ensures.own; below = c.bounds_for-bounds.ensures.below }) (c.if-not-is_held_above.ensures refl)

@@ -44,7 +44,7 @@ raised-requires-clause-in_order c =
     let k : ℕ = c.position_in-from.result in
     let m : IsReplaced order rs after c.at.result.now s c.args.at k = replaced-from c.self.inside.order.shapes c.self.inside.records c.args.self.now.records c.args.records.now c.at.result.now c.value.result.now c.at-replaced.result.now c.args.at c.position_in-from.result
     c.self.invariant.in_order (ap (λ (d : Contents). d.records) c.self.view_is) c.requires.there c.at.ensures c.value.ensures c.position_in-from.ensures c.requires.one c.at-replaced.ensures c.requires.place in
-    let made : c.in_ok-order.order.shapes ≡ set order k s = c.in_ok-order.ensures.shapes ∙ ap (set order k) c.in_ok-share.ensures in
+    let made : c.in_ok-order.order.shapes ≡ set order k s = c.in_ok-order.ensures.shapes ∙ ap (set order k) c.in_ok-shared.ensures in
     let placed : IsInPlaceOrder c.in_ok-order.order.shapes after = replaced-in_order order rs after c.in_ok-order.order.shapes c.at.result.now s c.args.at k c.self.invariant.well_formed.rising c.self.invariant.in_order m made in
     placed
 
@@ -58,7 +58,7 @@ raised-requires-clause-at c =
     let m : IsReplaced order rs after c.at.result.now s c.args.at k = replaced-from c.self.inside.order.shapes c.self.inside.records c.args.self.now.records c.args.records.now c.at.result.now c.value.result.now c.at-replaced.result.now c.args.at c.position_in-from.result
     c.self.invariant.in_order (ap (λ (d : Contents). d.records) c.self.view_is) c.requires.there c.at.ensures c.value.ensures c.position_in-from.ensures c.requires.one c.at-replaced.ensures c.requires.place in
     let there : k < length order = m.listed.within in
-    omega (arith, ap length c.in_ok-order.ensures.shapes, length-set order k c.in_ok-share.field-0)
+    omega (arith, ap length c.in_ok-order.ensures.shapes, length-set order k c.in_ok-shared.field-0)
 
 pub raised-requires-clause-but : goal.raised-requires-clause-but
 raised-requires-clause-but c =
@@ -69,7 +69,7 @@ raised-requires-clause-but c =
     let k : ℕ = c.position_in-from.result in
     let m : IsReplaced order rs after c.at.result.now s c.args.at k = replaced-from c.self.inside.order.shapes c.self.inside.records c.args.self.now.records c.args.records.now c.at.result.now c.value.result.now c.at-replaced.result.now c.args.at c.position_in-from.result
     c.self.invariant.in_order (ap (λ (d : Contents). d.records) c.self.view_is) c.requires.there c.at.ensures c.value.ensures c.position_in-from.ensures c.requires.one c.at-replaced.ensures c.requires.place in
-    let made : c.in_ok-order.order.shapes ≡ set order k s = c.in_ok-order.ensures.shapes ∙ ap (set order k) c.in_ok-share.ensures in
+    let made : c.in_ok-order.order.shapes ≡ set order k s = c.in_ok-order.ensures.shapes ∙ ap (set order k) c.in_ok-shared.ensures in
     let bounds : List Bounds = c.self.inside.order.bounds in
     let b : Bounds = c.bounds_for-own.result in
     let suits : Suits order bounds s b = subst (λ (x : Record). Suits order bounds x b) c.value-2.ensures (record { own = c.bounds_for-own.ensures.own; below = c.bounds_for-own.ensures.below }) in
@@ -86,7 +86,7 @@ raised-requires-clause-reaches c =
     let k : ℕ = c.position_in-from.result in
     let m : IsReplaced order rs after c.at.result.now s c.args.at k = replaced-from c.self.inside.order.shapes c.self.inside.records c.args.self.now.records c.args.records.now c.at.result.now c.value.result.now c.at-replaced.result.now c.args.at c.position_in-from.result
     c.self.invariant.in_order (ap (λ (d : Contents). d.records) c.self.view_is) c.requires.there c.at.ensures c.value.ensures c.position_in-from.ensures c.requires.one c.at-replaced.ensures c.requires.place in
-    let made : c.in_ok-order.order.shapes ≡ set order k s = c.in_ok-order.ensures.shapes ∙ ap (set order k) c.in_ok-share.ensures in
+    let made : c.in_ok-order.order.shapes ≡ set order k s = c.in_ok-order.ensures.shapes ∙ ap (set order k) c.in_ok-shared.ensures in
     let placed : IsInPlaceOrder c.in_ok-order.order.shapes after = replaced-in_order order rs after c.in_ok-order.order.shapes c.at.result.now s c.args.at k c.self.invariant.well_formed.rising c.self.invariant.in_order m made in
     λ q e. leads-up c.in_ok-order.order.shapes after k q placed c.requires.well_formed.grounded e
 
@@ -99,7 +99,7 @@ returns-clause-order c =
     let k : ℕ = c.position_in-from.result in
     let m : IsReplaced order rs after c.at.result.now s c.args.at k = replaced-from c.self.inside.order.shapes c.self.inside.records c.args.self.now.records c.args.records.now c.at.result.now c.value.result.now c.at-replaced.result.now c.args.at c.position_in-from.result
     c.self.invariant.in_order (ap (λ (d : Contents). d.records) c.self.view_is) c.requires.there c.at.ensures c.value.ensures c.position_in-from.ensures c.requires.one c.at-replaced.ensures c.requires.place in
-    let made : c.in_ok-order.order.shapes ≡ set order k s = c.in_ok-order.ensures.shapes ∙ ap (set order k) c.in_ok-share.ensures in
+    let made : c.in_ok-order.order.shapes ≡ set order k s = c.in_ok-order.ensures.shapes ∙ ap (set order k) c.in_ok-shared.ensures in
     let placed : IsInPlaceOrder c.in_ok-order.order.shapes after = replaced-in_order order rs after c.in_ok-order.order.shapes c.at.result.now s c.args.at k c.self.invariant.well_formed.rising c.self.invariant.in_order m made in
     IfOk-weaker c.raised.result (λ all. all.shapes ≡ c.in_ok-order.order.shapes) (λ all. IsInPlaceOrder all.shapes after) (λ all e. subst (λ (l : List Record). IsInPlaceOrder l after) (sym e) placed) c.raised.ensures.shapes
 

@@ -32,10 +32,10 @@ raised-requires-clause-in_order c =
     let e : rs ≡ c.args.self.now.records = ap (λ (d : Contents). d.records) c.self.view_is in
     let more : c.args.self.now.records ++ r ∷ [] ≡ rs ++ r ∷ [] = ap (λ (l : List Record). l ++ r ∷ []) (sym e) in
     let whole : c.in_ok-records.records ≡ rs ++ r ∷ [] =
-    c.in_ok-records.ensures ∙ ap (insert rs c.len-last.result) (c.in_ok-share.ensures ∙ c.in_ok-shape.ensures) ∙ ap (λ m. insert rs m r) c.len-last.ensures.len ∙ insert_end rs r in
+    c.in_ok-records.ensures ∙ ap (insert rs c.len-last.result) c.in_ok-new.ensures ∙ ap (λ m. insert rs m r) c.len-last.ensures.len ∙ insert_end rs r in
     let well : IsWellFormed (record { records = c.in_ok-records.records; next = c.args.self.now.next + 1 }) =
     subst (λ (l : List Record). IsWellFormed (record { records = l; next = c.args.self.now.next + 1 })) (more ∙ sym whole) c.requires in
-    let made : c.in_ok-more.more.shapes ≡ insert order k r = c.in_ok-more.ensures.shapes ∙ ap (insert order k) c.in_ok-shape.ensures in
+    let made : c.in_ok-more.more.shapes ≡ insert order k r = c.in_ok-more.ensures.shapes ∙ ap (insert order k) (c.in_ok-shape.ensures ∙ c.in_ok-new.ensures) in
     let placed : IsInPlaceOrder c.in_ok-more.more.shapes c.in_ok-records.records =
     subst (λ l. IsInPlaceOrder l c.in_ok-records.records) (sym made)
     (subst (IsInPlaceOrder (insert order k r)) (sym whole)
@@ -51,7 +51,7 @@ raised-requires-clause-rising c =
     let e : rs ≡ c.args.self.now.records = ap (λ (d : Contents). d.records) c.self.view_is in
     let more : c.args.self.now.records ++ r ∷ [] ≡ rs ++ r ∷ [] = ap (λ (l : List Record). l ++ r ∷ []) (sym e) in
     let whole : c.in_ok-records.records ≡ rs ++ r ∷ [] =
-    c.in_ok-records.ensures ∙ ap (insert rs c.len-last.result) (c.in_ok-share.ensures ∙ c.in_ok-shape.ensures) ∙ ap (λ m. insert rs m r) c.len-last.ensures.len ∙ insert_end rs r in
+    c.in_ok-records.ensures ∙ ap (insert rs c.len-last.result) c.in_ok-new.ensures ∙ ap (λ m. insert rs m r) c.len-last.ensures.len ∙ insert_end rs r in
     let well : IsWellFormed (record { records = c.in_ok-records.records; next = c.args.self.now.next + 1 }) =
     subst (λ (l : List Record). IsWellFormed (record { records = l; next = c.args.self.now.next + 1 })) (more ∙ sym whole) c.requires in
     well.rising
@@ -65,7 +65,7 @@ raised-requires-clause-limits c =
     let e : rs ≡ c.args.self.now.records = ap (λ (d : Contents). d.records) c.self.view_is in
     let more : c.args.self.now.records ++ r ∷ [] ≡ rs ++ r ∷ [] = ap (λ (l : List Record). l ++ r ∷ []) (sym e) in
     let whole : c.in_ok-records.records ≡ rs ++ r ∷ [] =
-    c.in_ok-records.ensures ∙ ap (insert rs c.len-last.result) (c.in_ok-share.ensures ∙ c.in_ok-shape.ensures) ∙ ap (λ m. insert rs m r) c.len-last.ensures.len ∙ insert_end rs r in
+    c.in_ok-records.ensures ∙ ap (insert rs c.len-last.result) c.in_ok-new.ensures ∙ ap (λ m. insert rs m r) c.len-last.ensures.len ∙ insert_end rs r in
     let well : IsWellFormed (record { records = c.in_ok-records.records; next = c.args.self.now.next + 1 }) =
     subst (λ (l : List Record). IsWellFormed (record { records = l; next = c.args.self.now.next + 1 })) (more ∙ sym whole) c.requires in
     well.limits
@@ -83,7 +83,7 @@ raised-requires-clause-but c =
     let k : ℕ = c.position_in-at.result in
     let e : rs ≡ c.args.self.now.records = ap (λ (d : Contents). d.records) c.self.view_is in
     let more : c.args.self.now.records ++ r ∷ [] ≡ rs ++ r ∷ [] = ap (λ (l : List Record). l ++ r ∷ []) (sym e) in
-    let made : c.in_ok-more.more.shapes ≡ insert order k r = c.in_ok-more.ensures.shapes ∙ ap (insert order k) c.in_ok-shape.ensures in
+    let made : c.in_ok-more.more.shapes ≡ insert order k r = c.in_ok-more.ensures.shapes ∙ ap (insert order k) (c.in_ok-shape.ensures ∙ c.in_ok-new.ensures) in
     let b : Bounds = c.bounds_for-own.result in
     let suits : Suits order c.self.inside.order.bounds r b = record { own = c.bounds_for-own.ensures.own; below = c.bounds_for-own.ensures.below } in
     subst (λ l. AreBoundsBut k l c.in_ok-more.more.bounds) (sym made)
@@ -99,10 +99,10 @@ raised-requires-clause-reaches c =
     let e : rs ≡ c.args.self.now.records = ap (λ (d : Contents). d.records) c.self.view_is in
     let more : c.args.self.now.records ++ r ∷ [] ≡ rs ++ r ∷ [] = ap (λ (l : List Record). l ++ r ∷ []) (sym e) in
     let whole : c.in_ok-records.records ≡ rs ++ r ∷ [] =
-    c.in_ok-records.ensures ∙ ap (insert rs c.len-last.result) (c.in_ok-share.ensures ∙ c.in_ok-shape.ensures) ∙ ap (λ m. insert rs m r) c.len-last.ensures.len ∙ insert_end rs r in
+    c.in_ok-records.ensures ∙ ap (insert rs c.len-last.result) c.in_ok-new.ensures ∙ ap (λ m. insert rs m r) c.len-last.ensures.len ∙ insert_end rs r in
     let well : IsWellFormed (record { records = c.in_ok-records.records; next = c.args.self.now.next + 1 }) =
     subst (λ (l : List Record). IsWellFormed (record { records = l; next = c.args.self.now.next + 1 })) (more ∙ sym whole) c.requires in
-    let made : c.in_ok-more.more.shapes ≡ insert order k r = c.in_ok-more.ensures.shapes ∙ ap (insert order k) c.in_ok-shape.ensures in
+    let made : c.in_ok-more.more.shapes ≡ insert order k r = c.in_ok-more.ensures.shapes ∙ ap (insert order k) (c.in_ok-shape.ensures ∙ c.in_ok-new.ensures) in
     let placed : IsInPlaceOrder c.in_ok-more.more.shapes c.in_ok-records.records =
     subst (λ l. IsInPlaceOrder l c.in_ok-records.records) (sym made)
     (subst (IsInPlaceOrder (insert order k r)) (sym whole)
@@ -118,10 +118,10 @@ invariant_of-result c =
     let e : rs ≡ c.args.self.now.records = ap (λ (d : Contents). d.records) c.self.view_is in
     let more : c.args.self.now.records ++ r ∷ [] ≡ rs ++ r ∷ [] = ap (λ (l : List Record). l ++ r ∷ []) (sym e) in
     let whole : c.in_ok-records.records ≡ rs ++ r ∷ [] =
-    c.in_ok-records.ensures ∙ ap (insert rs c.len-last.result) (c.in_ok-share.ensures ∙ c.in_ok-shape.ensures) ∙ ap (λ m. insert rs m r) c.len-last.ensures.len ∙ insert_end rs r in
+    c.in_ok-records.ensures ∙ ap (insert rs c.len-last.result) c.in_ok-new.ensures ∙ ap (λ m. insert rs m r) c.len-last.ensures.len ∙ insert_end rs r in
     let well : IsWellFormed (record { records = c.in_ok-records.records; next = c.args.self.now.next + 1 }) =
     subst (λ (l : List Record). IsWellFormed (record { records = l; next = c.args.self.now.next + 1 })) (more ∙ sym whole) c.requires in
-    let made : c.in_ok-more.more.shapes ≡ insert order k r = c.in_ok-more.ensures.shapes ∙ ap (insert order k) c.in_ok-shape.ensures in
+    let made : c.in_ok-more.more.shapes ≡ insert order k r = c.in_ok-more.ensures.shapes ∙ ap (insert order k) (c.in_ok-shape.ensures ∙ c.in_ok-new.ensures) in
     let placed : IsInPlaceOrder c.in_ok-more.more.shapes c.in_ok-records.records =
     subst (λ l. IsInPlaceOrder l c.in_ok-records.records) (sym made)
     (subst (IsInPlaceOrder (insert order k r)) (sym whole)

@@ -45,15 +45,16 @@ loop-at-preserved c =
       all = ap placements_of c.at-placed.ensures.same ∙ c.loop-at.invariant.all;
       shapes =
           ap (map shape_of) c.in_ok-push.ensures.items
-          ∙ map-append shape_of c.loop-at.children.items (record { shape = c.in_ok-new.field-0; bounds = x.bounds } ∷ [])
-          ∙ ap (λ (l : List Record). l ++ c.in_ok-new.field-0 ∷ []) c.loop-at.invariant.shapes
-          ∙ ap (λ (r : Record). map (respaced p order) (take i (drop start order)) ++ r ∷ []) (c.in_ok-new.ensures ∙ c.in_ok-respaced.ensures ∙ respaced-child p order v (end - 1 - at) child rank)
+          ∙ map-append shape_of c.loop-at.children.items (c.new-child.result ∷ [])
+          ∙ ap (λ (l : List Record). l ++ c.new-child.result.shape ∷ []) c.loop-at.invariant.shapes
+          ∙ ap (λ (r : Record). map (respaced p order) (take i (drop start order)) ++ r ∷ []) (c.new-child.ensures.shape ∙ c.in_ok-shape.ensures ∙ c.in_ok-respaced.ensures ∙ respaced-child p order v (end - 1 - at) child rank)
           ∙ sym (map-append (respaced p order) (take i (drop start order)) (v ∷ []))
           ∙ ap (map (respaced p order)) (sym (one-more order start at v v from within here));
       bounds =
           ap (map bounds_of) c.in_ok-push.ensures.items
-          ∙ map-append bounds_of c.loop-at.children.items (record { shape = c.in_ok-new.field-0; bounds = x.bounds } ∷ [])
-          ∙ ap (λ (l : List Bounds). l ++ x.bounds ∷ []) c.loop-at.invariant.bounds
+          ∙ map-append bounds_of c.loop-at.children.items (c.new-child.result ∷ [])
+          ∙ ap (λ (l : List Bounds). l ++ c.new-child.result.bounds ∷ []) c.loop-at.invariant.bounds
+          ∙ ap (λ (b : Bounds). take i (drop start c.args.order.now.bounds) ++ b ∷ []) c.new-child.ensures.bounds
           ∙ sym (one-more c.args.order.now.bounds start at x.bounds x.bounds from (omega arith) box);
     }
 

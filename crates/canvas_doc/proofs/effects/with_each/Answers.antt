@@ -7,10 +7,10 @@ use Rattle.canvas_doc.specs.Contents.{record_of, StandsAt, most_records}
 use Rattle.canvas_doc.proofs.Placements.{map-read, shape_of}
 use Rattle.canvas_doc.proofs.Respacing.{none-put, nothing-put, one-put}
 use Rattle.canvas_doc.proofs.effects.with_each.Goals as goal
-use Rattle.canvas_doc.proofs.effects.with_each.Goals.{in-Some+in_ok-all-2, in_default}
+use Rattle.canvas_doc.proofs.effects.with_each.Goals.{in-Some+in_ok-share, in_default}
 
 pub loop-other-init : goal.loop-other-init
-loop-other-init c = c.in_ok-all.ensures.all ∙ nothing-put c.args.records.now (map shape_of c.args.others.now)
+loop-other-init c = c.in_ok-all.ensures ∙ nothing-put c.args.records.now (map shape_of c.args.others.now)
 
 pub loop-other-preserved : goal.loop-other-preserved
 loop-other-preserved c =
@@ -21,9 +21,9 @@ loop-other-preserved c =
     let within : k < length others = subst (λ n. k < n) (sym (length-map c.args.others.now shape_of)) c.loop-other-test.true in
     let is : o ≡ get_or others k o = map-read shape_of c.args.others.now k c.other-item.result c.other-item.is in
     elim c.match-position_of.branch [
-      | in-Some+in_ok-all-2 w ↦
+      | in-Some+in_ok-share w ↦
           ap (λ l. l.items) w.all-is
-          ∙ ap (set c.loop-other.all.items w.in-Some.at) w.in_ok-all-2.ensures
+          ∙ ap (set c.loop-other.all.items w.in-Some.at) (w.of.ensures ∙ w.in_ok-share.ensures)
           ∙ ap (λ (l : List Record). set l w.in-Some.at o) c.loop-other.invariant
           ∙ one-put rs others k w.in-Some.at o c.requires.rising c.requires.once within is (subst (λ (x : Record). StandsAt rs x.id w.in-Some.at) c.value.ensures w.in-Some.ensures)
       | in_default w ↦ ap (λ l. l.items) w.all-is ∙ c.loop-other.invariant ∙ none-put rs others k o c.requires.once within is (subst (λ (x : Record). record_of x.id rs ≡ None) c.value.ensures w.in_default.ensures)

@@ -5,10 +5,10 @@ use Rattle.canvas_doc.proofs.placed_shapes.PlacedShapes.with_moved.Goals as goal
 
 pub returns-clause-shapes : goal.returns-clause-shapes
 returns-clause-shapes c =
-    ap (map shape_of) c.in_ok-with_moved.ensures ∙ map-insert shape_of (remove c.self.inside.list c.args.from) c.args.to (record { shape = c.args.shape; bounds = c.args.bounds })
+    ap (map shape_of) c.in_ok-with_moved.ensures ∙ map-insert shape_of (remove c.self.inside.list c.args.from) c.args.to c.new-placed.result ∙ ap (insert (map shape_of (remove c.self.inside.list c.args.from)) c.args.to) c.new-placed.ensures.shape
     ∙ ap (λ l. insert l c.args.to c.args.shape) (map-remove shape_of c.self.inside.list c.args.from ∙ ap (λ l. remove l c.args.from) (shapes-are c.self.inside.list c.args.self.now c.self.view_is))
 
 pub returns-clause-bounds : goal.returns-clause-bounds
 returns-clause-bounds c =
-    ap (map bounds_of) c.in_ok-with_moved.ensures ∙ map-insert bounds_of (remove c.self.inside.list c.args.from) c.args.to (record { shape = c.args.shape; bounds = c.args.bounds })
+    ap (map bounds_of) c.in_ok-with_moved.ensures ∙ map-insert bounds_of (remove c.self.inside.list c.args.from) c.args.to c.new-placed.result ∙ ap (insert (map bounds_of (remove c.self.inside.list c.args.from)) c.args.to) c.new-placed.ensures.bounds
     ∙ ap (λ l. insert l c.args.to c.args.bounds) (map-remove bounds_of c.self.inside.list c.args.from ∙ ap (λ l. remove l c.args.from) (bounds-are c.self.inside.list c.args.self.now c.self.view_is))

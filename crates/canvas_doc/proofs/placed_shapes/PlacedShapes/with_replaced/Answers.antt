@@ -5,8 +5,8 @@ use Rattle.canvas_doc.proofs.placed_shapes.PlacedShapes.with_replaced.Goals as g
 
 pub returns-clause-shapes : goal.returns-clause-shapes
 returns-clause-shapes c =
-    ap (map shape_of) c.in_ok-with_replaced.ensures ∙ map-set shape_of c.self.inside.list c.args.at (record { shape = c.args.shape; bounds = c.args.bounds }) ∙ ap (λ l. set l c.args.at c.args.shape) (shapes-are c.self.inside.list c.args.self.now c.self.view_is)
+    ap (map shape_of) c.in_ok-with_replaced.ensures ∙ map-set shape_of c.self.inside.list c.args.at c.new-placed.result ∙ ap (set (map shape_of c.self.inside.list) c.args.at) c.new-placed.ensures.shape ∙ ap (λ l. set l c.args.at c.args.shape) (shapes-are c.self.inside.list c.args.self.now c.self.view_is)
 
 pub returns-clause-bounds : goal.returns-clause-bounds
 returns-clause-bounds c =
-    ap (map bounds_of) c.in_ok-with_replaced.ensures ∙ map-set bounds_of c.self.inside.list c.args.at (record { shape = c.args.shape; bounds = c.args.bounds }) ∙ ap (λ l. set l c.args.at c.args.bounds) (bounds-are c.self.inside.list c.args.self.now c.self.view_is)
+    ap (map bounds_of) c.in_ok-with_replaced.ensures ∙ map-set bounds_of c.self.inside.list c.args.at c.new-placed.result ∙ ap (set (map bounds_of c.self.inside.list) c.args.at) c.new-placed.ensures.bounds ∙ ap (λ l. set l c.args.at c.args.bounds) (bounds-are c.self.inside.list c.args.self.now c.self.view_is)
