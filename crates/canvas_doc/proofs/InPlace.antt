@@ -1,5 +1,5 @@
 -- A document's lists after a change in place.
-use Rattle.std.proofs.Common.{◌≡◌, ◌∙◌, ℕ, Bool, true, false, Some, ◌<◌, List, [], ◌∷◌, ◌++◌, refl, sym, ap, subst, arith, length, get_or, set, ◌≤◌, filter, not}
+use Rattle.std.proofs.Common.{◌≡◌, ◌∙◌, ℕ, Bool, true, false, cond, Some, ◌<◌, List, [], ◌∷◌, ◌++◌, refl, sym, ap, subst, arith, length, get_or, set, ◌≤◌, filter, not}
 use Rattle.std.specs.List.{Contains, insert, remove, slice_get}
 use Rattle.std.proofs.Math.ListN.{length-set}
 use Rattle.std.proofs.lemmas.List.{get_or_default, get_or-set_same}
@@ -82,6 +82,10 @@ replaced-at d order bounds kept s at k within place p =
 module _ (ch : Change) (inside now : Contents) (at : ℕ) (r v s : Record) (same : inside ≡ now) (one : changes_one ch ≡ true) (there : ReplacesAt ch inside.records at) (is : r ≡ get_or inside.records at r) (value : v ≡ r) (new : s ≡ changed_by ch v) where
   pub one-is : (made : List Record) → made ≡ set inside.records at s → record { records = made; next = inside.next } ≡ effect_of ch now
   one-is made m = whole-is ch inside now made same one (made-whole ch inside.records made at r v s there is value m new)
+
+  pub one-if : (made : Bool) (rs : List Record) → rs ≡ changed_if made (Replace s) at inside.records → record { records = rs; next = inside.next } ≡ cond made (effect_of ch now) now
+  one-if true rs m = one-is rs m
+  one-if false rs m = ap (λ (l : List Record). record { records = l; next = inside.next }) m ∙ same
 
   pub one-well : IsWellFormed (effect_of ch now) → IsWellFormed (record { records = set inside.records at s; next = inside.next })
   one-well well = subst IsWellFormed (sym (one-is (set inside.records at s) refl)) well

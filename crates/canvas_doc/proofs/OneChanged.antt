@@ -4,13 +4,15 @@ use Rattle.std.proofs.Math.ListN.{length-set}
 use Rattle.std.proofs.lemmas.Bool.{cases_Bool, eq-eqb, eqb-true, true≢false}
 use Rattle.std.proofs.lemmas.Bool.Decides.{nat_tests}
 use Rattle.std.proofs.lemmas.List.{get_or_default, get_or-map, get_or-set_other, get_or-set_same, length-map, same_lists}
+use Rattle.std.proofs.lemmas.Option.{same_Some}
+use Rattle.canvas_doc.specs.declared.lookup.Standing.{Standing}
 use Rattle.canvas_doc.specs.declared.records.Place.{Place}
 use Rattle.canvas_doc.specs.declared.records.Record.{Record}
 use Rattle.canvas_doc.specs.declared.edits.Change.{Change}
 use Rattle.canvas_doc.specs.declared.edits.Change.TheVariants as change
 use Rattle.canvas_doc.specs.Bounds.{HaveOneShape}
-use Rattle.canvas_doc.specs.Contents.{Contents, record_of, AreRising, StandsAt}
-use Rattle.canvas_doc.specs.Effect.{effect_of, changes_one, changed_by, ReplacesAt}
+use Rattle.canvas_doc.specs.Contents.{Contents, record_of, AreRising, IsStanding, StandsAt}
+use Rattle.canvas_doc.specs.Effect.{effect_of, changes_one, changed_by, Replaces, ReplacesAt}
 use Rattle.canvas_doc.proofs.FitMore.{found-has}
 use Rattle.canvas_doc.proofs.Found.{other-id, rising-at}
 use Rattle.canvas_doc.proofs.Respaced.{IsIn}
@@ -76,11 +78,19 @@ others-kept g rs at b k d =
     ])
 
 -- a change of the record that has an id, if there is one
-pub position-changed : (ch : Change) (id : ℕ) (rs : List Record) (o : Option ℕ) → AreRising rs → ((r : Record) → (r.id == id) ≡ false → changed_by ch r ≡ r) → MatchOption o (record_of id rs ≡ None) (λ at. StandsAt rs id at) → MatchOption o (map (changed_by ch) rs ≡ rs) (λ at. ReplacesAt ch rs at)
+position-changed : (ch : Change) (id : ℕ) (rs : List Record) (o : Option ℕ) → AreRising rs → ((r : Record) → (r.id == id) ≡ false → changed_by ch r ≡ r) → MatchOption o (record_of id rs ≡ None) (λ at. StandsAt rs id at) → MatchOption o (map (changed_by ch) rs ≡ rs) (λ at. ReplacesAt ch rs at)
 position-changed ch id rs None up k none = all-kept (changed_by ch) rs (λ r m. k r (absent-id id rs r none m))
 position-changed ch id rs (Some at) up k stands = record {
   there = stands.0;
   only = others-kept (changed_by ch) rs at stands.0 (λ q r other l here. k r (id-only-here rs id at q r up stands other l here));
+}
+
+pub record-changed : (ch : Change) (id : ℕ) (rs : List Record) (o : Option Standing) → AreRising rs → ((r : Record) → (r.id == id) ≡ false → changed_by ch r ≡ r) → MatchOption o (record_of id rs ≡ None) (λ found. IsStanding rs id found.at found.shape.now)
+    → MatchOption o (map (changed_by ch) rs ≡ rs) (λ found. Replaces ch rs found.at found.shape.now)
+record-changed ch id rs None up k none = position-changed ch id rs None up k none
+record-changed ch id rs (Some found) up k standing = record {
+  there = position-changed ch id rs (Some found.at) up k standing.there;
+  is = same_Some found.shape.now (get_or rs found.at found.shape.now) (sym standing.found ∙ standing.there.1 found.shape.now);
 }
 
 -- the records with the changed one in its place

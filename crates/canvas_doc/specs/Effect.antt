@@ -79,6 +79,11 @@ pub record ReplacesAt (c : Change) (rs : List Record) (at : ℕ) : Type 0 where
   pub there : at < length rs
   pub only : (d : Record) → map (changed_by c) rs ≡ slice_set rs at (changed_by c (slice_index_or rs at d))
 
+-- and it is this one
+pub record Replaces (c : Change) (rs : List Record) (at : ℕ) (shape : Record) : Type 0 where
+  pub there : ReplacesAt c rs at
+  pub is : shape ≡ slice_index_or rs at shape
+
 -- the document after a change
 abbrev pub effect_of : Change → Contents → Contents
 effect_of (Create id kind pose hidden place) d = record { records = d.records ++ record { id = id; kind = kind; place = place; pose = pose; hidden = hidden } ∷ []; next = d.next + 1 }

@@ -9,7 +9,7 @@ ghost use Rattle.canvas_doc.specs.Bounds.{AreBounds, HaveOneShape};
 ghost use Rattle.canvas_doc.specs.Children.{is_child};
 ghost use Rattle.canvas_doc.specs.Contents.{record_of, HaveIds, AreRising, IsWellFormed, most_records};
 ghost use Rattle.canvas_doc.specs.declared.records.Record.{Record};
-ghost use Rattle.canvas_doc.specs.Effect.{changed_by, respaced, ReplacesAt};
+ghost use Rattle.canvas_doc.specs.Effect.{changed_by, respaced, Replaces};
 ghost use Rattle.canvas_doc.specs.Placements.{placements_of};
 ghost use Rattle.canvas_doc.specs.PlaceOrder.{comes_first, AreChildrenWithin, IsInPlaceOrder};
 ghost use Rattle.canvas_doc.specs.Tree.{HavePlaces};
@@ -19,7 +19,7 @@ use crate::ancestry::{STEPS, is_container};
 use crate::deletion::{Lists, without_below, without_shape};
 use crate::edits::Change;
 use crate::kept_bounds::{bounds_for, raised};
-use crate::lookup::{locate, position_of};
+use crate::lookup::{Standing, locate, position_of};
 use crate::place_order::{children_range, position_in, position_without};
 use crate::placed_shapes::{PlacedShape, PlacedShapes};
 use crate::records::{ListedRecord, Parent, Place, Record, Records};
@@ -95,11 +95,11 @@ impl Document {
         requires fits { Fits change.now self.now }
         ensures { IfOk result (λ after. after ≡ effect_of change.now self.now) }
     {
-        let Some(at) = changed_position(&self.records, change) else {
+        let Some(found) = changed_record(&self.records, change) else {
             return self.try_clone(alloc);
         };
-        let old = self.records.at(at).value();
-        let new = ListedRecord::new(alloc, changed_by(alloc, old, change)?)?;
+        let at = found.at;
+        let new = ListedRecord::new(alloc, changed_by(alloc, found.shape, change)?)?;
         let records = self.records.with_replaced(alloc, at, new)?;
         let order = match change {
             Change::Move { .. } => self.moved(alloc, &records, at)?,
@@ -326,13 +326,13 @@ fn shown(alloc: Global, shape: &Record, hidden: bool) -> Result<Record, OutOfMem
     })
 }
 
-// The position of the only record that a change replaces, if there is one.
-pub(crate) fn changed_position(records: &Records, change: &Change) -> Option<usize>
+// The only record that a change replaces, and its position, if there is one.
+pub(crate) fn changed_record<'a>(records: &'a Records, change: &Change) -> Option<Standing<'a>>
     requires { AreRising records.now }
-    ensures { MatchOption result (map (changed_by change.now) records.now ≡ records.now) (λ at. ReplacesAt change.now records.now at) }
+    ensures { MatchOption result (map (changed_by change.now) records.now ≡ records.now) (λ found. Replaces change.now records.now found.at found.shape.now) }
 {
     match changed_id(change) {
-        Some(id) => position_of(records, id),
+        Some(id) => locate(records, id),
         None => None,
     }
 }

@@ -10,7 +10,7 @@ ghost use Rattle.canvas_doc.specs.Effect.{changed_by};
 
 use crate::Document;
 use crate::edits::Change;
-use crate::effects::{changed_by, changed_position};
+use crate::effects::{changed_by, changed_record};
 use crate::kept_bounds::{bounds_for, is_held_above};
 use crate::place_order::{position_in, position_without};
 use crate::placed_shapes::PlacedShape;
@@ -77,10 +77,11 @@ impl Document {
         requires fits { Fits change.now self.old }
         ensures { self.new ≡ cond result (effect_of change.now self.old) self.old }
     {
-        let Some(at) = changed_position(&self.records, change) else {
+        let Some(found) = changed_record(&self.records, change) else {
             return false;
         };
-        let Ok(new) = changed_by(alloc, self.records.at(at).value(), change) else {
+        let at = found.at;
+        let Ok(new) = changed_by(alloc, found.shape, change) else {
             return false;
         };
         let from = position_in(&self.order, &new.place);
@@ -112,14 +113,14 @@ impl Document {
         requires fits { Fits change.now self.old }
         ensures { self.new ≡ cond result (effect_of change.now self.old) self.old }
     {
-        let Some(at) = changed_position(&self.records, change) else {
+        let Some(found) = changed_record(&self.records, change) else {
             return false;
         };
-        let old = self.records.at(at).value();
-        let Ok(new) = changed_by(alloc, old, change) else {
+        let at = found.at;
+        let Ok(new) = changed_by(alloc, found.shape, change) else {
             return false;
         };
-        let from = position_in(&self.order, &old.place);
+        let from = position_in(&self.order, &found.shape.place);
         let to = position_without(&self.order, from, &new.place);
         let bounds = *self.order.bounds_at(from);
         if !is_held_above(&self.records, &self.order, &new, &bounds) {

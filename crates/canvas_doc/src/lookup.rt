@@ -9,7 +9,9 @@ use crate::records::{Record, Records, hint_of_id};
 /// A record, and where it stands among the records of its document.
 #[derive(Clone, Copy)]
 pub(crate) struct Standing<'a> {
+    /// Its position.
     pub(crate) at: usize,
+    /// The record.
     pub(crate) shape: &'a Record,
 }
 
@@ -18,9 +20,9 @@ pub(crate) fn locate(records: &Records, id: u32) -> Option<Standing<'_>>
     requires { AreRising records.now }
     ensures { MatchOption result (record_of id records.now ≡ None) (λ found. IsStanding records.now id found.at found.shape.now) }
 {
-    let found = records.found_near(hint_of_id(id), |shape| shape.value().id < id);
+    let found = records.found_near(hint_of_id(id), |shape| shape.id() < id);
     match found.item {
-        Some(shape) if shape.value().id == id => Some(Standing {
+        Some(shape) if shape.id() == id => Some(Standing {
             at: found.at,
             shape: shape.value(),
         }),

@@ -51,8 +51,8 @@ pub struct Record {
 /// after a change hold the very records that the change left as they were.
 pub(crate) type Records = SharedList<ListedRecord>;
 
-/// A record in such a list, seen as the record. Its id stands beside it, so that a search among the items of a
-/// list reads no record but those beside which it ends.
+/// A record in a list of records, seen as the record. Its id stands beside the pointer to it, so that a search by id
+/// reads no record but the one that it finds.
 #[derive(Drop)]
 pub(crate) struct ListedRecord {
     shape: Shared<Record>,
@@ -60,9 +60,14 @@ pub(crate) struct ListedRecord {
 }
 
 impl Model for ListedRecord {
+    ghost use Rattle.std.specs.Prelude.{◌≡◌};
+    ghost use Rattle.canvas_doc.specs.declared.records.Record.{Record};
+
     ghost Value = { Record };
 
     ghost view = { λ listed. listed.shape };
+
+    ghost invariant = { λ listed. listed.id ≡ listed.shape.id };
 }
 
 impl ListedRecord {
@@ -83,6 +88,14 @@ impl ListedRecord {
         ListedRecord { shape, id }
     }
 
+    /// The record's id, which is read without a look at the record.
+    #[inline(always)]
+    pub(crate) fn id(&self) -> u32
+        ensures { result ≡ self.now.id }
+    {
+        self.id
+    }
+
     /// The record.
     #[inline(always)]
     pub(crate) fn value(&self) -> &Record
@@ -100,7 +113,7 @@ impl ListedRecord {
     }
 }
 
-// Ids rise along the list of a document's records.
+// What a `Shared` record tells where it is an item itself.
 impl Hinted for Record {
     #[inline(always)]
     fn hint(&self) -> Hint {
@@ -108,6 +121,7 @@ impl Hinted for Record {
     }
 }
 
+// Ids rise along the list of a document's records.
 impl Share for ListedRecord {
     #[inline(always)]
     fn share(&self) -> Result<ListedRecord, OutOfMemory> {

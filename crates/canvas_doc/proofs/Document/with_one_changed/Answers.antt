@@ -1,4 +1,4 @@
-use Rattle.std.proofs.Common.{◌≡◌, ◌∙◌, ℕ, List, IfOk, ap, map, subst, sym, get_or}
+use Rattle.std.proofs.Common.{◌≡◌, ◌∙◌, ℕ, List, IfOk, ap, map, subst, sym, get_or, refl}
 use Rattle.std.proofs.lemmas.List.{get_or-map}
 use Rattle.canvas_doc.specs.declared.records.Record.{Record}
 use Rattle.canvas_doc.specs.declared.edits.Change.{Change}
@@ -24,14 +24,14 @@ pub moved-requires-clause-shape : goal.moved-requires-clause-shape
 moved-requires-clause-shape c =
     let ch : Change = c.args.change.now in
     let rs : List Record = c.self.inside.records in
-    let at : ℕ = c.in-Some.at in
+    let at : ℕ = c.in-Some.found.at in
     let e : rs ≡ c.args.self.now.records = ap (λ (d : Contents). d.records) c.self.view_is in
     let made : c.in_ok-records.records ≡ map (changed_by ch) rs =
-    made-whole ch rs c.in_ok-records.records at c.at.result.now c.value-old.result.now c.in_ok-new.new
-    c.in-Some.ensures c.at.ensures c.value-old.ensures c.in_ok-records.ensures (c.in_ok-new.ensures ∙ c.in_ok-changed_by.ensures) in
+    made-whole ch rs c.in_ok-records.records at c.in-Some.found.shape.now c.in-Some.found.shape.now c.in_ok-new.new
+    c.in-Some.ensures.there c.in-Some.ensures.is refl c.in_ok-records.ensures (c.in_ok-new.ensures ∙ c.in_ok-changed_by.ensures) in
     λ r.
     let new : changed_by (Move c.in-Move.id c.in-Move.place) (get_or rs at r) ≡ get_or c.in_ok-records.records at r =
-    ap (λ (k : Change). changed_by k (get_or rs at r)) (sym c.in-Move.is) ∙ sym (get_or-map (changed_by ch) rs at r r c.in-Some.ensures.there) ∙ ap (λ (l : List Record). get_or l at r) (sym made) in
+    ap (λ (k : Change). changed_by k (get_or rs at r)) (sym c.in-Move.is) ∙ sym (get_or-map (changed_by ch) rs at r r c.in-Some.ensures.there.there) ∙ ap (λ (l : List Record). get_or l at r) (sym made) in
     subst (λ (l : List Record). HaveOneShape (get_or l at r) (get_or c.in_ok-records.records at r)) e
     (subst (HaveOneShape (get_or rs at r)) new (shape-kept c.in-Move.id c.in-Move.place (get_or rs at r)))
 
@@ -39,8 +39,8 @@ pub moved-requires-clause-well_formed : goal.moved-requires-clause-well_formed
 moved-requires-clause-well_formed c =
     let inside : Contents = record { records = c.self.inside.records; next = c.self.inside.next } in
     let made : c.in_ok-records.records ≡ map (changed_by c.args.change.now) inside.records =
-    made-whole c.args.change.now c.self.inside.records c.in_ok-records.records c.in-Some.at c.at.result.now c.value-old.result.now c.in_ok-new.new
-    c.in-Some.ensures c.at.ensures c.value-old.ensures c.in_ok-records.ensures (c.in_ok-new.ensures ∙ c.in_ok-changed_by.ensures) in
+    made-whole c.args.change.now c.self.inside.records c.in_ok-records.records c.in-Some.found.at c.in-Some.found.shape.now c.in-Some.found.shape.now c.in_ok-new.new
+    c.in-Some.ensures.there c.in-Some.ensures.is refl c.in_ok-records.ensures (c.in_ok-new.ensures ∙ c.in_ok-changed_by.ensures) in
     let whole : record { records = c.in_ok-records.records; next = inside.next } ≡ effect_of c.args.change.now c.args.self.now =
     whole-is c.args.change.now inside c.args.self.now c.in_ok-records.records c.self.view_is c.requires.one made in
     let well : IsWellFormed (record { records = c.in_ok-records.records; next = inside.next }) = subst IsWellFormed (sym whole) c.requires.fits.left in
@@ -50,23 +50,23 @@ pub replaced-requires-clause-place : goal.replaced-requires-clause-place
 replaced-requires-clause-place c =
     let ch : Change = c.args.change.now in
     let rs : List Record = c.self.inside.records in
-    let at : ℕ = c.in-Some.at in
+    let at : ℕ = c.in-Some.found.at in
     let e : rs ≡ c.args.self.now.records = ap (λ (d : Contents). d.records) c.self.view_is in
     let made : c.in_ok-records.records ≡ map (changed_by ch) rs =
-    made-whole ch rs c.in_ok-records.records at c.at.result.now c.value-old.result.now c.in_ok-new.new
-    c.in-Some.ensures c.at.ensures c.value-old.ensures c.in_ok-records.ensures (c.in_ok-new.ensures ∙ c.in_ok-changed_by.ensures) in
+    made-whole ch rs c.in_ok-records.records at c.in-Some.found.shape.now c.in-Some.found.shape.now c.in_ok-new.new
+    c.in-Some.ensures.there c.in-Some.ensures.is refl c.in_ok-records.ensures (c.in_ok-new.ensures ∙ c.in_ok-changed_by.ensures) in
     λ r.
     ap (λ (l : List Record). (get_or l at r).place) (sym e)
     ∙ sym (place-kept ch c.in_default-change.not-Move (get_or rs at r))
-    ∙ ap (λ (x : Record). x.place) (sym (get_or-map (changed_by ch) rs at r r c.in-Some.ensures.there))
+    ∙ ap (λ (x : Record). x.place) (sym (get_or-map (changed_by ch) rs at r r c.in-Some.ensures.there.there))
     ∙ ap (λ (l : List Record). (get_or l at r).place) (sym made)
 
 pub replaced-requires-clause-well_formed : goal.replaced-requires-clause-well_formed
 replaced-requires-clause-well_formed c =
     let inside : Contents = record { records = c.self.inside.records; next = c.self.inside.next } in
     let made : c.in_ok-records.records ≡ map (changed_by c.args.change.now) inside.records =
-    made-whole c.args.change.now c.self.inside.records c.in_ok-records.records c.in-Some.at c.at.result.now c.value-old.result.now c.in_ok-new.new
-    c.in-Some.ensures c.at.ensures c.value-old.ensures c.in_ok-records.ensures (c.in_ok-new.ensures ∙ c.in_ok-changed_by.ensures) in
+    made-whole c.args.change.now c.self.inside.records c.in_ok-records.records c.in-Some.found.at c.in-Some.found.shape.now c.in-Some.found.shape.now c.in_ok-new.new
+    c.in-Some.ensures.there c.in-Some.ensures.is refl c.in_ok-records.ensures (c.in_ok-new.ensures ∙ c.in_ok-changed_by.ensures) in
     let whole : record { records = c.in_ok-records.records; next = inside.next } ≡ effect_of c.args.change.now c.args.self.now =
     whole-is c.args.change.now inside c.args.self.now c.in_ok-records.records c.self.view_is c.requires.one made in
     let well : IsWellFormed (record { records = c.in_ok-records.records; next = inside.next }) = subst IsWellFormed (sym whole) c.requires.fits.left in
@@ -76,8 +76,8 @@ pub invariant_of-result : goal.invariant_of-result
 invariant_of-result c =
     let inside : Contents = record { records = c.self.inside.records; next = c.self.inside.next } in
     let made : c.in_ok-records.records ≡ map (changed_by c.args.change.now) inside.records =
-    made-whole c.args.change.now c.self.inside.records c.in_ok-records.records c.in-Some.at c.at.result.now c.value-old.result.now c.in_ok-new.new
-    c.in-Some.ensures c.at.ensures c.value-old.ensures c.in_ok-records.ensures (c.in_ok-new.ensures ∙ c.in_ok-changed_by.ensures) in
+    made-whole c.args.change.now c.self.inside.records c.in_ok-records.records c.in-Some.found.at c.in-Some.found.shape.now c.in-Some.found.shape.now c.in_ok-new.new
+    c.in-Some.ensures.there c.in-Some.ensures.is refl c.in_ok-records.ensures (c.in_ok-new.ensures ∙ c.in_ok-changed_by.ensures) in
     let whole : record { records = c.in_ok-records.records; next = inside.next } ≡ effect_of c.args.change.now c.args.self.now =
     whole-is c.args.change.now inside c.args.self.now c.in_ok-records.records c.self.view_is c.requires.one made in
     let well : IsWellFormed (record { records = c.in_ok-records.records; next = inside.next }) = subst IsWellFormed (sym whole) c.requires.fits.left in
@@ -97,8 +97,8 @@ pub returns : goal.returns
 returns c =
     let inside : Contents = record { records = c.self.inside.records; next = c.self.inside.next } in
     let made : c.in_ok-records.records ≡ map (changed_by c.args.change.now) inside.records =
-    made-whole c.args.change.now c.self.inside.records c.in_ok-records.records c.in-Some.at c.at.result.now c.value-old.result.now c.in_ok-new.new
-    c.in-Some.ensures c.at.ensures c.value-old.ensures c.in_ok-records.ensures (c.in_ok-new.ensures ∙ c.in_ok-changed_by.ensures) in
+    made-whole c.args.change.now c.self.inside.records c.in_ok-records.records c.in-Some.found.at c.in-Some.found.shape.now c.in-Some.found.shape.now c.in_ok-new.new
+    c.in-Some.ensures.there c.in-Some.ensures.is refl c.in_ok-records.ensures (c.in_ok-new.ensures ∙ c.in_ok-changed_by.ensures) in
     let whole : record { records = c.in_ok-records.records; next = inside.next } ≡ effect_of c.args.change.now c.args.self.now =
     whole-is c.args.change.now inside c.args.self.now c.in_ok-records.records c.self.view_is c.requires.one made in
     whole
