@@ -140,6 +140,14 @@ module _ (d : Contents) (order : List Record) (bounds : List Bounds) (kept : IsK
       kept-is now (set order k s) made (set bounds k box) boxes f g
       (replaced-kept d order bounds kept now (subst (λ (l : List Record). IsWellFormed (record { records = l; next = d.next })) (sym e) well) s box at k within place p e suits above)
 
+  pub moved-if : (b : Bool) (r s : Record) (box : Bounds) (at k to : ℕ) → rs ≡ changed_if b (Replace s) at d.records → made ≡ cond b (insert (remove order k) to s) order → boxes ≡ cond b (insert (remove bounds k) to box) bounds → IsWellFormed (record { records = set d.records at s; next = d.next })
+      → at < length d.records → r ≡ get_or d.records at r → HaveOneShape r s → IsPlaceOf r.place order k → IsPlaceOf s.place (remove order k) to → box ≡ get_or bounds k box → IsHeldAbove order bounds s box → IsKeptInOrder (record { records = rs; next = d.next }) made boxes
+  moved-if false r s box at k to e f g well within here shape p q held above = stays e f g
+  moved-if true r s box at k to e f g well within here shape p q held above =
+      let now : Contents = record { records = rs; next = d.next } in
+      kept-is now (insert (remove order k) to s) made (insert (remove bounds k) to box) boxes f g
+      (moved-kept d order bounds kept now (subst (λ (l : List Record). IsWellFormed (record { records = l; next = d.next })) (sym e) well) r s box at k to within here shape p q e held above)
+
 -- ---- a shape below which nothing lies
 
 -- without it one record is gone

@@ -1,5 +1,5 @@
 -- Records by place and their bounds, as one list is read and changed.
-use Rattle.std.proofs.Common.{◌≡◌, ℕ, suc, ◌+◌, ◌-◌, ◌<◌, ◌≤◌, List, [], ◌∷◌, ◌++◌, Bool, true, false, ap, sym, subst, ◌∙◌, arith, map, length, get_or, set, take, drop}
+use Rattle.std.proofs.Common.{◌≡◌, ℕ, suc, ◌+◌, ◌-◌, ◌<◌, ◌≤◌, List, [], ◌∷◌, ◌++◌, Bool, true, false, cond, ap, sym, subst, ◌∙◌, arith, map, length, get_or, set, take, drop}
 use Rattle.std.specs.List.{AllWithin, insert, remove, take-map, drop-map}
 use Rattle.std.specs.List.Sorted.{IsPartitionPoint, IsPartitionedBy}
 use Rattle.std.proofs.Math.ListN.{get_or-map}
@@ -121,3 +121,15 @@ bounds-changed list new all at ch false e is = ap (map bounds_of) is ∙ bounds-
 bounds-changed list new all at (Replace placed) true e is = ap (map bounds_of) is ∙ map-set bounds_of list at placed ∙ ap (λ l. set l at placed.bounds) (bounds-are list all e)
 bounds-changed list new all at Remove true e is = ap (map bounds_of) is ∙ map-remove bounds_of list at ∙ ap (λ l. remove l at) (bounds-are list all e)
 bounds-changed list new all at (Insert placed) true e is = ap (map bounds_of) is ∙ map-insert bounds_of list at placed ∙ ap (λ l. insert l at placed.bounds) (bounds-are list all e)
+
+-- ---- a move in place
+
+pub shapes-moved : (list new : List PlacedShape) (all : Placements) (from to : ℕ) (placed : PlacedShape) (made : Bool) → placements_of list ≡ all → new ≡ cond made (insert (remove list from) to placed) list → map shape_of new ≡ cond made (insert (remove all.shapes from) to placed.shape) all.shapes
+shapes-moved list new all from to placed false e is = ap (map shape_of) is ∙ shapes-are list all e
+shapes-moved list new all from to placed true e is =
+    ap (map shape_of) is ∙ map-insert shape_of (remove list from) to placed ∙ ap (λ l. insert l to placed.shape) (map-remove shape_of list from ∙ ap (λ l. remove l from) (shapes-are list all e))
+
+pub bounds-moved : (list new : List PlacedShape) (all : Placements) (from to : ℕ) (placed : PlacedShape) (made : Bool) → placements_of list ≡ all → new ≡ cond made (insert (remove list from) to placed) list → map bounds_of new ≡ cond made (insert (remove all.bounds from) to placed.bounds) all.bounds
+bounds-moved list new all from to placed false e is = ap (map bounds_of) is ∙ bounds-are list all e
+bounds-moved list new all from to placed true e is =
+    ap (map bounds_of) is ∙ map-insert bounds_of (remove list from) to placed ∙ ap (λ l. insert l to placed.bounds) (map-remove bounds_of list from ∙ ap (λ l. remove l from) (bounds-are list all e))

@@ -105,8 +105,7 @@ impl Document {
         )
     }
 
-    // Moves a shape, if its new group's bounds hold it: the order is a new list, and the records are changed in
-    // place.
+    // Moves a shape, if its new group's bounds hold it.
     fn move_in_place(&mut self, alloc: Global, change: &Change) -> bool
         requires one { changes_one change.now ≡ true }
         requires shape { (r : Record) → HaveOneShape r (changed_by change.now r) }
@@ -132,14 +131,16 @@ impl Document {
         let Ok(shape) = new.shared() else {
             return false;
         };
-        let Ok(order) = self.order.with_moved(alloc, from, to, shape, bounds) else {
-            return false;
-        };
-        if !self.records.change(at, ItemChange::Replace(new)) {
-            return false;
-        }
-        self.order = order;
-        true
+        let placed = PlacedShape::new(shape, bounds);
+        self.order.move_both(
+            alloc,
+            from,
+            to,
+            placed,
+            &mut self.records,
+            at,
+            ItemChange::Replace(new),
+        )
     }
 
     // Adds a record, which its group's bounds hold.

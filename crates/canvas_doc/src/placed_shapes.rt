@@ -1,6 +1,6 @@
 //! The records of a document by place, each with its bounds.
 
-ghost use Rattle.std.specs.Prelude.{◌≡◌, ◌≤◌, ◌<◌, ◌+◌, ◌++◌, ◌^◌, [], IfOk, drop, length, map, slice_index_or, slice_set, take};
+ghost use Rattle.std.specs.Prelude.{◌≡◌, ◌≤◌, ◌<◌, ◌+◌, ◌++◌, ◌^◌, [], IfOk, cond, drop, length, map, slice_index_or, slice_set, take};
 ghost use Rattle.std.specs.List.{insert, remove, slice_get};
 ghost use Rattle.std.specs.Option.{option_copied};
 ghost use Rattle.canvas_list.specs.Changed.{changed_if, IsPositionOf};
@@ -249,6 +249,29 @@ impl PlacedShapes {
     {
         self.list
             .change_both(at, change, records, other_at, other_change)
+    }
+
+    /// Takes the record at `from` away with its bounds, and puts others in front of what then stands at `to`, or at the
+    /// end, together with a change of other records: both are made in place, or neither.
+    pub(crate) fn move_both(
+        &mut self,
+        alloc: Global,
+        from: usize,
+        to: usize,
+        placed: PlacedShape,
+        records: &mut Records,
+        other_at: usize,
+        other_change: ItemChange<ListedRecord>,
+    ) -> bool
+        requires from { from < length self.old.shapes }
+        requires to { to < length self.old.shapes }
+        requires other { IsPositionOf other_change other_at records.old }
+        ensures shapes { self.new.shapes ≡ cond result (insert (remove self.old.shapes from) to placed.shape) self.old.shapes }
+        ensures bounds { self.new.bounds ≡ cond result (insert (remove self.old.bounds from) to placed.bounds) self.old.bounds }
+        ensures other { records.new ≡ changed_if result other_change other_at records.old }
+    {
+        self.list
+            .move_both(alloc, from, to, placed, records, other_at, other_change)
     }
 
     /// The same with others in place of those from `first` up to `end`, which itself stays.

@@ -13,7 +13,7 @@ use Rattle.canvas_list.proofs.Joined.{len-is, split_at}
 use Rattle.canvas_list.proofs.Spliced.{inserted, parts, removed, replaced, IsOfSpot}
 
 -- the items of a table, one of whose parts is another
-other-part : {X : Type 0} (cs : List (List X)) (k : ℕ) (new : List X) → k < length cs → joined (set cs k new) ≡ joined (take k cs) ++ new ++ joined (drop (k + 1) cs)
+pub other-part : {X : Type 0} (cs : List (List X)) (k : ℕ) (new : List X) → k < length cs → joined (set cs k new) ≡ joined (take k cs) ++ new ++ joined (drop (k + 1) cs)
 other-part cs k new h =
     split_at (set cs k new) k new (omega (arith, length-set cs k new))
     ∙ ap (λ l. joined l ++ (get_or (set cs k new) k new ++ joined (drop (k + 1) (set cs k new)))) (take-set cs k new)

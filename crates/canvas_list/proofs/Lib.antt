@@ -2,6 +2,7 @@ pub mod Between
 pub mod Blocks
 pub mod InPlace
 pub mod Joined
+mod Moved
 pub mod Parted
 pub mod Runs
 pub mod Spliced

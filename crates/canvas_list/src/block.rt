@@ -1,7 +1,7 @@
 //! Chunks side by side, shared by all lists that have them.
 
-ghost use Rattle.std.specs.Prelude.{◌≡◌, ◌<◌, ◌^◌, IfOk, length};
-ghost use Rattle.std.specs.List.{slice_get};
+ghost use Rattle.std.specs.Prelude.{◌≡◌, ◌<◌, ◌^◌, IfOk, IfSome, cond, length};
+ghost use Rattle.std.specs.List.{insert, remove, slice_get};
 ghost use Rattle.canvas_list.specs.Chunks.{joined, FitsChunk};
 ghost use Rattle.canvas_list.specs.Changed.{changed_if, IsPositionOf};
 
@@ -113,6 +113,57 @@ impl<T: Share> Block<T> {
             self.hint = chunks.first().hint();
         }
         made
+    }
+
+    /// Takes the item at `from` away and puts another in front of what then stands at `to`, or at the end, together
+    /// with a change of a list: both are made in place, or neither. A chunk gets so many items.
+    pub(crate) fn move_both<U: Share>(
+        &mut self,
+        alloc: Global,
+        from: usize,
+        to: usize,
+        item: T,
+        per_chunk: usize,
+        other: &mut SharedList<U>,
+        other_at: usize,
+        other_change: ItemChange<U>,
+    ) -> bool
+        requires chunk { FitsChunk per_chunk }
+        requires from { from < length self.old }
+        requires to { to < length self.old }
+        requires other { IsPositionOf other_change other_at other.old }
+        ensures items { self.new ≡ cond result (insert (remove self.old from) to item) self.old }
+        ensures other { other.new ≡ changed_if result other_change other_at other.old }
+    {
+        let Some(chunks) = Arc::get_mut(&mut self.chunks) else {
+            return false;
+        };
+        let made = chunks.move_both(
+            alloc,
+            from,
+            to,
+            item,
+            per_chunk,
+            other,
+            other_at,
+            other_change,
+        );
+        self.hint = chunks.first().hint();
+        made
+    }
+
+    /// The block without an item, if another one is left and memory is not refused. A chunk gets so many items.
+    pub(crate) fn without(&self, alloc: Global, at: usize, per_chunk: usize) -> Option<Block<T>>
+        requires chunk { FitsChunk per_chunk }
+        requires within { at < length self.now }
+        ensures items { IfSome result (λ block. block ≡ remove self.now at) }
+        ensures some { IfSome result (λ block. 0 < length block) }
+    {
+        let left = self.chunks().without(alloc, at, per_chunk).ok()?;
+        if left.len() == 0 {
+            return None;
+        }
+        Block::new(alloc, left).ok()
     }
 
     /// The first item.

@@ -1,7 +1,7 @@
 //! Items side by side, shared by all lists that have them.
 
-ghost use Rattle.std.specs.Prelude.{◌≡◌, ◌<◌, ◌≤◌, ◌++◌, IfOk, OnOk, length};
-ghost use Rattle.std.specs.List.{slice_get};
+ghost use Rattle.std.specs.Prelude.{◌≡◌, ◌<◌, ◌≤◌, ◌++◌, IfOk, IfSome, OnOk, cond, length};
+ghost use Rattle.std.specs.List.{insert, remove, slice_get};
 ghost use Rattle.canvas_list.specs.Chunks.{joined, FitsChunk};
 ghost use Rattle.canvas_list.specs.Changed.{changed_if, IsPositionOf};
 
@@ -122,6 +122,51 @@ impl<T: Share> Chunk<T> {
             self.hint = items[0].hint();
         }
         true
+    }
+
+    /// Takes the item at `from` away and puts another in front of what then stands at `to`, or at the end, together
+    /// with a change of a list: both are made in place, or neither.
+    pub(crate) fn move_both<U: Share>(
+        &mut self,
+        from: usize,
+        to: usize,
+        item: T,
+        other: &mut SharedList<U>,
+        other_at: usize,
+        other_change: ItemChange<U>,
+    ) -> bool
+        requires from { from < length self.old }
+        requires to { to < length self.old }
+        requires other { IsPositionOf other_change other_at other.old }
+        ensures items { self.new ≡ cond result (insert (remove self.old from) to item) self.old }
+        ensures other { other.new ≡ changed_if result other_change other_at other.old }
+    {
+        let Some(items) = Arc::get_mut(&mut self.items) else {
+            return false;
+        };
+        if !other.change(other_at, other_change) {
+            return false;
+        }
+        items.remove(from);
+        // There is room, so it can't fail.
+        let _ = items.insert(to, item);
+        self.hint = items[0].hint();
+        true
+    }
+
+    /// The chunk without an item, if another one is left and memory is not refused.
+    pub(crate) fn without(&self, alloc: Global, at: usize) -> Option<Chunk<T>>
+        requires { at < length self.now }
+        ensures items { IfSome result (λ chunk. chunk ≡ remove self.now at) }
+        ensures some { IfSome result (λ chunk. 0 < length chunk) }
+    {
+        if self.items.len() == 1 {
+            return None;
+        }
+        let mut items = Vec::with_capacity(alloc, self.items.len()).ok()?;
+        push_shared(&mut items, &self.items).ok()?;
+        items.remove(at);
+        Chunk::new(alloc, items).ok()
     }
 
     /// The first item.

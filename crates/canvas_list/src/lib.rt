@@ -12,6 +12,7 @@ mod hint;
 mod in_place;
 mod items;
 mod made;
+mod moves;
 mod reader;
 mod search;
 mod share;

@@ -1,11 +1,13 @@
-use Rattle.std.proofs.Common.{◌≡◌, ◌<◌, List, arith, length, refl, set, subst, sym}
+use Rattle.std.proofs.Common.{◌≡◌, ◌∙◌, ◌<◌, List, arith, cond, length, refl, subst}
 use Rattle.std.specs.List.{insert, remove}
 use Rattle.std.proofs.lemmas.List.Edits.{length-remove}
+use Rattle.canvas_list.specs.declared.in_place.ItemChange.TheVariants.{Replace}
+use Rattle.canvas_list.specs.Changed.{changed_if}
+use Rattle.canvas_doc.specs.declared.bounds.Bounds.{Bounds}
 use Rattle.canvas_doc.specs.declared.records.Record.{Record}
 use Rattle.canvas_doc.specs.Bounds.{HaveOneShape}
-use Rattle.canvas_doc.specs.Contents.{Contents, IsWellFormed}
-use Rattle.canvas_doc.specs.PlaceOrder.{IsPlaceOf}
-use Rattle.canvas_doc.proofs.InPlace.{kept-is, moved-kept, one-is, one-shape, one-well}
+use Rattle.canvas_doc.specs.Contents.{Contents}
+use Rattle.canvas_doc.proofs.InPlace.{moved-if, one-if, one-shape, one-well}
 use Rattle.canvas_doc.proofs.Reordered.{seen-at}
 use Rattle.canvas_doc.proofs.Document.move_in_place.Goals as goal
 
@@ -19,40 +21,39 @@ bounds_at-requires c =
     (seen-at c.self.inside.order.shapes c.self.inside.records c.self.inside.records c.in-Some.found.shape.now c.in-Some.found.shape.now c.in-Some.found.at c.position_in-from.result
     c.self.invariant.in_order refl c.in-Some.ensures.there.there c.in-Some.ensures.is refl c.position_in-from.ensures).within
 
-pub with_moved-requires-clause-from : goal.with_moved-requires-clause-from
-with_moved-requires-clause-from c =
+pub move_both-requires-clause-from : goal.move_both-requires-clause-from
+move_both-requires-clause-from c =
     (seen-at c.self.inside.order.shapes c.self.inside.records c.self.inside.records c.in-Some.found.shape.now c.in-Some.found.shape.now c.in-Some.found.at c.position_in-from.result
     c.self.invariant.in_order refl c.in-Some.ensures.there.there c.in-Some.ensures.is refl c.position_in-from.ensures).within
 
-pub with_moved-requires-clause-to : goal.with_moved-requires-clause-to
-with_moved-requires-clause-to c =
+pub move_both-requires-clause-to : goal.move_both-requires-clause-to
+move_both-requires-clause-to c =
     let within : c.position_in-from.result < length c.self.inside.order.shapes =
     (seen-at c.self.inside.order.shapes c.self.inside.records c.self.inside.records c.in-Some.found.shape.now c.in-Some.found.shape.now c.in-Some.found.at c.position_in-from.result
     c.self.invariant.in_order refl c.in-Some.ensures.there.there c.in-Some.ensures.is refl c.position_in-from.ensures).within in
     omega (arith, c.position_without-to.ensures.bound, length-remove c.self.inside.order.shapes c.position_in-from.result within)
 
-pub invariant_of-self-2 : goal.invariant_of-self-2
-invariant_of-self-2 c =
+pub invariant_of-self : goal.invariant_of-self
+invariant_of-self c =
     let d : Contents = record { records = c.self.inside.records; next = c.self.inside.next } in
     let order : List Record = c.self.inside.order.shapes in
+    let bounds : List Bounds = c.self.inside.order.bounds in
     let r : Record = c.in-Some.found.shape.now in
     let s : Record = c.in-Ok.new in
+    let at = c.in-Some.found.at in
     let k = c.position_in-from.result in
     let to = c.position_without-to.result in
-    let made : c.change.new.self ≡ set d.records c.in-Some.found.at s = subst (λ (x : Record). c.change.new.self ≡ set d.records c.in-Some.found.at x) c.in-Ok-new.ensures c.if-not-change.ensures in
-    let now : Contents = record { records = c.change.new.self; next = d.next } in
-    let well : IsWellFormed now = subst (λ (l : List Record). IsWellFormed (record { records = l; next = d.next })) (sym made)
-    (one-well c.args.change.now d c.args.self.now c.in-Some.found.at r c.in-Some.found.shape.now s c.self.view_is c.requires.one c.in-Some.ensures.there c.in-Some.ensures.is refl c.in-Ok.ensures c.requires.fits.left) in
-    let shape : HaveOneShape r s = one-shape c.args.change.now d c.args.self.now c.in-Some.found.at r c.in-Some.found.shape.now s c.self.view_is c.requires.one c.in-Some.ensures.there c.in-Some.ensures.is refl c.in-Ok.ensures c.requires.shape in
-    kept-is now (insert (remove order k) to s) c.in-Ok-with_moved.order.shapes (insert (remove c.self.inside.order.bounds k) to c.bounds_at.result.now) c.in-Ok-with_moved.order.bounds
-    (subst (λ (x : Record). c.in-Ok-with_moved.order.shapes ≡ insert (remove order k) to x) c.in-Ok-new.ensures
-    (subst (λ (x : Record). c.in-Ok-with_moved.order.shapes ≡ insert (remove order k) to x) c.in-Ok-shared.ensures c.in-Ok-with_moved.ensures.shapes))
-    c.in-Ok-with_moved.ensures.bounds
-    (moved-kept d order c.self.inside.order.bounds c.self.invariant now well r s c.bounds_at.result.now c.in-Some.found.at k to c.in-Some.ensures.there.there c.in-Some.ensures.is shape
-    (c.position_in-from.ensures) c.position_without-to.ensures made c.bounds_at.ensures (c.if-not-is_held_above.ensures refl))
+    let made = c.move_both.result in
+    let shape : HaveOneShape r s = one-shape c.args.change.now d c.args.self.now at r r s c.self.view_is c.requires.one c.in-Some.ensures.there c.in-Some.ensures.is refl c.in-Ok.ensures c.requires.shape in
+    moved-if d order bounds c.self.invariant c.move_both.new.records c.move_both.new.self.shapes c.move_both.new.self.bounds made r s c.bounds_at.result.now at k to
+    (subst (λ (x : Record). c.move_both.new.records ≡ changed_if made (Replace x) at d.records) c.in-Ok-new.ensures c.move_both.ensures.other)
+    (subst (λ (x : Record). c.move_both.new.self.shapes ≡ cond made (insert (remove order k) to x) order) (c.new-placed.ensures.shape ∙ c.in-Ok-shared.ensures ∙ c.in-Ok-new.ensures) c.move_both.ensures.shapes)
+    (subst (λ (b : Bounds). c.move_both.new.self.bounds ≡ cond made (insert (remove bounds k) to b) bounds) c.new-placed.ensures.bounds c.move_both.ensures.bounds)
+    (one-well c.args.change.now d c.args.self.now at r r s c.self.view_is c.requires.one c.in-Some.ensures.there c.in-Some.ensures.is refl c.in-Ok.ensures c.requires.fits.left)
+    c.in-Some.ensures.there.there c.in-Some.ensures.is shape c.position_in-from.ensures c.position_without-to.ensures c.bounds_at.ensures (c.if-not-is_held_above.ensures refl)
 
 pub returns : goal.returns
 returns c =
-    let d : Contents = record { records = c.self.inside.records; next = c.self.inside.next } in
-    let made : c.change.new.self ≡ set d.records c.in-Some.found.at c.in-Ok.new = subst (λ (x : Record). c.change.new.self ≡ set d.records c.in-Some.found.at x) c.in-Ok-new.ensures c.if-not-change.ensures in
-    one-is c.args.change.now d c.args.self.now c.in-Some.found.at c.in-Some.found.shape.now c.in-Some.found.shape.now c.in-Ok.new c.self.view_is c.requires.one c.in-Some.ensures.there c.in-Some.ensures.is refl c.in-Ok.ensures c.change.new.self made
+    one-if c.args.change.now (record { records = c.self.inside.records; next = c.self.inside.next }) c.args.self.now c.in-Some.found.at c.in-Some.found.shape.now c.in-Some.found.shape.now c.in-Ok.new
+    c.self.view_is c.requires.one c.in-Some.ensures.there c.in-Some.ensures.is refl c.in-Ok.ensures c.move_both.result c.move_both.new.records
+    (subst (λ (x : Record). c.move_both.new.records ≡ changed_if c.move_both.result (Replace x) c.in-Some.found.at c.self.inside.records) c.in-Ok-new.ensures c.move_both.ensures.other)
