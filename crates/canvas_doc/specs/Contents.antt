@@ -21,7 +21,7 @@ record_of id rs = find (λ r. r.id == id) rs
 abbrev pub StandsAt : List Record → ℕ → ℕ → Type 0
 StandsAt rs id at = (at < length rs) × ((d : Record) → record_of id rs ≡ Some (slice_index_or rs at d))
 
--- and it is this one
+-- the record at a position has the id, and is this one
 pub record IsStanding (rs : List Record) (id at : ℕ) (shape : Record) : Type 0 where
   pub there : StandsAt rs id at
   pub found : record_of id rs ≡ Some shape

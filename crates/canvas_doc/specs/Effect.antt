@@ -79,7 +79,7 @@ pub record ReplacesAt (c : Change) (rs : List Record) (at : ℕ) : Type 0 where
   pub there : at < length rs
   pub only : (d : Record) → map (changed_by c) rs ≡ slice_set rs at (changed_by c (slice_index_or rs at d))
 
--- and it is this one
+-- the change replaces the record at a position, which is this one
 pub record Replaces (c : Change) (rs : List Record) (at : ℕ) (shape : Record) : Type 0 where
   pub there : ReplacesAt c rs at
   pub is : shape ≡ slice_index_or rs at shape

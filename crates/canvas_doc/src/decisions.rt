@@ -1,20 +1,19 @@
 //! What is decided of an edit.
 
 ghost use Rattle.std.specs.Prelude.{◌≡◌, IfOk, false};
-ghost use Rattle.std.specs.Option.{option_copied};
 ghost use Rattle.canvas_plane.specs.Limits.{is_pose};
 ghost use Rattle.canvas_shape.specs.Limits.{takes_memory};
 ghost use Rattle.canvas_key.specs.Text.{IsKey};
 ghost use Rattle.canvas_doc.specs.Contents.{AreRising, IsWellFormed};
 ghost use Rattle.canvas_doc.specs.Effect.{Fits, HasKey};
-ghost use Rattle.canvas_doc.specs.Decision.{same_variant, is_another_kind, move_index, create_index, move_decision, pose_decision, reshape_judgement, reshape_decision, show_decision, delete_decision, respace_decision, decision_of, asks_memory, IsAnswer};
+ghost use Rattle.canvas_doc.specs.Decision.{same_variant, move_index, create_index, move_decision, pose_decision, reshape_judgement, reshape_decision, show_decision, delete_decision, respace_decision, decision_of, asks_memory, IsAnswer};
 
 use crate::ancestry::{
     STEPS, can_have_children, has_parent, has_shape, is_above_32, is_below, reaches_page,
 };
 use crate::edits::{Change, Edit, Spot};
 use crate::lookup::find;
-use crate::records::{Parent, Place, Record, Records};
+use crate::records::{Parent, Place, Records};
 use crate::refusals::Refusal;
 use crate::spots::index_at;
 use crate::{Document, MOST_RECORDS};

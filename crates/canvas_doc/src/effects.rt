@@ -12,7 +12,6 @@ ghost use Rattle.canvas_doc.specs.declared.records.Record.{Record};
 ghost use Rattle.canvas_doc.specs.Effect.{changed_by, respaced, Replaces};
 ghost use Rattle.canvas_doc.specs.Placements.{placements_of};
 ghost use Rattle.canvas_doc.specs.PlaceOrder.{comes_first, AreChildrenWithin, IsInPlaceOrder};
-ghost use Rattle.canvas_doc.specs.Tree.{HavePlaces};
 
 use crate::Document;
 use crate::ancestry::{STEPS, is_container};

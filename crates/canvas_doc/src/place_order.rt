@@ -9,11 +9,10 @@ ghost use Rattle.canvas_doc.specs.Listed.{holder_of};
 ghost use Rattle.canvas_doc.specs.PlaceOrder.{by_parent, by_place, comes_first, AreChildrenWithin, IsInPlaceOrder, IsPlaceOf};
 ghost use Rattle.canvas_doc.specs.Tree.{HavePlaces};
 
-use crate::bounds::Bounds;
-use crate::placed_shapes::{PlacedShape, PlacedShapes};
+use crate::placed_shapes::PlacedShapes;
 use crate::records::{Parent, Place, Record, Records};
 use canvas_code::OutOfMemory;
-use canvas_list::{Hint, Share, Shared};
+use canvas_list::{Hint, Shared};
 use std::alloc::Global;
 use std::cmp::Ordering;
 use std::ops::Range;

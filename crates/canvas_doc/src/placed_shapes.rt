@@ -1,6 +1,6 @@
 //! The records of a document by place, each with its bounds.
 
-ghost use Rattle.std.specs.Prelude.{◌≡◌, ◌≤◌, ◌<◌, ◌+◌, ◌++◌, ◌^◌, [], IfOk, cond, drop, length, map, slice_index_or, slice_set, take};
+ghost use Rattle.std.specs.Prelude.{◌≡◌, ◌≤◌, ◌<◌, ◌+◌, ◌++◌, ◌^◌, [], IfOk, cond, drop, length, slice_index_or, slice_set, take};
 ghost use Rattle.std.specs.List.{insert, remove, slice_get};
 ghost use Rattle.std.specs.Option.{option_copied};
 ghost use Rattle.canvas_list.specs.Changed.{changed_if, IsPositionOf};

@@ -6,7 +6,6 @@ ghost use Rattle.std.specs.List.{insert, remove};
 ghost use Rattle.canvas_list.specs.Chunks.{FitsChunk};
 ghost use Rattle.canvas_list.specs.Changed.{changed_if, IsPositionOf};
 
-use crate::block::Block;
 use crate::chunks::{Chunks, small_about};
 use crate::counted::spot_of;
 use crate::in_place::ItemChange;

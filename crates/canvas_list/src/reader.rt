@@ -1,6 +1,6 @@
 //! Reading a list at positions that often stand side by side.
 
-ghost use Rattle.std.specs.Prelude.{◌≡◌, ◌<◌, ◌≤◌, ◌+◌, ◌^◌, IfSome, length, slice_index_or, true};
+ghost use Rattle.std.specs.Prelude.{◌≡◌, ◌<◌, ◌≤◌, ◌+◌, ◌^◌, IfSome, length, slice_index_or};
 ghost use Rattle.canvas_list.specs.Chunks.{IsRun};
 
 use crate::chunks::Chunks;

@@ -42,15 +42,15 @@ impl<T: Share> SharedList<T> {
 /// Where the items that pass a test end in a list, and the item there, if that is not the end of the list.
 #[derive(Drop)]
 pub struct Found<'a, T> {
-    /// How many items pass.
+    /// How many items pass, 0 to the list's length.
     pub at: usize,
-    /// The first one that fails.
+    /// The first one that fails; none where all pass.
     pub item: Option<&'a T>,
 }
 
 impl<T: Share> SharedList<T> {
-    /// The same, begun where a hint points to: it is quick where the items that pass are those whose hints come
-    /// before it.
+    /// Where the items that pass a test end, as by `partition_point`, sought from where a hint points to: it is quick
+    /// where those that pass are the items whose hints come before it.
     #[inline(always)]
     pub fn partition_point_near<P: Fn(&T) -> bool>(&self, hint: Hint, pred: P) -> usize
         requires { P.IsAlwaysCallable pred }
@@ -60,7 +60,7 @@ impl<T: Share> SharedList<T> {
         self.found_near(hint, pred).at
     }
 
-    /// The same with the item that stands there.
+    /// The same as `partition_point_near`, with the item that stands there.
     #[inline(always)]
     pub fn found_near<P: Fn(&T) -> bool>(&self, hint: Hint, pred: P) -> Found<'_, T>
         requires { P.IsAlwaysCallable pred }

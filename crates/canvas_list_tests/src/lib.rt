@@ -12,6 +12,8 @@ mod made;
 #[cfg(test)]
 mod memory;
 #[cfg(test)]
+mod moves;
+#[cfg(test)]
 mod numbers;
 #[cfg(test)]
 mod picks;

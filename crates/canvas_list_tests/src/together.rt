@@ -15,7 +15,7 @@ use std::process::Abort;
 use std::test::Fail;
 
 // Whether lists have the numbers of their plain ones, as a reader reads them.
-fn have(first: &Both, second: &Both) -> bool {
+pub(crate) fn have(first: &Both, second: &Both) -> bool {
     first.list.len() == first.plain.len()
         && second.list.len() == second.plain.len()
         && reads_on(&first.list, &first.plain)

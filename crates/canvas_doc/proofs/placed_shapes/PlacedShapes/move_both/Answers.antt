@@ -1,4 +1,4 @@
-use Rattle.std.proofs.Common.{ap, arith, length}
+use Rattle.std.proofs.Common.{arith}
 use Rattle.canvas_doc.proofs.Placements.{bounds-moved, long, shapes-moved}
 use Rattle.canvas_doc.proofs.placed_shapes.PlacedShapes.move_both.Goals as goal
 

@@ -1,5 +1,4 @@
-use Rattle.std.proofs.lemmas.Fn.{always_returns_same}
-use Rattle.canvas_list.proofs.Parted.{answers, point-is}
+use Rattle.canvas_list.proofs.Parted.{point-is}
 use Rattle.canvas_list.proofs.Runs.{parted-run}
 use Rattle.canvas_list.proofs.table.SharedList.found_near.Goals as goal
 

@@ -1,7 +1,6 @@
-use Rattle.std.proofs.Common.{◌∙◌, ap, arith, cond, get_or, refl, sym}
+use Rattle.std.proofs.Common.{◌∙◌, ap, cond, get_or, refl, sym}
 use Rattle.std.specs.List.{insert, remove}
 use Rattle.canvas_list.proofs.Blocks.{of-block}
-use Rattle.canvas_list.proofs.Joined.{len-is}
 use Rattle.canvas_list.proofs.Moved.{goal-fits, is-move, items-within, moved-apart, same-part, table-apart, table-within}
 use Rattle.canvas_list.proofs.table.SharedList.move_both.Goals as goal
 
