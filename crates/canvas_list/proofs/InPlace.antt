@@ -10,7 +10,7 @@ use Rattle.canvas_list.specs.Changed.{changed_if, IsPositionOf}
 use Rattle.canvas_list.specs.Chunks.{joined, IsSpot, IsTable}
 use Rattle.canvas_list.proofs.Blocks.{of-block}
 use Rattle.canvas_list.proofs.Joined.{len-is, split_at}
-use Rattle.canvas_list.proofs.Spliced.{inserted, parts, removed, replaced, IsOfSpot}
+use Rattle.canvas_list.proofs.Spliced.{inserted, removed, replaced, IsOfSpot}
 
 -- the items of a table, one of whose parts is another
 pub other-part : {X : Type 0} (cs : List (List X)) (k : ℕ) (new : List X) → k < length cs → joined (set cs k new) ≡ joined (take k cs) ++ new ++ joined (drop (k + 1) cs)

@@ -11,7 +11,7 @@ use crate::counted::spot_of;
 use crate::in_place::ItemChange;
 use crate::share::Share;
 use crate::sizes::PartSizes;
-use crate::table::SharedList;
+use crate::table::{SharedList, small_blocks_about};
 use std::alloc::Global;
 use std::marker::Model;
 
@@ -100,7 +100,7 @@ impl<T: Share> SharedList<T> {
         ensures items { self.new ≡ cond result (insert (remove self.old from) to item) self.old }
         ensures other { other.new ≡ changed_if result other_change other_at other.old }
     {
-        let per_chunk = PartSizes::of(self.len()).per_chunk;
+        let sizes = PartSizes::of(self.len());
         let place = place_before(from, to);
         let source = spot_of(&self.blocks, from);
         let target = spot_of(&self.blocks, place);
@@ -110,20 +110,24 @@ impl<T: Share> SharedList<T> {
                 from - source.start,
                 to - source.start,
                 item,
-                per_chunk,
+                sizes.per_chunk,
                 other,
                 other_at,
                 other_change,
             );
         }
-        let Some(left) = self.blocks[source.chunk].without(alloc, from - source.start, per_chunk)
-        else {
+        let part = small_blocks_about(&self.blocks, source.chunk, sizes.per_block);
+        if part.end - part.first > 1 {
+            return false;
+        }
+        let before = from - source.start;
+        let Some(left) = self.blocks[source.chunk].without(alloc, before, sizes.per_chunk) else {
             return false;
         };
         let made = self.blocks[target.chunk].change_both(
             place - target.start,
             ItemChange::Insert(item),
-            per_chunk,
+            sizes.per_chunk,
             other,
             other_at,
             other_change,

@@ -252,7 +252,7 @@ impl<T: Share> SharedList<T> {
     {
         let spot = spot_of(&self.blocks, at);
         let sizes = PartSizes::of(self.len());
-        let part = small_about(&self.blocks, spot.chunk, sizes.per_block);
+        let part = small_blocks_about(&self.blocks, spot.chunk, sizes.per_block);
         let place = at - count_of(&self.blocks[..part.first]);
         let new = without_in(
             alloc,
@@ -386,8 +386,12 @@ fn have_few_chunks<T: Share>(blocks: &[Block<T>], per_block: usize) -> bool {
     chunks / blocks.len().max(1) < per_block.saturating_mul(7) / 8
 }
 
-// A block, with one beside it if both are small.
-fn small_about<T: Share>(blocks: &[Block<T>], block: usize, per_block: usize) -> Part
+/// A block, with one beside it if both are small.
+pub(crate) fn small_blocks_about<T: Share>(
+    blocks: &[Block<T>],
+    block: usize,
+    per_block: usize,
+) -> Part
     requires { block < length blocks.now }
     ensures first { result.first ≤ block }
     ensures end { block < result.end }
