@@ -4,7 +4,7 @@ ghost use Rattle.std.specs.Prelude.{◌≡◌, ◌<◌, ◌≤◌, ◌+◌, ◌^
 ghost use Rattle.canvas_list.specs.Chunks.{IsRun};
 
 use crate::chunks::Chunks;
-use crate::counted::{spot_near, spot_of};
+use crate::counted::{Counted, spot_near, spot_of};
 use crate::hint::Hint;
 use crate::share::Share;
 use crate::table::SharedList;
@@ -53,6 +53,8 @@ impl<'a, T: Share> Reader<'a, T> {
 pub(crate) struct Run<'a, T> {
     pub(crate) items: &'a [T],
     pub(crate) start: usize,
+    // What the table notes of the first one.
+    pub(crate) hint: Hint,
 }
 
 impl<T: Share> SharedList<T> {
@@ -79,6 +81,7 @@ impl<T: Share> SharedList<T> {
         Run {
             items: run.items,
             start: spot.start + run.start,
+            hint: run.hint,
         }
     }
 
@@ -96,6 +99,7 @@ impl<T: Share> SharedList<T> {
         Some(Run {
             items: run.items,
             start: spot.start + run.start,
+            hint: run.hint,
         })
     }
 }
@@ -112,6 +116,7 @@ impl<T: Share> Chunks<T> {
         Run {
             items: self.chunks[spot.chunk].items(),
             start: spot.start,
+            hint: self.chunks[spot.chunk].hint(),
         }
     }
 
@@ -125,6 +130,7 @@ impl<T: Share> Chunks<T> {
         Run {
             items: self.chunks[spot.chunk].items(),
             start: spot.start,
+            hint: self.chunks[spot.chunk].hint(),
         }
     }
 }

@@ -133,13 +133,31 @@ impl<T: Share> Run<'_, T> {
         ensures bound { result ≤ length self.now.items.now }
         ensures end { (p : T → Bool) → ComputesKey P.FnMut p pred.now → IsPartitionedBy p self.now.items.now → IsEnd p self.now.items.now result }
     {
-        let near = self
-            .items
-            .partition_point(|item| item.hint().is_before(hint));
+        let near = self.place_by_hints(hint);
         if is_end(self.items, near, pred) {
             near
         } else {
             self.items.partition_point(pred)
+        }
+    }
+}
+
+impl<T: Share> Run<'_, T> {
+    // How many of its items come before a hint by their own: as many as the majors are apart, if that is so, as where
+    // they are numbers with no gap. Else they are counted by halves.
+    #[inline(always)]
+    fn place_by_hints(&self, hint: Hint) -> usize
+        ensures { result ≤ length self.now.items.now }
+    {
+        let apart = hint.major.saturating_sub(self.hint.major) as usize;
+        let place = apart.min(self.items.len());
+        let is_behind = place == 0 || self.items[place - 1].hint().is_before(hint);
+        let is_before = place == self.items.len() || !self.items[place].hint().is_before(hint);
+        if is_behind && is_before {
+            place
+        } else {
+            self.items
+                .partition_point(|item| item.hint().is_before(hint))
         }
     }
 }
