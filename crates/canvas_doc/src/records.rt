@@ -135,6 +135,11 @@ impl Share for ListedRecord {
     fn hint(&self) -> Hint {
         hint_of_id(self.id)
     }
+
+    #[inline(always)]
+    fn short_hint(&self) -> Hint {
+        hint_of_id(self.id)
+    }
 }
 
 impl Place {

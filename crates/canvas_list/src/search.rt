@@ -151,13 +151,14 @@ impl<T: Share> Run<'_, T> {
     {
         let apart = hint.major.saturating_sub(self.hint.major) as usize;
         let place = apart.min(self.items.len());
-        let is_behind = place == 0 || self.items[place - 1].hint().is_before(hint);
-        let is_before = place == self.items.len() || !self.items[place].hint().is_before(hint);
+        let is_behind = place == 0 || self.items[place - 1].short_hint().is_before(hint);
+        let is_before = place == self.items.len()
+            || !self.items[place].short_hint().is_before(hint);
         if is_behind && is_before {
             place
         } else {
             self.items
-                .partition_point(|item| item.hint().is_before(hint))
+                .partition_point(|item| item.short_hint().is_before(hint))
         }
     }
 }

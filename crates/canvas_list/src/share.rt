@@ -17,6 +17,9 @@ pub trait Share: Drop {
 
     /// Where it most likely stands in a list.
     fn hint(&self) -> Hint;
+
+    /// The same, as far as it is told without a look at what is shared. A search asks it of the items of a chunk.
+    fn short_hint(&self) -> Hint;
 }
 
 /// A value that lies in one place for all its owners, seen as that value.
@@ -62,6 +65,11 @@ impl<T: Drop + Hinted> Share for Shared<T> {
 
     #[inline(always)]
     fn hint(&self) -> Hint {
+        self.value.hint()
+    }
+
+    #[inline(always)]
+    fn short_hint(&self) -> Hint {
         self.value.hint()
     }
 }
