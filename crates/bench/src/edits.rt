@@ -1,6 +1,7 @@
 //! Times edits of documents, and the restoring of one.
 
 mod each;
+mod growth;
 pub mod layouts;
 
 use crate::fault::Fault;
@@ -23,7 +24,10 @@ const MANY: u32 = 4_096;
 /// How many records the documents have by which the growth of costs is seen, all made shape by shape.
 const SIZES: [u32; 4] = [10, 100, 1_000, 16_384];
 
-/// Times each edit of each layout, and of larger and smaller documents.
+/// How many records the documents have that are timed while they grow.
+const GROWN: [u32; 5] = [10, 100, 1_000, MANY, 16_384];
+
+/// Times each edit of each layout, and of larger and smaller documents, and how documents grow.
 pub fn time_all<R: Clock + Print>(rt: &R, alloc: Global) -> Result<(), Fault> {
     println!(rt;
         "layout, records, call: least of {ROUNDS} rounds until decided, made, and the old document dropped"
@@ -34,6 +38,9 @@ pub fn time_all<R: Clock + Print>(rt: &R, alloc: Global) -> Result<(), Fault> {
     }
     for records in SIZES {
         time_edits(rt, alloc, Layout::Grown, records)?;
+    }
+    for records in GROWN {
+        growth::time_growth(rt, alloc, records)?;
     }
     Ok(())
 }

@@ -16,7 +16,7 @@ pub(crate) struct PartSizes {
     pub(crate) per_chunk: usize,
     /// How many chunks a block gets. One with twice as many or more is cut where a change touches it.
     /// Two neighbours with no more than half as many each become one where an item of theirs is
-    /// removed. Where a single item comes into a list with one and a half times so many blocks or
+    /// removed. Where a single item comes into a list with one and a quarter times so many blocks or
     /// more, which have well fewer chunks in the mean, all blocks are made anew.
     pub(crate) per_block: usize,
 }
@@ -27,14 +27,14 @@ impl PartSizes {
     pub(crate) fn of(items: usize) -> PartSizes
         ensures chunk { FitsChunk result.per_chunk }
         ensures some { 0 < result.per_block }
-        ensures few { result.per_block ≤ 24 }
+        ensures few { result.per_block ≤ 30 }
     {
         let (per_chunk, per_block) = match items {
             0..96 => (6, 4),
             96..384 => (8, 6),
             384..1_536 => (12, 8),
             1_536..6_144 => (16, 14),
-            _ => (MOST_IN_CHUNK, 24),
+            _ => (MOST_IN_CHUNK, 30),
         };
         PartSizes {
             per_chunk,

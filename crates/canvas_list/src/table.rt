@@ -174,7 +174,7 @@ impl<T: Share> SharedList<T> {
         requires { 0 < per_block }
         ensures { IfOk result (λ list. list ≡ self) }
     {
-        if self.blocks.len() < per_block.saturating_add(per_block / 2)
+        if self.blocks.len() < per_block.saturating_add(per_block / 4)
             || !have_few_chunks(&self.blocks, per_block)
         {
             return Ok(self);

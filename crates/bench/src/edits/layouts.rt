@@ -134,8 +134,13 @@ pub fn document(alloc: Global, layout: Layout, count: u32) -> Result<Document, F
 
 // A document of so many rectangles, made by as many edits.
 fn grown(alloc: Global, count: u32) -> Result<Document, Fault> {
-    let mut document = Document::empty(alloc);
-    for _ in 0..count {
+    grown_from(alloc, Document::empty(alloc), count)
+}
+
+/// The document with so many more rectangles, each put in front by an edit.
+pub fn grown_from(alloc: Global, document: Document, more: u32) -> Result<Document, Fault> {
+    let mut document = document;
+    for _ in 0..more {
         let kind = leaf(alloc, Layout::Grown, 5)?;
         document = with_shape(alloc, document, kind, Pose::STILL, Parent::Page)?;
     }
