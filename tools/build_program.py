@@ -159,7 +159,7 @@ def main():
     OUT.mkdir(exist_ok=True)
     with open(OUT / "building", "w") as lock:
         fcntl.flock(lock, fcntl.LOCK_EX)
-        say("building the program, which proves all of it; a first build takes some 25 minutes on four cores")
+        say("building the program, which proves all of it; README.md says how long a first build takes")
         progress = Progress(len(below(PROGRAM)) + 1)
         try:
             build_all(progress)

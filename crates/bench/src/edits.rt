@@ -21,7 +21,7 @@ const IN_TURN: u32 = 8;
 /// How many records a document has of which each layout is timed.
 const MANY: u32 = 4_096;
 
-/// How many records the documents have by which the growth of costs is seen, all made shape by shape.
+/// How many records the other documents have that are made shape by shape, by which the growth of costs is seen.
 const SIZES: [u32; 4] = [10, 100, 1_000, 16_384];
 
 /// How many records the documents have that are timed while they grow.
@@ -30,7 +30,7 @@ const GROWN: [u32; 5] = [10, 100, 1_000, MANY, 16_384];
 /// Times each edit of each layout, and of larger and smaller documents, and how documents grow.
 pub fn time_all<R: Clock + Print>(rt: &R, alloc: Global) -> Result<(), Fault> {
     println!(rt;
-        "layout, records, call: least of {ROUNDS} rounds until decided, made, and the old document dropped"
+        "layout, records, call: least of {ROUNDS} rounds until decided, made, and the new document dropped"
     )?;
     for layout in Layout::ALL {
         time_edits(rt, alloc, layout, MANY)?;

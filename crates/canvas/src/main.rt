@@ -112,33 +112,34 @@ impl From<io::Error> for Fault {
 }
 
 fn main(rt: HostRuntime) -> ExitCode {
-    let end = match given_words(&rt) {
+    let words = match given_words(&rt) {
+        Ok(words) => words,
+        Err(fault) => return ended_by(&rt, &fault),
+    };
+    let end = match command_of(rt.alloc(), &words) {
         Err(fault) => Err(fault),
-        Ok(words) => match command_of(rt.alloc(), &words) {
-            Err(fault) => Err(fault),
-            Ok(None) => Err(Fault::Usage),
-            Ok(Some(Command::Script { workers })) => {
-                script(&rt, rt.alloc(), workers, &mut rt.stdin(), rt.stdout())
-            }
-            Ok(
-                Some(
-                    Command::Serve {
-                        address,
-                        file,
-                        workers,
-                    },
-                ),
-            ) => serve_file(&rt, rt.alloc(), address, file, workers),
-        },
+        Ok(Command::Script { workers }) => {
+            script(&rt, rt.alloc(), workers, &mut rt.stdin(), rt.stdout())
+        }
+        Ok(
+            Command::Serve {
+                address,
+                file,
+                workers,
+            },
+        ) => serve_file(&rt, rt.alloc(), address, file, workers),
     };
     match end {
         Ok(()) => ExitCode::SUCCESS,
-        Err(fault) => {
-            // Where standard error takes nothing either, the status alone says what was wrong.
-            let _ = report(&rt, &fault);
-            ExitCode::from(status(&fault))
-        }
+        Err(fault) => ended_by(&rt, &fault),
     }
+}
+
+/// Says why the program ends, and answers its status.
+fn ended_by(rt: &HostRuntime, fault: &Fault) -> ExitCode {
+    // Where standard error takes nothing either, the status alone says what was wrong.
+    let _ = report(rt, fault);
+    ExitCode::from(status(fault))
 }
 
 /// The words behind the program's name. A word that is not UTF-8 is no command.
@@ -156,9 +157,9 @@ fn given_words(rt: &HostRuntime) -> Result<Vec<String>, Fault> {
 }
 
 /// The command that the words name.
-fn command_of(alloc: Global, words: &[String]) -> Result<Option<Command<'_>>, Fault> {
+fn command_of(alloc: Global, words: &[String]) -> Result<Command<'_>, Fault> {
     let texts: Vec<&str> = words.iter().map(|word| word.as_str()).collect(alloc)?;
-    Ok(Command::read(&texts))
+    Command::read(&texts).ok_or(Fault::Usage)
 }
 
 /// Serves a reader to a writer over a document of its own, which begins empty.

@@ -1,3 +1,5 @@
+//! The board of one caller, who has the document alone.
+
 ghost use Rattle.std.specs.Prelude.{◌≡◌, IfOk, OnErr};
 ghost use Rattle.canvas_doc.specs.Effect.{effect_of};
 ghost use Rattle.canvas_board.specs.Alone.{Makes, Opens};

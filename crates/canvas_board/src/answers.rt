@@ -1,3 +1,5 @@
+//! What a board answers to looks: pictures, colours and saved texts, each with its version.
+
 ghost use Rattle.std.specs.Prelude.{◌≤◌, ◌^◌, vec_len};
 ghost use Rattle.std.specs.Arc.{arc_value};
 

@@ -1,3 +1,5 @@
+//! What a board is: a document that one caller edits and looks at.
+
 ghost use denote.Param.Send.{IsSync};
 ghost use Rattle.canvas_board.specs.Seen.{Seen};
 ghost use Rattle.canvas_board.specs.Steps.{Edits, Looks, Paints, Saves};

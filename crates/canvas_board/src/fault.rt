@@ -1,3 +1,5 @@
+//! Why a board does not answer.
+
 ghost use Rattle.std.specs.Prelude.{◌≡◌};
 ghost use Rattle.canvas_code.specs.Names.{name_of};
 ghost use Rattle.canvas_board.specs.Fault.{board_fault_code};

@@ -1,3 +1,5 @@
+//! The accepted changes of a board, for clauses alone.
+
 ghost use Rattle.std.specs.Prelude.{◌≡◌, ◌++◌, ◌∷◌, []};
 
 use canvas_doc::Change;

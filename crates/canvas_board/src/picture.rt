@@ -1,3 +1,5 @@
+//! The painting of a window as a P6 file.
+
 ghost use Rattle.std.specs.Prelude.{◌≡◌, ◌≤◌, ◌^◌, IfOk, true, vec_len};
 ghost use Rattle.std.specs.Arc.{arc_value};
 ghost use Rattle.canvas_board.specs.Raster.{file_of};

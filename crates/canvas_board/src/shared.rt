@@ -1,3 +1,5 @@
+//! The board of one caller among others, over a seat of a shared document.
+
 ghost use Rattle.std.specs.Prelude.{◌≡◌, IfOk, true};
 ghost use Rattle.canvas_line.specs.Lines.{Sight};
 ghost use Rattle.canvas_line.specs.Seats.{Looks};

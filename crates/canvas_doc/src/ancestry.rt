@@ -76,24 +76,16 @@ pub(crate) fn is_below(records: &Records, steps: u32, id: u32, parent: Parent) -
     requires { AreRising records.now }
     ensures { result ≡ is_below steps id records.now parent }
 {
-    match parent {
-        Parent::Page => false,
-        Parent::Shape(at) => {
-            if steps == 0 {
-                return false;
-            }
-            match find(records, at) {
-                Some(shape) => {
-                    if shape.id == id {
-                        true
-                    } else {
-                        is_below(records, steps - 1, id, shape.place.parent)
-                    }
-                }
-                None => false,
-            }
-        }
+    let Parent::Shape(at) = parent else {
+        return false;
+    };
+    if steps == 0 {
+        return false;
     }
+    let Some(shape) = find(records, at) else {
+        return false;
+    };
+    shape.id == id || is_below(records, steps - 1, id, shape.place.parent)
 }
 
 // Whether following parents reaches the page.
@@ -102,24 +94,16 @@ pub(crate) fn reaches_page(records: &Records, steps: u32, parent: Parent) -> boo
     requires { AreRising records.now }
     ensures { result ≡ reaches_page steps records.now parent }
 {
-    match parent {
-        Parent::Page => true,
-        Parent::Shape(at) => {
-            if steps == 0 {
-                return false;
-            }
-            match find(records, at) {
-                Some(shape) => {
-                    if is_container(&shape.kind) {
-                        reaches_page(records, steps - 1, shape.place.parent)
-                    } else {
-                        false
-                    }
-                }
-                None => false,
-            }
-        }
+    let Parent::Shape(at) = parent else {
+        return true;
+    };
+    if steps == 0 {
+        return false;
     }
+    let Some(shape) = find(records, at) else {
+        return false;
+    };
+    is_container(&shape.kind) && reaches_page(records, steps - 1, shape.place.parent)
 }
 
 // The parent of a shape once one of them hangs under another.
@@ -139,25 +123,17 @@ fn reaches_page_after(records: &Records, steps: u32, id: u32, under: Parent, par
     requires { AreRising records.now }
     ensures { result ≡ reaches_page steps (put_under id under records.now) parent }
 {
-    match parent {
-        Parent::Page => true,
-        Parent::Shape(at) => {
-            if steps == 0 {
-                return false;
-            }
-            match find(records, at) {
-                Some(shape) => {
-                    let up = parent_after(shape, id, under);
-                    if is_container(&shape.kind) {
-                        reaches_page_after(records, steps - 1, id, under, up)
-                    } else {
-                        false
-                    }
-                }
-                None => false,
-            }
-        }
+    let Parent::Shape(at) = parent else {
+        return true;
+    };
+    if steps == 0 {
+        return false;
     }
+    let Some(shape) = find(records, at) else {
+        return false;
+    };
+    let up = parent_after(shape, id, under);
+    is_container(&shape.kind) && reaches_page_after(records, steps - 1, id, under, up)
 }
 
 // Whether some record lies too deep once a shape hangs under another parent.
@@ -183,18 +159,16 @@ fn depth_of(records: &Records, steps: u32, parent: Parent) -> u32
     ensures value { result ≡ depth_of steps records.now parent }
     ensures small { result ≤ steps }
 {
-    match parent {
-        Parent::Page => 0,
-        Parent::Shape(at) => {
-            if steps == 0 {
-                return 0;
-            }
-            match find(records, at) {
-                Some(shape) => depth_of(records, steps - 1, shape.place.parent) + 1,
-                None => 0,
-            }
-        }
+    let Parent::Shape(at) = parent else {
+        return 0;
+    };
+    if steps == 0 {
+        return 0;
     }
+    let Some(shape) = find(records, at) else {
+        return 0;
+    };
+    depth_of(records, steps - 1, shape.place.parent) + 1
 }
 
 // Whether the depth of a parent and the height of a subtree are together above 32.

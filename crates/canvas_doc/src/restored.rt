@@ -266,16 +266,14 @@ fn leads_to_page(
     requires { GivesFirsts firsts.now records.now }
     ensures { result ≡ leads_to_page steps records.now parent }
 {
-    match parent {
-        Parent::Page => true,
-        Parent::Shape(id) => {
-            if steps == 0 {
-                return false;
-            }
-            match record_of(records, firsts, id) {
-                Some(holder) => leads_to_page(records, firsts, steps - 1, holder.place.parent),
-                None => false,
-            }
-        }
+    let Parent::Shape(id) = parent else {
+        return true;
+    };
+    if steps == 0 {
+        return false;
     }
+    let Some(holder) = record_of(records, firsts, id) else {
+        return false;
+    };
+    leads_to_page(records, firsts, steps - 1, holder.place.parent)
 }

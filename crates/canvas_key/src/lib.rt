@@ -49,18 +49,25 @@ impl Model for Key {
 /// Why a text is no key, or why there is no such key.
 #[derive(Clone, Copy, Debug, PartialEq, Eq, Drop, Error)]
 pub enum KeyFault {
+    /// The key between the two would have more than 128 bytes.
     #[error("NoRoom")]
     NoRoom,
+    /// The first byte is no letter, or there is none.
     #[error("BadHead")]
     BadHead,
+    /// There are fewer bytes than the first one asks for.
     #[error("TooShort")]
     TooShort,
+    /// A byte behind the first is no digit of base 62.
     #[error("BadDigit")]
     BadDigit,
+    /// The last byte behind the integer part is `0`.
     #[error("LastZero")]
     LastZero,
+    /// It is `A` and 26 zeros, below which there would be no key.
     #[error("LeastInteger")]
     LeastInteger,
+    /// There are more than 128 bytes.
     #[error("KeyTooLong")]
     KeyTooLong,
 }

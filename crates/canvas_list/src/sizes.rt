@@ -14,7 +14,7 @@ pub(crate) struct PartSizes {
     /// gets a chunk of its own. Two neighbours in a block with no more than half as many together
     /// become one where an item of theirs is removed.
     pub(crate) per_chunk: usize,
-    /// How many chunks a block gets. One with twice as many or more is cut where a change touches it.
+    /// How many chunks a block gets. One with twice as many or more is cut where a change makes it anew.
     /// Two neighbours with no more than half as many each become one where an item of theirs is
     /// removed. Where a single item comes into a list with one and a quarter times so many blocks or
     /// more, which have well fewer chunks in the mean, all blocks are made anew.

@@ -8,10 +8,12 @@ mod windows;
 use thiserror::Error;
 pub use windows::{Window, WindowFault};
 
-/// A point of the plane, y growing downward.
+/// A point of the plane, or the pixel whose left top corner it is. y grows downward.
 #[derive(Clone, Copy, Debug, PartialEq, Eq)]
 pub struct Point {
+    /// In pixels, to the right.
     pub x: i64,
+    /// In pixels, downward.
     pub y: i64,
 }
 
@@ -19,9 +21,13 @@ pub struct Point {
 /// translation. The flip makes (x, y) into (-x, y), a quarter turn makes it into (-y, x).
 #[derive(Clone, Copy, Debug, PartialEq, Eq)]
 pub struct Pose {
+    /// How many pixels to the right, at most 2^20 in size in a record.
     pub dx: i64,
+    /// How many pixels downward, at most 2^20 in size in a record.
     pub dy: i64,
+    /// How many quarter turns, 0 to 3.
     pub quarter: u8,
+    /// Whether left and right are swapped first.
     pub flip: bool,
 }
 
@@ -36,8 +42,12 @@ pub enum PoseFault {
 /// A box of whole pixels: it holds its left and top edges, and not its right and bottom ones.
 #[derive(Clone, Copy, Debug, PartialEq, Eq)]
 pub struct PageBox {
+    /// The first column.
     pub left: i64,
+    /// The first row.
     pub top: i64,
+    /// The column behind the last one.
     pub right: i64,
+    /// The row below the last one.
     pub bottom: i64,
 }

@@ -1,3 +1,5 @@
+//! Why bytes are no image.
+
 ghost use Rattle.std.specs.Prelude.{◌≡◌};
 ghost use Rattle.canvas_code.specs.Names.{name_of};
 ghost use Rattle.canvas_ppm.specs.Fault.{fault_code};

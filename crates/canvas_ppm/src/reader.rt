@@ -1,3 +1,5 @@
+//! Reading a P6 file.
+
 ghost use Rattle.std.specs.Prelude.{◌≡◌, ◌<◌, ◌≤◌, ◌*◌, ◌⊎◌, ◌↔◌, ℕ, List, length, slice_index, IsTrue, IsOk, IfOk, IfErr, IfSome, Ok, Err};
 ghost use Rattle.std.specs.Char.{is_ascii_digit};
 ghost use Rattle.std.specs.List.{prefix_len};

@@ -1,3 +1,5 @@
+//! Writing a P6 file.
+
 ghost use Rattle.std.specs.Prelude.{◌≡◌, ◌+◌, ◌≤◌, ◌++◌, ◌*◌, length, decimal, vec_capacity, IfOk, Ok};
 ghost use Rattle.canvas_ppm.specs.P6.{IsSide, IsRaster, header_of, p6_of};
 ghost use Rattle.canvas_ppm.specs.Image.{image_of};

@@ -60,8 +60,8 @@ const SETTLING: u64 = 2;
 /// How many pieces of at most 4,096 bytes it then reads at most: 1 MiB.
 const MOST_PIECES: u32 = 256;
 
-/// Ends what is sent, and reads what still comes, at most 1 MiB for at most two seconds: a connection that is closed
-/// with bytes unread is reset, and a reset may take the closing reply with it.
+/// Ends what is sent, and reads what still comes, at most 1 MiB for two seconds, and up to two more where a read waits:
+/// a connection that is closed with bytes unread is reset, and a reset may take the closing reply with it.
 pub fn settle<H: Clock>(rt: &H, stream: &TcpStream) {
     let mut reader = stream;
     let patience = Duration::from_secs(SETTLING);

@@ -1,3 +1,5 @@
+//! A writer to a connection that sends small pieces together with the large ones behind them.
+
 ghost use Rattle.std.specs.Prelude.{◌≡◌, ◌≤◌, ◌+◌, drop, length, vec_len, IfOk};
 
 use std::alloc::{AllocError, Global};

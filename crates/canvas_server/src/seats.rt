@@ -1,3 +1,5 @@
+//! Which seats of a server are taken, and how many connections are being settled.
+
 ghost use Rattle.std.specs.Prelude.{◌≡◌, ◌<◌, ◌≤◌, ◌+◌, ◌-◌, All, IfSome, IfNone, IsTrue, IsFalse, slice_get, slice_set, Some, take, true, false};
 
 use std::marker::Model;

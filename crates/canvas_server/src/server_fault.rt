@@ -1,3 +1,5 @@
+//! Why a server does not serve, or serves no longer.
+
 ghost use Rattle.std.specs.Prelude.{◌≡◌};
 ghost use Rattle.canvas_server.specs.declared.server_fault.ServerFault.TheVariants.{OutOfMemory};
 ghost use Rattle.canvas_server.specs.Faults.{server_fault_code, server_fault_name};

@@ -1,3 +1,5 @@
+//! Serving a document to connections.
+
 ghost use Rattle.std.specs.Prelude.{◌≡◌, ◌≤◌, IfErr};
 ghost use Rattle.canvas_server.specs.declared.server_fault.ServerFault.TheVariants.{OutOfMemory};
 ghost use Rattle.canvas_server.specs.Settings.{Ends, opening_fault, settings_fault};
@@ -50,8 +52,8 @@ impl Settings {
 /// Serves a document to the connections that come to a listener, each on a thread of its own with a seat of its own,
 /// and returns after so many connections, when all their sessions have ended.
 ///
-/// A connection that finds all seats taken gets the reply `NoSeats` and is closed, as is one whose thread can't be
-/// started. `BadSetting` and then `BadWorkers` come before all else; `NoSeats` and `OutOfMemory` before the first connection;
+/// A connection that finds all seats taken gets the reply `NoSeats` and is closed; one whose thread can't be
+/// started is closed without a reply. `BadSetting` and then `BadWorkers` come before all else; `NoSeats` and `OutOfMemory` before the first connection;
 /// `AcceptFault` where no connection can be accepted any more, after all sessions have ended.
 pub fn serve_connections<H: Threads + Wait + Clock + Sync>(
     rt: &H,

@@ -1,3 +1,5 @@
+//! What is answered to one line.
+
 ghost use Rattle.std.specs.Prelude.{◌≡◌, ◌≤◌, ◌^◌, length, vec_len};
 ghost use Rattle.std.specs.Arc.{arc_value};
 ghost use Rattle.canvas_wire.specs.Replies.{IsNamed, line_of, said};

@@ -1,3 +1,5 @@
+//! What ends a session before its input does.
+
 ghost use Rattle.std.specs.Prelude.{◌≡◌};
 ghost use Rattle.canvas_code.specs.Names.{name_of};
 ghost use Rattle.canvas_session.specs.Cause.{cause_code};

@@ -1,3 +1,5 @@
+//! That bytes have one list of lines.
+
 ghost use Rattle.std.specs.Prelude.{◌≡◌, ◌≤◌, ℕ, List, ◌++◌, length};
 ghost use Rattle.std.specs.List.{flat_map, AllByRecursion};
 ghost use Rattle.canvas_session.specs.Line.{HasNoLf, IsLine, ended, lines_of};

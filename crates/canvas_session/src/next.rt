@@ -1,3 +1,5 @@
+//! Finding the next line of a session, or what comes in its place.
+
 ghost use Rattle.std.specs.Prelude.{◌≡◌, ◌≢◌, ℕ, ◌<◌, ◌≤◌, ◌+◌, length, slice_index, IfErr, IfOk, OnErr, IfSome, IfNone};
 ghost use Rattle.std.specs.Io.KnownBytes.{Keeps};
 ghost use Rattle.canvas_session.specs.Line.{LacksLf, HasNoLf};

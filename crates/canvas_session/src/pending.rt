@@ -1,3 +1,5 @@
+//! The bytes of a session that were read and are not answered yet.
+
 ghost use Rattle.std.specs.Prelude.{◌≡◌, ℕ, ◌<◌, ◌≤◌, ◌++◌, List, [], length, take, drop, ◌+◌, slice_range, nat_lt, vec_len, IfOk, OnOk, OnErr};
 ghost use Rattle.std.specs.Io.KnownBytes.{Keeps, Consumes, IsAtEnd};
 ghost use Rattle.canvas_session.specs.Pending.{TakesIn, IsMore};

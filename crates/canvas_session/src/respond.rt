@@ -1,3 +1,5 @@
+//! The answer to one line.
+
 ghost use denote.Param.Send.{IsSync};
 ghost use Rattle.std.specs.Prelude.{◌≡◌, Ok, pos, ◌*ℤ◌};
 ghost use Rattle.canvas_wire.specs.Replies.{IsNamed, refused, said};

@@ -1,3 +1,5 @@
+//! What a session that ended with its input has done.
+
 /// A session whose input ended after a line.
 #[derive(Clone, Copy, Debug, PartialEq, Eq)]
 pub struct Served {

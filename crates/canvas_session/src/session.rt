@@ -1,3 +1,5 @@
+//! A session: the lines of a reader, answered one by one.
+
 ghost use Rattle.std.specs.Prelude.{◌≡◌};
 ghost use Rattle.canvas_session.specs.Session.{Serves};
 

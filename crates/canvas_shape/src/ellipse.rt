@@ -148,11 +148,13 @@ fn reach(m: u64, w: u64, h: u64) -> u64
     }
 }
 
-// A number below 65,536 that is added to this has so many of its bits behind the point, and these before it.
+// A float in which a number below 65,536 that is added to it has its bits at fixed places.
 const POINT: f64 = 4294967296.0;
 
+// How many of a float's bits then stand behind the point.
 const POINT_BITS: u32 = 20;
 
+// The bits before the point, once those behind it are shifted away.
 const WHOLE: u64 = 0xffff;
 
 // w / h times the square root of `rest`, rounded down, as floats have it: added to 2^32 it has its whole part at one place of

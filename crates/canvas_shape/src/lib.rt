@@ -43,8 +43,8 @@ impl Model for Points {
     ghost view = { λ points. points.items.items };
 }
 
-/// What a record shows. Sides are in pixels, and lie from (0, 0) to (w, h) in the shape's own
-/// coordinates.
+/// What a record shows. A box lies from (0, 0) to (w, h) in the shape's own coordinates. In a record its sides are 1 to
+/// 65,536 pixels, and a polygon has 3 to 256 vertices with coordinates of at most 2^20 in size (`Kind::check`).
 #[derive(Debug, PartialEq, Drop)]
 pub enum Kind {
     /// Shows its children alone.
@@ -55,6 +55,7 @@ pub enum Kind {
         h: u32,
         fill: Option<Colour>,
     },
+    /// All of its box.
     Rect {
         w: u32,
         h: u32,
@@ -66,7 +67,8 @@ pub enum Kind {
         h: u32,
         fill: Colour,
     },
-    /// The edges go from each vertex to the next, and from the last to the first.
+    /// The pixels whose middles its edges enclose an odd number of times (even-odd rule). The edges go from each vertex to
+    /// the next, and from the last to the first.
     Polygon {
         points: Points,
         fill: Colour,
@@ -87,7 +89,9 @@ pub enum KindFault {
 /// The pixels of a row from one x up to another.
 #[derive(Clone, Copy, Debug, PartialEq, Eq)]
 pub struct Span {
+    /// The first column.
     pub from: i32,
+    /// The column behind the last one.
     pub to: i32,
 }
 

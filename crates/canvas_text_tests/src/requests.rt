@@ -1,4 +1,4 @@
-//! The worked rows, and how JSON itself is read.
+//! The worked examples, and how JSON itself is read.
 ghost use Rattle.canvas_wire.specs.Replies.{IsNamed};
 
 use canvas_code::name_of;

@@ -10,8 +10,8 @@ use std::time::{Clock, Duration};
 /// How often a growth is timed.
 const ROUNDS: u32 = 21;
 
-/// Prints the mean time of a new shape while a document grows to so many records by its last eighth. One length alone
-/// says little: what a new shape costs goes up and down with the lengths of the lists' last parts.
+/// Prints the least of some mean times of a new shape while a document grows to so many records by its last eighth. One
+/// length alone says little: what a new shape costs goes up and down with the lengths of the parts at the lists' ends.
 pub fn time_growth<R: Clock + Print>(rt: &R, alloc: Global, records: u32) -> Result<(), Fault> {
     let more = (records / 8).max(1);
     let small = document(alloc, Layout::Grown, records.saturating_sub(more))?;

@@ -86,15 +86,16 @@ fn jobs<B: Lines>(
 
 fn print_done<R: Print>(rt: &R, done: &[Option<Done>]) -> Result<(), Fault> {
     for done in done {
-        if let Some(Done { calls, took }) = done {
-            let each = took.as_nanos() / u128::from((*calls).max(1));
-            println!(rt; "  {calls} calls of {each} ns")?;
-        }
+        let Some(Done { calls, took }) = done else {
+            return Err(Fault::Line);
+        };
+        let each = took.as_nanos() / u128::from((*calls).max(1));
+        println!(rt; "  {calls} calls of {each} ns")?;
     }
     Ok(())
 }
 
-// A thread's calls, unless the clock or a call failed.
+// A thread's calls; none where the clock or a call failed.
 fn work<B: Lines, R: Clock + Wait>(rt: &R, job: Job<B>) -> Option<Done> {
     let Job {
         mut seat,

@@ -8,4 +8,4 @@ returns-then-is_container t c =
 
 pub returns-else-is_container : goal.returns-else-is_container
 returns-else-is_container t c =
-    reaches-leaf_after c.args.steps c.args.id c.in-Shape.at c.args.under c.args.parent c.args.records.now c.in-Some.shape.now (omega arith) c.in-Shape.is c.in-Some.ensures (sym c.is_container.ensures ∙ c.if-is_container.false)
+    c.if-is_container.false ∙ reaches-leaf_after c.args.steps c.args.id c.in-Shape.at c.args.under c.args.parent c.args.records.now c.in-Some.shape.now (omega arith) c.in-Shape.is c.in-Some.ensures (sym c.is_container.ensures ∙ c.if-is_container.false)
