@@ -1,9 +1,10 @@
 #!/usr/bin/env python3
-"""Times of requests of the built program: rates beside a line counter, how they grow with the document, and pictures from farther away.
+"""Times of requests of the built program: rates beside a line counter, how they grow with the document, looks over wide documents, and
+pictures from farther away.
 
-usage: bench/requests.py [rates|growth|levels ..] [hundreds of thousands of requests for the rates; 1 where it is left out]
+usage: bench/requests.py [rates|growth|walks|levels ..] [hundreds of thousands of requests for the rates; 1 where it is left out]
 
-Without a word it measures all three. The program serves request lines from a file, with one worker. How the figures are got:
+Without a word it measures all four. The program serves request lines from a file, with one worker. How the figures are got:
 
 - rates: each workload is a file of request lines, the replies go to a file that is then removed. Printed for each: requests a second, the
   ratio to a line counter (wc -l) over the same file, both the least of three runs, and the greatest size of the program in memory at
@@ -13,6 +14,8 @@ Without a word it measures all three. The program serves request lines from a fi
   requests and ended, the least of three runs, the replies read from a pipe and thrown away: a small edit (a pose of some square), a mixed edit (a pose, a mark,
   a new shape's values, a move to the front, a deletion and a new square in turn), and a tile of level 0 that one square meets. Ratios are
   to the document of 10, and of the greatest to that of 4,096.
+- walks: looks at pixels all over such documents of 10, 4,000 and 16,000 squares, most of which no square holds: points, and patches of one
+  pixel, which cost what a tile's scene does. Times are got as in `growth`.
 - levels: 16,384 small shapes 128 pixels apart, of which a tile at level k meets 4 to the power of k + 1. Beside it stands the same document
   made 2^k times smaller, of which a tile at level 0 meets as many shapes; of squares it is the same picture byte by byte, which is checked.
   A tile's time is got as in `growth`, the two in turn in one run; printed are both and their ratio.
@@ -34,7 +37,9 @@ from check_streams import BUILT  # noqa: E402
 
 SIZES = [10, 100, 1000, 4096, 16_384]
 MOST = 16_384
+WALKED = [10, 4000, 16_000]
 EDITS = 20_000
+LOOKS = 20_000
 TILES = 1000
 EDGE = 128
 """How many shapes of the wide documents stand in a row."""
@@ -264,6 +269,28 @@ def measure_growth(folder):
                   f"{told}; {SIZES[-1]:,} to {SIZES[-2]:,}: {times[-1] / times[-2]:.2f}", flush=True)
 
 
+# -- looks over wide documents -----------------------------------------------------------------------------------------
+
+def places():
+    """Pixels all over a wide document."""
+    for n in range(LOOKS):
+        yield n * 7919 % (EDGE * 256), n * 104_729 % (EDGE * 256)
+
+
+LOOKED = {
+    "point": lambda x, y: {"verb": "point", "x": x, "y": y},
+    "patch of one pixel": lambda x, y: {"verb": "patch", "x": x, "y": y, "w": 1, "h": 1},
+}
+
+
+def measure_walks():
+    for in_groups in (False, True):
+        for name, look in LOOKED.items():
+            times = [microseconds(squares(count, in_groups), (look(x, y) for x, y in places())) for count in WALKED]
+            told = ", ".join(f"{count:,}: {it:.1f}" for count, it in zip(WALKED, times))
+            print(f"{name}, {'in groups of 63' if in_groups else 'on one page'}, microseconds over so many squares: {told}", flush=True)
+
+
 # -- pictures from farther away ----------------------------------------------------------------------------------------
 
 def square_of(place, side):
@@ -307,7 +334,7 @@ def measure_levels(name, kind, folder):
 
 
 def main():
-    words = [word for word in sys.argv[1:] if not word.isdigit()] or ["rates", "growth", "levels"]
+    words = [word for word in sys.argv[1:] if not word.isdigit()] or ["rates", "growth", "walks", "levels"]
     numbers = [int(word) for word in sys.argv[1:] if word.isdigit()]
     subprocess.run([str(PROGRAM), "script", "1"], stdin=subprocess.DEVNULL, check=True)
     with tempfile.TemporaryDirectory() as folder:
@@ -316,6 +343,8 @@ def main():
                 measure(name, workload, 100_000 * (numbers or [1])[0], folder)
         if "growth" in words:
             measure_growth(folder)
+        if "walks" in words:
+            measure_walks()
         if "levels" in words:
             measure_levels("squares", square_of, folder)
             measure_levels("ellipses and polygons", mixed_of, folder)

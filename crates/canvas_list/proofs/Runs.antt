@@ -3,7 +3,7 @@ use Rattle.std.proofs.Common.{◌≡◌, ◌∙◌, ℕ, ◌+◌, ◌-◌, ◌<�
 use Rattle.std.specs.List.{slice_get}
 use Rattle.std.specs.List.Sorted.{IsPartitionedBy}
 use Rattle.std.proofs.lemmas.Bool.{cases_lt}
-use Rattle.std.proofs.lemmas.List.{get_or-append-add, get_or_append_left}
+use Rattle.std.proofs.lemmas.List.{get_or-append-add, get_or_append_left, length-append}
 use Rattle.std.proofs.lemmas.Option.{slice_get-get_or}
 use Rattle.canvas_list.specs.Chunks.{joined, IsEnd, IsRun}
 use Rattle.std.specs.List.{sum_by}
@@ -71,3 +71,30 @@ end-of-run p xs items start passed run within first behind end = record {
     | inr past ↦ behind x (omega arith) h
   ];
 }
+
+-- what comes behind the first items of a part
+pub run-rest : {X : Type 0} (xs items rest : List X) (s : ℕ) → IsRun xs (items ++ rest) s → IsRun xs rest (s + length items)
+run-rest xs items rest s run = record {
+  within = omega (arith, run.within, length-append items rest);
+  same =
+      λ i x h.
+      let there : length items + i < length (items ++ rest) = omega (arith, length-append items rest) in
+      let place : s + (length items + i) ≡ s + length items + i = omega arith in
+      sym (get_or-append-add items rest i x) ∙ run.same (length items + i) x there ∙ ap (λ j. get_or xs j x) place;
+}
+
+-- the items of the chunks behind one, where it ends
+pub run-behind : {X : Type 0} (cs : List (List X)) (xs : List X) (k s : ℕ) (c items : List X) → k < length cs → s ≡ length (joined (take k cs)) → joined cs ≡ xs → c ≡ get_or cs k c → items ≡ c → IsRun xs (joined (drop (k + 1) cs)) (s + length items)
+run-behind {X} cs xs k s c items within start all is same =
+    let front : List X = joined (take k cs) in
+    let rest : List X = joined (drop (k + 1) cs) in
+    let parts : joined cs ≡ front ++ (items ++ rest) = split_at cs k c within ∙ ap (λ l. front ++ (l ++ rest)) (sym (same ∙ is)) in
+    run-rest xs items rest s
+    (record {
+      within = omega (arith, start, ap length (sym parts ∙ all), length-append front (items ++ rest));
+      same =
+          λ i x h.
+          sym (get_or-append-add front (items ++ rest) i x)
+          ∙ ap (λ j. get_or (front ++ (items ++ rest)) (j + i) x) (sym start)
+          ∙ ap (λ l. get_or l (s + i) x) (sym parts ∙ all);
+    })

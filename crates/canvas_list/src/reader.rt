@@ -1,8 +1,9 @@
 //! Reading a list at positions that often stand side by side.
 
 ghost use Rattle.std.specs.Prelude.{◌≡◌, ◌<◌, ◌≤◌, ◌+◌, ◌^◌, IfSome, length, slice_index_or};
-ghost use Rattle.canvas_list.specs.Chunks.{IsRun};
+ghost use Rattle.canvas_list.specs.Chunks.{joined, IsRun};
 
+use crate::chunk::Chunk;
 use crate::chunks::Chunks;
 use crate::counted::{Counted, spot_near, spot_of};
 use crate::hint::Hint;
@@ -11,24 +12,26 @@ use crate::table::SharedList;
 use std::marker::Model;
 
 /// A reader of a list, seen as that list. It holds the chunk of the item that it gave last, of which
-/// it gives another without a search.
+/// it gives another without a search, as it does of the next chunk of the same block.
 #[derive(Drop)]
 pub struct Reader<'a, T> {
     list: &'a SharedList<T>,
     items: &'a [T],
     // Where the items that it holds start.
     start: usize,
+    // The chunks of their block behind them.
+    behind: &'a [Chunk<T>],
 }
 
 impl<'a, T> Model for Reader<'a, T> {
-    ghost use Rattle.std.specs.Prelude.{List};
-    ghost use Rattle.canvas_list.specs.Chunks.{IsRun};
+    ghost use Rattle.std.specs.Prelude.{List, length, ◌+◌};
+    ghost use Rattle.canvas_list.specs.Chunks.{joined, IsRun};
 
     ghost Value = { List T };
 
     ghost view = { λ reader. reader.list.now };
 
-    ghost invariant = { λ reader. IsRun reader.list.now reader.items.now reader.start };
+    ghost invariant = { λ reader. IsRun reader.list.now reader.items.now reader.start × IsRun reader.list.now (joined reader.behind.now) (reader.start + length reader.items.now) };
 }
 
 impl<'a, T: Share> Reader<'a, T> {
@@ -40,12 +43,41 @@ impl<'a, T: Share> Reader<'a, T> {
         ensures same { self.new ≡ self.old }
     {
         if at < self.start || at - self.start >= self.items.len() {
-            let run = self.list.run_at(at);
-            self.items = run.items;
-            self.start = run.start;
+            let found = self.stretch_at(at);
+            self.items = found.items;
+            self.start = found.start;
+            self.behind = found.behind;
         }
         &self.items[at - self.start]
     }
+
+    // The items of the chunk of a position, most often the next one of the block.
+    fn stretch_at(&self, at: usize) -> Stretch<'a, T>
+        requires { at < length self.now }
+        ensures run { IsRun self.now result.items.now result.start }
+        ensures behind { IsRun self.now (joined result.behind.now) (result.start + length result.items.now) }
+        ensures from { result.start ≤ at }
+        ensures upto { at < result.start + length result.items.now }
+    {
+        if at >= self.start && at - self.start == self.items.len() {
+            if let Some((next, behind)) = self.behind.split_first() {
+                return Stretch {
+                    items: next.items(),
+                    start: at,
+                    behind,
+                };
+            }
+        }
+        self.list.stretch_at(at)
+    }
+}
+
+/// The items of a chunk, where they start, and the chunks of its block behind it.
+#[derive(Drop)]
+struct Stretch<'a, T> {
+    items: &'a [T],
+    start: usize,
+    behind: &'a [Chunk<T>],
 }
 
 /// Items that stand side by side in a list, and where they start.
@@ -66,22 +98,23 @@ impl<T: Share> SharedList<T> {
             list: self,
             items: &[],
             start: 0,
+            behind: &[],
         }
     }
 
     // The items of the chunk of a position.
-    fn run_at(&self, at: usize) -> Run<'_, T>
+    fn stretch_at(&self, at: usize) -> Stretch<'_, T>
         requires { at < length self.now }
         ensures run { IsRun self.now result.items.now result.start }
+        ensures behind { IsRun self.now (joined result.behind.now) (result.start + length result.items.now) }
         ensures from { result.start ≤ at }
         ensures upto { at < result.start + length result.items.now }
     {
         let spot = spot_of(&self.blocks, at);
-        let run = self.blocks[spot.chunk].chunks().run_at(at - spot.start);
-        Run {
-            items: run.items,
-            start: spot.start + run.start,
-            hint: run.hint,
+        let found = self.blocks[spot.chunk].chunks().stretch_at(at - spot.start);
+        Stretch {
+            start: spot.start + found.start,
+            ..found
         }
     }
 
@@ -106,17 +139,19 @@ impl<T: Share> SharedList<T> {
 
 impl<T: Share> Chunks<T> {
     // The items of the chunk of a position.
-    fn run_at(&self, at: usize) -> Run<'_, T>
+    fn stretch_at(&self, at: usize) -> Stretch<'_, T>
         requires { at < length self.now }
         ensures run { IsRun self.now result.items.now result.start }
+        ensures behind { IsRun self.now (joined result.behind.now) (result.start + length result.items.now) }
         ensures from { result.start ≤ at }
         ensures upto { at < result.start + length result.items.now }
     {
         let spot = spot_of(&self.chunks, at);
-        Run {
+        let next = spot.chunk + 1;
+        Stretch {
             items: self.chunks[spot.chunk].items(),
             start: spot.start,
-            hint: self.chunks[spot.chunk].hint(),
+            behind: &self.chunks[next..],
         }
     }
 

@@ -1,7 +1,8 @@
-use Rattle.std.proofs.Common.{arith}
+use Rattle.std.proofs.Common.{◌≡◌, ◌+◌, ℕ, arith, length, subst}
+use Rattle.canvas_list.specs.Chunks.{joined, IsRun}
 use Rattle.canvas_list.proofs.Joined.{found, has-chunk, offset-in, search-some, IsFound}
 use Rattle.canvas_list.proofs.Runs.{run-of-chunk, run-of-run}
-use Rattle.canvas_list.proofs.table.SharedList.run_at.Goals as goal
+use Rattle.canvas_list.proofs.table.SharedList.stretch_at.Goals as goal
 
 pub spot_of-spot-requires : goal.spot_of-spot-requires
 spot_of-spot-requires g c =
@@ -12,14 +13,23 @@ index-requires g c =
     let f : IsFound c.self.inside.blocks.items c.self.inside.count c.spot_of-spot.result.chunk c.spot_of-spot.result.start c.args.at = found c.self.inside.blocks.items c.deref.result.now c.self.inside.count c.spot_of-spot.result.chunk c.spot_of-spot.result.start c.args.at c.self.invariant c.deref.ensures.value c.spot_of-spot.ensures in
     omega (arith, f.within)
 
-pub run_at-run-requires : goal.run_at-run-requires
-run_at-run-requires g c =
+pub stretch_at-found-requires : goal.stretch_at-found-requires
+stretch_at-found-requires g c =
     let f : IsFound c.self.inside.blocks.items c.self.inside.count c.spot_of-spot.result.chunk c.spot_of-spot.result.start c.args.at = found c.self.inside.blocks.items c.deref.result.now c.self.inside.count c.spot_of-spot.result.chunk c.spot_of-spot.result.start c.args.at c.self.invariant c.deref.ensures.value c.spot_of-spot.ensures in
     offset-in c.self.inside.blocks.items c.args.self.now c.self.inside.count c.spot_of-spot.result.chunk c.spot_of-spot.result.start c.args.at c.index.result.now c.chunks.result.now c.self.invariant f c.self.view_is c.index.ensures c.chunks.ensures.same c.requires
 
 pub returns-clause-run : goal.returns-clause-run
 returns-clause-run g c =
     let f : IsFound c.self.inside.blocks.items c.self.inside.count c.spot_of-spot.result.chunk c.spot_of-spot.result.start c.args.at = found c.self.inside.blocks.items c.deref.result.now c.self.inside.count c.spot_of-spot.result.chunk c.spot_of-spot.result.start c.args.at c.self.invariant c.deref.ensures.value c.spot_of-spot.ensures in
-    run-of-run c.args.self.now c.chunks.result.now c.run_at-run.result.items.now c.spot_of-spot.result.start c.run_at-run.result.start
+    run-of-run c.args.self.now c.chunks.result.now c.stretch_at-found.result.items.now c.spot_of-spot.result.start c.stretch_at-found.result.start
     (run-of-chunk c.self.inside.blocks.items c.args.self.now c.self.inside.count c.spot_of-spot.result.chunk c.spot_of-spot.result.start c.args.at c.index.result.now c.chunks.result.now f c.self.view_is c.index.ensures c.chunks.ensures.same)
-    c.run_at-run.ensures.run
+    c.stretch_at-found.ensures.run
+
+pub returns-clause-behind : goal.returns-clause-behind
+returns-clause-behind g c =
+    let f : IsFound c.self.inside.blocks.items c.self.inside.count c.spot_of-spot.result.chunk c.spot_of-spot.result.start c.args.at = found c.self.inside.blocks.items c.deref.result.now c.self.inside.count c.spot_of-spot.result.chunk c.spot_of-spot.result.start c.args.at c.self.invariant c.deref.ensures.value c.spot_of-spot.ensures in
+    let place : c.spot_of-spot.result.start + (c.stretch_at-found.result.start + length c.stretch_at-found.result.items.now) ≡ c.spot_of-spot.result.start + c.stretch_at-found.result.start + length c.stretch_at-found.result.items.now = omega arith in
+    subst (λ (n : ℕ). IsRun c.args.self.now (joined c.stretch_at-found.result.behind.now) n) place
+    (run-of-run c.args.self.now c.chunks.result.now (joined c.stretch_at-found.result.behind.now) c.spot_of-spot.result.start (c.stretch_at-found.result.start + length c.stretch_at-found.result.items.now)
+    (run-of-chunk c.self.inside.blocks.items c.args.self.now c.self.inside.count c.spot_of-spot.result.chunk c.spot_of-spot.result.start c.args.at c.index.result.now c.chunks.result.now f c.self.view_is c.index.ensures c.chunks.ensures.same)
+    c.stretch_at-found.ensures.behind)

@@ -1,7 +1,9 @@
-use Rattle.std.proofs.Common.{arith}
+use Rattle.std.proofs.Common.{◌≡◌, ◌∙◌, ◌+◌, ◌-◌, List, ap, arith, drop, length, subst, sym, take}
+use Rattle.std.proofs.lemmas.List.{take_rest}
+use Rattle.canvas_list.specs.Chunks.{joined, IsRun}
 use Rattle.canvas_list.proofs.Joined.{found, has-chunk, len-is, search-some, IsFound}
-use Rattle.canvas_list.proofs.Runs.{chunk-holds, run-of-chunk}
-use Rattle.canvas_list.proofs.chunks.Chunks.run_at.Goals as goal
+use Rattle.canvas_list.proofs.Runs.{chunk-holds, run-behind, run-of-chunk}
+use Rattle.canvas_list.proofs.chunks.Chunks.stretch_at.Goals as goal
 
 pub spot_of-spot-requires : goal.spot_of-spot-requires
 spot_of-spot-requires g c =
@@ -22,3 +24,11 @@ returns-clause-upto g c =
     let f : IsFound c.self.inside.chunks.items c.self.inside.count c.spot_of-spot.result.chunk c.spot_of-spot.result.start c.args.at = found c.self.inside.chunks.items c.deref.result.now c.self.inside.count c.spot_of-spot.result.chunk c.spot_of-spot.result.start c.args.at c.self.invariant c.deref.ensures.value c.spot_of-spot.ensures in
     chunk-holds c.self.inside.chunks.items c.self.inside.count c.spot_of-spot.result.chunk c.spot_of-spot.result.start c.args.at c.index.result.now c.items.result.now f c.index.ensures c.items.ensures.same
     (omega (arith, c.requires, len-is c.self.inside.chunks.items c.self.inside.count c.args.self.now c.self.invariant c.self.view_is))
+
+pub returns-clause-behind : goal.returns-clause-behind
+returns-clause-behind g c =
+    let f : IsFound c.self.inside.chunks.items c.self.inside.count c.spot_of-spot.result.chunk c.spot_of-spot.result.start c.args.at = found c.self.inside.chunks.items c.deref.result.now c.self.inside.count c.spot_of-spot.result.chunk c.spot_of-spot.result.start c.args.at c.self.invariant c.deref.ensures.value c.spot_of-spot.ensures in
+    let same : joined (take (length c.deref-2.result.now - (c.spot_of-spot.result.chunk + 1)) (drop (c.spot_of-spot.result.chunk + 1) c.deref-2.result.now)) ≡ joined (drop (c.spot_of-spot.result.chunk + 1) c.self.inside.chunks.items) =
+    ap joined (take_rest c.deref-2.result.now (c.spot_of-spot.result.chunk + 1)) ∙ ap (λ (l : List (List g.row.T.Denot)). joined (drop (c.spot_of-spot.result.chunk + 1) l)) c.deref-2.ensures.value in
+    subst (λ (l : List g.row.T.Denot). IsRun c.args.self.now l (c.spot_of-spot.result.start + length c.items.result.now)) (sym same)
+    (run-behind c.self.inside.chunks.items c.args.self.now c.spot_of-spot.result.chunk c.spot_of-spot.result.start c.index.result.now c.items.result.now f.within f.start c.self.view_is c.index.ensures c.items.ensures.same)
