@@ -36,18 +36,38 @@ enum Subject {
 }
 
 impl Subject {
+    /// All subjects.
+    const ALL: [Subject; 7] = [
+        Subject::Spans,
+        Subject::Edits,
+        Subject::Scenes,
+        Subject::Painting,
+        Subject::Saving,
+        Subject::Seats,
+        Subject::Versions,
+    ];
+
+    // The word for a subject.
+    fn name(&self) -> &'static str {
+        match self {
+            Subject::Spans => "spans",
+            Subject::Edits => "edits",
+            Subject::Scenes => "scenes",
+            Subject::Painting => "painting",
+            Subject::Saving => "saving",
+            Subject::Seats => "seats",
+            Subject::Versions => "versions",
+        }
+    }
+
     // The subject of a word.
     fn named(word: &str) -> Option<Subject> {
-        match word {
-            "spans" => Some(Subject::Spans),
-            "edits" => Some(Subject::Edits),
-            "scenes" => Some(Subject::Scenes),
-            "painting" => Some(Subject::Painting),
-            "saving" => Some(Subject::Saving),
-            "seats" => Some(Subject::Seats),
-            "versions" => Some(Subject::Versions),
-            _ => None,
+        for subject in Subject::ALL {
+            if subject.name() == word {
+                return Some(subject);
+            }
         }
+        None
     }
 }
 

@@ -133,10 +133,20 @@ fn measure_ways<R: Clock + Print + Threads + Sync>(
     ways: &[Way],
 ) -> Result<(), Fault> {
     let mut timed = untimed(alloc, ways)?;
+    measure_rounds(rt, alloc, sight, &mut timed)
+}
+
+/// Measures each way in rounds, and prints what was measured.
+fn measure_rounds<R: Clock + Print + Threads + Sync>(
+    rt: &R,
+    alloc: Global,
+    sight: Sight<'_>,
+    timed: &mut [(Way, Vec<u64>)],
+) -> Result<(), Fault> {
     for _ in 0..ROUNDS {
-        time_each(rt, alloc, sight, &mut timed)?;
+        time_each(rt, alloc, sight, timed)?;
     }
-    report(rt, &mut timed)
+    report(rt, timed)
 }
 
 /// Each way, with no times yet.

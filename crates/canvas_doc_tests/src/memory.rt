@@ -28,11 +28,16 @@ fn square(alloc: Global) -> Result<Kind, OutOfMemory> {
     polygon(alloc, &[(0, 0), (4, 0), (4, 4), (0, 4)])
 }
 
+fn after_first_edit(alloc: Global, document: &Document, number: u32) -> Result<Document, Refusal> {
+    let edit = first_edit(alloc, number)?;
+    edited(alloc, document, &edit)
+}
+
 // A group with a triangle and a rectangle in it.
 fn document(alloc: Global) -> Result<Document, Refusal> {
     let mut document = Document::empty(alloc);
     for number in 0..3u32 {
-        document = edited(alloc, &document, &first_edit(alloc, number)?)?;
+        document = after_first_edit(alloc, &document, number)?;
     }
     Ok(document)
 }
@@ -91,30 +96,56 @@ fn are_right(
     }
 }
 
+// Makes an edit once more, and says whether it and the first answer are right.
+fn is_made_again(
+    alloc: Global,
+    document: &Document,
+    edit: &Edit,
+    first: &Result<Document, Refusal>,
+) -> Result<bool, Refusal> {
+    let again = edited(alloc, document, edit);
+    are_right(first, &again)
+}
+
 // Whether only want of memory kept an edit from being made, and the edit is made afterwards.
 fn is_made_once_there_is_memory(
     alloc: Global,
     document: &Document,
-    edit: &Edit,
+    number: u32,
 ) -> Result<bool, Refusal> {
-    let first = edited(alloc, document, edit);
-    let again = edited(alloc, document, edit);
-    are_right(&first, &again)
+    let edit = edit(alloc, number)?;
+    let first = edited(alloc, document, &edit);
+    is_made_again(alloc, document, &edit, &first)
+}
+
+// Makes each edit of a document, which stays the same as its copy.
+fn check_edits(
+    rt: &impl Abort,
+    alloc: Global,
+    document: &Document,
+    copy: &Document,
+) -> Result<(), Refusal> {
+    for number in 0..EDITS {
+        let is_made = is_made_once_there_is_memory(alloc, document, number)?;
+        assert!(rt; is_made, "edit {number}");
+        assert!(rt; are_same(document, copy), "edit {number}");
+    }
+    Ok(())
+}
+
+fn check_edits_beside_copy(
+    rt: &impl Abort,
+    alloc: Global,
+    document: &Document,
+) -> Result<(), Refusal> {
+    let copy = document.try_clone(alloc)?;
+    check_edits(rt, alloc, document, &copy)
 }
 
 #[test]
 fn edits_with_little_memory(rt: HostRuntime) -> Result<(), Fail> {
-    let alloc = rt.alloc();
-    let document = document(alloc)?;
-    let copy = document.try_clone(alloc)?;
-    for number in 0..EDITS {
-        let edit = edit(alloc, number)?;
-        assert!(rt;
-            is_made_once_there_is_memory(alloc, &document, &edit)?,
-            "edit {number}"
-        );
-        assert!(rt; are_same(&document, &copy), "edit {number}");
-    }
+    let document = document(rt.alloc())?;
+    check_edits_beside_copy(&rt, rt.alloc(), &document)?;
     Ok(())
 }
 
@@ -127,55 +158,72 @@ fn look_same(document: &Document, other: &Document) -> bool {
     same
 }
 
+// An edit, and a document before and after it.
+#[derive(Clone, Copy)]
+struct Step<'a> {
+    edit: &'a Edit,
+    before: &'a Document,
+    after: &'a Document,
+}
+
 // Whether only want of memory kept an edit from being made in place, which left the document as it was, and the edit
 // is made afterwards.
 fn is_made_in_place_once_there_is_memory(
     alloc: Global,
     document: &mut Document,
-    before: &Document,
-    after: &Document,
-    edit: &Edit,
+    step: Step<'_>,
 ) -> Result<bool, Refusal> {
-    match make(alloc, document, edit) {
-        Ok(()) => Ok(look_same(document, after)),
+    match make(alloc, document, step.edit) {
+        Ok(()) => Ok(look_same(document, step.after)),
         Err(Refusal::OutOfMemory) => {
-            let is_as_before = look_same(document, before);
-            make(alloc, document, edit)?;
-            Ok(is_as_before && look_same(document, after))
+            let is_as_before = look_same(document, step.before);
+            make(alloc, document, step.edit)?;
+            Ok(is_as_before && look_same(document, step.after))
         }
         Err(refusal) => Err(refusal),
     }
 }
 
-// One edit of a document that shares its records with a clone or with none.
-fn change_in_place(
-    rt: &impl Abort,
-    alloc: Global,
-    number: u32,
-    is_shared: bool,
-) -> Result<(), Refusal> {
-    let before = document(alloc)?;
+// The same of a document of its own, which shares its records with none.
+fn is_made_alone(alloc: Global, step: Step<'_>) -> Result<bool, Refusal> {
     let mut own = document(alloc)?;
-    let edit = edit(alloc, number)?;
-    let after = edited(alloc, &before, &edit)?;
-    let clone = if is_shared {
-        own.try_clone(alloc)?
-    } else {
-        before.try_clone(alloc)?
+    is_made_in_place_once_there_is_memory(alloc, &mut own, step)
+}
+
+// The same of a document that shares its records with a clone, which stays what it was.
+fn is_made_beside_clone(alloc: Global, step: Step<'_>) -> Result<bool, Refusal> {
+    let clone = document(alloc)?;
+    let is_made = is_made_of_clone(alloc, &clone, step)?;
+    Ok(is_made && look_same(&clone, step.before))
+}
+
+fn is_made_of_clone(alloc: Global, document: &Document, step: Step<'_>) -> Result<bool, Refusal> {
+    let mut own = document.try_clone(alloc)?;
+    is_made_in_place_once_there_is_memory(alloc, &mut own, step)
+}
+
+// The same of both with one edit of a document that is like them.
+fn is_made_of_each(alloc: Global, edit: &Edit, before: &Document) -> Result<bool, Refusal> {
+    let after = edited(alloc, before, edit)?;
+    let step = Step {
+        edit,
+        before,
+        after: &after,
     };
-    assert!(rt;
-        is_made_in_place_once_there_is_memory(alloc, &mut own, &before, &after, &edit)?,
-        "edit {number}"
-    );
-    assert!(rt; look_same(&clone, &before), "edit {number}");
-    Ok(())
+    Ok(is_made_alone(alloc, step)? && is_made_beside_clone(alloc, step)?)
+}
+
+fn is_made_in_place(alloc: Global, number: u32, before: &Document) -> Result<bool, Refusal> {
+    let edit = edit(alloc, number)?;
+    is_made_of_each(alloc, &edit, before)
 }
 
 #[test]
 fn changes_in_place_with_little_memory(rt: HostRuntime) -> Result<(), Fail> {
+    let before = document(rt.alloc())?;
     for number in 0..EDITS {
-        change_in_place(&rt, rt.alloc(), number, false)?;
-        change_in_place(&rt, rt.alloc(), number, true)?;
+        let is_made = is_made_in_place(rt.alloc(), number, &before)?;
+        assert!(rt; is_made, "edit {number}");
     }
     Ok(())
 }
@@ -196,20 +244,26 @@ fn refused_edit(alloc: Global, number: u32) -> Result<Edit, OutOfMemory> {
     })
 }
 
+// Why such an edit is refused, if it is.
+fn why_refused(
+    alloc: Global,
+    document: &Document,
+    number: u32,
+) -> Result<Option<Refusal>, OutOfMemory> {
+    let edit = refused_edit(alloc, number)?;
+    Ok(document.decide(alloc, &edit).err())
+}
+
 #[test]
 fn refusals_with_little_memory(rt: HostRuntime) -> Result<(), Fail> {
-    let alloc = rt.alloc();
-    let document = document(alloc)?;
+    let document = document(rt.alloc())?;
     for (number, refusal) in [
         (0, Refusal::NotAContainer),
         (1, Refusal::IndexTaken),
         (2, Refusal::WrongKind),
     ] {
-        let edit = refused_edit(alloc, number)?;
-        assert!(rt;
-            document.decide(alloc, &edit).err() == Some(refusal),
-            "{refusal:?}"
-        );
+        let found = why_refused(rt.alloc(), &document, number)?;
+        assert!(rt; found == Some(refusal), "{refusal:?}");
     }
     Ok(())
 }
@@ -241,11 +295,19 @@ fn restores_are_right(
     }
 }
 
+// Restores the pair once more, and says whether that and the first answer are right.
+fn is_restored_again(
+    alloc: Global,
+    first: &Result<Document, TreeFault>,
+) -> Result<bool, TreeFault> {
+    let again = restored_pair(alloc);
+    restores_are_right(first, &again)
+}
+
 // Whether only want of memory kept the pair from being restored, and it is restored afterwards.
 fn is_restored_once_there_is_memory(alloc: Global) -> Result<bool, TreeFault> {
     let first = restored_pair(alloc);
-    let again = restored_pair(alloc);
-    restores_are_right(&first, &again)
+    is_restored_again(alloc, &first)
 }
 
 #[test]

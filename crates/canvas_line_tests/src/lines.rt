@@ -13,31 +13,24 @@ use std::test::Fail;
 
 pub(crate) const RED: Colour = Colour([255, 0, 0]);
 
-/// What a test does with the seats of a line.
+/// What a test does with the only seat of a line.
 pub(crate) trait Play {
-    /// Plays it with all seats of a line that was just opened.
+    /// Plays it with the seat of a line that was just opened.
     fn play<B: Lines, R: Wait + Abort>(
         rt: &R,
         alloc: Global,
-        seats: Vec<Seat<B>>,
+        seat: &mut Seat<B>,
     ) -> Result<(), Fail>;
 }
 
-/// How a line is opened.
-pub(crate) struct Setting {
-    pub(crate) seats: u32,
-    pub(crate) limit: u64,
-}
-
-/// Plays at a line of its own.
+/// Plays at a line of its own, which accepts so many changes.
 pub(crate) fn at_a_line<P: Play, R: Wait + Abort>(
     rt: &R,
     alloc: Global,
     document: Document,
-    setting: Setting,
+    limit: u64,
 ) -> Result<(), Fail> {
-    let Setting { seats, limit } = setting;
-    opened::<Brand, P, R>(rt, alloc, Opened::new(), document, seats, limit)
+    opened::<Brand, P, R>(rt, alloc, Opened::new(), document, limit)
 }
 
 fn opened<B: Lines, P: Play, R: Wait + Abort>(
@@ -45,13 +38,15 @@ fn opened<B: Lines, P: Play, R: Wait + Abort>(
     alloc: Global,
     opened: Opened,
     document: Document,
-    seats: u32,
     limit: u64,
 ) -> Result<(), Fail>
     requires { B.line 1 ≡ record { book = opened.head.word.book; opening = document; limit = limit } }
 {
-    match Line::open::<B, R>(rt, alloc, opened, 1, document, seats, limit) {
-        Ok(seats) => P::play(rt, alloc, seats),
+    match Line::open::<B, R>(rt, alloc, opened, 1, document, 1, limit) {
+        Ok(seats) => {
+            let mut seat = only(rt, seats);
+            P::play(rt, alloc, &mut seat)
+        }
         Err(fault) => Err(failed(fault)),
     }
 }

@@ -1,5 +1,5 @@
 //! Want of memory. Run with each allocation failing in turn.
-use crate::lines::{Play, Setting, at_a_line, edited, failed, rectangle, seen};
+use crate::lines::{Play, at_a_line, edited, failed, rectangle, seen};
 use canvas_doc::Document;
 use canvas_line::{Edited, LineFault, Lines, Seat};
 use std::alloc::Global;
@@ -40,15 +40,14 @@ impl Play for Again {
     fn play<B: Lines, R: Wait + Abort>(
         rt: &R,
         _alloc: Global,
-        mut seats: Vec<Seat<B>>,
+        seat: &mut Seat<B>,
     ) -> Result<(), Fail> {
-        let mut seat = seats.pop().ok_or("no seat")?;
         for before in 0..3u64 {
-            let made = made(rt, &mut seat, before).map_err(failed)?;
+            let made = made(rt, seat, before).map_err(failed)?;
             assert_eq!(rt; made.number, before + 1);
             assert!(rt; made.id == Some(before as u32 + 1));
         }
-        assert_eq!(rt; seen(&mut seat).map_err(failed)?.document.count(), 3);
+        assert_eq!(rt; seen(seat).map_err(failed)?.document.count(), 3);
         Ok(())
     }
 }
@@ -56,9 +55,5 @@ impl Play for Again {
 #[test]
 fn an_edit_that_wanted_memory_is_made_again(rt: HostRuntime) -> Result<(), Fail> {
     let document = Document::empty(rt.alloc());
-    let setting = Setting {
-        seats: 1,
-        limit: 10,
-    };
-    at_a_line::<Again, _>(&rt, rt.alloc(), document, setting)
+    at_a_line::<Again, _>(&rt, rt.alloc(), document, 10)
 }

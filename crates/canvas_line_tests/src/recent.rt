@@ -1,5 +1,5 @@
 //! The damage of the last changes.
-use crate::lines::{Play, Setting, at_a_line, edited, only, rectangle, seen};
+use crate::lines::{Play, at_a_line, edited, rectangle, seen};
 use canvas_doc::{Document, Edit};
 use canvas_line::{Lines, Seat};
 use canvas_plane::PageBox;
@@ -62,12 +62,11 @@ impl Play for Three {
     fn play<B: Lines, R: Wait + Abort>(
         rt: &R,
         alloc: Global,
-        seats: Vec<Seat<B>>,
+        seat: &mut Seat<B>,
     ) -> Result<(), Fail> {
-        let mut seat = only(rt, seats);
-        assert_told(rt, &mut seat, 1, &[]);
-        let areas = areas_of(rt, alloc, &mut seat, 3);
-        assert_told(rt, &mut seat, 1, &areas);
+        assert_told(rt, seat, 1, &[]);
+        let areas = areas_of(rt, alloc, seat, 3);
+        assert_told(rt, seat, 1, &areas);
         Ok(())
     }
 }
@@ -75,11 +74,7 @@ impl Play for Three {
 #[test]
 fn a_version_tells_of_each_of_three_changes(rt: HostRuntime) -> Result<(), Fail> {
     let document = Document::empty(rt.alloc());
-    let setting = Setting {
-        seats: 1,
-        limit: 10,
-    };
-    at_a_line::<Three, _>(&rt, rt.alloc(), document, setting)
+    at_a_line::<Three, _>(&rt, rt.alloc(), document, 10)
 }
 
 /// Of seventy changes the first six are left out.
@@ -89,12 +84,11 @@ impl Play for Seventy {
     fn play<B: Lines, R: Wait + Abort>(
         rt: &R,
         alloc: Global,
-        seats: Vec<Seat<B>>,
+        seat: &mut Seat<B>,
     ) -> Result<(), Fail> {
-        let mut seat = only(rt, seats);
-        let areas = areas_of(rt, alloc, &mut seat, 70);
+        let areas = areas_of(rt, alloc, seat, 70);
         assert_eq!(rt; areas.len(), 70);
-        assert_told(rt, &mut seat, 7, &areas[6..]);
+        assert_told(rt, seat, 7, &areas[6..]);
         Ok(())
     }
 }
@@ -102,9 +96,5 @@ impl Play for Seventy {
 #[test]
 fn a_version_tells_of_the_last_64_of_70_changes(rt: HostRuntime) -> Result<(), Fail> {
     let document = Document::empty(rt.alloc());
-    let setting = Setting {
-        seats: 1,
-        limit: 100,
-    };
-    at_a_line::<Seventy, _>(&rt, rt.alloc(), document, setting)
+    at_a_line::<Seventy, _>(&rt, rt.alloc(), document, 100)
 }

@@ -1,5 +1,5 @@
 //! Edits that the document refuses, on the only seat of a line.
-use crate::lines::{Play, RED, Setting, at_a_line, create, edited, only, rectangle, seen};
+use crate::lines::{Play, RED, at_a_line, create, edited, rectangle, seen};
 use canvas_doc::{Document, Edit, Parent, Refusal, Spot};
 use canvas_key::Key;
 use canvas_line::{LineFault, Lines, Seat};
@@ -32,20 +32,19 @@ impl Play for Frames {
     fn play<B: Lines, R: Wait + Abort>(
         rt: &R,
         _alloc: Global,
-        seats: Vec<Seat<B>>,
+        seat: &mut Seat<B>,
     ) -> Result<(), Fail> {
-        let mut seat = only(rt, seats);
         for parent in [Parent::Page, Parent::Shape(1), Parent::Shape(2)] {
             let frame = Kind::Frame {
                 w: 4,
                 h: 4,
                 fill: Some(RED),
             };
-            accept(rt, &mut seat, &create(frame, 0, parent, Spot::Front));
+            accept(rt, seat, &create(frame, 0, parent, Spot::Front));
         }
         let under_itself = to(1, Parent::Shape(3), Spot::Front);
-        refuse(rt, &mut seat, &under_itself, Refusal::Cycle);
-        let version = seen(&mut seat).expect(rt, "a version");
+        refuse(rt, seat, &under_itself, Refusal::Cycle);
+        let version = seen(seat).expect(rt, "a version");
         assert_eq!(rt; version.number, 3);
         assert!(rt; version.document.colour_at(0, 0) == RED);
         Ok(())
@@ -55,11 +54,7 @@ impl Play for Frames {
 #[test]
 fn a_frame_does_not_go_under_itself(rt: HostRuntime) -> Result<(), Fail> {
     let document = Document::empty(rt.alloc());
-    let setting = Setting {
-        seats: 1,
-        limit: 10,
-    };
-    at_a_line::<Frames, _>(&rt, rt.alloc(), document, setting)
+    at_a_line::<Frames, _>(&rt, rt.alloc(), document, 10)
 }
 
 /// 32 groups in one another, and a rectangle on the page.
@@ -69,19 +64,18 @@ impl Play for Groups {
     fn play<B: Lines, R: Wait + Abort>(
         rt: &R,
         _alloc: Global,
-        seats: Vec<Seat<B>>,
+        seat: &mut Seat<B>,
     ) -> Result<(), Fail> {
-        let mut seat = only(rt, seats);
         let mut parent = Parent::Page;
         for id in 1..33u32 {
-            accept(rt, &mut seat, &create(Kind::Group, 0, parent, Spot::Front));
+            accept(rt, seat, &create(Kind::Group, 0, parent, Spot::Front));
             parent = Parent::Shape(id);
         }
-        accept(rt, &mut seat, &rectangle(1, 1, 0));
+        accept(rt, seat, &rectangle(1, 1, 0));
         let under_all = to(33, parent, Spot::Front);
-        refuse(rt, &mut seat, &under_all, Refusal::TooDeep);
+        refuse(rt, seat, &under_all, Refusal::TooDeep);
         let new = create(Kind::Group, 0, parent, Spot::Front);
-        refuse(rt, &mut seat, &new, Refusal::TooDeep);
+        refuse(rt, seat, &new, Refusal::TooDeep);
         Ok(())
     }
 }
@@ -89,11 +83,7 @@ impl Play for Groups {
 #[test]
 fn no_shape_lies_below_32_groups(rt: HostRuntime) -> Result<(), Fail> {
     let document = Document::empty(rt.alloc());
-    let setting = Setting {
-        seats: 1,
-        limit: 100,
-    };
-    at_a_line::<Groups, _>(&rt, rt.alloc(), document, setting)
+    at_a_line::<Groups, _>(&rt, rt.alloc(), document, 100)
 }
 
 /// Two rectangles on the page, with the indexes `a0` and `a1`, and one in a group.
@@ -103,27 +93,22 @@ impl Play for Spots {
     fn play<B: Lines, R: Wait + Abort>(
         rt: &R,
         _alloc: Global,
-        seats: Vec<Seat<B>>,
+        seat: &mut Seat<B>,
     ) -> Result<(), Fail> {
-        let mut seat = only(rt, seats);
-        accept(rt, &mut seat, &rectangle(1, 1, 0));
-        accept(rt, &mut seat, &rectangle(1, 1, 1));
+        accept(rt, seat, &rectangle(1, 1, 0));
+        accept(rt, seat, &rectangle(1, 1, 1));
+        accept(rt, seat, &create(Kind::Group, 0, Parent::Page, Spot::Front));
         accept(
             rt,
-            &mut seat,
-            &create(Kind::Group, 0, Parent::Page, Spot::Front),
-        );
-        accept(
-            rt,
-            &mut seat,
+            seat,
             &create(Kind::Group, 0, Parent::Shape(3), Spot::Front),
         );
         let taken = Key::read(b"a1").expect(rt, "a key");
         let at_another = to(1, Parent::Page, Spot::At(taken));
-        refuse(rt, &mut seat, &at_another, Refusal::IndexTaken);
+        refuse(rt, seat, &at_another, Refusal::IndexTaken);
         for id in [4, 1] {
             let over = to(1, Parent::Page, Spot::Over(id));
-            refuse(rt, &mut seat, &over, Refusal::SpotNotSibling);
+            refuse(rt, seat, &over, Refusal::SpotNotSibling);
         }
         Ok(())
     }
@@ -132,11 +117,7 @@ impl Play for Spots {
 #[test]
 fn spots_name_siblings_and_free_indexes(rt: HostRuntime) -> Result<(), Fail> {
     let document = Document::empty(rt.alloc());
-    let setting = Setting {
-        seats: 1,
-        limit: 10,
-    };
-    at_a_line::<Spots, _>(&rt, rt.alloc(), document, setting)
+    at_a_line::<Spots, _>(&rt, rt.alloc(), document, 10)
 }
 
 /// A document that has given all ids.
@@ -146,10 +127,9 @@ impl Play for Ids {
     fn play<B: Lines, R: Wait + Abort>(
         rt: &R,
         _alloc: Global,
-        seats: Vec<Seat<B>>,
+        seat: &mut Seat<B>,
     ) -> Result<(), Fail> {
-        let mut seat = only(rt, seats);
-        refuse(rt, &mut seat, &rectangle(1, 1, 0), Refusal::IdsSpent);
+        refuse(rt, seat, &rectangle(1, 1, 0), Refusal::IdsSpent);
         Ok(())
     }
 }
@@ -158,9 +138,5 @@ impl Play for Ids {
 fn ids_are_spent(rt: HostRuntime) -> Result<(), Fail> {
     let alloc = rt.alloc();
     let document = Document::restore(alloc, Vec::new(alloc), u32::MAX).expect(&rt, "a document");
-    let setting = Setting {
-        seats: 1,
-        limit: 10,
-    };
-    at_a_line::<Ids, _>(&rt, alloc, document, setting)
+    at_a_line::<Ids, _>(&rt, alloc, document, 10)
 }

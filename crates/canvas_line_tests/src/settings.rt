@@ -50,14 +50,19 @@ fn refused<B: Lines, R: Wait + Abort>(
 {
     match Line::open::<B, R>(rt, alloc, opened, 1, document, seats, limit) {
         Ok(all) => {
-            assert_eq!(rt; all.len(), seats as usize);
-            for seat in all {
-                assert_eq!(rt; seat.number(), 0);
-                seat.close(rt);
-            }
+            close_all(rt, all, seats);
             None
         }
         Err(fault) => Some(fault),
+    }
+}
+
+// Closes the seats of a line, of which there are to be so many.
+fn close_all<B: Lines, R: Wait + Abort>(rt: &R, all: Vec<Seat<B>>, seats: u32) {
+    assert_eq!(rt; all.len(), seats as usize);
+    for seat in all {
+        assert_eq!(rt; seat.number(), 0);
+        seat.close(rt);
     }
 }
 

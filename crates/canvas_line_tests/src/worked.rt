@@ -1,7 +1,7 @@
 //! Worked examples.
 ghost use Rattle.std.specs.Prelude.{◌≡◌};
 
-use crate::lines::{Play, RED, Setting, at_a_line, edited, only, rectangle, seen};
+use crate::lines::{Play, RED, at_a_line, edited, only, rectangle, seen};
 use canvas_doc::{Document, Edit, Refusal};
 use canvas_line::{Line, LineFault, Lines, Opened, Seat};
 use std::alloc::Global;
@@ -93,16 +93,15 @@ impl Play for Spending {
     fn play<B: Lines, R: Wait + Abort>(
         rt: &R,
         _alloc: Global,
-        seats: Vec<Seat<B>>,
+        seat: &mut Seat<B>,
     ) -> Result<(), Fail> {
-        let mut seat = only(rt, seats);
-        assert!(rt; edited(rt, &mut seat, &rectangle(1, 1, 0)).is_ok());
-        assert!(rt; edited(rt, &mut seat, &rectangle(1, 1, 1)).is_ok());
+        assert!(rt; edited(rt, seat, &rectangle(1, 1, 0)).is_ok());
+        assert!(rt; edited(rt, seat, &rectangle(1, 1, 1)).is_ok());
         let missing = Edit::Delete { id: 9 };
-        assert!(rt; edited(rt, &mut seat, &missing) == Err(LineFault::VersionsSpent));
-        assert!(rt; edited(rt, &mut seat, &rectangle(1, 1, 2)) == Err(LineFault::VersionsSpent));
+        assert!(rt; edited(rt, seat, &missing) == Err(LineFault::VersionsSpent));
+        assert!(rt; edited(rt, seat, &rectangle(1, 1, 2)) == Err(LineFault::VersionsSpent));
         assert_eq!(rt; seat.number(), 2);
-        assert_eq!(rt; number_seen(rt, &mut seat), 2);
+        assert_eq!(rt; number_seen(rt, seat), 2);
         Ok(())
     }
 }
@@ -110,43 +109,42 @@ impl Play for Spending {
 #[test]
 fn a_line_accepts_no_more_than_its_limit(rt: HostRuntime) -> Result<(), Fail> {
     let document = Document::empty(rt.alloc());
-    let setting = Setting { seats: 1, limit: 2 };
-    at_a_line::<Spending, _>(&rt, rt.alloc(), document, setting)
-}
-
-/// Of three seats that never met, each goes on by its own edits and looks alone.
-struct Apart;
-
-impl Play for Apart {
-    fn play<B: Lines, R: Wait + Abort>(
-        rt: &R,
-        _alloc: Global,
-        mut seats: Vec<Seat<B>>,
-    ) -> Result<(), Fail> {
-        let mut c = seats.pop().expect(rt, "a seat");
-        let (mut a, mut b) = both(rt, seats);
-        assert!(rt; edited(rt, &mut a, &rectangle(1, 1, 0)).is_ok());
-        let refused = LineFault::Refused(Refusal::NoSuchShape);
-        assert!(rt; edited(rt, &mut b, &Edit::Delete { id: 9 }) == Err(refused));
-        assert_eq!(rt; b.number(), 1);
-        assert_eq!(rt; c.number(), 0);
-        assert_eq!(rt; number_seen(rt, &mut c), 1);
-        assert!(rt; edited(rt, &mut a, &rectangle(1, 1, 1)).is_ok());
-        assert_eq!(rt; number_seen(rt, &mut c), 2);
-        assert_eq!(rt; b.number(), 1);
-        for seat in [a, b, c] {
-            seat.close(rt);
-        }
-        Ok(())
-    }
+    at_a_line::<Spending, _>(&rt, rt.alloc(), document, 2)
 }
 
 #[test]
-fn seats_that_never_met_go_on_by_themselves(rt: HostRuntime) -> Result<(), Fail> {
+fn seats_that_never_met_go_on_by_themselves(rt: HostRuntime) {
     let document = Document::empty(rt.alloc());
-    let setting = Setting {
-        seats: 3,
-        limit: 10,
-    };
-    at_a_line::<Apart, _>(&rt, rt.alloc(), document, setting)
+    apart::<Brand, _>(&rt, rt.alloc(), Opened::new(), document);
+}
+
+// Of three seats that never met, each goes on by its own edits and looks alone.
+fn apart<B: Lines, R: Wait + Abort>(rt: &R, alloc: Global, opened: Opened, document: Document)
+    requires { B.line 1 ≡ record { book = opened.head.word.book; opening = document; limit = 10 } }
+{
+    let seats = Line::open::<B, R>(rt, alloc, opened, 1, document, 3, 10);
+    let mut seats = seats.expect(rt, "a line");
+    let mut c = seats.pop().expect(rt, "a seat");
+    let (mut a, mut b) = both(rt, seats);
+    check_apart(rt, &mut a, &mut b, &mut c);
+    a.close(rt);
+    b.close(rt);
+    c.close(rt);
+}
+
+fn check_apart<B: Lines, R: Wait + Abort>(
+    rt: &R,
+    a: &mut Seat<B>,
+    b: &mut Seat<B>,
+    c: &mut Seat<B>,
+) {
+    assert!(rt; edited(rt, a, &rectangle(1, 1, 0)).is_ok());
+    let refused = LineFault::Refused(Refusal::NoSuchShape);
+    assert!(rt; edited(rt, b, &Edit::Delete { id: 9 }) == Err(refused));
+    assert_eq!(rt; b.number(), 1);
+    assert_eq!(rt; c.number(), 0);
+    assert_eq!(rt; number_seen(rt, c), 1);
+    assert!(rt; edited(rt, a, &rectangle(1, 1, 1)).is_ok());
+    assert_eq!(rt; number_seen(rt, c), 2);
+    assert_eq!(rt; b.number(), 1);
 }

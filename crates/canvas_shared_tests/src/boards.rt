@@ -107,6 +107,50 @@ pub(crate) fn is_painted(answer: &Result<Picture, BoardFault>, version: u64, lef
         && bytes[493..].iter().all(|byte| *byte == 255)
 }
 
+/// Asserts that an edit is accepted as such a version, and makes such a shape. (Calls of this and of the next two tell a
+/// proof nothing, which keeps tests quick to prove.)
+pub(crate) fn check_edit<B: Lines, H: Wait + Abort>(
+    rt: &H,
+    board: &mut Shared<B>,
+    edit: &Edit,
+    number: u64,
+    id: Option<u32>,
+) {
+    assert!(rt; is_edited(board.edit(rt, edit), number, id));
+}
+
+/// Asserts that a pixel at the page's origin has such a colour in such a version.
+pub(crate) fn check_dot<B: Lines>(
+    rt: &impl Abort,
+    board: &mut Shared<B>,
+    version: u64,
+    colour: Colour,
+) {
+    let dot = board.point(0, 0).expect(rt, "a colour");
+    assert!(rt; dot.version == version && dot.colour == colour);
+}
+
+// Asserts that a picture by so many workers names such a version and has such a colour at its left.
+fn check_picture<B: Lines, H: Threads + Wait + Abort + Sync>(
+    rt: &H,
+    board: &mut Shared<B>,
+    workers: u32,
+    version: u64,
+    left: Colour,
+) {
+    let window = Window::new(0, 0, 16, 16).expect(rt, "a window");
+    let answer = board.picture(rt, &window, workers);
+    assert!(rt; is_painted(&answer, version, left));
+}
+
+// Asserts that a board saves two shapes as its third version.
+fn check_saved<B: Lines>(rt: &impl Abort, alloc: Global, board: &mut Shared<B>) {
+    let saved = board.saved().expect(rt, "a saved document");
+    assert_eq!(rt; saved.version, 3);
+    let again = import(alloc, saved.text.as_slice()).expect(rt, "a document again");
+    assert_eq!(rt; again.count(), 2);
+}
+
 #[test]
 fn a_square_moves_away(rt: HostRuntime) {
     let alloc = rt.alloc();
@@ -122,23 +166,18 @@ fn moves_away<B: Lines, H: Threads + Wait + Abort + Sync>(
     requires { B.line 1 ≡ record { book = opened.head.word.book; opening = document; limit = 10 } }
 {
     let mut board = first_board::<B, H>(rt, alloc, opened, document, 10);
-    let window = Window::new(0, 0, 16, 16).expect(rt, "a window");
-    assert!(rt; is_edited(board.edit(rt, &square(10, 0)), 1, Some(1)));
-    assert!(rt; is_painted(&board.picture(rt, &window, 1), 1, RED));
+    check_edit(rt, &mut board, &square(10, 0), 1, Some(1));
+    check_picture(rt, &mut board, 1, 1, RED);
     let away = Edit::Pose {
         id: 1,
         pose: at(100),
     };
-    assert!(rt; is_edited(board.edit(rt, &away), 2, None));
-    assert!(rt; is_painted(&board.picture(rt, &window, 2), 2, WHITE));
-    assert!(rt; is_edited(board.edit(rt, &square(1, 500)), 3, Some(2)));
-    assert!(rt; is_painted(&board.picture(rt, &window, 1), 3, WHITE));
-    let dot = board.point(0, 0).expect(rt, "a colour");
-    assert!(rt; dot.version == 3 && dot.colour == WHITE);
-    let saved = board.saved().expect(rt, "a saved document");
-    assert_eq!(rt; saved.version, 3);
-    let again = import(alloc, saved.text.as_slice()).expect(rt, "a document again");
-    assert_eq!(rt; again.count(), 2);
+    check_edit(rt, &mut board, &away, 2, None);
+    check_picture(rt, &mut board, 2, 2, WHITE);
+    check_edit(rt, &mut board, &square(1, 500), 3, Some(2));
+    check_picture(rt, &mut board, 1, 3, WHITE);
+    check_dot(rt, &mut board, 3, WHITE);
+    check_saved(rt, alloc, &mut board);
     board.close(rt);
 }
 
@@ -152,12 +191,11 @@ fn spends<B: Lines, H: Wait + Abort>(rt: &H, alloc: Global, opened: Opened, docu
     requires { B.line 1 ≡ record { book = opened.head.word.book; opening = document; limit = 2 } }
 {
     let mut board = first_board::<B, H>(rt, alloc, opened, document, 2);
-    assert!(rt; is_edited(board.edit(rt, &square(1, 0)), 1, Some(1)));
-    assert!(rt; is_edited(board.edit(rt, &square(1, 0)), 2, Some(2)));
+    check_edit(rt, &mut board, &square(1, 0), 1, Some(1));
+    check_edit(rt, &mut board, &square(1, 0), 2, Some(2));
     let missing = Edit::Delete { id: 9 };
     assert!(rt; board.edit(rt, &missing) == Err(BoardFault::VersionsSpent));
-    let dot = board.point(0, 0).expect(rt, "a colour");
-    assert!(rt; dot.version == 2 && dot.colour == RED);
+    check_dot(rt, &mut board, 2, RED);
 }
 
 #[test]
@@ -171,11 +209,10 @@ fn share<B: Lines, H: Wait + Abort>(rt: &H, alloc: Global, opened: Opened, docum
 {
     let both = boards::<B, H>(rt, alloc, opened, document, 10);
     let (mut first, mut second) = both.expect(rt, "boards");
-    assert!(rt; is_edited(first.edit(rt, &square(1, 0)), 1, Some(1)));
-    let dot = second.point(0, 0).expect(rt, "a colour");
-    assert!(rt; dot.version == 1 && dot.colour == RED);
-    assert!(rt; is_edited(second.edit(rt, &Edit::Delete { id: 1 }), 2, None));
-    assert!(rt; is_edited(first.edit(rt, &square(1, 0)), 3, Some(2)));
+    check_edit(rt, &mut first, &square(1, 0), 1, Some(1));
+    check_dot(rt, &mut second, 1, RED);
+    check_edit(rt, &mut second, &Edit::Delete { id: 1 }, 2, None);
+    check_edit(rt, &mut first, &square(1, 0), 3, Some(2));
 }
 
 #[test]
@@ -189,18 +226,17 @@ fn goes_on<B: Lines, H: Wait + Abort>(rt: &H, alloc: Global, opened: Opened, doc
 {
     let mut board = first_board::<B, H>(rt, alloc, opened, document, 100);
     for number in 1..=50 {
-        assert!(rt;
-            board
-                .edit(rt, &square(1, 0))
-                .is_ok_and(|edited| edited.number == number)
-        );
-        assert!(rt;
-            board
-                .edit(rt, &Edit::Delete { id: 99 })
-                .is_err_and(|fault| fault.code() == 2)
-        );
-        assert!(rt; board.point(0, 0).is_ok_and(|dot| dot.version == number));
+        check_round(rt, &mut board, number);
     }
+}
+
+// Asserts that an edit is accepted as such a version, and that one that is refused leaves it.
+fn check_round<B: Lines, H: Wait + Abort>(rt: &H, board: &mut Shared<B>, number: u64) {
+    let accepted = board.edit(rt, &square(1, 0));
+    assert!(rt; accepted.is_ok_and(|edited| edited.number == number));
+    let refused = board.edit(rt, &Edit::Delete { id: 99 });
+    assert!(rt; refused.is_err_and(|fault| fault.code() == 2));
+    assert!(rt; board.point(0, 0).is_ok_and(|dot| dot.version == number));
 }
 
 #[test]

@@ -44,22 +44,14 @@ impl Play for Twice<'_> {
     fn play<B: Lines, H: Threads + Wait + Abort + Sync>(&self, rt: &H, table: &mut Table<B>) {
         let window = window_at(rt, 0, 0);
         assert!(rt; table.edits(rt, self.by_viewer, &self.row.before));
-        assert!(rt;
-            table
-                .picture(rt, &window)
-                .is_some_and(|seen| seen.version == 1)
-        );
+        assert!(rt; table.shows_version(rt, &window, 1));
         let mut version: u64 = 1;
         for _ in 0..self.row.times {
             if table.edits(rt, self.by_viewer, &self.row.between) {
                 version = version.saturating_add(1);
             }
         }
-        assert!(rt;
-            table
-                .picture(rt, &window)
-                .is_some_and(|seen| seen.version == version)
-        );
+        assert!(rt; table.shows_version(rt, &window, version));
         assert_eq!(rt; table.viewer.hits(), self.row.hits);
     }
 }
@@ -197,7 +189,7 @@ impl Play for InTurn {
         for _ in 0..3u32 {
             for number in 0..self.windows {
                 let window = window_at(rt, number, 0);
-                assert!(rt; table.picture(rt, &window).is_some());
+                assert!(rt; table.shows(rt, &window));
             }
         }
         assert_eq!(rt; table.viewer.hits(), self.hits);
@@ -226,7 +218,6 @@ struct OfALevel;
 
 impl Play for OfALevel {
     fn play<B: Lines, H: Threads + Wait + Abort + Sync>(&self, rt: &H, table: &mut Table<B>) {
-        let red = b"P6\n2 2\n255\n\xff\0\0\xff\0\0\xff\0\0\xff\0\0".as_slice();
         let window = window_of(rt, 3, 0, 0, 2);
         // Each edit makes a version, whose picture is all red, by so many answers as kept.
         for (edit, version, hits) in [
@@ -237,11 +228,25 @@ impl Play for OfALevel {
             (dot(0, -1), 5, 3),
         ] {
             assert!(rt; table.edits(rt, false, &edit));
-            let picture = table.picture(rt, &window).expect(rt, "a picture");
-            assert_eq!(rt; picture.version, version);
-            assert!(rt; picture.bytes.as_slice() == red);
+            assert!(rt; shows_red(rt, table, &window, version));
             assert_eq!(rt; table.viewer.hits(), hits);
         }
+    }
+}
+
+// Whether the picture of 2 by 2 pixels is all red, and one of such a version.
+fn shows_red<B: Lines, H: Threads + Wait + Sync>(
+    rt: &H,
+    table: &mut Table<B>,
+    window: &Window,
+    version: u64,
+) -> bool
+    requires { IsSync H.row }
+{
+    let red = b"P6\n2 2\n255\n\xff\0\0\xff\0\0\xff\0\0\xff\0\0".as_slice();
+    match table.picture(rt, window) {
+        Some(picture) => picture.version == version && picture.bytes.as_slice() == red,
+        None => false,
     }
 }
 
@@ -280,13 +285,13 @@ impl Play for AtEachLevel {
         assert!(rt; table.edits(rt, false, &square(10, 4)));
         for number in 0..14u8 {
             let window = window_of(rt, number % 7, 0, 0, 16);
-            assert!(rt; table.picture(rt, &window).is_some(), "picture {number}");
+            assert!(rt; table.shows(rt, &window), "picture {number}");
         }
         assert_eq!(rt; table.viewer.hits(), 7);
         assert!(rt; table.edits(rt, false, &square(1, 16)));
         for level in 0..7u8 {
             let window = window_of(rt, level, 0, 0, 16);
-            assert!(rt; table.picture(rt, &window).is_some(), "level {level}");
+            assert!(rt; table.shows(rt, &window), "level {level}");
         }
         assert_eq!(rt; table.viewer.hits(), 8);
     }
@@ -310,7 +315,7 @@ impl Play for KeptOn {
             for _ in 0..changes {
                 assert!(rt; table.edits(rt, false, &square(1, 500)));
             }
-            assert!(rt; table.picture(rt, &window).is_some());
+            assert!(rt; table.shows(rt, &window));
             let painted = changes == 1 || changes == 65;
             hits = hits.saturating_add(if painted { 0 } else { 1 });
             assert_eq!(rt; table.viewer.hits(), hits, "after {changes} changes");
@@ -333,14 +338,25 @@ impl Play for Workers {
         let window = window_at(rt, 0, 0);
         assert!(rt; table.edits(rt, true, &square(10, 0)));
         for (workers, hits) in [(1, 0), (17, 0), (16, 1), (0, 1), (2, 2), (17, 2)] {
-            let answer = table.viewer.picture(rt, &window, workers);
-            let is_refused = match &answer {
-                Ok(_) => false,
-                Err(fault) => fault.code() == 31,
-            };
+            let is_refused = refuses_workers(rt, table, &window, workers);
             assert!(rt; is_refused == (workers == 0 || workers == 17));
             assert_eq!(rt; table.viewer.hits(), hits, "{workers} workers");
         }
+    }
+}
+
+// Whether the viewer refuses a picture by so many workers.
+fn refuses_workers<B: Lines, H: Threads + Wait + Sync>(
+    rt: &H,
+    table: &mut Table<B>,
+    window: &Window,
+    workers: u32,
+) -> bool
+    requires { IsSync H.row }
+{
+    match table.viewer.picture(rt, window, workers) {
+        Ok(_) => false,
+        Err(fault) => fault.code() == 31,
     }
 }
 

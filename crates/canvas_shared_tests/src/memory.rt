@@ -4,11 +4,12 @@
 ghost use Rattle.std.specs.Prelude.{◌≡◌};
 
 use crate::boards::{RED, WHITE, at, boards, is_edited, is_painted, square};
-use crate::sessions::SAVED;
+use crate::sessions::saved_squares;
 use canvas_board::{Board, BoardFault, Dot, Edited, Picture, Saved, Shared};
 use canvas_doc::{Document, Edit};
 use canvas_line::{Lines, Opened};
 use canvas_plane::Window;
+use canvas_shape::Colour;
 use std::alloc::Global;
 use std::marker::Brand;
 use std::process::Abort;
@@ -82,26 +83,44 @@ fn moves_away<B: Lines, H: Threads + Wait + Abort + Sync>(
     requires { B.line 1 ≡ record { book = opened.head.word.book; opening = document; limit = 10 } }
 {
     let (mut first, mut second) = boards::<B, H>(rt, alloc, opened, document, 10)?;
-    let window = Window::new(0, 0, 16, 16)?;
-    let answer = edited(rt, &mut first, &mut second, 0, &square(10, 0));
+    check_moves(rt, &mut first, &mut second);
+    check_the_end(rt, &mut first);
+    check_the_end(rt, &mut second);
+    Ok(())
+}
+
+// Makes a square, moves it away and makes another, of which the second board paints pictures.
+fn check_moves<B: Lines, H: Threads + Wait + Abort + Sync>(
+    rt: &H,
+    first: &mut Shared<B>,
+    second: &mut Shared<B>,
+) {
+    let answer = edited(rt, first, second, 0, &square(10, 0));
     assert!(rt; is_edited(answer, 1, Some(1)));
-    assert!(rt; is_painted(&painted(rt, &mut second, &window), 1, RED));
+    check_picture(rt, second, 1, RED);
     let away = Edit::Pose {
         id: 1,
         pose: at(100),
     };
-    let answer = edited(rt, &mut second, &mut first, 1, &away);
+    let answer = edited(rt, second, first, 1, &away);
     assert!(rt; is_edited(answer, 2, None));
-    assert!(rt; is_painted(&painted(rt, &mut second, &window), 2, WHITE));
-    let answer = edited(rt, &mut first, &mut second, 2, &square(1, 500));
+    check_picture(rt, second, 2, WHITE);
+    let answer = edited(rt, first, second, 2, &square(1, 500));
     assert!(rt; is_edited(answer, 3, Some(2)));
     // One picture at most could not be kept, so one of these is answered as kept, or both.
-    assert!(rt; is_painted(&painted(rt, &mut second, &window), 3, WHITE));
-    assert!(rt; is_painted(&painted(rt, &mut second, &window), 3, WHITE));
+    check_picture(rt, second, 3, WHITE);
+    check_picture(rt, second, 3, WHITE);
     assert!(rt; second.hits() == 1 || second.hits() == 2);
-    check_the_end(rt, &mut first);
-    check_the_end(rt, &mut second);
-    Ok(())
+}
+
+fn check_picture<B: Lines, H: Threads + Wait + Abort + Sync>(
+    rt: &H,
+    board: &mut Shared<B>,
+    version: u64,
+    left: Colour,
+) {
+    let window = Window::new(0, 0, 16, 16).expect(rt, "a window");
+    assert!(rt; is_painted(&painted(rt, board, &window), version, left));
 }
 
 // Checks what a board answers after the three edits.
@@ -111,5 +130,7 @@ fn check_the_end<B: Lines, R: Abort>(rt: &R, board: &mut Shared<B>) {
         assert!(rt; dot.is_ok_and(|dot| dot.version == 3 && dot.colour == colour));
     }
     let saved = saved(board);
-    assert!(rt; saved.is_ok_and(|saved| saved.version == 3 && saved.text.as_slice() == SAVED));
+    assert!(rt;
+        saved.is_ok_and(|saved| saved.version == 3 && saved.text.as_slice() == saved_squares())
+    );
 }

@@ -35,22 +35,59 @@ impl<B: Lines> Table<B> {
         requires { IsSync H.row }
     {
         let seen = self.viewer.picture(rt, window, 1).ok()?;
-        let painted = self.witness.picture(rt, window, 1).ok()?;
-        if seen.version == painted.version && seen.bytes.as_slice() == painted.bytes.as_slice() {
+        if self.is_painted(rt, window, &seen) {
             Some(seen)
         } else {
             None
         }
     }
 
+    // Whether the witness paints such a picture of a window.
+    fn is_painted<H: Threads + Wait + Sync>(
+        &mut self,
+        rt: &H,
+        window: &Window,
+        seen: &Picture,
+    ) -> bool
+        requires { IsSync H.row }
+    {
+        match self.witness.picture(rt, window, 1) {
+            Ok(painted) => {
+                painted.version == seen.version && painted.bytes.as_slice() == seen.bytes.as_slice()
+            }
+            Err(_) => false,
+        }
+    }
+
+    /// Whether the viewer's picture of a window is the one that the witness has painted.
+    pub(crate) fn shows<H: Threads + Wait + Sync>(&mut self, rt: &H, window: &Window) -> bool
+        requires { IsSync H.row }
+    {
+        self.picture(rt, window).is_some()
+    }
+
+    /// Whether that picture is one of such a version.
+    pub(crate) fn shows_version<H: Threads + Wait + Sync>(
+        &mut self,
+        rt: &H,
+        window: &Window,
+        version: u64,
+    ) -> bool
+        requires { IsSync H.row }
+    {
+        match self.picture(rt, window) {
+            Some(seen) => seen.version == version,
+            None => false,
+        }
+    }
+
     /// Whether the editor, or the viewer in its place, makes an edit.
     pub(crate) fn edits<H: Wait>(&mut self, rt: &H, by_viewer: bool, edit: &Edit) -> bool {
-        let answer = if by_viewer {
-            self.viewer.edit(rt, edit)
+        if by_viewer {
+            self.viewer.edit(rt, edit).is_ok()
         } else {
-            self.editor.edit(rt, edit)
-        };
-        answer.is_ok()
+            self.editor.edit(rt, edit).is_ok()
+        }
     }
 }
 

@@ -129,10 +129,7 @@ impl Play for AtRandom {
                 made = edited.id.unwrap_or(made);
             }
             let window = some_window(rt, &mut dice);
-            assert!(rt;
-                table.picture(rt, &window).is_some(),
-                "after {number} edits"
-            );
+            assert!(rt; table.shows(rt, &window), "after {number} edits");
         }
         let hits = table.viewer.hits();
         assert!(rt; hits > 100 && hits < 1900, "{hits} hits");
@@ -193,9 +190,9 @@ impl Play for Elsewhere {
             "{hits} of {asked}"
         );
         let corner = tile(rt, 0, 0, 64);
-        assert!(rt; table.picture(rt, &corner).is_some());
+        assert!(rt; table.shows(rt, &corner));
         let beside = tile(rt, 0, 8, 64);
-        assert!(rt; table.picture(rt, &beside).is_some());
+        assert!(rt; table.shows(rt, &beside));
     }
 }
 

@@ -69,20 +69,17 @@ impl Cost {
 struct Memory {
     bump: Bump,
     out: Vec<u8>,
-    row: [u8; ROW],
+    row: Vec<u8>,
 }
 
 impl Memory {
-    fn new(alloc: Global) -> Memory {
-        let mut row = [0u8; ROW];
-        for (column, byte) in row.iter_mut().enumerate() {
-            *byte = (column % 256) as u8;
-        }
-        Memory {
+    fn new(alloc: Global) -> Result<Memory, Fault> {
+        let row = ready_row(alloc)?;
+        Ok(Memory {
             bump: Bump::new(alloc),
             out: Vec::new(alloc),
             row,
-        }
+        })
     }
 
     // The cost of one tile.
@@ -107,6 +104,15 @@ impl Memory {
     }
 }
 
+// The bytes of a row, each another than the one before.
+fn ready_row(alloc: Global) -> Result<Vec<u8>, Fault> {
+    let mut row = Vec::new(alloc);
+    for column in 0..ROW {
+        row.push((column % 256) as u8)?;
+    }
+    Ok(row)
+}
+
 // How many items a scene has, the time of building it, and that of painting it.
 fn time_scene(
     rt: &HostRuntime,
@@ -127,14 +133,14 @@ fn time_scene(
 }
 
 // The time of filling a tile with the ready row.
-fn time_filling(rt: &HostRuntime, out: &mut Vec<u8>, row: &[u8; ROW]) -> Result<u64, Fault> {
+fn time_filling(rt: &HostRuntime, out: &mut Vec<u8>, row: &[u8]) -> Result<u64, Fault> {
     let start = now(rt)?;
     fill(out, row)?;
     Ok(nanoseconds(since(rt, start)?))
 }
 
 // Fills a tile with the ready row.
-fn fill(out: &mut Vec<u8>, row: &[u8; ROW]) -> Result<(), Fault> {
+fn fill(out: &mut Vec<u8>, row: &[u8]) -> Result<(), Fault> {
     out.clear();
     out.reserve(256 * ROW)?;
     for _ in 0..256u32 {
@@ -150,7 +156,7 @@ pub fn timed(
     across: u32,
     count: u32,
 ) -> Result<Cost, Fault> {
-    let mut memory = Memory::new(rt.alloc());
+    let mut memory = Memory::new(rt.alloc())?;
     sum(rt, document, across, count, &mut memory)
 }
 

@@ -119,8 +119,16 @@ fn time_seat_edit<B: Lines, R: Clock + Wait>(
     round: u32,
 ) -> Result<Duration, Fault> {
     let edit = pose_edit(records, round);
+    time_made(rt, seat, &edit)
+}
+
+fn time_made<B: Lines, R: Clock + Wait>(
+    rt: &R,
+    seat: &mut Seat<B>,
+    edit: &Edit,
+) -> Result<Duration, Fault> {
     let start = now(rt)?;
-    seat.edit(rt, &edit)?;
+    seat.edit(rt, edit)?;
     since(rt, start)
 }
 

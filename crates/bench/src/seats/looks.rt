@@ -121,9 +121,16 @@ fn timed_calls<B: Lines, R: Clock + Wait>(
 
 fn make_edits<B: Lines, R: Wait>(rt: &R, seat: &mut Seat<B>) -> Result<u32, Fault> {
     for round in 0..EDITS {
-        seat.edit(rt, &pose_edit(100, round))?;
+        make_edit(rt, seat, round)?;
     }
     Ok(EDITS)
+}
+
+fn make_edit<B: Lines, R: Wait>(rt: &R, seat: &mut Seat<B>, round: u32) -> Result<(), Fault> {
+    match seat.edit(rt, &pose_edit(100, round)) {
+        Ok(_) => Ok(()),
+        Err(_) => Err(Fault::Line),
+    }
 }
 
 fn take_looks<B: Lines>(seat: &mut Seat<B>) -> Result<u32, Fault> {
