@@ -47,6 +47,7 @@ pub mod EdgeLaws
 pub mod BoundsLaws
 pub mod Culled
 pub mod InSight
+pub mod PassedOver
 pub mod Hulled
 pub mod Widened
 pub mod Childless

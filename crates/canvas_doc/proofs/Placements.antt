@@ -21,7 +21,7 @@ bounds_of placed = placed.bounds
 
 -- ---- one list of pairs, of which each part is seen
 
-some-in : {X : Type 0} (xs : List X) (at : ℕ) → at < length xs → X
+pub some-in : {X : Type 0} (xs : List X) (at : ℕ) → at < length xs → X
 some-in [] at h = absurd (omega arith)
 some-in (x ∷ xs) at h = x
 

@@ -74,6 +74,7 @@ impl Bounds {
     }
 
     /// A box that holds what either holds. An empty one adds nothing.
+    #[inline(always)]
     pub(crate) fn hull(&self, other: &Bounds) -> Bounds
         ensures first { IsWithinBounds self.now result }
         ensures second { IsWithinBounds other.now result }
@@ -180,6 +181,7 @@ impl Bounds {
     }
 
     // From the least to the greatest edges of two boxes.
+    #[inline(always)]
     fn joined(&self, other: &Bounds) -> Bounds
         ensures first { IsWithinBounds self.now result }
         ensures second { IsWithinBounds other.now result }
@@ -198,6 +200,7 @@ impl Bounds {
         self.left == i32::MIN
     }
 
+    #[inline(always)]
     fn is_empty(&self) -> bool
         ensures { result ≡ is_empty self.now }
     {

@@ -80,14 +80,14 @@ fn answer_among(
     let Range { start, end } = children_range(&document.order, parent);
     let area = Bounds::of_clip(out, &at.sides());
     let mut all = document.order.reader();
-    for slot in start..end {
-        let placed = all.at(slot);
-        if placed.bounds.meets(&area) {
-            let answer = answer_of(document, levels - 1, placed.shape.value(), out, at);
-            if answer.is_some() {
-                return answer;
-            }
+    let mut slot = all.next_meeting(start, end, &area);
+    'siblings: while slot < end {
+        let shape = all.at(slot).shape.value();
+        let answer = answer_of(document, levels - 1, shape, out, at);
+        if answer.is_some() {
+            return answer;
         }
+        slot = all.next_meeting(slot + 1, end, &area);
     }
     None
 }

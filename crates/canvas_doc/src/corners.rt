@@ -50,12 +50,14 @@ pub(crate) fn ends(a: i64, b: i64) -> (i32, i32)
     (a.min(b) as i32, a.max(b) as i32)
 }
 
+#[inline(always)]
 pub(crate) fn lesser(a: i32, b: i32) -> i32
     ensures { result ≡ int_min a b }
 {
     a.min(b)
 }
 
+#[inline(always)]
 pub(crate) fn greater(a: i32, b: i32) -> i32
     ensures { result ≡ int_max a b }
 {

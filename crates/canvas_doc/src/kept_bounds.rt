@@ -46,11 +46,10 @@ fn children_hull(order: &PlacedShapes, id: u32) -> Bounds
     ensures { (j : ℕ) (s : Record) (c : Bounds) → slice_get order.now.shapes j ≡ Some s → slice_get order.now.bounds j ≡ Some c → is_child (Shape id) s ≡ true → IsWithinBounds c result }
 {
     let Range { start, end } = children_range(order, Parent::Shape(id));
-    let mut hull = Bounds::nowhere();
-    for placed in order.list.iter_range(start, end) {
-        hull = hull.hull(&placed.bounds);
-    }
-    hull
+    order
+        .list
+        .iter_range(start, end)
+        .summed_with(&Bounds::nowhere())
 }
 
 // Whether the bounds of the shown group in which a shape hangs hold the shape's, if it hangs in one.

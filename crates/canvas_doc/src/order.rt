@@ -52,11 +52,10 @@ impl Document {
         let area = Bounds::of_clip(out, clip);
         let mut all = self.order.reader();
         let mut seen = Vec::new(alloc);
-        for at in start..end {
-            let placed = all.at(at);
-            if placed.bounds.meets(&area) {
-                seen.push(placed.shape.value())?;
-            }
+        let mut at = all.next_meeting(start, end, &area);
+        'walk: while at < end {
+            seen.push(all.at(at).shape.value())?;
+            at = all.next_meeting(at + 1, end, &area);
         }
         Ok(seen)
     }

@@ -48,14 +48,12 @@ pub(crate) fn children_range(order: &PlacedShapes, parent: Parent) -> Range<usiz
     requires { IsStrictlySortedBy comes_first order.now.shapes }
     ensures { AreChildrenWithin parent order.now.shapes result.start result.end }
 {
-    let all = &order.list;
-    let start = all.partition_point_near(hint_under(parent, 0), |placed| {
-        comes_before(placed.shape.value(), parent)
-    });
-    let end = all.partition_point_near(hint_under(parent, u64::MAX), |placed| {
-        comes_before_or_hangs(placed.shape.value(), parent)
-    });
-    start..end
+    order.list.range_near(
+        hint_under(parent, 0),
+        |placed| comes_before(placed.shape.value(), parent),
+        hint_under(parent, u64::MAX),
+        |placed| comes_before_or_hangs(placed.shape.value(), parent),
+    )
 }
 
 // Whether the parent of a record comes before another.

@@ -65,7 +65,16 @@ impl PlacedShape {
     }
 }
 
+// A summary of some shapes is a box that holds all that their bounds hold. A walk seeks those whose bounds meet a box.
 impl Share for PlacedShape {
+    ghost use Rattle.canvas_doc.specs.Bounds.{IsWithinBounds, LieApart};
+
+    type Summary = Bounds;
+
+    ghost covers = { λ summary placed. IsWithinBounds placed.bounds summary };
+
+    ghost lies_apart = { λ sought placed. LieApart placed.bounds sought };
+
     #[inline(always)]
     fn share(&self) -> Result<PlacedShape, OutOfMemory> {
         Ok(PlacedShape {
@@ -83,6 +92,21 @@ impl Share for PlacedShape {
     #[inline(always)]
     fn short_hint(&self) -> Hint {
         self.short.whole()
+    }
+
+    #[inline(always)]
+    fn summary(&self) -> Bounds {
+        self.bounds
+    }
+
+    #[inline(always)]
+    fn summed(first: &Bounds, second: &Bounds) -> Bounds {
+        first.hull(second)
+    }
+
+    #[inline(always)]
+    fn may_meet(summary: &Bounds, sought: &Bounds) -> bool {
+        summary.meets(sought)
     }
 }
 

@@ -121,8 +121,16 @@ impl Hinted for Record {
     }
 }
 
-// Ids rise along the list of a document's records.
+// Ids rise along the list of a document's records. A walk passes over none of them.
 impl Share for ListedRecord {
+    ghost use Rattle.std.specs.Prelude.{⊤};
+
+    type Summary = ();
+
+    ghost covers = { λ summary listed. ⊤ };
+
+    ghost lies_apart = { λ sought listed. ⊥ };
+
     #[inline(always)]
     fn share(&self) -> Result<ListedRecord, OutOfMemory> {
         Ok(ListedRecord {
@@ -139,6 +147,17 @@ impl Share for ListedRecord {
     #[inline(always)]
     fn short_hint(&self) -> Hint {
         hint_of_id(self.id)
+    }
+
+    #[inline(always)]
+    fn summary(&self) {}
+
+    #[inline(always)]
+    fn summed(_: &(), _: &()) {}
+
+    #[inline(always)]
+    fn may_meet(_: &(), _: &()) -> bool {
+        true
     }
 }
 

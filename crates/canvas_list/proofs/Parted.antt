@@ -1,5 +1,5 @@
 -- Where the items that pass a test end in a list in chunks.
-use Rattle.std.proofs.Common.{◌≡◌, ◌∙◌, ℕ, ◌+◌, ◌-◌, ◌<◌, ◌≤◌, Bool, true, false, List, [], ◌∷◌, ◌++◌, take, drop, refl, sym, ap, subst, inl, inr, arith, length, get_or, Some}
+use Rattle.std.proofs.Common.{◌≡◌, ◌∙◌, ℕ, ◌+◌, ◌-◌, ◌<◌, ◌≤◌, Bool, true, false, List, [], ◌∷◌, ◌++◌, take, drop, refl, sym, ap, subst, inl, inr, arith, length, get_or, Some, IfSome, None, Option}
 use Rattle.std.specs.Fn.{AlwaysReturns, Called, Mut}
 use Rattle.std.specs.List.{slice_get, sum_by, All}
 use Rattle.std.specs.List.Sorted.{IsPartitionPoint, IsPartitionedBy}
@@ -174,3 +174,8 @@ point-ends p xs at point within = record {
   before = λ i x e. point.0 i x (omega arith) (omega arith);
   there = λ x h. point.1 at x (omega arith) h;
 }
+
+-- what follows from two facts of a value, if there is one
+pub if-both : {A : Type 0} (o : Option A) (P Q R : A → Type 0) → ((a : A) → P a → Q a → R a) → IfSome o P → IfSome o Q → IfSome o R
+if-both None P Q R f p q = tt
+if-both (Some a) P Q R f p q = f a p q

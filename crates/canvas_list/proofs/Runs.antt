@@ -1,13 +1,13 @@
 -- The items of a chunk, as a part of a list.
-use Rattle.std.proofs.Common.{◌≡◌, ◌∙◌, ℕ, ◌+◌, ◌-◌, ◌<◌, ◌≤◌, Bool, false, List, ◌++◌, take, drop, Some, sym, ap, inl, inr, arith, length, get_or}
+use Rattle.std.proofs.Common.{◌≡◌, ◌∙◌, ℕ, ◌+◌, ◌-◌, ◌<◌, ◌≤◌, Bool, false, List, [], ◌++◌, take, drop, Some, sym, ap, inl, inr, arith, length, get_or}
 use Rattle.std.specs.List.{slice_get}
 use Rattle.std.specs.List.Sorted.{IsPartitionedBy}
 use Rattle.std.proofs.lemmas.Bool.{cases_lt}
-use Rattle.std.proofs.lemmas.List.{get_or-append-add, get_or_append_left, length-append}
+use Rattle.std.proofs.lemmas.List.{get_or-append-add, get_or-drop, get_or-take, get_or_append_left, length-append, length-drop, length-take, take-append-drop}
 use Rattle.std.proofs.lemmas.Option.{slice_get-get_or}
 use Rattle.canvas_list.specs.Chunks.{joined, IsEnd, IsRun}
 use Rattle.std.specs.List.{sum_by}
-use Rattle.canvas_list.proofs.Joined.{chunk-read, split_at, start-read, take-fewer, IsFound}
+use Rattle.canvas_list.proofs.Joined.{chunk-read, joined-append, split_at, start-read, take-fewer, IsFound}
 
 -- the items of a chunk, where it starts
 pub run-of-part : {X : Type 0} (cs : List (List X)) (xs : List X) (k s : ℕ) (c items : List X) → k < length cs → s ≡ length (joined (take k cs)) → joined cs ≡ xs → c ≡ get_or cs k c → items ≡ c → IsRun xs items s
@@ -98,3 +98,32 @@ run-behind {X} cs xs k s c items within start all is same =
           ∙ ap (λ j. get_or (front ++ (items ++ rest)) (j + i) x) (sym start)
           ∙ ap (λ l. get_or l (s + i) x) (sym parts ∙ all);
     })
+
+-- no items, where a list ends or before
+pub run-none : {X : Type 0} (xs : List X) (s : ℕ) → s ≤ length xs → IsRun xs [] s
+run-none xs s within = record {
+  within = omega arith;
+  same = λ i x h. absurd (omega arith);
+}
+
+-- the items of all chunks from one on
+pub run-from : {X : Type 0} (cs : List (List X)) (xs : List X) (k s : ℕ) → s ≡ length (joined (take k cs)) → joined cs ≡ xs → IsRun xs (joined (drop k cs)) s
+run-from {X} cs xs k s start all =
+    let front : List X = joined (take k cs) in
+    let rest : List X = joined (drop k cs) in
+    let parts : joined cs ≡ front ++ rest = ap joined (sym (take-append-drop k cs)) ∙ joined-append (take k cs) (drop k cs) in
+    record {
+      within = omega (arith, start, ap length (sym parts ∙ all), length-append front rest);
+      same =
+          λ i x h.
+          sym (get_or-append-add front rest i x)
+          ∙ ap (λ j. get_or (front ++ rest) (j + i) x) (sym start)
+          ∙ ap (λ l. get_or l (s + i) x) (sym parts ∙ all);
+    }
+
+-- some items of a list, from one on
+pub run-of-slice : {X : Type 0} (xs : List X) (m n : ℕ) → m + n ≤ length xs → IsRun xs (take n (drop m xs)) m
+run-of-slice xs m n h = record {
+  within = omega (arith, length-take n (drop m xs), length-drop m xs);
+  same = λ i x inside. get_or-take n (drop m xs) i x (omega (arith, length-take n (drop m xs), length-drop m xs)) ∙ get_or-drop m xs i x;
+}

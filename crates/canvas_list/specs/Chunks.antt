@@ -36,6 +36,10 @@ pub record IsRun {X : Type 0} (xs items : List X) (start : ℕ) : Type 0 where
   pub within : start + length items ≤ length xs
   pub same : (i : ℕ) (x : X) → i < length items → slice_index_or items i x ≡ slice_index_or xs (start + i) x
 
+-- something holds of each item of a list from a position on, up to another
+abbrev pub AllBetween : {X : Type 0} → (X → Type 0) → List X → ℕ → ℕ → Type 0
+AllBetween {X} P xs from end = (i : ℕ) (x : X) → from ≤ i → i < end → P (slice_index_or xs i x)
+
 -- a place where the items that pass a test may end: the one before it passes, and the one there fails
 pub record IsEnd {X : Type 0} (p : X → Bool) (xs : List X) (at : ℕ) : Type 0 where
   pub before : (i : ℕ) (x : X) → i + 1 ≡ at → p (slice_index_or xs i x) ≡ true

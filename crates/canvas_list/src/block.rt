@@ -1,6 +1,6 @@
 //! Chunks side by side, shared by all lists that have them.
 
-ghost use Rattle.std.specs.Prelude.{◌≡◌, ◌<◌, ◌^◌, IfOk, IfSome, cond, length};
+ghost use Rattle.std.specs.Prelude.{◌≡◌, ◌<◌, ◌^◌, All, IfOk, IfSome, cond, length};
 ghost use Rattle.std.specs.List.{insert, remove, slice_get};
 ghost use Rattle.canvas_list.specs.Chunks.{joined, FitsChunk};
 ghost use Rattle.canvas_list.specs.Changed.{changed_if, IsPositionOf};
@@ -9,6 +9,7 @@ use crate::chunks::Chunks;
 use crate::counted::Counted;
 use crate::hint::Hint;
 use crate::in_place::ItemChange;
+use crate::noted::Noted;
 use crate::share::Share;
 use crate::table::SharedList;
 use canvas_code::OutOfMemory;
@@ -18,22 +19,21 @@ use std::sync::Arc;
 
 /// Some chunks with an item, freed with the last list that has them.
 #[derive(Drop)]
-pub(crate) struct Block<T> {
+pub(crate) struct Block<T: Share> {
     chunks: Arc<Chunks<T>>,
-    // How many items they have, and where the first most likely stands, which are asked without a look at them.
-    count: u32,
-    hint: Hint,
+    noted: Noted,
+    summary: T::Summary,
 }
 
-impl<T> Model for Block<T> {
-    ghost use Rattle.std.specs.Prelude.{List, length, ◌<◌, ◌≡◌};
+impl<T: Share> Model for Block<T> {
+    ghost use Rattle.std.specs.Prelude.{All, List, length, ◌<◌, ◌≡◌};
     ghost use Rattle.std.specs.Arc.{arc_value};
 
     ghost Value = { List T };
 
     ghost view = { λ block. arc_value block.chunks };
 
-    ghost invariant = { λ block. (0 < length (arc_value block.chunks)) × (block.count ≡ length (arc_value block.chunks)) };
+    ghost invariant = { λ block. (0 < length (arc_value block.chunks)) × (block.noted.count ≡ length (arc_value block.chunks)) × All (T.covers block.summary) (arc_value block.chunks) };
 }
 
 impl<T: Share> Block<T> {
@@ -41,12 +41,12 @@ impl<T: Share> Block<T> {
         requires { 0 < length chunks }
         ensures { IfOk result (λ block. block ≡ chunks) }
     {
-        let count = chunks.len() as u32;
-        let hint = chunks.first().hint();
+        let noted = Noted::new(chunks.len() as u32, chunks.first().hint());
+        let summary = chunks.summary();
         Ok(Block {
             chunks: Arc::new(alloc, chunks)?,
-            count,
-            hint,
+            noted,
+            summary,
         })
     }
 
@@ -57,8 +57,8 @@ impl<T: Share> Block<T> {
     {
         Ok(Block {
             chunks: Arc::try_clone(&self.chunks)?,
-            count: self.count,
-            hint: self.hint,
+            noted: self.noted,
+            summary: self.summary,
         })
     }
 
@@ -81,9 +81,9 @@ impl<T: Share> Block<T> {
             return false;
         };
         let made = chunks.change(at, change, per_chunk);
-        self.count = chunks.len() as u32;
-        if at == 0 {
-            self.hint = chunks.first().hint();
+        if made {
+            self.noted = noted_after(self.noted, chunks, at);
+            self.summary = chunks.summary();
         }
         made
     }
@@ -108,9 +108,9 @@ impl<T: Share> Block<T> {
             return false;
         };
         let made = chunks.change_both(at, change, per_chunk, other, other_at, other_change);
-        self.count = chunks.len() as u32;
-        if at == 0 {
-            self.hint = chunks.first().hint();
+        if made {
+            self.noted = noted_after(self.noted, chunks, at);
+            self.summary = chunks.summary();
         }
         made
     }
@@ -148,7 +148,10 @@ impl<T: Share> Block<T> {
             other_at,
             other_change,
         );
-        self.hint = chunks.first().hint();
+        if made {
+            self.noted = noted_after(self.noted, chunks, 0);
+            self.summary = chunks.summary();
+        }
         made
     }
 
@@ -166,6 +169,14 @@ impl<T: Share> Block<T> {
         Block::new(alloc, left).ok()
     }
 
+    /// A summary of all items.
+    #[inline(always)]
+    pub(crate) fn summary(&self) -> &T::Summary
+        ensures { All (T.covers result.now) self.now }
+    {
+        &self.summary
+    }
+
     /// The first item.
     #[inline(always)]
     pub(crate) fn first(&self) -> &T
@@ -175,18 +186,43 @@ impl<T: Share> Block<T> {
     }
 }
 
-impl<T> Counted for Block<T> {
+impl<T: Share> Counted for Block<T> {
     ghost size = { λ block. length block };
 
     #[inline(always)]
     fn count(&self) -> usize {
-        self.count as usize
+        self.noted.count as usize
     }
 
     #[inline(always)]
     fn hint(&self) -> Hint {
-        self.hint
+        self.noted.hint()
     }
+}
+
+// What is noted of chunks of which an item was changed.
+fn noted_after<T: Share>(before: Noted, chunks: &Chunks<T>, at: usize) -> Noted
+    requires { 0 < length chunks.now }
+    ensures { result.count ≡ length chunks.now }
+{
+    let hint = if at == 0 {
+        chunks.first().hint()
+    } else {
+        before.hint()
+    };
+    Noted::new(chunks.len() as u32, hint)
+}
+
+/// A summary of what another tells of, and of all items of some blocks.
+pub(crate) fn summed_blocks<T: Share>(other: &T::Summary, blocks: &[Block<T>]) -> T::Summary
+    ensures items { All (T.covers result) (joined blocks.now) }
+    ensures other { (item : T) → T.covers other.now item → T.covers result item }
+{
+    let mut summary = *other;
+    for block in blocks {
+        summary = T::summed(&summary, block.summary());
+    }
+    summary
 }
 
 /// The chunks of some blocks, as those of one.

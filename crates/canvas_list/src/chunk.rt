@@ -1,6 +1,6 @@
 //! Items side by side, shared by all lists that have them.
 
-ghost use Rattle.std.specs.Prelude.{◌≡◌, ◌<◌, ◌≤◌, ◌++◌, IfOk, IfSome, OnOk, cond, length};
+ghost use Rattle.std.specs.Prelude.{◌≡◌, ◌<◌, ◌≤◌, ◌++◌, All, IfOk, IfSome, OnOk, cond, length};
 ghost use Rattle.std.specs.List.{insert, remove, slice_get};
 ghost use Rattle.canvas_list.specs.Chunks.{joined, FitsChunk};
 ghost use Rattle.canvas_list.specs.Changed.{changed_if, IsPositionOf};
@@ -8,6 +8,7 @@ ghost use Rattle.canvas_list.specs.Changed.{changed_if, IsPositionOf};
 use crate::counted::Counted;
 use crate::hint::Hint;
 use crate::in_place::{ItemChange, change_items, make_room};
+use crate::noted::Noted;
 use crate::share::Share;
 use crate::sizes::MOST_IN_CHUNK;
 use crate::table::SharedList;
@@ -18,15 +19,14 @@ use std::sync::Arc;
 
 /// From one item to as many as a chunk holds, side by side, freed with the last list that has them.
 #[derive(Drop)]
-pub(crate) struct Chunk<T> {
+pub(crate) struct Chunk<T: Share> {
     items: Arc<Vec<T>>,
-    // How many there are, and where the first most likely stands, which are asked without a look at them.
-    count: u32,
-    hint: Hint,
+    noted: Noted,
+    summary: T::Summary,
 }
 
-impl<T> Model for Chunk<T> {
-    ghost use Rattle.std.specs.Prelude.{List, ◌≡◌, length};
+impl<T: Share> Model for Chunk<T> {
+    ghost use Rattle.std.specs.Prelude.{All, List, ◌≡◌, length};
     ghost use Rattle.std.specs.Arc.{arc_value};
     ghost use Rattle.canvas_list.specs.Chunks.{FitsChunk};
 
@@ -34,7 +34,7 @@ impl<T> Model for Chunk<T> {
 
     ghost view = { λ chunk. (arc_value chunk.items).items };
 
-    ghost invariant = { λ chunk. FitsChunk (length (arc_value chunk.items).items) × (chunk.count ≡ length (arc_value chunk.items).items) };
+    ghost invariant = { λ chunk. FitsChunk (length (arc_value chunk.items).items) × (chunk.noted.count ≡ length (arc_value chunk.items).items) × All (T.covers chunk.summary) (arc_value chunk.items).items };
 }
 
 impl<T: Share> Chunk<T> {
@@ -43,12 +43,12 @@ impl<T: Share> Chunk<T> {
         requires few { length items.items ≤ MOST_IN_CHUNK }
         ensures { IfOk result (λ chunk. chunk ≡ items.items) }
     {
-        let count = items.len() as u32;
-        let hint = items[0].hint();
+        let noted = Noted::new(items.len() as u32, items[0].hint());
+        let summary = summary_of(&items);
         Ok(Chunk {
             items: Arc::new(alloc, items)?,
-            count,
-            hint,
+            noted,
+            summary,
         })
     }
 
@@ -59,8 +59,8 @@ impl<T: Share> Chunk<T> {
     {
         Ok(Chunk {
             items: Arc::try_clone(&self.items)?,
-            count: self.count,
-            hint: self.hint,
+            noted: self.noted,
+            summary: self.summary,
         })
     }
 
@@ -87,10 +87,8 @@ impl<T: Share> Chunk<T> {
             return false;
         }
         change_items(items, at, change);
-        self.count = items.len() as u32;
-        if at == 0 {
-            self.hint = items[0].hint();
-        }
+        self.noted = noted_after(self.noted, items, at);
+        self.summary = summary_of(items);
         true
     }
 
@@ -117,10 +115,8 @@ impl<T: Share> Chunk<T> {
             return false;
         }
         change_items(items, at, change);
-        self.count = items.len() as u32;
-        if at == 0 {
-            self.hint = items[0].hint();
-        }
+        self.noted = noted_after(self.noted, items, at);
+        self.summary = summary_of(items);
         true
     }
 
@@ -150,7 +146,8 @@ impl<T: Share> Chunk<T> {
         items.remove(from);
         // There is room, so it can't fail.
         let _ = items.insert(to, item);
-        self.hint = items[0].hint();
+        self.noted = noted_after(self.noted, items, 0);
+        self.summary = summary_of(items);
         true
     }
 
@@ -169,6 +166,14 @@ impl<T: Share> Chunk<T> {
         Chunk::new(alloc, items).ok()
     }
 
+    /// A summary of all items.
+    #[inline(always)]
+    pub(crate) fn summary(&self) -> &T::Summary
+        ensures { All (T.covers result.now) self.now }
+    {
+        &self.summary
+    }
+
     /// The first item.
     #[inline(always)]
     pub(crate) fn first(&self) -> &T
@@ -178,18 +183,52 @@ impl<T: Share> Chunk<T> {
     }
 }
 
-impl<T> Counted for Chunk<T> {
+impl<T: Share> Counted for Chunk<T> {
     ghost size = { λ chunk. length chunk };
 
     #[inline(always)]
     fn count(&self) -> usize {
-        self.count as usize
+        self.noted.count as usize
     }
 
     #[inline(always)]
     fn hint(&self) -> Hint {
-        self.hint
+        self.noted.hint()
     }
+}
+
+// What is noted of items of which one was changed.
+fn noted_after<T: Share>(before: Noted, items: &[T], at: usize) -> Noted
+    requires some { 0 < length items.now }
+    requires few { length items.now ≤ MOST_IN_CHUNK }
+    ensures { result.count ≡ length items.now }
+{
+    let hint = if at == 0 {
+        items[0].hint()
+    } else {
+        before.hint()
+    };
+    Noted::new(items.len() as u32, hint)
+}
+
+// A summary of some items.
+fn summary_of<T: Share>(items: &[T]) -> T::Summary
+    requires { 0 < length items.now }
+    ensures { All (T.covers result) items.now }
+{
+    summed_items(&items[0].summary(), items)
+}
+
+/// A summary of what another tells of, and of some items.
+pub(crate) fn summed_items<T: Share>(other: &T::Summary, items: &[T]) -> T::Summary
+    ensures items { All (T.covers result) items.now }
+    ensures other { (item : T) → T.covers other.now item → T.covers result item }
+{
+    let mut summary = *other;
+    for item in items {
+        summary = T::summed(&summary, &item.summary());
+    }
+    summary
 }
 
 /// The items of some chunks, to be changed, with room for so many.

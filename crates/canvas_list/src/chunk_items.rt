@@ -1,23 +1,23 @@
 //! Going over the chunks of a block, item by item, without an allocation.
 
-ghost use Rattle.std.specs.Prelude.{◌≡◌, ◌<◌, ◌≤◌, ◌-◌, ◌^◌, [], take, drop, length};
+ghost use Rattle.std.specs.Prelude.{◌≡◌, ◌<◌, ◌≤◌, ◌-◌, ◌^◌, [], All, take, drop, length};
 ghost use Rattle.std.specs.Iterator.{YieldsFirstRef, YieldsLastRef, item_count};
 
-use crate::chunk::Chunk;
-use crate::chunks::Chunks;
+use crate::chunk::{Chunk, summed_items};
+use crate::chunks::{Chunks, summed_chunks};
 use crate::counted::spot_of;
 use crate::share::Share;
 use std::marker::Model;
 
 /// The items of some chunks that are left to go over, in order, seen as the list of them.
 #[derive(Drop)]
-pub(crate) struct ChunkItems<'a, T> {
+pub(crate) struct ChunkItems<'a, T: Share> {
     pub(crate) front: &'a [T],
     pub(crate) chunks: &'a [Chunk<T>],
     pub(crate) back: &'a [T],
 }
 
-impl<'a, T> Model for ChunkItems<'a, T> {
+impl<'a, T: Share> Model for ChunkItems<'a, T> {
     ghost use Rattle.std.specs.Prelude.{List, ◌++◌};
     ghost use Rattle.canvas_list.specs.Chunks.{joined};
 
@@ -36,6 +36,16 @@ impl<'a, T: Share> ChunkItems<'a, T> {
             chunks: &[],
             back: &[],
         }
+    }
+
+    /// A summary of what another tells of, and of all items that are left.
+    pub(crate) fn summed_with(&self, other: &T::Summary) -> T::Summary
+        ensures items { All (T.covers result) self.now }
+        ensures other { (item : T) → T.covers other.now item → T.covers result item }
+    {
+        let front = summed_items(other, self.front);
+        let chunks = summed_chunks(&front, self.chunks);
+        summed_items(&chunks, self.back)
     }
 }
 

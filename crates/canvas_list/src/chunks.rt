@@ -1,6 +1,6 @@
 //! A part of a list, as a table of its chunks.
 
-ghost use Rattle.std.specs.Prelude.{◌≡◌, ◌<◌, ◌≤◌, ◌+◌, ◌*◌, ◌^◌, ◌++◌, ◌∷◌, [], IfOk, false, take, drop, length, slice_set, slice_index_or};
+ghost use Rattle.std.specs.Prelude.{◌≡◌, ◌<◌, ◌≤◌, ◌+◌, ◌*◌, ◌^◌, ◌++◌, ◌∷◌, [], All, IfOk, false, take, drop, length, slice_set, slice_index_or};
 ghost use Rattle.std.specs.List.{insert, remove, slice_get};
 ghost use Rattle.canvas_list.specs.Chunks.{joined, FitsChunk};
 
@@ -14,12 +14,12 @@ use std::marker::Model;
 
 /// Items in order, seen as the list of them: some chunks, which stand in one block.
 #[derive(Drop)]
-pub(crate) struct Chunks<T> {
+pub(crate) struct Chunks<T: Share> {
     pub(crate) chunks: Vec<Chunk<T>>,
     pub(crate) count: usize,
 }
 
-impl<T> Model for Chunks<T> {
+impl<T: Share> Model for Chunks<T> {
     ghost use Rattle.std.specs.Prelude.{List};
     ghost use Rattle.canvas_list.specs.Chunks.{joined, IsTable};
 
@@ -67,6 +67,14 @@ impl<T: Share> Chunks<T> {
         ensures { slice_get self.now 0 ≡ Some result.now }
     {
         self.chunks[0].first()
+    }
+
+    /// A summary of all items.
+    pub(crate) fn summary(&self) -> T::Summary
+        requires { 0 < length self.now }
+        ensures { All (T.covers result) self.now }
+    {
+        summed_chunks(self.chunks[0].summary(), &self.chunks[1..])
     }
 
     /// Whether there is no room for one more chunk in the block, and none for one more item in the last
@@ -295,6 +303,18 @@ impl<T: Share> Chunks<T> {
         items.insert(to - spot.start, item)?;
         spliced(alloc, &self.chunks, spot.chunk, end, items, per_chunk)
     }
+}
+
+/// A summary of what another tells of, and of all items of some chunks.
+pub(crate) fn summed_chunks<T: Share>(other: &T::Summary, chunks: &[Chunk<T>]) -> T::Summary
+    ensures items { All (T.covers result) (joined chunks.now) }
+    ensures other { (item : T) → T.covers other.now item → T.covers result item }
+{
+    let mut summary = *other;
+    for chunk in chunks {
+        summary = T::summed(&summary, chunk.summary());
+    }
+    summary
 }
 
 // Other items in place of some chunks, in chunks that get so many.

@@ -1,9 +1,9 @@
 //! Going over a list, item by item, without an allocation.
 
-ghost use Rattle.std.specs.Prelude.{◌≡◌, ◌<◌, ◌≤◌, ◌-◌, ◌^◌, take, drop, length};
+ghost use Rattle.std.specs.Prelude.{◌≡◌, ◌<◌, ◌≤◌, ◌-◌, ◌^◌, All, take, drop, length};
 ghost use Rattle.std.specs.Iterator.{YieldsFirstRef, YieldsLastRef, item_count};
 
-use crate::block::Block;
+use crate::block::{Block, summed_blocks};
 use crate::chunk_items::ChunkItems;
 use crate::counted::spot_of;
 use crate::share::Share;
@@ -12,19 +12,31 @@ use std::marker::Model;
 
 /// The items of a list that are left to go over, in order, seen as the list of them.
 #[derive(Drop)]
-pub struct Items<'a, T> {
+pub struct Items<'a, T: Share> {
     pub(crate) front: ChunkItems<'a, T>,
     pub(crate) blocks: &'a [Block<T>],
     pub(crate) back: ChunkItems<'a, T>,
 }
 
-impl<'a, T> Model for Items<'a, T> {
+impl<'a, T: Share> Model for Items<'a, T> {
     ghost use Rattle.std.specs.Prelude.{List, ◌++◌};
     ghost use Rattle.canvas_list.specs.Chunks.{joined};
 
     ghost Value = { List T };
 
     ghost view = { λ items. items.front ++ joined items.blocks.now ++ items.back };
+}
+
+impl<'a, T: Share> Items<'a, T> {
+    /// A summary of what another tells of, and of all items that are left. It goes by the summaries of whole parts.
+    pub fn summed_with(&self, other: &T::Summary) -> T::Summary
+        ensures items { All (T.covers result) self.now }
+        ensures other { (item : T) → T.covers other.now item → T.covers result item }
+    {
+        let front = self.front.summed_with(other);
+        let blocks = summed_blocks(&front, self.blocks);
+        self.back.summed_with(&blocks)
+    }
 }
 
 impl<'a, T: Share> Iterator for Items<'a, T> {

@@ -13,6 +13,7 @@ mod in_place;
 mod items;
 mod made;
 mod moves;
+mod noted;
 mod reader;
 mod search;
 mod share;

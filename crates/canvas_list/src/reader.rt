@@ -1,8 +1,9 @@
 //! Reading a list at positions that often stand side by side.
 
-ghost use Rattle.std.specs.Prelude.{◌≡◌, ◌<◌, ◌≤◌, ◌+◌, ◌^◌, IfSome, length, slice_index_or};
-ghost use Rattle.canvas_list.specs.Chunks.{joined, IsRun};
+ghost use Rattle.std.specs.Prelude.{◌≡◌, ◌<◌, ◌≤◌, ◌+◌, ◌^◌, IfSome, length, slice_index_or, false, true};
+ghost use Rattle.canvas_list.specs.Chunks.{joined, AllBetween, IsRun};
 
+use crate::block::Block;
 use crate::chunk::Chunk;
 use crate::chunks::Chunks;
 use crate::counted::{Counted, spot_near, spot_of};
@@ -11,10 +12,10 @@ use crate::share::Share;
 use crate::table::SharedList;
 use std::marker::Model;
 
-/// A reader of a list, seen as that list. It holds the chunk of the item that it gave last, of which
-/// it gives another without a search, as it does of the next chunk of the same block.
+/// A reader of a list, seen as that list. It holds the chunk of the item that it gave last, or that a walk came to,
+/// if there was one. Of this it gives another item without a search, as it does of the next chunk of the same block.
 #[derive(Drop)]
-pub struct Reader<'a, T> {
+pub struct Reader<'a, T: Share> {
     list: &'a SharedList<T>,
     items: &'a [T],
     // Where the items that it holds start.
@@ -23,15 +24,15 @@ pub struct Reader<'a, T> {
     behind: &'a [Chunk<T>],
 }
 
-impl<'a, T> Model for Reader<'a, T> {
-    ghost use Rattle.std.specs.Prelude.{List, length, ◌+◌};
+impl<'a, T: Share> Model for Reader<'a, T> {
+    ghost use Rattle.std.specs.Prelude.{List, length, ◌<◌, ◌+◌, ◌^◌};
     ghost use Rattle.canvas_list.specs.Chunks.{joined, IsRun};
 
     ghost Value = { List T };
 
     ghost view = { λ reader. reader.list.now };
 
-    ghost invariant = { λ reader. IsRun reader.list.now reader.items.now reader.start × IsRun reader.list.now (joined reader.behind.now) (reader.start + length reader.items.now) };
+    ghost invariant = { λ reader. length reader.list.now < 2 ^ 32 × IsRun reader.list.now reader.items.now reader.start × IsRun reader.list.now (joined reader.behind.now) (reader.start + length reader.items.now) };
 }
 
 impl<'a, T: Share> Reader<'a, T> {
@@ -49,6 +50,80 @@ impl<'a, T: Share> Reader<'a, T> {
             self.behind = found.behind;
         }
         &self.items[at - self.start]
+    }
+
+    /// The position of the first item from `from` on that may meet what is sought, or `end` where none before that may.
+    /// Parts whose summaries lie apart from it are passed over.
+    pub fn next_meeting(&mut self, from: usize, end: usize, sought: &T::Summary) -> usize
+        requires order { from ≤ end }
+        requires within { end ≤ length self.old }
+        ensures from { from ≤ result }
+        ensures upto { result ≤ end }
+        ensures apart { AllBetween (T.lies_apart sought.now) self.old from result }
+        ensures same { self.new ≡ self.old }
+    {
+        let mut at = from;
+        'walk: while at < end {
+            let seen = self.look_on(at, end, sought);
+            if seen.meets {
+                return seen.at;
+            }
+            at = seen.at;
+        }
+        end
+    }
+
+    // Goes on from a position to the next item that may meet what is sought, or as far as the end of a part.
+    #[inline(always)]
+    fn look_on(&mut self, at: usize, end: usize, sought: &T::Summary) -> Seen
+        requires within { at < end }
+        requires end { end ≤ length self.old }
+        ensures on { result.meets ≡ false → at < result.at }
+        ensures from { at ≤ result.at }
+        ensures upto { result.meets ≡ true → result.at < end }
+        ensures apart { AllBetween (T.lies_apart sought.now) self.old at result.at }
+        ensures same { self.new ≡ self.old }
+    {
+        if at < self.start || at - self.start >= self.items.len() {
+            let found = self.stretch_meeting(at, end, sought);
+            self.items = found.items;
+            self.start = found.start;
+            self.behind = found.behind;
+        }
+        let from = at.max(self.start);
+        let upto = end.min(self.start + self.items.len());
+        if from >= upto {
+            return Seen {
+                at: from,
+                meets: false,
+            };
+        }
+        let first = from - self.start;
+        let last = upto - self.start;
+        let place = from + place_meeting(&self.items[first..last], sought);
+        Seen {
+            at: place,
+            meets: place < upto,
+        }
+    }
+
+    // The items of the chunk of a position, or of one behind it, or none; what stands between lies apart.
+    fn stretch_meeting(&self, at: usize, end: usize, sought: &T::Summary) -> Stretch<'a, T>
+        requires within { at < end }
+        requires end { end ≤ length self.now }
+        ensures run { IsRun self.now result.items.now result.start }
+        ensures behind { IsRun self.now (joined result.behind.now) (result.start + length result.items.now) }
+        ensures on { at < result.start + length result.items.now }
+        ensures apart { AllBetween (T.lies_apart sought.now) self.now at result.start }
+    {
+        if at >= self.start && at - self.start == self.items.len() && !self.behind.is_empty() {
+            let found = chunk_meeting(self.behind, end - at, sought);
+            return Stretch {
+                start: at + found.start,
+                ..found
+            };
+        }
+        self.list.stretch_meeting(at, end, sought)
     }
 
     // The items of the chunk of a position, most often the next one of the block.
@@ -72,9 +147,16 @@ impl<'a, T: Share> Reader<'a, T> {
     }
 }
 
-/// The items of a chunk, where they start, and the chunks of its block behind it.
+// How far a walk has come, and whether the item there may meet what it seeks.
+#[derive(Clone, Copy)]
+struct Seen {
+    at: usize,
+    meets: bool,
+}
+
+/// The items of a chunk, or none, where they start, and the chunks of its block behind it.
 #[derive(Drop)]
-struct Stretch<'a, T> {
+struct Stretch<'a, T: Share> {
     items: &'a [T],
     start: usize,
     behind: &'a [Chunk<T>],
@@ -82,11 +164,77 @@ struct Stretch<'a, T> {
 
 /// Items that stand side by side in a list, and where they start.
 #[derive(Drop)]
-pub(crate) struct Run<'a, T> {
+pub(crate) struct Run<'a, T: Share> {
     pub(crate) items: &'a [T],
     pub(crate) start: usize,
     // What the table notes of the first one.
     pub(crate) hint: Hint,
+}
+
+// How many items come before the first that may meet what is sought, or all.
+fn place_meeting<T: Share>(items: &[T], sought: &T::Summary) -> usize
+    ensures within { result ≤ length items.now }
+    ensures apart { AllBetween (T.lies_apart sought.now) items.now 0 result }
+{
+    for (place, item) in items.iter().enumerate() {
+        if T::may_meet(&item.summary(), sought) {
+            return place;
+        }
+    }
+    items.len()
+}
+
+// The first of some chunks that may meet what is sought, and those behind it. Where none of the first so many items
+// stands in one that may: no items, where the search ended.
+fn chunk_meeting<'a, T: Share>(
+    chunks: &'a [Chunk<T>],
+    room: usize,
+    sought: &T::Summary,
+) -> Stretch<'a, T>
+    requires some { 0 < length chunks.now }
+    requires room { 0 < room }
+    requires few { length (joined chunks.now) < 2 ^ 32 }
+    ensures run { IsRun (joined chunks.now) result.items.now result.start }
+    ensures behind { IsRun (joined chunks.now) (joined result.behind.now) (result.start + length result.items.now) }
+    ensures on { 0 < result.start + length result.items.now }
+    ensures apart { AllBetween (T.lies_apart sought.now) (joined chunks.now) 0 result.start }
+{
+    let mut start = 0;
+    for (place, chunk) in chunks.iter().enumerate() {
+        if start >= room {
+            break;
+        }
+        if T::may_meet(chunk.summary(), sought) {
+            let next = place + 1;
+            return Stretch {
+                items: chunk.items(),
+                start,
+                behind: &chunks[next..],
+            };
+        }
+        start += chunk.count();
+    }
+    Stretch {
+        items: &[],
+        start,
+        behind: &[],
+    }
+}
+
+// How many items the first of some blocks have that lie apart from what is sought. It stops once there are so many.
+fn count_apart<T: Share>(blocks: &[Block<T>], room: usize, sought: &T::Summary) -> usize
+    requires { length (joined blocks.now) < 2 ^ 32 }
+    ensures within { result ≤ length (joined blocks.now) }
+    ensures apart { AllBetween (T.lies_apart sought.now) (joined blocks.now) 0 result }
+{
+    let mut count = 0;
+    for block in blocks {
+        if count >= room || T::may_meet(block.summary(), sought) {
+            break;
+        }
+        count += block.count();
+    }
+    count
 }
 
 impl<T: Share> SharedList<T> {
@@ -94,10 +242,11 @@ impl<T: Share> SharedList<T> {
     pub fn reader(&self) -> Reader<'_, T>
         ensures { result ≡ self.now }
     {
+        // It holds no items, where the list ends: from its length a proof knows that all positions are small.
         Reader {
             list: self,
             items: &[],
-            start: 0,
+            start: self.len(),
             behind: &[],
         }
     }
@@ -115,6 +264,27 @@ impl<T: Share> SharedList<T> {
         Stretch {
             start: spot.start + found.start,
             ..found
+        }
+    }
+
+    // The items of the chunk of a position, or none, where the next block begins that may meet what is sought.
+    fn stretch_meeting(&self, at: usize, end: usize, sought: &T::Summary) -> Stretch<'_, T>
+        requires within { at < end }
+        requires end { end ≤ length self.now }
+        ensures run { IsRun self.now result.items.now result.start }
+        ensures behind { IsRun self.now (joined result.behind.now) (result.start + length result.items.now) }
+        ensures on { at < result.start + length result.items.now }
+        ensures apart { AllBetween (T.lies_apart sought.now) self.now at result.start }
+    {
+        let spot = spot_of(&self.blocks, at);
+        let start = spot.start + count_apart(&self.blocks[spot.chunk..], end - spot.start, sought);
+        if start <= at {
+            return self.stretch_at(at);
+        }
+        Stretch {
+            items: &[],
+            start,
+            behind: &[],
         }
     }
 

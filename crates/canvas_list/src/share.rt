@@ -1,6 +1,6 @@
-//! Values with several owners.
+//! What a list asks of its items; values with several owners.
 
-ghost use Rattle.std.specs.Prelude.{◌≡◌, IfOk};
+ghost use Rattle.std.specs.Prelude.{◌≡◌, IfOk, false, ⊤};
 
 use crate::hint::{Hint, Hinted};
 use canvas_code::OutOfMemory;
@@ -11,6 +11,15 @@ use std::sync::Arc;
 /// A value of which each list that has it holds one of its own: a small value, or a pointer to one
 /// that is shared.
 pub trait Share: Drop {
+    /// What a list notes of all items of each of its parts, so that a walk may pass over a part.
+    type Summary: Copy + Drop;
+
+    // What a summary says holds of an item.
+    ghost covers: { Self.Summary → Self → Type 0 };
+
+    // An item has nothing of what a walk seeks.
+    ghost lies_apart: { Self.Summary → Self → Type 0 };
+
     /// An equal value.
     fn share(&self) -> Result<Self, OutOfMemory>
         ensures { IfOk result (λ other. other ≡ self.now) };
@@ -20,6 +29,19 @@ pub trait Share: Drop {
 
     /// The same, as far as it is told without a look at what is shared. A search asks it of the items of a chunk.
     fn short_hint(&self) -> Hint;
+
+    /// A summary of this item alone.
+    fn summary(&self) -> Self::Summary
+        ensures { covers result self.now };
+
+    /// A summary of what either of two tells of.
+    fn summed(first: &Self::Summary, second: &Self::Summary) -> Self::Summary
+        ensures first { (item : Self) → covers first.now item → covers result item }
+        ensures second { (item : Self) → covers second.now item → covers result item };
+
+    /// Whether an item that a summary tells of may have something of what a walk seeks. That is given as a summary, too.
+    fn may_meet(summary: &Self::Summary, sought: &Self::Summary) -> bool
+        ensures { result ≡ false → (item : Self) → covers summary.now item → lies_apart sought.now item };
 }
 
 /// A value that lies in one place for all its owners, seen as that value.
@@ -55,7 +77,14 @@ impl<T: Drop> Shared<T> {
     }
 }
 
+// A walk passes over none of them.
 impl<T: Drop + Hinted> Share for Shared<T> {
+    type Summary = ();
+
+    ghost covers = { λ summary item. ⊤ };
+
+    ghost lies_apart = { λ sought item. ⊥ };
+
     #[inline(always)]
     fn share(&self) -> Result<Shared<T>, OutOfMemory> {
         Ok(Shared {
@@ -71,5 +100,16 @@ impl<T: Drop + Hinted> Share for Shared<T> {
     #[inline(always)]
     fn short_hint(&self) -> Hint {
         self.value.hint()
+    }
+
+    #[inline(always)]
+    fn summary(&self) {}
+
+    #[inline(always)]
+    fn summed(_: &(), _: &()) {}
+
+    #[inline(always)]
+    fn may_meet(_: &(), _: &()) -> bool {
+        true
     }
 }

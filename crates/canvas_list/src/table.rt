@@ -18,12 +18,12 @@ use std::marker::Model;
 /// Items in order, seen as the list of them. A call that answers want of memory leaves the list as it
 /// was.
 #[derive(Drop)]
-pub struct SharedList<T> {
+pub struct SharedList<T: Share> {
     pub(crate) blocks: Vec<Block<T>>,
     pub(crate) count: usize,
 }
 
-impl<T> Model for SharedList<T> {
+impl<T: Share> Model for SharedList<T> {
     ghost use Rattle.std.specs.Prelude.{List};
     ghost use Rattle.canvas_list.specs.Chunks.{joined, IsTable};
 

@@ -16,6 +16,8 @@ mod moves;
 #[cfg(test)]
 mod numbers;
 #[cfg(test)]
+mod passes;
+#[cfg(test)]
 mod picks;
 #[cfg(test)]
 mod reader;

@@ -44,6 +44,20 @@ fn number_at(list: &Numbers, place: usize) -> Option<u32> {
     Some(list.get(place)?.value().value)
 }
 
+// Whether the numbers from one up to another stand where they should.
+fn finds_range(list: &Numbers, least: u32, end: u32) -> bool
+    requires { IsNonDecreasingBy (λ number. number.value) list.now }
+{
+    let hint = |major| Hint { major, minor: 0 };
+    let range = list.range_near(
+        hint(least),
+        |number| number.value().value < least,
+        hint(end),
+        |number| number.value().value < end,
+    );
+    range.start == place_of(list, least) && range.end == place_of(list, end)
+}
+
 // Whether a number is found, wherever the search for it begins.
 fn finds(list: &Numbers, value: u32, place: usize) -> bool
     requires { IsNonDecreasingBy (λ number. number.value) list.now }
@@ -54,6 +68,8 @@ fn finds(list: &Numbers, value: u32, place: usize) -> bool
         && place_near(list, u32::MAX, value) == place
         && number_near(list, value, value) == number_at(list, place)
         && number_near(list, value / 2, value) == number_at(list, place)
+        && finds_range(list, value, value.saturating_add(3))
+        && finds_range(list, value / 2, value)
 }
 
 // Whether each number stands where it should, and each odd one before the next even one.

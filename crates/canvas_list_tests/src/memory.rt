@@ -3,9 +3,9 @@
 
 ghost use Rattle.std.specs.Prelude.{◌<◌, ◌≡◌, length};
 
-use crate::numbers::{Number, Numbers, evens, has, plain_evens, shared_number};
+use crate::numbers::{NumberItem, Numbers, evens, has, plain_evens, shared_number};
 use canvas_code::OutOfMemory;
-use canvas_list::{Shared, SharedList};
+use canvas_list::SharedList;
 use std::alloc::Global;
 use std::test::Fail;
 
@@ -15,7 +15,7 @@ const COUNT: u32 = 600;
 fn changed(
     alloc: Global,
     list: &Numbers,
-    item: Shared<Number>,
+    item: NumberItem,
     sort: u32,
 ) -> Result<Numbers, OutOfMemory>
     requires { length list.now ≡ 600 }

@@ -3,10 +3,11 @@
 ghost use Rattle.std.specs.Prelude.{◌≡◌, ◌≤◌, IfOk, vec_len};
 ghost use Rattle.std.specs.List.Sorted.{IsNonDecreasingBy};
 
-use crate::reader::reads_on;
+use crate::reader::{meets, reads_on};
 use canvas_code::OutOfMemory;
-use canvas_list::{Hint, Hinted, Items, Shared, SharedList};
+use canvas_list::{Hint, Hinted, Items, Share, Shared, SharedList};
 use std::alloc::Global;
+use std::marker::Model;
 
 /// A number.
 #[derive(Drop)]
@@ -23,16 +24,98 @@ impl Hinted for Number {
     }
 }
 
-pub(crate) type Numbers = SharedList<Shared<Number>>;
+/// A number in a list, seen as that number.
+#[derive(Drop)]
+pub(crate) struct NumberItem {
+    number: Shared<Number>,
+}
 
-pub(crate) fn shared_number(alloc: Global, value: u32) -> Result<Shared<Number>, OutOfMemory>
+impl Model for NumberItem {
+    ghost use Rattle.canvas_list_tests.specs.declared.numbers.Number.{Number};
+
+    ghost Value = { Number };
+
+    ghost view = { λ item. item.number };
+}
+
+impl NumberItem {
+    /// The number.
+    pub(crate) fn value(&self) -> &Number
+        ensures { result.now ≡ self.now }
+    {
+        self.number.value()
+    }
+}
+
+/// The numbers from the least up to the greatest, which is one of them; none, if that is less.
+#[derive(Clone, Copy)]
+pub(crate) struct Span {
+    pub(crate) least: u32,
+    pub(crate) greatest: u32,
+}
+
+impl Span {
+    pub(crate) fn has(&self, value: u32) -> bool {
+        self.least <= value && value <= self.greatest
+    }
+}
+
+// A summary of some numbers is a span that has them. A walk seeks those that a span has.
+impl Share for NumberItem {
+    ghost use Rattle.std.specs.Prelude.{◌≤◌};
+
+    type Summary = Span;
+
+    ghost covers = { λ summary item. (summary.least ≤ item.value) × (item.value ≤ summary.greatest) };
+
+    ghost lies_apart = { λ sought item. sought.least ≤ item.value → item.value ≤ sought.greatest → ⊥ };
+
+    fn share(&self) -> Result<NumberItem, OutOfMemory> {
+        Ok(NumberItem {
+            number: self.number.share()?,
+        })
+    }
+
+    fn hint(&self) -> Hint {
+        self.number.hint()
+    }
+
+    fn short_hint(&self) -> Hint {
+        self.number.short_hint()
+    }
+
+    fn summary(&self) -> Span {
+        let value = self.value().value;
+        Span {
+            least: value,
+            greatest: value,
+        }
+    }
+
+    fn summed(first: &Span, second: &Span) -> Span {
+        Span {
+            least: first.least.min(second.least),
+            greatest: first.greatest.max(second.greatest),
+        }
+    }
+
+    fn may_meet(summary: &Span, sought: &Span) -> bool {
+        summary.least <= sought.greatest && sought.least <= summary.greatest
+    }
+}
+
+pub(crate) type Numbers = SharedList<NumberItem>;
+
+pub(crate) fn shared_number(alloc: Global, value: u32) -> Result<NumberItem, OutOfMemory>
     ensures { IfOk result (λ number. number.value ≡ value) }
 {
-    Shared::new(alloc, Number { value })
+    Ok(NumberItem {
+        number: Shared::new(alloc, Number { value })?,
+    })
 }
 
 /// The first even numbers.
-pub(crate) fn evens(alloc: Global, count: u32) -> Result<Vec<Shared<Number>>, OutOfMemory>
+pub(crate) fn evens(alloc: Global, count: u32) -> Result<Vec<NumberItem>, OutOfMemory>
     requires { count ≤ 100000 }
     ensures len { IfOk result (λ items. vec_len items ≡ count) }
     ensures rising { IfOk result (λ items. IsNonDecreasingBy (λ number. number.value) items.items) }
@@ -64,6 +147,7 @@ pub(crate) fn has(list: &Numbers, plain: &[u32]) -> bool {
         && list.is_empty() == plain.is_empty()
         && reads(list, plain)
         && reads_on(list, plain)
+        && meets(list, plain)
         && gives(list.iter(), plain)
         && gives_back(list.iter(), plain)
         && gives(list.iter_from(third), plain.get(third..).unwrap_or(&[]))
@@ -80,7 +164,7 @@ fn reads(list: &Numbers, plain: &[u32]) -> bool {
     same
 }
 
-fn gives(items: Items<'_, Shared<Number>>, plain: &[u32]) -> bool {
+fn gives(items: Items<'_, NumberItem>, plain: &[u32]) -> bool {
     let mut wanted = plain.iter();
     for item in items {
         if wanted.next() != Some(&item.value().value) {
@@ -90,7 +174,7 @@ fn gives(items: Items<'_, Shared<Number>>, plain: &[u32]) -> bool {
     wanted.next().is_none()
 }
 
-fn gives_back(items: Items<'_, Shared<Number>>, plain: &[u32]) -> bool {
+fn gives_back(items: Items<'_, NumberItem>, plain: &[u32]) -> bool {
     let mut wanted = plain.iter().rev();
     for item in items.rev() {
         if wanted.next() != Some(&item.value().value) {

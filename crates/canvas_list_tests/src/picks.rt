@@ -4,15 +4,15 @@ ghost use Rattle.std.specs.Prelude.{◌≡◌, ◌<◌, IfOk, length};
 ghost use Rattle.canvas_list.specs.Changed.{IsPositionOf};
 
 use crate::dice::Dice;
-use crate::numbers::{Number, Numbers, shared_number};
+use crate::numbers::{NumberItem, Numbers, shared_number};
 use canvas_code::OutOfMemory;
-use canvas_list::{ItemChange, Share, Shared};
+use canvas_list::{ItemChange, Share};
 use std::alloc::Global;
 
 /// How many items a list gets at most.
 pub(crate) const MOST: usize = 50_000;
 
-pub(crate) type NumberChange = ItemChange<Shared<Number>>;
+pub(crate) type NumberChange = ItemChange<NumberItem>;
 
 /// A change, and where it is made.
 #[derive(Drop)]
@@ -21,7 +21,7 @@ pub(crate) struct Pick {
     pub(crate) change: NumberChange,
 }
 
-fn some_number(alloc: Global, dice: &mut Dice) -> Result<Shared<Number>, OutOfMemory> {
+fn some_number(alloc: Global, dice: &mut Dice) -> Result<NumberItem, OutOfMemory> {
     shared_number(alloc, dice.below(1_000_000_000) as u32)
 }
 

@@ -1,7 +1,9 @@
 //! Lists as a reader reads them, beside plain lists.
 
+ghost use Rattle.std.specs.Prelude.{◌≤◌, length};
+
 use crate::dice::Dice;
-use crate::numbers::Numbers;
+use crate::numbers::{Numbers, Span};
 
 /// Whether a reader gives the numbers of a plain list in order.
 pub(crate) fn reads_on(list: &Numbers, plain: &[u32]) -> bool {
@@ -26,4 +28,53 @@ pub(crate) fn reads_about(list: &Numbers, plain: &[u32], dice: &mut Dice) -> boo
         }
     }
     true
+}
+
+/// Whether walks through a list and through a part of it come to just the numbers that some spans have.
+pub(crate) fn meets(list: &Numbers, plain: &[u32]) -> bool {
+    let len = plain.len();
+    if list.len() != len {
+        return false;
+    }
+    let third = len / 3;
+    let mut same = true;
+    for span in some_spans(plain) {
+        same = same
+            && meets_between(list, plain, 0, len, &span)
+            && meets_between(list, plain, third, len - third, &span);
+    }
+    same
+}
+
+// Spans that have none of some numbers, one of them, those between two of them, and all.
+fn some_spans(plain: &[u32]) -> [Span; 4] {
+    let third = plain.len() / 3;
+    let one = plain.get(third).copied().unwrap_or(0);
+    let other = plain.get(2 * third).copied().unwrap_or(0);
+    let of = |least, greatest| Span { least, greatest };
+    [
+        of(1, 0),
+        of(one, one),
+        of(one.min(other), one.max(other)),
+        of(0, u32::MAX),
+    ]
+}
+
+// Whether a walk comes to just the positions of a part whose numbers a span has, in order.
+fn meets_between(list: &Numbers, plain: &[u32], from: usize, end: usize, sought: &Span) -> bool
+    requires order { from ≤ end }
+    requires list { end ≤ length list.now }
+    requires plain { end ≤ length plain.now }
+{
+    let mut reader = list.reader();
+    let mut next = reader.next_meeting(from, end, sought);
+    let mut same = true;
+    for at in from..end {
+        let is_next = at == next;
+        same = same && sought.has(plain[at]) == is_next;
+        if is_next {
+            next = reader.next_meeting(at + 1, end, sought);
+        }
+    }
+    same && next == end
 }

@@ -1,11 +1,16 @@
-use Rattle.std.proofs.Common.{◌≡◌, ◌-◌, drop, map, take}
+use Rattle.std.proofs.Common.{◌≡◌, ◌≤◌, ◌-◌, drop, map, take}
 use Rattle.canvas_doc.proofs.InSight.{AreInSight}
 use Rattle.canvas_doc.proofs.Placements.{shape_of}
 use Rattle.canvas_doc.proofs.Sorting.{record_of}
 use Rattle.canvas_doc.proofs.Document.children_meeting.Given as goal
 
-abbrev pub invariant-loop-at : goal.invariant-loop-at
-invariant-loop-at g l = record {
+abbrev pub invariant-walk : goal.invariant-walk
+invariant-walk g l = record {
   all : l.all ≡ l.initial.all;
+  from : l.start ≤ l.at;
+  upto : l.at ≤ l.end;
   seen : AreInSight l.self.records l.out l.clip (map record_of l.seen.items) (take (l.at - l.start) (drop l.start (map shape_of l.initial.all)));
 }
+
+abbrev pub decreases-walk : goal.decreases-walk
+decreases-walk g l = l.end - l.at

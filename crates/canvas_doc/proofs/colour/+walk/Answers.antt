@@ -11,11 +11,11 @@ use Rattle.canvas_doc.specs.Picture.{answer_of, first_answer}
 use Rattle.canvas_doc.specs.PlaceOrder.{IsKeptInOrder}
 use Rattle.canvas_doc.specs.Tree.{IsInLimits}
 use Rattle.canvas_doc.proofs.ChildrenInOrder.{all-in_order, children-are, first-and-rest}
-use Rattle.canvas_doc.proofs.InSight.{out-of-sight, pixel-held, stands-there}
+use Rattle.canvas_doc.proofs.InSight.{pixel-held, stands-there}
+use Rattle.canvas_doc.proofs.PassedOver.{answer-kept}
 use Rattle.canvas_doc.proofs.Placements.{shape_of, shapes-are}
 use Rattle.canvas_doc.proofs.Walk.{answer-by, answer-children, answer-none, first-answer, silent-rest}
 use Rattle.canvas_doc.proofs.colour.+walk.Goals as goal
-use Rattle.canvas_doc.proofs.colour.+walk.Goals.{answer_among-then-meets+else-is_some, answer_among-else-meets}
 
 pub answer_among-returns-then-levels-eq0 : goal.answer_among-returns-then-levels-eq0
 answer_among-returns-then-levels-eq0 t c = answer-none c.args.levels c.args.document.now.records c.args.parent (carry c.args.out.now) c.args.at.x c.args.at.y (omega arith)
@@ -25,57 +25,73 @@ answer_of-returns-then-holds t c =
     c.or_fill.ensures ∙
     answer-by c.args.levels c.args.document.now.records (carry c.args.out.now) c.args.at.x c.args.at.y c.args.shape.now c.then-page.result _ true _ c.then-page.ensures.carries c.if-shape.false c.in-Frame.is (sym c.if-holds.true ∙ c.holds_at-holds.ensures) c.answer_among-then-holds.ensures
 
-pub answer_of-returns-else-holds : goal.answer_of-returns-else-holds
-answer_of-returns-else-holds t c =
-    answer-by c.args.levels c.args.document.now.records (carry c.args.out.now) c.args.at.x c.args.at.y c.args.shape.now c.then-page.result _ false _ c.then-page.ensures.carries c.if-shape.false c.in-Frame.is (sym c.if-holds.false ∙ c.holds_at-holds.ensures) refl
-
 pub answer_of-returns-in-Polygon : goal.answer_of-returns-in-Polygon
 answer_of-returns-in-Polygon t c =
     c.if_held-in-Polygon.ensures ∙
     answer-by c.args.levels c.args.document.now.records (carry c.args.out.now) c.args.at.x c.args.at.y c.args.shape.now c.then-page.result _ c.holds_at-holds.result _ c.then-page.ensures.carries c.if-shape.false c.in-Polygon.is c.holds_at-holds.ensures refl
 
-pub answer_among-loop-slot-init : goal.answer_among-loop-slot-init
-answer_among-loop-slot-init t c = record { all = refl; answers = refl }
-
-pub answer_among-answer_of-answer-requires : goal.answer_among-answer_of-answer-requires
-answer_among-answer_of-answer-requires t c =
-    let order : List Record = c.document.inside.order.shapes in
-    let slot : ℕ = c.loop-slot.slot in
-    let within : slot < length order = omega (arith, c.children_range-start.ensures.bound) in
-    let here = stands-there c.reader-all.result c.loop-slot.all c.document.inside.order slot slot c.at-placed.result.now c.reader-all.ensures c.loop-slot.invariant.all (omega arith) within c.at-placed.ensures.item in
-    let r : Record = c.at-placed.result.now.shape in
-    let limits : IsInLimits (get_or order slot r) = all-in_order IsInLimits order c.document.inside.records c.document.invariant.in_order c.document.invariant.well_formed.limits slot r (slice_get_within order slot r here.shape) in
-    (search rules, (subst IsInLimits (sym c.value.ensures) (subst IsInLimits (get_or_from_slice_get order slot r r here.shape) limits), (search rules, search rules)))
-
-pub answer_among-loop-slot-preserved : goal.answer_among-loop-slot-preserved
-answer_among-loop-slot-preserved t c =
+pub answer_among-siblings-init : goal.answer_among-siblings-init
+answer_among-siblings-init t c =
     let order : List Record = c.document.inside.order.shapes in
     let bounds : List Bounds = c.document.inside.order.bounds in
     let start : ℕ = c.children_range-start.result.start in
     let end : ℕ = c.children_range-start.result.end in
-    let slot : ℕ = c.loop-slot.slot in
+    let slot : ℕ = c.next_meeting-slot.result in
     let f : Record → Option Colour = answer_of (c.args.levels - 1) c.args.document.now.records (carry c.args.out.now) c.args.at.x c.args.at.y in
-    let r : Record = c.at-placed.result.now.shape in
-    let within : slot < length order = omega (arith, c.children_range-start.ensures.bound) in
-    let here = stands-there c.reader-all.result c.loop-slot.all c.document.inside.order slot slot c.at-placed.result.now c.reader-all.ensures c.loop-slot.invariant.all (omega arith) within c.at-placed.ensures.item in
-    let below : slot < end = omega arith in
-    let silent : is_some (f r) ≡ false = elim c.if-meets.branch [
-      | answer_among-then-meets+else-is_some w ↦
-          ap (λ s. is_some (f s)) (sym w.value.ensures)
-          ∙ ap is_some (sym w.answer_of-answer.ensures) ∙ sym w.is_some.ensures ∙ w.if-is_some.false
-      | answer_among-else-meets w ↦
-          ap is_some ((out-of-sight c.args.document.now order bounds (subst (λ d. IsKeptInOrder d order bounds) c.document.view_is c.document.invariant) c.args.out.now c.sides.result c.of_clip-area.result c.at-placed.result.now.bounds slot r
-          c.requires.quarter c.of_clip-area.ensures here.shape here.box (c.meets.ensures w.if-meets.false)).none (c.args.levels - 1) c.args.at.x c.args.at.y (pixel-held c.sides.result c.args.at.x c.args.at.y c.sides.ensures))
-    ] in
-    let shapes : map shape_of c.reader-all.result ≡ order = shapes-are c.reader-all.result c.document.inside.order c.reader-all.ensures in
-    let answers : first_answer f (take (end - slot) (drop slot order)) ≡ first_answer f (take (end - start) (drop start order)) =
-    subst (λ (l : List Record). first_answer f (take (end - slot) (drop slot l)) ≡ first_answer f (take (end - start) (drop start l))) shapes c.loop-slot.invariant.answers in
+    let keeps : IsKeptInOrder c.args.document.now order bounds = subst (λ d. IsKeptInOrder d order bounds) c.document.view_is c.document.invariant in
+    let shapes : map shape_of c.next_meeting-slot.new.self ≡ order = ap (map shape_of) c.next_meeting-slot.ensures.same ∙ shapes-are c.reader-all.result c.document.inside.order c.reader-all.ensures in
+    let kept : first_answer f (take (end - slot) (drop slot order)) ≡ first_answer f (take (end - start) (drop start order)) =
+    answer-kept c.args.document.now c.reader-all.result c.reader-all.result c.document.inside.order c.reader-all.ensures refl keeps c.args.out.now c.sides.result c.of_clip-area.result c.requires.quarter c.of_clip-area.ensures
+    start slot c.next_meeting-slot.ensures.from (omega (arith, c.next_meeting-slot.ensures.upto, c.children_range-start.ensures.bound)) c.next_meeting-slot.ensures.apart
+    (c.args.levels - 1) c.args.at.x c.args.at.y end (pixel-held c.sides.result c.args.at.x c.args.at.y c.sides.ensures) c.next_meeting-slot.ensures.upto c.children_range-start.ensures.bound in
     record {
-      all = c.at-placed.ensures.same ∙ c.loop-slot.invariant.all;
-      answers = subst (λ (l : List Record). first_answer f (take (end - (slot + 1)) (drop (slot + 1) l)) ≡ first_answer f (take (end - start) (drop start l))) (sym shapes)
-          (silent-rest f r (take (end - (slot + 1)) (drop (slot + 1) order)) (take (end - slot) (drop slot order)) (take (end - start) (drop start order))
-          (first-and-rest order slot end r r below c.children_range-start.ensures.bound (sym (get_or_from_slice_get order slot r r here.shape)))
-          silent answers);
+      all = refl;
+      from = c.next_meeting-slot.ensures.from;
+      upto = c.next_meeting-slot.ensures.upto;
+      answers = subst (λ (l : List Record). first_answer f (take (end - slot) (drop slot l)) ≡ first_answer f (take (end - start) (drop start l))) (sym shapes) kept;
+    }
+
+pub answer_among-answer_of-answer-requires : goal.answer_among-answer_of-answer-requires
+answer_among-answer_of-answer-requires t c =
+    let order : List Record = c.document.inside.order.shapes in
+    let slot : ℕ = c.siblings.slot in
+    let within : slot < length order = omega (arith, c.children_range-start.ensures.bound, c.siblings-test.true) in
+    let here = stands-there c.reader-all.result c.siblings.all c.document.inside.order slot slot c.at.result.now c.reader-all.ensures (c.siblings.invariant.all ∙ c.next_meeting-slot.ensures.same) (omega arith) within c.at.ensures.item in
+    let r : Record = c.at.result.now.shape in
+    let limits : IsInLimits (get_or order slot r) = all-in_order IsInLimits order c.document.inside.records c.document.invariant.in_order c.document.invariant.well_formed.limits slot r (slice_get_within order slot r here.shape) in
+    (search rules, (subst IsInLimits (sym c.value-shape.ensures) (subst IsInLimits (get_or_from_slice_get order slot r r here.shape) limits), (search rules, search rules)))
+
+pub answer_among-siblings-preserved : goal.answer_among-siblings-preserved
+answer_among-siblings-preserved t c =
+    let order : List Record = c.document.inside.order.shapes in
+    let bounds : List Bounds = c.document.inside.order.bounds in
+    let start : ℕ = c.children_range-start.result.start in
+    let end : ℕ = c.children_range-start.result.end in
+    let slot : ℕ = c.siblings.slot in
+    let next : ℕ = c.next_meeting-slot-in-siblings.result in
+    let f : Record → Option Colour = answer_of (c.args.levels - 1) c.args.document.now.records (carry c.args.out.now) c.args.at.x c.args.at.y in
+    let r : Record = c.at.result.now.shape in
+    let keeps : IsKeptInOrder c.args.document.now order bounds = subst (λ d. IsKeptInOrder d order bounds) c.document.view_is c.document.invariant in
+    let same : c.siblings.all ≡ c.reader-all.result = c.siblings.invariant.all ∙ c.next_meeting-slot.ensures.same in
+    let within : slot < length order = omega (arith, c.children_range-start.ensures.bound, c.siblings-test.true) in
+    let here = stands-there c.reader-all.result c.siblings.all c.document.inside.order slot slot c.at.result.now c.reader-all.ensures same (omega arith) within c.at.ensures.item in
+    let silent : is_some (f r) ≡ false = ap (λ s. is_some (f s)) (sym c.value-shape.ensures) ∙ ap is_some (sym c.answer_of-answer.ensures) ∙ sym c.is_some.ensures ∙ c.if-is_some.false in
+    let shapes : map shape_of c.next_meeting-slot.new.self ≡ order = ap (map shape_of) c.next_meeting-slot.ensures.same ∙ shapes-are c.reader-all.result c.document.inside.order c.reader-all.ensures in
+    let before : first_answer f (take (end - slot) (drop slot order)) ≡ first_answer f (take (end - start) (drop start order)) =
+    subst (λ (l : List Record). first_answer f (take (end - slot) (drop slot l)) ≡ first_answer f (take (end - start) (drop start l))) shapes c.siblings.invariant.answers in
+    let behind : first_answer f (take (end - (slot + 1)) (drop (slot + 1) order)) ≡ first_answer f (take (end - start) (drop start order)) =
+    silent-rest f r (take (end - (slot + 1)) (drop (slot + 1) order)) (take (end - slot) (drop slot order)) (take (end - start) (drop start order))
+    (first-and-rest order slot end r r c.siblings-test.true c.children_range-start.ensures.bound (sym (get_or_from_slice_get order slot r r here.shape)))
+    silent before in
+    let kept : first_answer f (take (end - next) (drop next order)) ≡ first_answer f (take (end - (slot + 1)) (drop (slot + 1) order)) =
+    answer-kept c.args.document.now c.reader-all.result c.at.new.self c.document.inside.order c.reader-all.ensures (c.at.ensures.same ∙ same) keeps c.args.out.now c.sides.result c.of_clip-area.result c.requires.quarter c.of_clip-area.ensures
+    (slot + 1) next c.next_meeting-slot-in-siblings.ensures.from (omega (arith, c.next_meeting-slot-in-siblings.ensures.upto, c.children_range-start.ensures.bound)) c.next_meeting-slot-in-siblings.ensures.apart
+    (c.args.levels - 1) c.args.at.x c.args.at.y end (pixel-held c.sides.result c.args.at.x c.args.at.y c.sides.ensures) c.next_meeting-slot-in-siblings.ensures.upto c.children_range-start.ensures.bound in
+    record {
+      all = c.next_meeting-slot-in-siblings.ensures.same ∙ c.at.ensures.same ∙ c.siblings.invariant.all;
+      from = omega (arith, c.siblings.invariant.from, c.next_meeting-slot-in-siblings.ensures.from);
+      upto = c.next_meeting-slot-in-siblings.ensures.upto;
+      answers = subst (λ (l : List Record). first_answer f (take (end - next) (drop next l)) ≡ first_answer f (take (end - start) (drop start l))) (sym shapes) (kept ∙ behind);
     }
 
 pub answer_among-returns-then-is_some : goal.answer_among-returns-then-is_some
@@ -84,18 +100,18 @@ answer_among-returns-then-is_some t c =
     let rs : List Record = c.document.inside.records in
     let start : ℕ = c.children_range-start.result.start in
     let end : ℕ = c.children_range-start.result.end in
-    let slot : ℕ = c.loop-slot.slot in
-    let r : Record = c.at-placed.result.now.shape in
-    let within : slot < length order = omega (arith, c.children_range-start.ensures.bound) in
-    let here = stands-there c.reader-all.result c.loop-slot.all c.document.inside.order slot slot c.at-placed.result.now c.reader-all.ensures c.loop-slot.invariant.all (omega arith) within c.at-placed.ensures.item in
+    let slot : ℕ = c.siblings.slot in
+    let r : Record = c.at.result.now.shape in
+    let within : slot < length order = omega (arith, c.children_range-start.ensures.bound, c.siblings-test.true) in
+    let here = stands-there c.reader-all.result c.siblings.all c.document.inside.order slot slot c.at.result.now c.reader-all.ensures (c.siblings.invariant.all ∙ c.next_meeting-slot.ensures.same) (omega arith) within c.at.ensures.item in
     let f : Record → Option Colour = answer_of (c.args.levels - 1) c.args.document.now.records (carry c.args.out.now) c.args.at.x c.args.at.y in
-    let shapes : map shape_of c.reader-all.result ≡ order = shapes-are c.reader-all.result c.document.inside.order c.reader-all.ensures in
+    let shapes : map shape_of c.next_meeting-slot.new.self ≡ order = ap (map shape_of) c.next_meeting-slot.ensures.same ∙ shapes-are c.reader-all.result c.document.inside.order c.reader-all.ensures in
     let answers : first_answer f (take (end - slot) (drop slot order)) ≡ first_answer f (take (end - start) (drop start order)) =
-    subst (λ (l : List Record). first_answer f (take (end - slot) (drop slot l)) ≡ first_answer f (take (end - start) (drop start l))) shapes c.loop-slot.invariant.answers in
-    let answer : c.answer_of-answer.result ≡ f r = c.answer_of-answer.ensures ∙ ap f c.value.ensures in
+    subst (λ (l : List Record). first_answer f (take (end - slot) (drop slot l)) ≡ first_answer f (take (end - start) (drop start l))) shapes c.siblings.invariant.answers in
+    let answer : c.answer_of-answer.result ≡ f r = c.answer_of-answer.ensures ∙ ap f c.value-shape.ensures in
     answer
     ∙ first-answer f r (take (end - (slot + 1)) (drop (slot + 1) order)) (take (end - slot) (drop slot order)) (take (end - start) (drop start order))
-    (first-and-rest order slot end r r (omega arith) c.children_range-start.ensures.bound (sym (get_or_from_slice_get order slot r r here.shape)))
+    (first-and-rest order slot end r r c.siblings-test.true c.children_range-start.ensures.bound (sym (get_or_from_slice_get order slot r r here.shape)))
     (ap is_some (sym answer) ∙ sym c.is_some.ensures ∙ c.if-is_some.true)
     answers
     ∙ ap (first_answer f) (c.children_range-start.ensures.are ∙ children-are c.args.parent order rs c.document.invariant.well_formed.places c.document.invariant.in_order ∙ ap (λ (d : Contents). children c.args.parent d.records) c.document.view_is)
@@ -106,13 +122,13 @@ answer_among-returns t c =
     let order : List Record = c.document.inside.order.shapes in
     let rs : List Record = c.document.inside.records in
     let end : ℕ = c.children_range-start.result.end in
-    let slot : ℕ = c.loop-slot.slot in
+    let slot : ℕ = c.siblings.slot in
     let f : Record → Option Colour = answer_of (c.args.levels - 1) c.args.document.now.records (carry c.args.out.now) c.args.at.x c.args.at.y in
     let start : ℕ = c.children_range-start.result.start in
-    let none : 0 ≡ end - slot = omega arith in
-    let shapes : map shape_of c.reader-all.result ≡ order = shapes-are c.reader-all.result c.document.inside.order c.reader-all.ensures in
+    let none : 0 ≡ end - slot = omega (arith, c.siblings-test.false) in
+    let shapes : map shape_of c.next_meeting-slot.new.self ≡ order = ap (map shape_of) c.next_meeting-slot.ensures.same ∙ shapes-are c.reader-all.result c.document.inside.order c.reader-all.ensures in
     let answers : first_answer f (take (end - slot) (drop slot order)) ≡ first_answer f (take (end - start) (drop start order)) =
-    subst (λ (l : List Record). first_answer f (take (end - slot) (drop slot l)) ≡ first_answer f (take (end - start) (drop start l))) shapes c.loop-slot.invariant.answers in
+    subst (λ (l : List Record). first_answer f (take (end - slot) (drop slot l)) ≡ first_answer f (take (end - start) (drop start l))) shapes c.siblings.invariant.answers in
     ap (λ n. first_answer f (take n (drop slot order))) none
     ∙ answers
     ∙ ap (first_answer f) (c.children_range-start.ensures.are ∙ children-are c.args.parent order rs c.document.invariant.well_formed.places c.document.invariant.in_order ∙ ap (λ (d : Contents). children c.args.parent d.records) c.document.view_is)

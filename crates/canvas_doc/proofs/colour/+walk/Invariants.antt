@@ -1,4 +1,4 @@
-use Rattle.std.proofs.Common.{◌≡◌, ◌*◌, ◌+◌, ◌-◌, drop, map, take}
+use Rattle.std.proofs.Common.{◌≡◌, ◌*◌, ◌+◌, ◌-◌, ◌≤◌, drop, map, take}
 use Rattle.canvas_plane.specs.Motion.{carry}
 use Rattle.canvas_doc.specs.Picture.{answer_of, first_answer}
 use Rattle.canvas_doc.proofs.Placements.{shape_of}
@@ -10,9 +10,14 @@ decreases-answer_among l = 2 * l.levels
 abbrev pub decreases-answer_of : goal.decreases-answer_of
 decreases-answer_of l = 2 * l.levels + 1
 
-abbrev pub invariant-answer_among-loop-slot : goal.invariant-answer_among-loop-slot
-invariant-answer_among-loop-slot l = record {
+abbrev pub invariant-answer_among-siblings : goal.invariant-answer_among-siblings
+invariant-answer_among-siblings l = record {
   all : l.all ≡ l.initial.all;
+  from : l.start ≤ l.slot;
+  upto : l.slot ≤ l.end;
   answers : first_answer (answer_of (l.levels - 1) l.document.records (carry l.out) l.at.x l.at.y) (take (l.end - l.slot) (drop l.slot (map shape_of l.initial.all)))
       ≡ first_answer (answer_of (l.levels - 1) l.document.records (carry l.out) l.at.x l.at.y) (take (l.end - l.start) (drop l.start (map shape_of l.initial.all)));
 }
+
+abbrev pub decreases-answer_among-siblings : goal.decreases-answer_among-siblings
+decreases-answer_among-siblings l = l.end - l.slot

@@ -12,11 +12,11 @@ returns c =
     let order : List Record = c.args.order.now.shapes in
     let all : List PlacedShape = c.order.inside.list in
     let count = long all c.args.order.now c.order.view_is in
-    let low = point all c.args.order.now c.order.view_is (has_parent is_lt c.args.parent) c.partition_point_near-start.result c.partition_point_near-start.ensures.bound
-    (λ parted. IsPartitionPoint-from_clause (λ x. has_parent is_lt c.args.parent (shape_of x)) all c.partition_point_near-start.result c.partition_point_near-start.ensures.partitioned parted (λ a r f called. search rules))
+    let low = point all c.args.order.now c.order.view_is (has_parent is_lt c.args.parent) c.range_near.result.start c.range_near.ensures.start
+    (λ parted. IsPartitionPoint-from_clause (λ x. has_parent is_lt c.args.parent (shape_of x)) all c.range_near.result.start c.range_near.ensures.before parted (λ a r f called. search rules))
     (parted-before c.args.parent order c.requires) in
-    let high = point all c.args.order.now c.order.view_is (has_parent is_le c.args.parent) c.partition_point_near-end.result c.partition_point_near-end.ensures.bound
-    (λ parted. IsPartitionPoint-from_clause (λ x. has_parent is_le c.args.parent (shape_of x)) all c.partition_point_near-end.result c.partition_point_near-end.ensures.partitioned parted (λ a r f called. search rules))
+    let high = point all c.args.order.now c.order.view_is (has_parent is_le c.args.parent) c.range_near.result.end c.range_near.ensures.end
+    (λ parted. IsPartitionPoint-from_clause (λ x. has_parent is_le c.args.parent (shape_of x)) all c.range_near.result.end c.range_near.ensures.within parted (λ a r f called. search rules))
     (parted-up_to c.args.parent order c.requires) in
-    children-within c.args.parent order c.partition_point_near-start.result c.partition_point_near-end.result
-    (subst (λ n. c.partition_point_near-start.result ≤ n) count c.partition_point_near-start.ensures.bound) (subst (λ n. c.partition_point_near-end.result ≤ n) count c.partition_point_near-end.ensures.bound) low high
+    children-within c.args.parent order c.range_near.result.start c.range_near.result.end
+    (subst (λ n. c.range_near.result.start ≤ n) count c.range_near.ensures.start) (subst (λ n. c.range_near.result.end ≤ n) count c.range_near.ensures.end) low high

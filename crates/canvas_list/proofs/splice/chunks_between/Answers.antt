@@ -1,7 +1,22 @@
-use Rattle.std.proofs.Common.{◌≡◌, ◌++◌, [], List, IfOk, refl, subst}
+use Rattle.std.proofs.Common.{◌≡◌, ◌++◌, [], List, IfOk, ap, arith, length, refl, subst}
+use Rattle.std.proofs.lemmas.List.{length-append}
 use Rattle.canvas_list.specs.Chunks.{joined}
 use Rattle.canvas_list.proofs.Between.{between}
 use Rattle.canvas_list.proofs.splice.chunks_between.Goals as goal
+
+pub and_items-requires-3-clause-small : goal.and_items-requires-3-clause-small
+and_items-requires-3-clause-small g c =
+    let same : c.in_ok-and_all-2.field-0 ++ c.in_ok-last.last.items ≡ c.args.before.now ++ c.args.items.items ++ c.args.behind.now =
+    between c.before-2.inside.front.now (joined c.before-2.inside.chunks.now) c.before-2.inside.back.now c.args.items.items c.behind.inside.front.now (joined c.behind.inside.chunks.now) c.behind.inside.back.now c.args.before.now c.args.behind.now c.in_ok-first.first.items c.in_ok-middle.middle.items c.in_ok-last.last.items [] [] c.new.result.items c.new-2.result.items c.empty.result c.in_ok-and_items.field-0 c.in_ok-and_all.field-0 c.in_ok-and_items-2.field-0 c.in_ok-and_all-2.field-0
+    c.empty.ensures refl refl c.new.ensures.items c.new-2.ensures.items c.in_ok-first.ensures c.in_ok-middle.ensures c.in_ok-last.ensures c.in_ok-and_items.ensures c.in_ok-and_all.ensures c.in_ok-and_items-2.ensures c.in_ok-and_all-2.ensures c.before-2.view_is c.behind.view_is in
+    omega (
+      arith,
+      ap length same,
+      length-append c.in_ok-and_all-2.field-0 c.in_ok-last.last.items,
+      length-append (c.args.before.now ++ c.args.items.items) c.args.behind.now,
+      length-append c.args.before.now c.args.items.items,
+      c.requires.few,
+    )
 
 pub returns : goal.returns
 returns g c =

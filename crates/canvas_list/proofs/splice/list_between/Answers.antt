@@ -4,6 +4,60 @@ use Rattle.canvas_list.specs.Chunks.{joined}
 use Rattle.canvas_list.proofs.Between.{between}
 use Rattle.canvas_list.proofs.splice.list_between.Goals as goal
 
+pub and_chunks-requires-2-clause-few : goal.and_chunks-requires-2-clause-few
+and_chunks-requires-2-clause-few g c =
+    omega (
+      arith,
+      c.requires.few,
+      ap length c.before-2.view_is,
+      length-append (c.before-2.inside.front ++ joined c.before-2.inside.blocks.now) c.before-2.inside.back,
+      length-append c.before-2.inside.front (joined c.before-2.inside.blocks.now),
+      ap length c.behind.view_is,
+      length-append (c.behind.inside.front ++ joined c.behind.inside.blocks.now) c.behind.inside.back,
+      length-append c.behind.inside.front (joined c.behind.inside.blocks.now),
+      ap length c.none-none.ensures,
+      ap length c.new.ensures.items,
+      ap length c.empty.ensures,
+      ap length c.in_ok-first.ensures,
+      length-append (c.before-2.inside.front ++ c.new.result.items) c.none-none.result,
+      length-append c.before-2.inside.front c.new.result.items,
+      ap length c.in_ok-middle.ensures,
+      length-append (c.before-2.inside.back ++ c.args.items.items) c.behind.inside.front,
+      length-append c.before-2.inside.back c.args.items.items,
+      ap length c.in_ok-and_chunks.ensures,
+      length-append c.empty.result c.in_ok-first.first,
+      ap length c.in_ok-and_all.ensures,
+      length-append c.in_ok-and_chunks.field-0 (joined c.before-2.inside.blocks.now),
+    )
+
+pub and_all-requires-2 : goal.and_all-requires-2
+and_all-requires-2 g c =
+    omega (
+      arith,
+      c.requires.few,
+      ap length c.before-2.view_is,
+      length-append (c.before-2.inside.front ++ joined c.before-2.inside.blocks.now) c.before-2.inside.back,
+      length-append c.before-2.inside.front (joined c.before-2.inside.blocks.now),
+      ap length c.behind.view_is,
+      length-append (c.behind.inside.front ++ joined c.behind.inside.blocks.now) c.behind.inside.back,
+      length-append c.behind.inside.front (joined c.behind.inside.blocks.now),
+      ap length c.none-none.ensures,
+      ap length c.new.ensures.items,
+      ap length c.empty.ensures,
+      ap length c.in_ok-first.ensures,
+      length-append (c.before-2.inside.front ++ c.new.result.items) c.none-none.result,
+      length-append c.before-2.inside.front c.new.result.items,
+      ap length c.in_ok-middle.ensures,
+      length-append (c.before-2.inside.back ++ c.args.items.items) c.behind.inside.front,
+      length-append c.before-2.inside.back c.args.items.items,
+      ap length c.in_ok-and_chunks.ensures,
+      length-append c.empty.result c.in_ok-first.first,
+      ap length c.in_ok-and_all.ensures,
+      length-append c.in_ok-and_chunks.field-0 (joined c.before-2.inside.blocks.now),
+      ap length c.in_ok-and_chunks-2.ensures,
+      length-append c.in_ok-and_all.field-0 c.in_ok-middle.middle,
+    )
+
 pub and_chunks-requires-3-clause-few : goal.and_chunks-requires-3-clause-few
 and_chunks-requires-3-clause-few g c =
     let same : c.in_ok-and_all-2.field-0 ++ c.in_ok-last.last ≡ c.args.before.now ++ c.args.items.items ++ c.args.behind.now =

@@ -1,6 +1,6 @@
 use Rattle.std.proofs.Common.{◌∙◌}
 use Rattle.canvas_list.proofs.Parted.{answers, passes-first}
-use Rattle.canvas_list.proofs.chunks.fn.Chunks.partition_point.partition_point.Goals as goal
+use Rattle.canvas_list.proofs.search.fn.count_begun.partition_point.Goals as goal
 
 pub returns : goal.returns
 returns g c =

@@ -1,0 +1,135 @@
+//! Walks that give each item which they look at, so that what they give shows which parts they pass over.
+
+ghost use Rattle.std.specs.Prelude.{◌≡◌};
+
+use crate::numbers::{Number, Span};
+use canvas_code::OutOfMemory;
+use canvas_list::{Hint, Share, Shared, SharedList};
+use std::alloc::Global;
+use std::test::Fail;
+
+/// A number that never lies apart by its own summary, but by that of its part alone.
+#[derive(Drop)]
+struct Watched {
+    value: u32,
+}
+
+/// A span that has some numbers, and whether it is the summary of one item.
+#[derive(Clone, Copy)]
+struct Note {
+    span: Span,
+    is_of_item: bool,
+}
+
+impl Note {
+    // What a walk seeks: the numbers from one up to another, which is one of them.
+    fn sought(least: u32, greatest: u32) -> Note
+        ensures least { result.span.least ≡ least }
+        ensures greatest { result.span.greatest ≡ greatest }
+    {
+        Note {
+            span: Span { least, greatest },
+            is_of_item: false,
+        }
+    }
+}
+
+impl Share for Watched {
+    ghost use Rattle.std.specs.Prelude.{◌≤◌};
+
+    type Summary = Note;
+
+    ghost covers = { λ summary watched. (summary.span.least ≤ watched.value) × (watched.value ≤ summary.span.greatest) };
+
+    ghost lies_apart = { λ sought watched. sought.span.least ≤ watched.value → watched.value ≤ sought.span.greatest → ⊥ };
+
+    fn share(&self) -> Result<Watched, OutOfMemory> {
+        Ok(Watched { value: self.value })
+    }
+
+    fn hint(&self) -> Hint {
+        Hint {
+            major: self.value,
+            minor: 0,
+        }
+    }
+
+    fn short_hint(&self) -> Hint {
+        self.hint()
+    }
+
+    fn summary(&self) -> Note {
+        Note {
+            span: Span {
+                least: self.value,
+                greatest: self.value,
+            },
+            is_of_item: true,
+        }
+    }
+
+    fn summed(first: &Note, second: &Note) -> Note {
+        Note::sought(
+            first.span.least.min(second.span.least),
+            first.span.greatest.max(second.span.greatest),
+        )
+    }
+
+    fn may_meet(summary: &Note, sought: &Note) -> bool {
+        summary.is_of_item
+            || summary.span.least <= sought.span.greatest
+                && sought.span.least <= summary.span.greatest
+    }
+}
+
+// How many items a walk over a list gives.
+fn count_given<T: Share>(list: &SharedList<T>, sought: &T::Summary) -> usize {
+    let mut reader = list.reader();
+    let end = list.len();
+    let mut next = reader.next_meeting(0, end, sought);
+    let mut count = 0;
+    for at in 0..end {
+        if at == next {
+            count += 1;
+            next = reader.next_meeting(at + 1, end, sought);
+        }
+    }
+    count
+}
+
+// The first numbers.
+fn first_watched(alloc: Global) -> Result<SharedList<Watched>, OutOfMemory> {
+    let mut items = Vec::new(alloc);
+    for value in 0..COUNT {
+        items.push(Watched { value })?;
+    }
+    SharedList::from_vec(alloc, items)
+}
+
+const COUNT: u32 = 3_000;
+
+#[test]
+fn walks_pass_over_parts(rt: HostRuntime) -> Result<(), Fail> {
+    let alloc = rt.alloc();
+    let list = first_watched(alloc)?;
+    assert_eq!(rt; count_given(&list, &Note::sought(0, COUNT)), 3_000);
+    assert_eq!(rt; count_given(&list, &Note::sought(COUNT, COUNT)), 0);
+    for value in [0, 1, 1_234, 2_000, COUNT - 1] {
+        let given = count_given(&list, &Note::sought(value, value));
+        assert!(rt; 0 < given && given < 200, "{given} for {value}");
+    }
+    Ok(())
+}
+
+#[test]
+fn walks_give_all_shared_values(rt: HostRuntime) -> Result<(), Fail> {
+    let alloc = rt.alloc();
+    let mut items = Vec::new(alloc);
+    for value in 0..COUNT {
+        items.push(Shared::new(alloc, Number { value })?)?;
+    }
+    let list = SharedList::from_vec(alloc, items)?;
+    let list = list.try_clone(alloc)?;
+    assert_eq!(rt; count_given(&list, &()), 3_000);
+    Ok(())
+}
