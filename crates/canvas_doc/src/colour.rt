@@ -8,11 +8,11 @@ ghost use Rattle.canvas_doc.specs.Tree.{IsInLimits};
 
 use crate::Document;
 use crate::bounds::Bounds;
-use crate::place_order::children_range;
+use crate::place_order::children_of;
 use crate::records::{Parent, Record};
+use canvas_list::FoundRange;
 use canvas_plane::{PageBox, Pose};
 use canvas_shape::{Colour, Kind};
-use std::ops::Range;
 
 impl Document {
     /// The colour of a pixel of the page: what the first shape that holds it answers, walked from
@@ -77,17 +77,20 @@ fn answer_among(
     if levels == 0 {
         return None;
     }
-    let Range { start, end } = children_range(&document.order, parent);
+    let FoundRange {
+        start,
+        end,
+        mut reader,
+    } = children_of(&document.order, parent);
     let area = Bounds::of_clip(out, &at.sides());
-    let mut all = document.order.reader();
-    let mut slot = all.next_meeting(start, end, &area);
+    let mut slot = reader.next_meeting(start, end, &area);
     'siblings: while slot < end {
-        let shape = all.at(slot).shape.value();
+        let shape = reader.at(slot).shape.value();
         let answer = answer_of(document, levels - 1, shape, out, at);
         if answer.is_some() {
             return answer;
         }
-        slot = all.next_meeting(slot + 1, end, &area);
+        slot = reader.next_meeting(slot + 1, end, &area);
     }
     None
 }

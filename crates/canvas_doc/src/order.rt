@@ -11,13 +11,13 @@ ghost use Rattle.canvas_doc.specs.Tree.{IsInLimits};
 
 use crate::Document;
 use crate::bounds::Bounds;
-use crate::place_order::children_range;
+use crate::place_order::children_of;
 use crate::placed_shapes::PlacedShapes;
 use crate::records::{Parent, Record};
 use canvas_code::OutOfMemory;
+use canvas_list::FoundRange;
 use canvas_plane::{PageBox, Pose};
 use std::alloc::Allocator;
-use std::ops::Range;
 
 impl Document {
     /// All children of `parent`, from front to back; want of memory is the only refusal.
@@ -48,14 +48,17 @@ impl Document {
         ensures answers { IfOk result (λ list. (levels : ℕ) (x y : ℤ) → is_in clip.now x y ≡ true → first_answer (answer_of levels self.now.records (carry out.now) x y) (map (λ shape. shape.now) list.items) ≡ first_answer (answer_of levels self.now.records (carry out.now) x y) (children parent self.now.records)) }
         ensures limits { IfOk result (λ list. All (λ shape. IsInLimits shape.now) list.items) }
     {
-        let Range { start, end } = children_range(&self.order, parent);
+        let FoundRange {
+            start,
+            end,
+            mut reader,
+        } = children_of(&self.order, parent);
         let area = Bounds::of_clip(out, clip);
-        let mut all = self.order.reader();
         let mut seen = Vec::new(alloc);
-        let mut at = all.next_meeting(start, end, &area);
+        let mut at = reader.next_meeting(start, end, &area);
         'walk: while at < end {
-            seen.push(all.at(at).shape.value())?;
-            at = all.next_meeting(at + 1, end, &area);
+            seen.push(reader.at(at).shape.value())?;
+            at = reader.next_meeting(at + 1, end, &area);
         }
         Ok(seen)
     }
@@ -70,11 +73,14 @@ fn children<'a, A: Allocator>(
     requires { IsStrictlySortedBy comes_first order.now.shapes }
     ensures { IfOk result (λ list. map (λ shape. shape.now) list.items ≡ filter (is_child parent) order.now.shapes) }
 {
-    let Range { start, end } = children_range(order, parent);
-    let mut all = order.reader();
+    let FoundRange {
+        start,
+        end,
+        mut reader,
+    } = children_of(order, parent);
     let mut list = Vec::with_capacity(alloc, end - start)?;
     for at in start..end {
-        list.push(all.at(at).shape.value())?;
+        list.push(reader.at(at).shape.value())?;
     }
     Ok(list)
 }

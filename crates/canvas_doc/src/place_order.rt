@@ -6,13 +6,14 @@ ghost use Rattle.std.specs.List.{remove};
 ghost use Rattle.std.specs.List.Sorted.{IsStrictlySortedBy};
 ghost use Rattle.std.specs.Ordering.{is_le, is_lt};
 ghost use Rattle.canvas_doc.specs.Listed.{holder_of};
+ghost use Rattle.canvas_doc.specs.Placements.{placements_of};
 ghost use Rattle.canvas_doc.specs.PlaceOrder.{by_parent, by_place, comes_first, AreChildrenWithin, IsInPlaceOrder, IsPlaceOf};
 ghost use Rattle.canvas_doc.specs.Tree.{HavePlaces};
 
-use crate::placed_shapes::PlacedShapes;
+use crate::placed_shapes::{PlacedShape, PlacedShapes};
 use crate::records::{Parent, Place, Record, Records};
 use canvas_code::OutOfMemory;
-use canvas_list::{Hint, Shared};
+use canvas_list::{FoundRange, Hint, Shared};
 use std::alloc::Global;
 use std::cmp::Ordering;
 use std::ops::Range;
@@ -43,10 +44,11 @@ fn shares(alloc: Global, records: &Records) -> Result<Vec<Shared<Record>>, OutOf
     Ok(all)
 }
 
-// Where the children of a parent stand in the order, from front to back.
-pub(crate) fn children_range(order: &PlacedShapes, parent: Parent) -> Range<usize>
+// The children of a parent, which stand side by side in the order, from front to back.
+pub(crate) fn children_of(order: &PlacedShapes, parent: Parent) -> FoundRange<'_, PlacedShape>
     requires { IsStrictlySortedBy comes_first order.now.shapes }
-    ensures { AreChildrenWithin parent order.now.shapes result.start result.end }
+    ensures children { AreChildrenWithin parent order.now.shapes result.start result.end }
+    ensures reader { placements_of result.reader ≡ order.now }
 {
     order.list.range_near(
         hint_under(parent, 0),
@@ -54,6 +56,15 @@ pub(crate) fn children_range(order: &PlacedShapes, parent: Parent) -> Range<usiz
         hint_under(parent, u64::MAX),
         |placed| comes_before_or_hangs(placed.shape.value(), parent),
     )
+}
+
+// Where the children of a parent stand in the order, from front to back.
+pub(crate) fn children_range(order: &PlacedShapes, parent: Parent) -> Range<usize>
+    requires { IsStrictlySortedBy comes_first order.now.shapes }
+    ensures { AreChildrenWithin parent order.now.shapes result.start result.end }
+{
+    let children = children_of(order, parent);
+    children.start..children.end
 }
 
 // Whether the parent of a record comes before another.

@@ -3,7 +3,7 @@ use Rattle.std.proofs.Common.{◌≡◌, ◌∙◌, ℕ, ◌+◌, ◌-◌, ◌<�
 use Rattle.std.specs.List.{slice_get}
 use Rattle.std.specs.List.Sorted.{IsPartitionedBy}
 use Rattle.std.proofs.lemmas.Bool.{cases_lt}
-use Rattle.std.proofs.lemmas.List.{get_or-append-add, get_or-drop, get_or-take, get_or_append_left, length-append, length-drop, length-take, take-append-drop}
+use Rattle.std.proofs.lemmas.List.{get_or-append-add, get_or-drop, get_or-take, get_or_append_left, length-append, length-drop, length-take, take-append-drop, take_rest}
 use Rattle.std.proofs.lemmas.Option.{slice_get-get_or}
 use Rattle.canvas_list.specs.Chunks.{joined, IsEnd, IsRun}
 use Rattle.std.specs.List.{sum_by}
@@ -98,6 +98,14 @@ run-behind {X} cs xs k s c items within start all is same =
           ∙ ap (λ j. get_or (front ++ (items ++ rest)) (j + i) x) (sym start)
           ∙ ap (λ l. get_or l (s + i) x) (sym parts ∙ all);
     })
+
+-- the items of all chunks from one on, as a slice of them has it
+pub rest-joined : {X : Type 0} (cs ds : List (List X)) (k : ℕ) → ds ≡ cs → joined (take (length ds - k) (drop k ds)) ≡ joined (drop k cs)
+rest-joined cs ds k e = ap joined (take_rest ds k) ∙ ap (λ l. joined (drop k l)) e
+
+-- the same of a chunk that was found by how many items stand before it
+pub near-behind : {X : Type 0} (cs ds : List (List X)) (xs : List X) (k s : ℕ) (c items : List X) → ds ≡ cs → k < length ds → s ≡ sum_by length (take k ds) → joined cs ≡ xs → c ≡ get_or cs k c → items ≡ c → IsRun xs (joined (drop (k + 1) cs)) (s + length items)
+near-behind cs ds xs k s c items e within is all here same = run-behind cs xs k s c items (omega (arith, ap length e)) (start-read cs ds k s e is) all here same
 
 -- no items, where a list ends or before
 pub run-none : {X : Type 0} (xs : List X) (s : ℕ) → s ≤ length xs → IsRun xs [] s

@@ -25,6 +25,6 @@ pub use hint::{Hint, Hinted};
 pub use in_place::ItemChange;
 pub use items::Items;
 pub use reader::Reader;
-pub use search::Found;
+pub use search::{Found, FoundRange};
 pub use share::{Share, Shared};
 pub use table::SharedList;

@@ -162,13 +162,15 @@ struct Stretch<'a, T: Share> {
     behind: &'a [Chunk<T>],
 }
 
-/// Items that stand side by side in a list, and where they start.
+/// The items of a chunk, and where they start.
 #[derive(Drop)]
 pub(crate) struct Run<'a, T: Share> {
     pub(crate) items: &'a [T],
     pub(crate) start: usize,
     // What the table notes of the first one.
     pub(crate) hint: Hint,
+    // The chunks of their block behind them.
+    pub(crate) behind: &'a [Chunk<T>],
 }
 
 // How many items come before the first that may meet what is sought, or all.
@@ -251,6 +253,46 @@ impl<T: Share> SharedList<T> {
         }
     }
 
+    /// The items of the chunk in which those that come before a hint end, most likely, of a chunk and those of its block
+    /// behind it.
+    #[inline(always)]
+    pub(crate) fn run_from<'a>(&'a self, run: &Run<'a, T>, hint: Hint) -> Run<'a, T>
+        requires run { IsRun self.now run.now.items.now run.now.start }
+        requires behind { IsRun self.now (joined run.now.behind.now) (run.now.start + length run.now.items.now) }
+        requires small { length self.now < 2 ^ 32 }
+        ensures run { IsRun self.now result.items.now result.start }
+        ensures few { result.start + length result.items.now < 2 ^ 32 }
+    {
+        match run.behind.first() {
+            Some(first) if first.hint().is_before(hint) => {
+                let spot = spot_near(run.behind, hint);
+                let behind = &run.behind[spot.chunk + 1..];
+                Run {
+                    items: run.behind[spot.chunk].items(),
+                    start: run.start + run.items.len() + spot.start,
+                    hint: run.behind[spot.chunk].hint(),
+                    behind,
+                }
+            }
+            _ => Run { ..*run },
+        }
+    }
+
+    /// A reader of the list, which holds some of its items.
+    #[inline(always)]
+    pub(crate) fn reader_of<'a>(&'a self, run: Run<'a, T>) -> Reader<'a, T>
+        requires run { IsRun self.now run.items.now run.start }
+        requires behind { IsRun self.now (joined run.behind.now) (run.start + length run.items.now) }
+        ensures { result ≡ self.now }
+    {
+        Reader {
+            items: run.items,
+            start: run.start,
+            behind: run.behind,
+            ..self.reader()
+        }
+    }
+
     // The items of the chunk of a position.
     fn stretch_at(&self, at: usize) -> Stretch<'_, T>
         requires { at < length self.now }
@@ -293,6 +335,8 @@ impl<T: Share> SharedList<T> {
     pub(crate) fn run_near(&self, hint: Hint) -> Option<Run<'_, T>>
         ensures run { IfSome result (λ run. IsRun self.now run.items.now run.start) }
         ensures few { IfSome result (λ run. run.start + length run.items.now < 2 ^ 32) }
+        ensures behind { IfSome result (λ run. IsRun self.now (joined run.behind.now) (run.start + length run.items.now)) }
+        ensures small { length self.now < 2 ^ 32 }
     {
         if self.blocks.is_empty() {
             return None;
@@ -302,7 +346,7 @@ impl<T: Share> SharedList<T> {
         Some(Run {
             items: run.items,
             start: spot.start + run.start,
-            hint: run.hint,
+            ..run
         })
     }
 }
@@ -329,13 +373,16 @@ impl<T: Share> Chunks<T> {
     #[inline(always)]
     fn run_near(&self, hint: Hint) -> Run<'_, T>
         requires { 0 < length self.now }
-        ensures { IsRun self.now result.items.now result.start }
+        ensures run { IsRun self.now result.items.now result.start }
+        ensures behind { IsRun self.now (joined result.behind.now) (result.start + length result.items.now) }
     {
         let spot = spot_near(&self.chunks, hint);
+        let behind = &self.chunks[spot.chunk + 1..];
         Run {
             items: self.chunks[spot.chunk].items(),
             start: spot.start,
             hint: self.chunks[spot.chunk].hint(),
+            behind,
         }
     }
 }

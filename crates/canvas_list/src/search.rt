@@ -5,14 +5,14 @@ ghost use Rattle.std.specs.Fn.{ComputesKey};
 ghost use Rattle.std.specs.List.{slice_get};
 ghost use Rattle.std.specs.List.Sorted.{IsPartitionedBy, IsPartitionPoint};
 ghost use Rattle.std.specs.Option.{option_copied};
-ghost use Rattle.canvas_list.specs.Chunks.{first_passes, IsEnd, IsRun};
+ghost use Rattle.canvas_list.specs.Chunks.{first_passes, joined, IsEnd, IsRun};
 
 use crate::block::Block;
 use crate::chunk::Chunk;
 use crate::chunks::Chunks;
 use crate::counted::count_of;
 use crate::hint::Hint;
-use crate::reader::Run;
+use crate::reader::{Reader, Run};
 use crate::share::Share;
 use crate::table::SharedList;
 use std::marker::Model;
@@ -80,7 +80,20 @@ impl<T: Share> SharedList<T> {
             item: self.get(at),
         }
     }
+}
 
+/// Items that stand side by side in a list, and a reader of the list, which most likely gives them without a search.
+#[derive(Drop)]
+pub struct FoundRange<'a, T: Share> {
+    /// Where the first of them stands.
+    pub start: usize,
+    /// Where they end: the position behind the last one.
+    pub end: usize,
+    /// A reader of the list.
+    pub reader: Reader<'a, T>,
+}
+
+impl<T: Share> SharedList<T> {
     /// From where the items end that pass a first test up to where those end that pass a second one, each as by
     /// `partition_point_near`. Where few stand between the two this is quicker than two searches.
     pub fn range_near<P: Fn(&T) -> bool, Q: Fn(&T) -> bool>(
@@ -89,7 +102,44 @@ impl<T: Share> SharedList<T> {
         before: P,
         to: Hint,
         within: Q,
+    ) -> FoundRange<'_, T>
+        requires before { P.IsAlwaysCallable before }
+        requires within { Q.IsAlwaysCallable within }
+        ensures start { result.start ≤ length self.now }
+        ensures end { result.end ≤ length self.now }
+        ensures before { (p : T → Bool) → ComputesKey P.FnMut p before → IsPartitionedBy p self.now → IsPartitionPoint (λ y. p y ≡ true) (λ y. p y ≡ false) self.now result.start }
+        ensures within { (p : T → Bool) → ComputesKey Q.FnMut p within → IsPartitionedBy p self.now → IsPartitionPoint (λ y. p y ≡ true) (λ y. p y ≡ false) self.now result.end }
+        ensures reader { result.reader ≡ self.now }
+    {
+        let Some(run) = self.run_near(from) else {
+            return FoundRange {
+                start: self.partition_point(before),
+                end: self.partition_point(within),
+                reader: self.reader(),
+            };
+        };
+        let Range { start, end } = self.range_about(&run, from, before, to, within);
+        FoundRange {
+            start,
+            end,
+            reader: self.reader_of(run),
+        }
+    }
+
+    // The same, both sought in a part first, the second one then in those behind it.
+    #[inline(always)]
+    fn range_about<'a, P: Fn(&T) -> bool, Q: Fn(&T) -> bool>(
+        &'a self,
+        run: &Run<'a, T>,
+        from: Hint,
+        before: P,
+        to: Hint,
+        within: Q,
     ) -> Range<usize>
+        requires run { IsRun self.now run.now.items.now run.now.start }
+        requires few { run.now.start + length run.now.items.now < 2 ^ 32 }
+        requires behind { IsRun self.now (joined run.now.behind.now) (run.now.start + length run.now.items.now) }
+        requires small { length self.now < 2 ^ 32 }
         requires before { P.IsAlwaysCallable before }
         requires within { Q.IsAlwaysCallable within }
         ensures start { result.start ≤ length self.now }
@@ -97,19 +147,38 @@ impl<T: Share> SharedList<T> {
         ensures before { (p : T → Bool) → ComputesKey P.FnMut p before → IsPartitionedBy p self.now → IsPartitionPoint (λ y. p y ≡ true) (λ y. p y ≡ false) self.now result.start }
         ensures within { (p : T → Bool) → ComputesKey Q.FnMut p within → IsPartitionedBy p self.now → IsPartitionPoint (λ y. p y ≡ true) (λ y. p y ≡ false) self.now result.end }
     {
-        let Some(run) = self.run_near(from) else {
-            return self.partition_point(before)..self.partition_point(within);
-        };
-        let start = match self.found_in(&run, from, &before) {
+        let start = match self.found_in(run, from, &before) {
             Some(found) => found.at,
             None => self.partition_point(before),
         };
-        if run.ends_behind(to) {
-            if let Some(found) = self.found_in(&run, to, &within) {
-                return start..found.at;
-            }
+        let end = match self.found_soon(run, to, &within) {
+            Some(found) => found.at,
+            None => self.partition_point(within),
+        };
+        start..end
+    }
+
+    // The end in a part, in one behind it, or in the one to which a hint leads, if it is there.
+    #[inline(always)]
+    fn found_soon<'a, P: Fn(&T) -> bool>(
+        &'a self,
+        run: &Run<'a, T>,
+        hint: Hint,
+        pred: &P,
+    ) -> Option<Found<'a, T>>
+        requires callable { P.IsAlwaysCallable pred.now }
+        requires run { IsRun self.now run.now.items.now run.now.start }
+        requires few { run.now.start + length run.now.items.now < 2 ^ 32 }
+        requires behind { IsRun self.now (joined run.now.behind.now) (run.now.start + length run.now.items.now) }
+        requires small { length self.now < 2 ^ 32 }
+        ensures bound { IfSome result (λ found. found.at ≤ length self.now) }
+        ensures partitioned { IfSome result (λ found. (p : T → Bool) → ComputesKey P.FnMut p pred.now → IsPartitionedBy p self.now → IsPartitionPoint (λ y. p y ≡ true) (λ y. p y ≡ false) self.now found.at) }
+    {
+        let near = self.run_from(run, hint);
+        if near.ends_block_before(hint) {
+            return self.found_in(&self.run_near(hint)?, hint, pred);
         }
-        start..self.partition_point_near(to, within)
+        self.found_in(&near, hint, pred)
     }
 }
 
@@ -204,12 +273,14 @@ impl<T: Share> Run<'_, T> {
 }
 
 impl<T: Share> Run<'_, T> {
-    // Whether its last item most likely stands behind a hint.
+    // Whether it is the last one of its block, and its last item most likely stands before a hint.
     #[inline(always)]
-    fn ends_behind(&self, hint: Hint) -> bool {
-        self.items
-            .last()
-            .is_some_and(|item| !item.short_hint().is_before(hint))
+    fn ends_block_before(&self, hint: Hint) -> bool {
+        self.behind.is_empty()
+            && self
+                .items
+                .last()
+                .is_some_and(|item| item.short_hint().is_before(hint))
     }
 
     // How many of its items come before a hint by their own: as many as the majors are apart, if that is so, as where

@@ -44,18 +44,21 @@ fn number_at(list: &Numbers, place: usize) -> Option<u32> {
     Some(list.get(place)?.value().value)
 }
 
-// Whether the numbers from one up to another stand where they should.
+// Whether the numbers from one up to another stand where they should, and the reader gives the first of them.
 fn finds_range(list: &Numbers, least: u32, end: u32) -> bool
     requires { IsNonDecreasingBy (λ number. number.value) list.now }
 {
     let hint = |major| Hint { major, minor: 0 };
-    let range = list.range_near(
+    let mut found = list.range_near(
         hint(least),
         |number| number.value().value < least,
         hint(end),
         |number| number.value().value < end,
     );
-    range.start == place_of(list, least) && range.end == place_of(list, end)
+    if found.start != place_of(list, least) || found.end != place_of(list, end) {
+        return false;
+    }
+    found.start >= found.end || found.reader.at(found.start).value().value >= least
 }
 
 // Whether a number is found, wherever the search for it begins.

@@ -30,6 +30,9 @@ use canvas_shape::{Carried, Colour, Kind};
 /// How deep a record may lie: a child of the page has depth 1.
 const DEPTH: u32 = 32;
 
+/// How many nodes of one parent have room before memory grows: those of most parents.
+const ROOM: usize = 16;
+
 /// The nodes of the page's children from back to front. Their items are shown, from front to
 /// back.
 pub(crate) fn nodes_of_page<'a>(
@@ -74,11 +77,11 @@ fn nodes_among<'a>(
     ensures clips { IfOk result (λ nodes. All (IsClipped clip.now) nodes.now) }
     ensures tree { IfOk result (λ nodes. AreNodesOf document.now.records parent (carry out.now) clip.now nodes.now) }
 {
-    let mut nodes = Vec::new(bump);
     if levels == 0 {
-        return Ok(into_bump_slice(nodes));
+        return Ok(&[]);
     }
     let children = document.children_meeting(bump, parent, out, clip)?;
+    let mut nodes = Vec::with_capacity(bump, children.len().min(ROOM))?;
     for child in &children {
         let page = child.pose.then(out);
         if is_out_of_sight(child, &page, clip, shown) {

@@ -19,18 +19,18 @@ walk-init g c =
     let now : Contents = c.args.self.now in
     let order : List Record = c.self.inside.order.shapes in
     let bounds : List Bounds = c.self.inside.order.bounds in
-    let start : ℕ = c.children_range-start.result.start in
+    let start : ℕ = c.children_of-start.result.start in
     let at : ℕ = c.next_meeting-at.result in
     let keeps : IsKeptInOrder now order bounds = subst (λ (d : Contents). IsKeptInOrder d order bounds) c.self.view_is c.self.invariant in
     let none : 0 ≡ start - start = omega arith in
     let begun : AreInSight now.records c.args.out.now c.args.clip.now [] (take (start - start) (drop start order)) =
     subst (λ (n : ℕ). AreInSight now.records c.args.out.now c.args.clip.now [] (take n (drop start order))) none (none-seen now.records c.args.out.now c.args.clip.now) in
     let gone : AreInSight now.records c.args.out.now c.args.clip.now [] (take (at - start) (drop start order)) =
-    sight-kept now c.reader-all.result c.reader-all.result c.self.inside.order c.reader-all.ensures refl keeps c.args.out.now c.args.clip.now c.of_clip-area.result c.requires.quarter c.of_clip-area.ensures
-    start at c.next_meeting-at.ensures.from (omega (arith, c.next_meeting-at.ensures.upto, c.children_range-start.ensures.bound)) c.next_meeting-at.ensures.apart [] start (omega arith) begun in
-    let shapes : map shape_of c.next_meeting-at.new.self ≡ order = ap (map shape_of) c.next_meeting-at.ensures.same ∙ ap (λ (p : Placements). p.shapes) c.reader-all.ensures in
+    sight-kept now c.children_of-start.result.reader c.children_of-start.result.reader c.self.inside.order c.children_of-start.ensures.reader refl keeps c.args.out.now c.args.clip.now c.of_clip-area.result c.requires.quarter c.of_clip-area.ensures
+    start at c.next_meeting-at.ensures.from (omega (arith, c.next_meeting-at.ensures.upto, c.children_of-start.ensures.children.bound)) c.next_meeting-at.ensures.apart [] start (omega arith) begun in
+    let shapes : map shape_of c.next_meeting-at.new.self ≡ order = ap (map shape_of) c.next_meeting-at.ensures.same ∙ ap (λ (p : Placements). p.shapes) c.children_of-start.ensures.reader in
     record {
-      all = refl;
+      reader = refl;
       from = c.next_meeting-at.ensures.from;
       upto = c.next_meeting-at.ensures.upto;
       seen = subst (λ (l : List Record). AreInSight now.records c.args.out.now c.args.clip.now l (take (at - start) (drop start (map shape_of c.next_meeting-at.new.self)))) (sym (ap (map record_of) c.new-seen.ensures.items))
@@ -42,17 +42,17 @@ walk-preserved g c =
     let now : Contents = c.args.self.now in
     let order : List Record = c.self.inside.order.shapes in
     let bounds : List Bounds = c.self.inside.order.bounds in
-    let start : ℕ = c.children_range-start.result.start in
+    let start : ℕ = c.children_of-start.result.start in
     let at : ℕ = c.walk.at in
     let next : ℕ = c.next_meeting-at-in-walk.result in
     let x : PlacedShape = c.at.result.now in
     let seen : List Record = map record_of c.walk.seen.items in
     let keeps : IsKeptInOrder now order bounds = subst (λ (d : Contents). IsKeptInOrder d order bounds) c.self.view_is c.self.invariant in
-    let shapes : map shape_of c.next_meeting-at.new.self ≡ order = ap (map shape_of) c.next_meeting-at.ensures.same ∙ ap (λ (p : Placements). p.shapes) c.reader-all.ensures in
-    let same : c.walk.all ≡ c.reader-all.result = c.walk.invariant.all ∙ c.next_meeting-at.ensures.same in
-    let within : at < length order = omega (arith, c.children_range-start.ensures.bound, c.walk-test.true) in
+    let shapes : map shape_of c.next_meeting-at.new.self ≡ order = ap (map shape_of) c.next_meeting-at.ensures.same ∙ ap (λ (p : Placements). p.shapes) c.children_of-start.ensures.reader in
+    let same : c.walk.reader ≡ c.children_of-start.result.reader = c.walk.invariant.reader ∙ c.next_meeting-at.ensures.same in
+    let within : at < length order = omega (arith, c.children_of-start.ensures.children.bound, c.walk-test.true) in
     let here : StandsThere order bounds start at x.shape x.bounds =
-    stands-there c.reader-all.result c.walk.all c.self.inside.order start at x c.reader-all.ensures same c.walk.invariant.from within c.at.ensures.item in
+    stands-there c.children_of-start.result.reader c.walk.reader c.self.inside.order start at x c.children_of-start.ensures.reader same c.walk.invariant.from within c.at.ensures.item in
     let all : List Record = take (at - start) (drop start order) in
     let before : AreInSight now.records c.args.out.now c.args.clip.now seen all =
     subst (λ (l : List Record). AreInSight now.records c.args.out.now c.args.clip.now seen (take (at - start) (drop start l))) shapes c.walk.invariant.seen in
@@ -64,11 +64,11 @@ walk-preserved g c =
     subst (λ (l : List Record). AreInSight now.records c.args.out.now c.args.clip.now (map record_of c.push.new.self.items) l) (sym here.more)
     (subst (λ (l : List Record). AreInSight now.records c.args.out.now c.args.clip.now l (all ++ x.shape ∷ [])) pushed (one-seen now.records c.args.out.now c.args.clip.now seen all x.shape before)) in
     let gone : AreInSight now.records c.args.out.now c.args.clip.now (map record_of c.push.new.self.items) (take (next - start) (drop start order)) =
-    sight-kept now c.reader-all.result c.at.new.self c.self.inside.order c.reader-all.ensures (c.at.ensures.same ∙ same) keeps c.args.out.now c.args.clip.now c.of_clip-area.result c.requires.quarter c.of_clip-area.ensures
-    (at + 1) next c.next_meeting-at-in-walk.ensures.from (omega (arith, c.next_meeting-at-in-walk.ensures.upto, c.children_range-start.ensures.bound)) c.next_meeting-at-in-walk.ensures.apart
+    sight-kept now c.children_of-start.result.reader c.at.new.self c.self.inside.order c.children_of-start.ensures.reader (c.at.ensures.same ∙ same) keeps c.args.out.now c.args.clip.now c.of_clip-area.result c.requires.quarter c.of_clip-area.ensures
+    (at + 1) next c.next_meeting-at-in-walk.ensures.from (omega (arith, c.next_meeting-at-in-walk.ensures.upto, c.children_of-start.ensures.children.bound)) c.next_meeting-at-in-walk.ensures.apart
     (map record_of c.push.new.self.items) start (omega (arith, c.walk.invariant.from)) met in
     record {
-      all = c.next_meeting-at-in-walk.ensures.same ∙ c.at.ensures.same ∙ c.walk.invariant.all;
+      reader = c.next_meeting-at-in-walk.ensures.same ∙ c.at.ensures.same ∙ c.walk.invariant.reader;
       from = omega (arith, c.walk.invariant.from, c.next_meeting-at-in-walk.ensures.from);
       upto = c.next_meeting-at-in-walk.ensures.upto;
       seen = subst (λ (l : List Record). AreInSight now.records c.args.out.now c.args.clip.now (map record_of c.push.new.self.items) (take (next - start) (drop start l))) (sym shapes) gone;
@@ -77,21 +77,21 @@ walk-preserved g c =
 pub returns-clause-part : goal.returns-clause-part
 returns-clause-part g c =
     (children-in_sight (record { records = c.self.inside.records; next = c.self.inside.next }) c.args.self.now c.self.inside.order.shapes c.self.inside.order.bounds c.self.invariant c.self.view_is c.args.parent c.args.out.now c.args.clip.now
-    (map record_of c.walk.seen.items) c.children_range-start.result.start c.walk.at c.children_range-start.result.end c.children_range-start.ensures (omega (arith, c.walk.invariant.upto, c.walk-test.false))
-    (subst (λ (l : List Record). AreInSight c.args.self.now.records c.args.out.now c.args.clip.now (map record_of c.walk.seen.items) (take (c.walk.at - c.children_range-start.result.start) (drop c.children_range-start.result.start l))) (ap (map shape_of) c.next_meeting-at.ensures.same ∙ ap (λ (p : Placements). p.shapes) c.reader-all.ensures) c.walk.invariant.seen)).part
+    (map record_of c.walk.seen.items) c.children_of-start.result.start c.walk.at c.children_of-start.result.end c.children_of-start.ensures.children (omega (arith, c.walk.invariant.upto, c.walk-test.false))
+    (subst (λ (l : List Record). AreInSight c.args.self.now.records c.args.out.now c.args.clip.now (map record_of c.walk.seen.items) (take (c.walk.at - c.children_of-start.result.start) (drop c.children_of-start.result.start l))) (ap (map shape_of) c.next_meeting-at.ensures.same ∙ ap (λ (p : Placements). p.shapes) c.children_of-start.ensures.reader) c.walk.invariant.seen)).part
 
 pub returns-clause-answers : goal.returns-clause-answers
 returns-clause-answers g c =
     (children-in_sight (record { records = c.self.inside.records; next = c.self.inside.next }) c.args.self.now c.self.inside.order.shapes c.self.inside.order.bounds c.self.invariant c.self.view_is c.args.parent c.args.out.now c.args.clip.now
-    (map record_of c.walk.seen.items) c.children_range-start.result.start c.walk.at c.children_range-start.result.end c.children_range-start.ensures (omega (arith, c.walk.invariant.upto, c.walk-test.false))
-    (subst (λ (l : List Record). AreInSight c.args.self.now.records c.args.out.now c.args.clip.now (map record_of c.walk.seen.items) (take (c.walk.at - c.children_range-start.result.start) (drop c.children_range-start.result.start l))) (ap (map shape_of) c.next_meeting-at.ensures.same ∙ ap (λ (p : Placements). p.shapes) c.reader-all.ensures) c.walk.invariant.seen)).answers
+    (map record_of c.walk.seen.items) c.children_of-start.result.start c.walk.at c.children_of-start.result.end c.children_of-start.ensures.children (omega (arith, c.walk.invariant.upto, c.walk-test.false))
+    (subst (λ (l : List Record). AreInSight c.args.self.now.records c.args.out.now c.args.clip.now (map record_of c.walk.seen.items) (take (c.walk.at - c.children_of-start.result.start) (drop c.children_of-start.result.start l))) (ap (map shape_of) c.next_meeting-at.ensures.same ∙ ap (λ (p : Placements). p.shapes) c.children_of-start.ensures.reader) c.walk.invariant.seen)).answers
 
 pub returns-clause-limits : goal.returns-clause-limits
 returns-clause-limits g c =
     let rs : List Record = c.args.self.now.records in
     let seen : AreInSight rs c.args.out.now c.args.clip.now (map record_of c.walk.seen.items) (children c.args.parent rs) =
     children-in_sight (record { records = c.self.inside.records; next = c.self.inside.next }) c.args.self.now c.self.inside.order.shapes c.self.inside.order.bounds c.self.invariant c.self.view_is c.args.parent c.args.out.now c.args.clip.now
-    (map record_of c.walk.seen.items) c.children_range-start.result.start c.walk.at c.children_range-start.result.end c.children_range-start.ensures (omega (arith, c.walk.invariant.upto, c.walk-test.false))
-    (subst (λ (l : List Record). AreInSight c.args.self.now.records c.args.out.now c.args.clip.now (map record_of c.walk.seen.items) (take (c.walk.at - c.children_range-start.result.start) (drop c.children_range-start.result.start l))) (ap (map shape_of) c.next_meeting-at.ensures.same ∙ ap (λ (p : Placements). p.shapes) c.reader-all.ensures) c.walk.invariant.seen) in
+    (map record_of c.walk.seen.items) c.children_of-start.result.start c.walk.at c.children_of-start.result.end c.children_of-start.ensures.children (omega (arith, c.walk.invariant.upto, c.walk-test.false))
+    (subst (λ (l : List Record). AreInSight c.args.self.now.records c.args.out.now c.args.clip.now (map record_of c.walk.seen.items) (take (c.walk.at - c.children_of-start.result.start) (drop c.children_of-start.result.start l))) (ap (map shape_of) c.next_meeting-at.ensures.same ∙ ap (λ (p : Placements). p.shapes) c.children_of-start.ensures.reader) c.walk.invariant.seen) in
     let limits : All IsInLimits rs = subst (λ (d : Contents). All IsInLimits d.records) c.self.view_is c.self.invariant.well_formed.limits in
     all-by_reference IsInLimits c.walk.seen.items (part-all IsInLimits (map record_of c.walk.seen.items) (children c.args.parent rs) (all-children IsInLimits c.args.parent rs limits) seen.part)

@@ -6,10 +6,10 @@ use Rattle.canvas_doc.proofs.Document.children_meeting.Given as goal
 
 abbrev pub invariant-walk : goal.invariant-walk
 invariant-walk g l = record {
-  all : l.all ≡ l.initial.all;
+  reader : l.reader ≡ l.initial.reader;
   from : l.start ≤ l.at;
   upto : l.at ≤ l.end;
-  seen : AreInSight l.self.records l.out l.clip (map record_of l.seen.items) (take (l.at - l.start) (drop l.start (map shape_of l.initial.all)));
+  seen : AreInSight l.self.records l.out l.clip (map record_of l.seen.items) (take (l.at - l.start) (drop l.start (map shape_of l.initial.reader)));
 }
 
 abbrev pub decreases-walk : goal.decreases-walk

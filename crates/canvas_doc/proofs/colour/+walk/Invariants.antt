@@ -12,11 +12,11 @@ decreases-answer_of l = 2 * l.levels + 1
 
 abbrev pub invariant-answer_among-siblings : goal.invariant-answer_among-siblings
 invariant-answer_among-siblings l = record {
-  all : l.all ≡ l.initial.all;
+  reader : l.reader ≡ l.initial.reader;
   from : l.start ≤ l.slot;
   upto : l.slot ≤ l.end;
-  answers : first_answer (answer_of (l.levels - 1) l.document.records (carry l.out) l.at.x l.at.y) (take (l.end - l.slot) (drop l.slot (map shape_of l.initial.all)))
-      ≡ first_answer (answer_of (l.levels - 1) l.document.records (carry l.out) l.at.x l.at.y) (take (l.end - l.start) (drop l.start (map shape_of l.initial.all)));
+  answers : first_answer (answer_of (l.levels - 1) l.document.records (carry l.out) l.at.x l.at.y) (take (l.end - l.slot) (drop l.slot (map shape_of l.initial.reader)))
+      ≡ first_answer (answer_of (l.levels - 1) l.document.records (carry l.out) l.at.x l.at.y) (take (l.end - l.start) (drop l.start (map shape_of l.initial.reader)));
 }
 
 abbrev pub decreases-answer_among-siblings : goal.decreases-answer_among-siblings

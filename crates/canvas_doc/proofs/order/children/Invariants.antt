@@ -4,6 +4,6 @@ use Rattle.canvas_doc.proofs.order.children.Given as goal
 
 abbrev pub invariant-loop-at : goal.invariant-loop-at
 invariant-loop-at g l = record {
-  all : placements_of l.all ≡ l.order;
+  reader : placements_of l.reader ≡ l.order;
   list : map (λ shape. shape.now) l.list.items ≡ take (l.at - l.start) (drop l.start l.order.shapes);
 }

@@ -38,9 +38,9 @@ nodes_among-loop-child-init t c =
           ap (or_else (first_fill c.args.shown.now x y)) (ap (λ l. seen inside (first_answer answer l)) (ap (left_from 0) c.deref-child-items.ensures.value)
           ∙ seen-same inside (first_answer answer kept) (first_answer answer all) (c.in_ok-children.ensures.answers (c.args.levels - 1) x y)
           ∙ ap (seen inside) (sym (answer-children c.args.levels rs c.args.parent out x y (omega arith))));
-      list = list-none c.args.shown.now (items_along (reverse c.new-nodes.result.items)) (ap (λ l. items_along (reverse l)) c.new-nodes.ensures.items);
+      list = list-none c.args.shown.now (items_along (reverse c.in_ok-nodes.nodes.items)) (ap (λ l. items_along (reverse l)) c.in_ok-nodes.ensures.items);
       clips = search rules;
-      tree = so-far-none rs out c.args.clip.now all kept _ _ c.new-nodes.ensures.items (ap (left_from 0) c.deref-child-items.ensures.value) c.in_ok-children.ensures.part;
+      tree = so-far-none rs out c.args.clip.now all kept _ _ c.in_ok-nodes.ensures.items (ap (left_from 0) c.deref-child-items.ensures.value) c.in_ok-children.ensures.part;
     }
 
 pub nodes_among-loop-child-preserved-then-is_out_of_sight : goal.nodes_among-loop-child-preserved-then-is_out_of_sight
@@ -92,7 +92,7 @@ nodes_among-returns-clause-clips t c =
       | nodes_among-else-loop-child-test w ↦ rw w.nodes-is c.loop-child.invariant.clips
       | nodes_among-then-loop-child-test+else-is_out_of_sight+in_ok-add_node+then-hides_by_last w ↦ rw w.nodes-is (w.in_ok-add_node.ensures.clips c.loop-child.invariant.clips)
     ] in
-    subst P (sym (c.into_bump_slice-2.ensures ∙ c.reverse.ensures.items)) (all-reversed (IsClipped c.args.clip.now) c.loop-child-test.nodes.items kept)
+    subst P (sym (c.into_bump_slice.ensures ∙ c.reverse.ensures.items)) (all-reversed (IsClipped c.args.clip.now) c.loop-child-test.nodes.items kept)
 
 pub nodes_among-returns-clause-tree : goal.nodes_among-returns-clause-tree
 nodes_among-returns-clause-tree t c =
@@ -106,11 +106,11 @@ nodes_among-returns-clause-tree t c =
           (so-far-more rs out c.args.clip.now (children c.args.parent rs) _ _ w.child-item.result.now w.then-page.result c.loop-child.nodes.items w.add_node.new.nodes.items w.then-page.ensures.carries (w.is_out_of_sight.ensures.shown w.if-is_out_of_sight.false)
           (left-more items c.loop-child.child-index w.child-item.result w.loop-child-test.true w.child-item.is) w.in_ok-add_node.ensures.tree c.loop-child.invariant.tree))
     ] in
-    subst P (sym (c.into_bump_slice-2.ensures ∙ c.reverse.ensures.items)) whole
+    subst P (sym (c.into_bump_slice.ensures ∙ c.reverse.ensures.items)) whole
 
 pub nodes_among-returns-then-levels-eq0-clause-tree : goal.nodes_among-returns-then-levels-eq0-clause-tree
 nodes_among-returns-then-levels-eq0-clause-tree t c =
-    nodes-none c.args.document.now.records c.args.parent (carry c.args.out.now) c.args.clip.now _ (c.into_bump_slice.ensures ∙ c.new-nodes.ensures.items)
+    nodes-none c.args.document.now.records c.args.parent (carry c.args.out.now) c.args.clip.now _ refl
 
 pub add_node-returns-in_ok-keep-in-Group-clause-tree : goal.add_node-returns-in_ok-keep-in-Group-clause-tree
 add_node-returns-in_ok-keep-in-Group-clause-tree t c =

@@ -1,8 +1,7 @@
-use Rattle.std.proofs.Common.{◌≡◌, ◌∙◌, ◌+◌, ◌-◌, List, ap, arith, drop, length, subst, sym, take}
-use Rattle.std.proofs.lemmas.List.{take_rest}
-use Rattle.canvas_list.specs.Chunks.{joined, IsRun}
+use Rattle.std.proofs.Common.{◌+◌, List, arith, length, subst, sym}
+use Rattle.canvas_list.specs.Chunks.{IsRun}
 use Rattle.canvas_list.proofs.Joined.{found, has-chunk, len-is, search-some, IsFound}
-use Rattle.canvas_list.proofs.Runs.{chunk-holds, run-behind, run-of-chunk}
+use Rattle.canvas_list.proofs.Runs.{chunk-holds, rest-joined, run-behind, run-of-chunk}
 use Rattle.canvas_list.proofs.chunks.Chunks.stretch_at.Goals as goal
 
 pub spot_of-spot-requires : goal.spot_of-spot-requires
@@ -28,7 +27,5 @@ returns-clause-upto g c =
 pub returns-clause-behind : goal.returns-clause-behind
 returns-clause-behind g c =
     let f : IsFound c.self.inside.chunks.items c.self.inside.count c.spot_of-spot.result.chunk c.spot_of-spot.result.start c.args.at = found c.self.inside.chunks.items c.deref.result.now c.self.inside.count c.spot_of-spot.result.chunk c.spot_of-spot.result.start c.args.at c.self.invariant c.deref.ensures.value c.spot_of-spot.ensures in
-    let same : joined (take (length c.deref-2.result.now - (c.spot_of-spot.result.chunk + 1)) (drop (c.spot_of-spot.result.chunk + 1) c.deref-2.result.now)) ≡ joined (drop (c.spot_of-spot.result.chunk + 1) c.self.inside.chunks.items) =
-    ap joined (take_rest c.deref-2.result.now (c.spot_of-spot.result.chunk + 1)) ∙ ap (λ (l : List (List g.row.T.Denot)). joined (drop (c.spot_of-spot.result.chunk + 1) l)) c.deref-2.ensures.value in
-    subst (λ (l : List g.row.T.Denot). IsRun c.args.self.now l (c.spot_of-spot.result.start + length c.items.result.now)) (sym same)
+    subst (λ (l : List g.row.T.Denot). IsRun c.args.self.now l (c.spot_of-spot.result.start + length c.items.result.now)) (sym (rest-joined c.self.inside.chunks.items c.deref-2.result.now (c.spot_of-spot.result.chunk + 1) c.deref-2.ensures.value))
     (run-behind c.self.inside.chunks.items c.args.self.now c.spot_of-spot.result.chunk c.spot_of-spot.result.start c.index.result.now c.items.result.now f.within f.start c.self.view_is c.index.ensures c.items.ensures.same)

@@ -1,4 +1,5 @@
-use Rattle.std.proofs.Common.{arith}
+use Rattle.std.proofs.Common.{◌≡◌, ◌+◌, ℕ, arith, length, subst}
+use Rattle.canvas_list.specs.Chunks.{joined, IsRun}
 use Rattle.canvas_list.proofs.Joined.{few-all, len-is}
 use Rattle.canvas_list.proofs.Runs.{run-near, run-of-run}
 use Rattle.canvas_list.proofs.table.SharedList.run_near.Goals as goal
@@ -12,7 +13,7 @@ overflow_add-result g c =
     run-of-run c.args.self.now c.chunks.result.now c.run_near-run.result.items.now c.spot_near-spot.result.start c.run_near-run.result.start
     (run-near c.self.inside.blocks.items c.deref.result.now c.args.self.now c.spot_near-spot.result.chunk c.spot_near-spot.result.start c.index.result.now c.chunks.result.now
     c.deref.ensures.value c.spot_near-spot.ensures.within c.spot_near-spot.ensures.start c.self.view_is c.index.ensures c.chunks.ensures.same)
-    c.run_near-run.ensures in
+    c.run_near-run.ensures.run in
     omega (arith, run.within, len-is c.self.inside.blocks.items c.self.inside.count c.args.self.now c.self.invariant c.self.view_is, c.self.invariant.is_small)
 
 pub returns-clause-run : goal.returns-clause-run
@@ -20,7 +21,7 @@ returns-clause-run g c =
     run-of-run c.args.self.now c.chunks.result.now c.run_near-run.result.items.now c.spot_near-spot.result.start c.run_near-run.result.start
     (run-near c.self.inside.blocks.items c.deref.result.now c.args.self.now c.spot_near-spot.result.chunk c.spot_near-spot.result.start c.index.result.now c.chunks.result.now
     c.deref.ensures.value c.spot_near-spot.ensures.within c.spot_near-spot.ensures.start c.self.view_is c.index.ensures c.chunks.ensures.same)
-    c.run_near-run.ensures
+    c.run_near-run.ensures.run
 
 pub returns-clause-few : goal.returns-clause-few
 returns-clause-few g c =
@@ -28,5 +29,14 @@ returns-clause-few g c =
     run-of-run c.args.self.now c.chunks.result.now c.run_near-run.result.items.now c.spot_near-spot.result.start c.run_near-run.result.start
     (run-near c.self.inside.blocks.items c.deref.result.now c.args.self.now c.spot_near-spot.result.chunk c.spot_near-spot.result.start c.index.result.now c.chunks.result.now
     c.deref.ensures.value c.spot_near-spot.ensures.within c.spot_near-spot.ensures.start c.self.view_is c.index.ensures c.chunks.ensures.same)
-    c.run_near-run.ensures in
+    c.run_near-run.ensures.run in
     omega (arith, run.within, len-is c.self.inside.blocks.items c.self.inside.count c.args.self.now c.self.invariant c.self.view_is, c.self.invariant.is_small)
+
+pub returns-clause-behind : goal.returns-clause-behind
+returns-clause-behind g c =
+    let place : c.spot_near-spot.result.start + (c.run_near-run.result.start + length c.run_near-run.result.items.now) ≡ c.spot_near-spot.result.start + c.run_near-run.result.start + length c.run_near-run.result.items.now = omega arith in
+    subst (λ (n : ℕ). IsRun c.args.self.now (joined c.run_near-run.result.behind.now) n) place
+    (run-of-run c.args.self.now c.chunks.result.now (joined c.run_near-run.result.behind.now) c.spot_near-spot.result.start (c.run_near-run.result.start + length c.run_near-run.result.items.now)
+    (run-near c.self.inside.blocks.items c.deref.result.now c.args.self.now c.spot_near-spot.result.chunk c.spot_near-spot.result.start c.index.result.now c.chunks.result.now
+    c.deref.ensures.value c.spot_near-spot.ensures.within c.spot_near-spot.ensures.start c.self.view_is c.index.ensures c.chunks.ensures.same)
+    c.run_near-run.ensures.behind)

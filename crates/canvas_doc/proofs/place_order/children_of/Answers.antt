@@ -5,10 +5,10 @@ use Rattle.canvas_doc.specs.declared.placed_shapes.PlacedShape.{PlacedShape}
 use Rattle.canvas_doc.specs.declared.records.Record.{Record}
 use Rattle.canvas_doc.proofs.Placements.{long, point, shape_of}
 use Rattle.canvas_doc.proofs.PlacePoints.{children-within, has_parent, parted-before, parted-up_to}
-use Rattle.canvas_doc.proofs.place_order.children_range.Goals as goal
+use Rattle.canvas_doc.proofs.place_order.children_of.Goals as goal
 
-pub returns : goal.returns
-returns c =
+pub returns-clause-children : goal.returns-clause-children
+returns-clause-children c =
     let order : List Record = c.args.order.now.shapes in
     let all : List PlacedShape = c.order.inside.list in
     let count = long all c.args.order.now c.order.view_is in
