@@ -44,7 +44,8 @@ fn shares(alloc: Global, records: &Records) -> Result<Vec<Shared<Record>>, OutOf
     Ok(all)
 }
 
-// The children of a parent, which stand side by side in the order, from front to back.
+// Where the children of a parent stand in the order, from front to back, and a reader of the order that most likely
+// gives them without another search.
 pub(crate) fn children_of(order: &PlacedShapes, parent: Parent) -> FoundRange<'_, PlacedShape>
     requires { IsStrictlySortedBy comes_first order.now.shapes }
     ensures children { AreChildrenWithin parent order.now.shapes result.start result.end }
@@ -58,7 +59,7 @@ pub(crate) fn children_of(order: &PlacedShapes, parent: Parent) -> FoundRange<'_
     )
 }
 
-// Where the children of a parent stand in the order, from front to back.
+// The same without the reader.
 pub(crate) fn children_range(order: &PlacedShapes, parent: Parent) -> Range<usize>
     requires { IsStrictlySortedBy comes_first order.now.shapes }
     ensures { AreChildrenWithin parent order.now.shapes result.start result.end }

@@ -12,8 +12,9 @@ use crate::share::Share;
 use crate::table::SharedList;
 use std::marker::Model;
 
-/// A reader of a list, seen as that list. It holds the chunk of the item that it gave last, or that a walk came to,
-/// if there was one. Of this it gives another item without a search, as it does of the next chunk of the same block.
+/// A reader of a list, seen as that list. It holds the chunk of the item that it gave last, that a walk came to, or in
+/// which the search for a range ended, if there was one. Of this it gives another item without a search, as it does of
+/// the next chunk of the same block.
 #[derive(Drop)]
 pub struct Reader<'a, T: Share> {
     list: &'a SharedList<T>,
@@ -162,14 +163,13 @@ struct Stretch<'a, T: Share> {
     behind: &'a [Chunk<T>],
 }
 
-/// The items of a chunk, and where they start.
+/// The items of a chunk to be searched, where they start, its hint, and the chunks of its block behind it.
 #[derive(Drop)]
 pub(crate) struct Run<'a, T: Share> {
     pub(crate) items: &'a [T],
     pub(crate) start: usize,
     // What the table notes of the first one.
     pub(crate) hint: Hint,
-    // The chunks of their block behind them.
     pub(crate) behind: &'a [Chunk<T>],
 }
 
@@ -253,8 +253,7 @@ impl<T: Share> SharedList<T> {
         }
     }
 
-    /// The items of the chunk in which those that come before a hint end, most likely, of a chunk and those of its block
-    /// behind it.
+    /// Of a chunk and those behind it in its block, the one in which the items that come before a hint end, most likely.
     #[inline(always)]
     pub(crate) fn run_from<'a>(&'a self, run: &Run<'a, T>, hint: Hint) -> Run<'a, T>
         requires run { IsRun self.now run.now.items.now run.now.start }
@@ -265,20 +264,17 @@ impl<T: Share> SharedList<T> {
     {
         match run.behind.first() {
             Some(first) if first.hint().is_before(hint) => {
-                let spot = spot_near(run.behind, hint);
-                let behind = &run.behind[spot.chunk + 1..];
+                let found = run_in(run.behind, hint);
                 Run {
-                    items: run.behind[spot.chunk].items(),
-                    start: run.start + run.items.len() + spot.start,
-                    hint: run.behind[spot.chunk].hint(),
-                    behind,
+                    start: run.start + run.items.len() + found.start,
+                    ..found
                 }
             }
             _ => Run { ..*run },
         }
     }
 
-    /// A reader of the list, which holds some of its items.
+    /// A reader of the list that holds a chunk from the start.
     #[inline(always)]
     pub(crate) fn reader_of<'a>(&'a self, run: Run<'a, T>) -> Reader<'a, T>
         requires run { IsRun self.now run.items.now run.start }
@@ -376,13 +372,24 @@ impl<T: Share> Chunks<T> {
         ensures run { IsRun self.now result.items.now result.start }
         ensures behind { IsRun self.now (joined result.behind.now) (result.start + length result.items.now) }
     {
-        let spot = spot_near(&self.chunks, hint);
-        let behind = &self.chunks[spot.chunk + 1..];
-        Run {
-            items: self.chunks[spot.chunk].items(),
-            start: spot.start,
-            hint: self.chunks[spot.chunk].hint(),
-            behind,
-        }
+        run_in(&self.chunks, hint)
+    }
+}
+
+// Of some chunks the one in which the items that come before a hint end, most likely.
+#[inline(always)]
+fn run_in<T: Share>(chunks: &[Chunk<T>], hint: Hint) -> Run<'_, T>
+    requires some { 0 < length chunks.now }
+    requires few { length (joined chunks.now) < 2 ^ 32 }
+    ensures run { IsRun (joined chunks.now) result.items.now result.start }
+    ensures behind { IsRun (joined chunks.now) (joined result.behind.now) (result.start + length result.items.now) }
+{
+    let spot = spot_near(chunks, hint);
+    let behind = &chunks[spot.chunk + 1..];
+    Run {
+        items: chunks[spot.chunk].items(),
+        start: spot.start,
+        hint: chunks[spot.chunk].hint(),
+        behind,
     }
 }

@@ -5,18 +5,17 @@ ghost use Rattle.std.specs.Fn.{ComputesKey};
 ghost use Rattle.std.specs.List.{slice_get};
 ghost use Rattle.std.specs.List.Sorted.{IsPartitionedBy, IsPartitionPoint};
 ghost use Rattle.std.specs.Option.{option_copied};
-ghost use Rattle.canvas_list.specs.Chunks.{first_passes, joined, IsEnd, IsRun};
+ghost use Rattle.canvas_list.specs.Chunks.{first_passes, IsEnd, IsRun};
 
 use crate::block::Block;
 use crate::chunk::Chunk;
 use crate::chunks::Chunks;
-use crate::counted::count_of;
+use crate::counted::{Counted, count_of};
 use crate::hint::Hint;
 use crate::reader::{Reader, Run};
 use crate::share::Share;
 use crate::table::SharedList;
 use std::marker::Model;
-use std::ops::Range;
 
 impl<T: Share> SharedList<T> {
     /// The position of the first item for which `pred` answers false, where those for which it answers
@@ -82,12 +81,14 @@ impl<T: Share> SharedList<T> {
     }
 }
 
-/// Items that stand side by side in a list, and a reader of the list, which most likely gives them without a search.
+/// Where some items of a list stand side by side, and a reader of the list, which most likely gives the first of them
+/// without a search.
 #[derive(Drop)]
 pub struct FoundRange<'a, T: Share> {
     /// Where the first of them stands.
     pub start: usize,
-    /// Where they end: the position behind the last one.
+    /// Where they end: the position behind the last one. No clause says that this is not before `start`: that depends
+    /// on the tests.
     pub end: usize,
     /// A reader of the list.
     pub reader: Reader<'a, T>,
@@ -95,7 +96,7 @@ pub struct FoundRange<'a, T: Share> {
 
 impl<T: Share> SharedList<T> {
     /// From where the items end that pass a first test up to where those end that pass a second one, each as by
-    /// `partition_point_near`. Where few stand between the two this is quicker than two searches.
+    /// `partition_point_near`. Where both ends stand in one block this is quicker than two searches.
     pub fn range_near<P: Fn(&T) -> bool, Q: Fn(&T) -> bool>(
         &self,
         from: Hint,
@@ -118,7 +119,15 @@ impl<T: Share> SharedList<T> {
                 reader: self.reader(),
             };
         };
-        let Range { start, end } = self.range_about(&run, from, before, to, within);
+        let start = self.partition_point_by(&run, from, before);
+        if !run.ends_behind(to) {
+            return FoundRange {
+                start,
+                end: self.partition_point_near(to, within),
+                reader: self.reader(),
+            };
+        }
+        let end = self.partition_point_by(&self.run_from(&run, to), to, within);
         FoundRange {
             start,
             end,
@@ -126,59 +135,24 @@ impl<T: Share> SharedList<T> {
         }
     }
 
-    // The same, both sought in a part first, the second one then in those behind it.
+    // The same as `partition_point`, sought in a part first.
     #[inline(always)]
-    fn range_about<'a, P: Fn(&T) -> bool, Q: Fn(&T) -> bool>(
-        &'a self,
-        run: &Run<'a, T>,
-        from: Hint,
-        before: P,
-        to: Hint,
-        within: Q,
-    ) -> Range<usize>
-        requires run { IsRun self.now run.now.items.now run.now.start }
-        requires few { run.now.start + length run.now.items.now < 2 ^ 32 }
-        requires behind { IsRun self.now (joined run.now.behind.now) (run.now.start + length run.now.items.now) }
-        requires small { length self.now < 2 ^ 32 }
-        requires before { P.IsAlwaysCallable before }
-        requires within { Q.IsAlwaysCallable within }
-        ensures start { result.start ≤ length self.now }
-        ensures end { result.end ≤ length self.now }
-        ensures before { (p : T → Bool) → ComputesKey P.FnMut p before → IsPartitionedBy p self.now → IsPartitionPoint (λ y. p y ≡ true) (λ y. p y ≡ false) self.now result.start }
-        ensures within { (p : T → Bool) → ComputesKey Q.FnMut p within → IsPartitionedBy p self.now → IsPartitionPoint (λ y. p y ≡ true) (λ y. p y ≡ false) self.now result.end }
-    {
-        let start = match self.found_in(run, from, &before) {
-            Some(found) => found.at,
-            None => self.partition_point(before),
-        };
-        let end = match self.found_soon(run, to, &within) {
-            Some(found) => found.at,
-            None => self.partition_point(within),
-        };
-        start..end
-    }
-
-    // The end in a part, in one behind it, or in the one to which a hint leads, if it is there.
-    #[inline(always)]
-    fn found_soon<'a, P: Fn(&T) -> bool>(
+    fn partition_point_by<'a, P: Fn(&T) -> bool>(
         &'a self,
         run: &Run<'a, T>,
         hint: Hint,
-        pred: &P,
-    ) -> Option<Found<'a, T>>
-        requires callable { P.IsAlwaysCallable pred.now }
+        pred: P,
+    ) -> usize
+        requires callable { P.IsAlwaysCallable pred }
         requires run { IsRun self.now run.now.items.now run.now.start }
         requires few { run.now.start + length run.now.items.now < 2 ^ 32 }
-        requires behind { IsRun self.now (joined run.now.behind.now) (run.now.start + length run.now.items.now) }
-        requires small { length self.now < 2 ^ 32 }
-        ensures bound { IfSome result (λ found. found.at ≤ length self.now) }
-        ensures partitioned { IfSome result (λ found. (p : T → Bool) → ComputesKey P.FnMut p pred.now → IsPartitionedBy p self.now → IsPartitionPoint (λ y. p y ≡ true) (λ y. p y ≡ false) self.now found.at) }
+        ensures bound { result ≤ length self.now }
+        ensures partitioned { (p : T → Bool) → ComputesKey P.FnMut p pred → IsPartitionedBy p self.now → IsPartitionPoint (λ y. p y ≡ true) (λ y. p y ≡ false) self.now result }
     {
-        let near = self.run_from(run, hint);
-        if near.ends_block_before(hint) {
-            return self.found_in(&self.run_near(hint)?, hint, pred);
+        match self.found_in(run, hint, &pred) {
+            Some(found) => found.at,
+            None => self.partition_point(pred),
         }
-        self.found_in(&near, hint, pred)
     }
 }
 
@@ -273,14 +247,16 @@ impl<T: Share> Run<'_, T> {
 }
 
 impl<T: Share> Run<'_, T> {
-    // Whether it is the last one of its block, and its last item most likely stands before a hint.
+    // Whether the items that come before a hint most likely end in its block.
     #[inline(always)]
-    fn ends_block_before(&self, hint: Hint) -> bool {
-        self.behind.is_empty()
-            && self
+    fn ends_behind(&self, hint: Hint) -> bool {
+        match self.behind.last() {
+            Some(last) => !last.hint().is_before(hint),
+            None => self
                 .items
                 .last()
-                .is_some_and(|item| item.short_hint().is_before(hint))
+                .is_some_and(|item| !item.short_hint().is_before(hint)),
+        }
     }
 
     // How many of its items come before a hint by their own: as many as the majors are apart, if that is so, as where

@@ -6,7 +6,7 @@ ghost use Rattle.std.specs.List.Sorted.{IsNonDecreasingBy, IsPartitionPoint};
 
 use crate::numbers::{Numbers, evens, has, plain_evens};
 use canvas_code::OutOfMemory;
-use canvas_list::{Hint, SharedList};
+use canvas_list::{FoundRange, Hint, SharedList};
 use std::alloc::Global;
 use std::test::Fail;
 
@@ -44,21 +44,27 @@ fn number_at(list: &Numbers, place: usize) -> Option<u32> {
     Some(list.get(place)?.value().value)
 }
 
-// Whether the numbers from one up to another stand where they should, and the reader gives the first of them.
-fn finds_range(list: &Numbers, least: u32, end: u32) -> bool
+// Whether the numbers from one up to another stand where they should, wherever the searches for both ends begin, and
+// the reader gives the first of them.
+fn finds_range(list: &Numbers, least: u32, end: u32, hints: [u32; 2]) -> bool
     requires { IsNonDecreasingBy (λ number. number.value) list.now }
 {
     let hint = |major| Hint { major, minor: 0 };
-    let mut found = list.range_near(
-        hint(least),
+    let [from, to] = hints;
+    let FoundRange {
+        start,
+        end: behind,
+        mut reader,
+    } = list.range_near(
+        hint(from),
         |number| number.value().value < least,
-        hint(end),
+        hint(to),
         |number| number.value().value < end,
     );
-    if found.start != place_of(list, least) || found.end != place_of(list, end) {
+    if start != place_of(list, least) || behind != place_of(list, end) {
         return false;
     }
-    found.start >= found.end || found.reader.at(found.start).value().value >= least
+    start >= behind || number_at(list, start) == Some(reader.at(start).value().value)
 }
 
 // Whether a number is found, wherever the search for it begins.
@@ -71,8 +77,14 @@ fn finds(list: &Numbers, value: u32, place: usize) -> bool
         && place_near(list, u32::MAX, value) == place
         && number_near(list, value, value) == number_at(list, place)
         && number_near(list, value / 2, value) == number_at(list, place)
-        && finds_range(list, value, value.saturating_add(3))
-        && finds_range(list, value / 2, value)
+        && finds_range(
+            list,
+            value,
+            value.saturating_add(3),
+            [value, value.saturating_add(3)],
+        )
+        && finds_range(list, value / 2, value, [value / 2, value])
+        && finds_range(list, value / 2, value, [value, value / 2])
 }
 
 // Whether each number stands where it should, and each odd one before the next even one.

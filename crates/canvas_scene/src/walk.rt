@@ -30,7 +30,7 @@ use canvas_shape::{Carried, Colour, Kind};
 /// How deep a record may lie: a child of the page has depth 1.
 const DEPTH: u32 = 32;
 
-/// How many nodes of one parent have room before memory grows: those of most parents.
+/// How many nodes of one parent get room at once, at most: those of most parents.
 const ROOM: usize = 16;
 
 /// The nodes of the page's children from back to front. Their items are shown, from front to
