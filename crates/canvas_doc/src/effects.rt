@@ -98,7 +98,7 @@ impl Document {
             return self.try_clone(alloc);
         };
         let at = found.at;
-        let new = ListedRecord::new(alloc, changed_by(alloc, found.shape, change)?)?;
+        let new = changed_by(alloc, found.shape, change)?;
         let records = self.records.with_replaced(alloc, at, new)?;
         let order = match change {
             Change::Move { .. } => self.moved(alloc, &records, at)?,
@@ -234,12 +234,12 @@ impl Document {
     }
 }
 
-// A record after a change.
+// A record after a change, with its first owner. It is made in the call that gives it that, so that it need not be moved.
 pub(crate) fn changed_by(
     alloc: Global,
     shape: &Record,
     change: &Change,
-) -> Result<Record, OutOfMemory>
+) -> Result<ListedRecord, OutOfMemory>
     ensures { IfOk result (λ after. after ≡ changed_by change.now shape.now) }
 {
     match change {
@@ -247,82 +247,100 @@ pub(crate) fn changed_by(
             if shape.id == *id {
                 moved(alloc, shape, place)
             } else {
-                shape.try_clone(alloc)
+                unchanged(alloc, shape)
             }
         }
         Change::Pose { id, pose } => {
             if shape.id == *id {
                 posed(alloc, shape, *pose)
             } else {
-                shape.try_clone(alloc)
+                unchanged(alloc, shape)
             }
         }
         Change::Reshape { id, kind } => {
             if shape.id == *id {
                 reshaped(alloc, shape, kind)
             } else {
-                shape.try_clone(alloc)
+                unchanged(alloc, shape)
             }
         }
         Change::Show { id, hidden } => {
             if shape.id == *id {
                 shown(alloc, shape, *hidden)
             } else {
-                shape.try_clone(alloc)
+                unchanged(alloc, shape)
             }
         }
-        Change::Create { .. } => shape.try_clone(alloc),
-        Change::Delete { .. } => shape.try_clone(alloc),
-        Change::Respace { .. } => shape.try_clone(alloc),
+        Change::Create { .. } => unchanged(alloc, shape),
+        Change::Delete { .. } => unchanged(alloc, shape),
+        Change::Respace { .. } => unchanged(alloc, shape),
     }
 }
 
-fn moved(alloc: Global, shape: &Record, place: &Place) -> Result<Record, OutOfMemory>
+fn moved(alloc: Global, shape: &Record, place: &Place) -> Result<ListedRecord, OutOfMemory>
     ensures { IfOk result (λ after. after ≡ record shape.now { place = place.now }) }
 {
-    Ok(Record {
-        id: shape.id,
-        kind: shape.kind.try_clone(alloc)?,
-        place: place.copy(),
-        pose: shape.pose,
-        hidden: shape.hidden,
-    })
+    ListedRecord::new(
+        alloc,
+        Record {
+            id: shape.id,
+            kind: shape.kind.try_clone(alloc)?,
+            place: place.copy(),
+            pose: shape.pose,
+            hidden: shape.hidden,
+        },
+    )
 }
 
-fn posed(alloc: Global, shape: &Record, pose: Pose) -> Result<Record, OutOfMemory>
+fn posed(alloc: Global, shape: &Record, pose: Pose) -> Result<ListedRecord, OutOfMemory>
     ensures { IfOk result (λ after. after ≡ record shape.now { pose = pose }) }
 {
-    Ok(Record {
-        id: shape.id,
-        kind: shape.kind.try_clone(alloc)?,
-        place: shape.place.copy(),
-        pose,
-        hidden: shape.hidden,
-    })
+    ListedRecord::new(
+        alloc,
+        Record {
+            id: shape.id,
+            kind: shape.kind.try_clone(alloc)?,
+            place: shape.place.copy(),
+            pose,
+            hidden: shape.hidden,
+        },
+    )
 }
 
-fn reshaped(alloc: Global, shape: &Record, kind: &Kind) -> Result<Record, OutOfMemory>
+fn reshaped(alloc: Global, shape: &Record, kind: &Kind) -> Result<ListedRecord, OutOfMemory>
     ensures { IfOk result (λ after. after ≡ record shape.now { kind = kind.now }) }
 {
-    Ok(Record {
-        id: shape.id,
-        kind: kind.try_clone(alloc)?,
-        place: shape.place.copy(),
-        pose: shape.pose,
-        hidden: shape.hidden,
-    })
+    ListedRecord::new(
+        alloc,
+        Record {
+            id: shape.id,
+            kind: kind.try_clone(alloc)?,
+            place: shape.place.copy(),
+            pose: shape.pose,
+            hidden: shape.hidden,
+        },
+    )
 }
 
-fn shown(alloc: Global, shape: &Record, hidden: bool) -> Result<Record, OutOfMemory>
+fn shown(alloc: Global, shape: &Record, hidden: bool) -> Result<ListedRecord, OutOfMemory>
     ensures { IfOk result (λ after. after ≡ record shape.now { hidden = hidden }) }
 {
-    Ok(Record {
-        id: shape.id,
-        kind: shape.kind.try_clone(alloc)?,
-        place: shape.place.copy(),
-        pose: shape.pose,
-        hidden,
-    })
+    ListedRecord::new(
+        alloc,
+        Record {
+            id: shape.id,
+            kind: shape.kind.try_clone(alloc)?,
+            place: shape.place.copy(),
+            pose: shape.pose,
+            hidden,
+        },
+    )
+}
+
+fn unchanged(alloc: Global, shape: &Record) -> Result<ListedRecord, OutOfMemory>
+    ensures { IfOk result (λ after. after ≡ shape.now) }
+{
+    ListedRecord::new(alloc, shape.try_clone(alloc)?)
 }
 
 // The only record that a change replaces, and its position, if there is one.
@@ -371,29 +389,31 @@ fn respaced_children(
     for at in start..end {
         let placed = all.at(at);
         let rank = (end - 1 - at) as u32;
-        let respaced = respaced(alloc, placed.shape.value(), rank)?;
-        let shape = Shared::new(alloc, respaced)?;
+        let shape = respaced(alloc, placed.shape.value(), rank)?;
         let child = PlacedShape::new(shape, placed.bounds);
         children.push(child)?;
     }
     Ok(children)
 }
 
-// A record with the index that stands for a rank.
-fn respaced(alloc: Global, shape: &Record, rank: u32) -> Result<Record, OutOfMemory>
+// A record with the index that stands for a rank, with its first owner.
+fn respaced(alloc: Global, shape: &Record, rank: u32) -> Result<Shared<Record>, OutOfMemory>
     requires { rank < most_records }
     ensures { IfOk result (λ after. after ≡ record shape.now { place = record shape.now.place { index = fresh_key rank } }) }
 {
-    Ok(Record {
-        id: shape.id,
-        kind: shape.kind.try_clone(alloc)?,
-        pose: shape.pose,
-        hidden: shape.hidden,
-        place: Place {
-            parent: shape.place.parent,
-            index: fresh(rank),
+    Shared::new(
+        alloc,
+        Record {
+            id: shape.id,
+            kind: shape.kind.try_clone(alloc)?,
+            pose: shape.pose,
+            hidden: shape.hidden,
+            place: Place {
+                parent: shape.place.parent,
+                index: fresh(rank),
+            },
         },
-    })
+    )
 }
 
 // The records, with others in the place of those that have their ids.

@@ -84,14 +84,11 @@ impl Document {
         let Ok(new) = changed_by(alloc, found.shape, change) else {
             return false;
         };
-        let from = position_in(&self.order, &new.place);
-        let bounds = bounds_for(&self.order, &new);
-        if !is_held_above(&self.records, &self.order, &new, &bounds) {
+        let from = position_in(&self.order, &new.value().place);
+        let bounds = bounds_for(&self.order, new.value());
+        if !is_held_above(&self.records, &self.order, new.value(), &bounds) {
             return false;
         }
-        let Ok(new) = ListedRecord::new(alloc, new) else {
-            return false;
-        };
         let Ok(shape) = new.shared() else {
             return false;
         };
@@ -120,14 +117,11 @@ impl Document {
             return false;
         };
         let from = position_in(&self.order, &found.shape.place);
-        let to = position_without(&self.order, from, &new.place);
+        let to = position_without(&self.order, from, &new.value().place);
         let bounds = *self.order.bounds_at(from);
-        if !is_held_above(&self.records, &self.order, &new, &bounds) {
+        if !is_held_above(&self.records, &self.order, new.value(), &bounds) {
             return false;
         }
-        let Ok(new) = ListedRecord::new(alloc, new) else {
-            return false;
-        };
         let Ok(shape) = new.shared() else {
             return false;
         };

@@ -19,6 +19,9 @@ use canvas_list::FoundRange;
 use canvas_plane::{PageBox, Pose};
 use std::alloc::Allocator;
 
+/// How many children that may show get room at once, at most: those of most parents.
+const ROOM: usize = 16;
+
 impl Document {
     /// All children of `parent`, from front to back; want of memory is the only refusal.
     pub fn children<A: Allocator>(
@@ -54,7 +57,7 @@ impl Document {
             mut reader,
         } = children_of(&self.order, parent);
         let area = Bounds::of_clip(out, clip);
-        let mut seen = Vec::new(alloc);
+        let mut seen = Vec::with_capacity(alloc, ROOM.min(end - start))?;
         let mut at = reader.next_meeting(start, end, &area);
         'walk: while at < end {
             seen.push(reader.at(at).shape.value())?;

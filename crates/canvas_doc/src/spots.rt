@@ -16,7 +16,7 @@ use crate::place_order::{children_range, position_in};
 use crate::placed_shapes::PlacedShapes;
 use crate::records::{Parent, Place, Record};
 use crate::refusals::Refusal;
-use canvas_key::{Key, between};
+use canvas_key::{Key, first_fresh};
 use std::ops::Range;
 
 // The index of a spot among the children of a parent but for one shape.
@@ -61,14 +61,15 @@ fn index_over(document: &Document, own: u32, parent: Parent, id: u32) -> Result<
     }
 }
 
-// The key between two ends.
+// The key between two ends, made where it lies.
 fn key_between(low: Option<&Key>, high: Option<&Key>) -> Result<Key, Refusal>
     requires { AreApart (option_copied low) (option_copied high) }
     ensures value { result ≡ with_room (key_between (option_copied low.entry) (option_copied high.entry)) }
     ensures key { IfOk result IsKey }
 {
-    match between(low, high) {
-        Ok(key) => Ok(key),
+    let mut key = first_fresh();
+    match key.make_between(low, high) {
+        Ok(()) => Ok(key),
         Err(_) => Err(Refusal::NoRoom),
     }
 }

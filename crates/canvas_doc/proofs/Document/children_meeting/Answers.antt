@@ -33,7 +33,7 @@ walk-init g c =
       reader = refl;
       from = c.next_meeting-at.ensures.from;
       upto = c.next_meeting-at.ensures.upto;
-      seen = subst (λ (l : List Record). AreInSight now.records c.args.out.now c.args.clip.now l (take (at - start) (drop start (map shape_of c.next_meeting-at.new.self)))) (sym (ap (map record_of) c.new-seen.ensures.items))
+      seen = subst (λ (l : List Record). AreInSight now.records c.args.out.now c.args.clip.now l (take (at - start) (drop start (map shape_of c.next_meeting-at.new.self)))) (sym (ap (map record_of) c.in_ok-seen.ensures.items))
           (subst (λ (l : List Record). AreInSight now.records c.args.out.now c.args.clip.now [] (take (at - start) (drop start l))) (sym shapes) gone);
     }
 

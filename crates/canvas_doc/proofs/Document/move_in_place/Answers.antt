@@ -1,12 +1,11 @@
 use Rattle.std.proofs.Common.{◌≡◌, ◌∙◌, ◌<◌, List, arith, cond, length, refl, subst}
 use Rattle.std.specs.List.{insert, remove}
 use Rattle.std.proofs.lemmas.List.Edits.{length-remove}
-use Rattle.canvas_list.specs.declared.in_place.ItemChange.TheVariants.{Replace}
-use Rattle.canvas_list.specs.Changed.{changed_if}
 use Rattle.canvas_doc.specs.declared.bounds.Bounds.{Bounds}
 use Rattle.canvas_doc.specs.declared.records.Record.{Record}
-use Rattle.canvas_doc.specs.Bounds.{HaveOneShape}
+use Rattle.canvas_doc.specs.Bounds.{HaveOneShape, IsHeldAbove}
 use Rattle.canvas_doc.specs.Contents.{Contents}
+use Rattle.canvas_doc.specs.PlaceOrder.{IsPlaceOf}
 use Rattle.canvas_doc.proofs.InPlace.{moved-if, one-if, one-shape, one-well}
 use Rattle.canvas_doc.proofs.Reordered.{seen-at}
 use Rattle.canvas_doc.proofs.Document.move_in_place.Goals as goal
@@ -46,14 +45,17 @@ invariant_of-self c =
     let made = c.move_both.result in
     let shape : HaveOneShape r s = one-shape c.args.change.now d c.args.self.now at r r s c.self.view_is c.requires.one c.in-Some.ensures.there c.in-Some.ensures.is refl c.in-Ok.ensures c.requires.shape in
     moved-if d order bounds c.self.invariant c.move_both.new.records c.move_both.new.self.shapes c.move_both.new.self.bounds made r s c.bounds_at.result.now at k to
-    (subst (λ (x : Record). c.move_both.new.records ≡ changed_if made (Replace x) at d.records) c.in-Ok-new.ensures c.move_both.ensures.other)
-    (subst (λ (x : Record). c.move_both.new.self.shapes ≡ cond made (insert (remove order k) to x) order) (c.new-placed.ensures.shape ∙ c.in-Ok-shared.ensures ∙ c.in-Ok-new.ensures) c.move_both.ensures.shapes)
+    c.move_both.ensures.other
+    (subst (λ (x : Record). c.move_both.new.self.shapes ≡ cond made (insert (remove order k) to x) order) (c.new-placed.ensures.shape ∙ c.in-Ok-shared.ensures) c.move_both.ensures.shapes)
     (subst (λ (b : Bounds). c.move_both.new.self.bounds ≡ cond made (insert (remove bounds k) to b) bounds) c.new-placed.ensures.bounds c.move_both.ensures.bounds)
     (one-well c.args.change.now d c.args.self.now at r r s c.self.view_is c.requires.one c.in-Some.ensures.there c.in-Some.ensures.is refl c.in-Ok.ensures c.requires.fits.left)
-    c.in-Some.ensures.there.there c.in-Some.ensures.is shape c.position_in-from.ensures c.position_without-to.ensures c.bounds_at.ensures (c.if-not-is_held_above.ensures refl)
+    c.in-Some.ensures.there.there c.in-Some.ensures.is shape c.position_in-from.ensures
+    (subst (λ (x : Record). IsPlaceOf x.place (remove order k) to) c.value.ensures c.position_without-to.ensures)
+    c.bounds_at.ensures
+    (subst (λ (x : Record). IsHeldAbove order bounds x c.bounds_at.result.now) c.value-2.ensures (c.if-not-is_held_above.ensures refl))
 
 pub returns : goal.returns
 returns c =
     one-if c.args.change.now (record { records = c.self.inside.records; next = c.self.inside.next }) c.args.self.now c.in-Some.found.at c.in-Some.found.shape.now c.in-Some.found.shape.now c.in-Ok.new
     c.self.view_is c.requires.one c.in-Some.ensures.there c.in-Some.ensures.is refl c.in-Ok.ensures c.move_both.result c.move_both.new.records
-    (subst (λ (x : Record). c.move_both.new.records ≡ changed_if c.move_both.result (Replace x) c.in-Some.found.at c.self.inside.records) c.in-Ok-new.ensures c.move_both.ensures.other)
+    c.move_both.ensures.other

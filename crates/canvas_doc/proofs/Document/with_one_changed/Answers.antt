@@ -28,7 +28,7 @@ moved-requires-clause-shape c =
     let e : rs ≡ c.args.self.now.records = ap (λ (d : Contents). d.records) c.self.view_is in
     let made : c.in_ok-records.records ≡ map (changed_by ch) rs =
     made-whole ch rs c.in_ok-records.records at c.in-Some.found.shape.now c.in-Some.found.shape.now c.in_ok-new.new
-    c.in-Some.ensures.there c.in-Some.ensures.is refl c.in_ok-records.ensures (c.in_ok-new.ensures ∙ c.in_ok-changed_by.ensures) in
+    c.in-Some.ensures.there c.in-Some.ensures.is refl c.in_ok-records.ensures c.in_ok-new.ensures in
     λ r.
     let new : changed_by (Move c.in-Move.id c.in-Move.place) (get_or rs at r) ≡ get_or c.in_ok-records.records at r =
     ap (λ (k : Change). changed_by k (get_or rs at r)) (sym c.in-Move.is) ∙ sym (get_or-map (changed_by ch) rs at r r c.in-Some.ensures.there.there) ∙ ap (λ (l : List Record). get_or l at r) (sym made) in
@@ -40,7 +40,7 @@ moved-requires-clause-well_formed c =
     let inside : Contents = record { records = c.self.inside.records; next = c.self.inside.next } in
     let made : c.in_ok-records.records ≡ map (changed_by c.args.change.now) inside.records =
     made-whole c.args.change.now c.self.inside.records c.in_ok-records.records c.in-Some.found.at c.in-Some.found.shape.now c.in-Some.found.shape.now c.in_ok-new.new
-    c.in-Some.ensures.there c.in-Some.ensures.is refl c.in_ok-records.ensures (c.in_ok-new.ensures ∙ c.in_ok-changed_by.ensures) in
+    c.in-Some.ensures.there c.in-Some.ensures.is refl c.in_ok-records.ensures c.in_ok-new.ensures in
     let whole : record { records = c.in_ok-records.records; next = inside.next } ≡ effect_of c.args.change.now c.args.self.now =
     whole-is c.args.change.now inside c.args.self.now c.in_ok-records.records c.self.view_is c.requires.one made in
     let well : IsWellFormed (record { records = c.in_ok-records.records; next = inside.next }) = subst IsWellFormed (sym whole) c.requires.fits.left in
@@ -54,7 +54,7 @@ replaced-requires-clause-place c =
     let e : rs ≡ c.args.self.now.records = ap (λ (d : Contents). d.records) c.self.view_is in
     let made : c.in_ok-records.records ≡ map (changed_by ch) rs =
     made-whole ch rs c.in_ok-records.records at c.in-Some.found.shape.now c.in-Some.found.shape.now c.in_ok-new.new
-    c.in-Some.ensures.there c.in-Some.ensures.is refl c.in_ok-records.ensures (c.in_ok-new.ensures ∙ c.in_ok-changed_by.ensures) in
+    c.in-Some.ensures.there c.in-Some.ensures.is refl c.in_ok-records.ensures c.in_ok-new.ensures in
     λ r.
     ap (λ (l : List Record). (get_or l at r).place) (sym e)
     ∙ sym (place-kept ch c.in_default-change.not-Move (get_or rs at r))
@@ -66,7 +66,7 @@ replaced-requires-clause-well_formed c =
     let inside : Contents = record { records = c.self.inside.records; next = c.self.inside.next } in
     let made : c.in_ok-records.records ≡ map (changed_by c.args.change.now) inside.records =
     made-whole c.args.change.now c.self.inside.records c.in_ok-records.records c.in-Some.found.at c.in-Some.found.shape.now c.in-Some.found.shape.now c.in_ok-new.new
-    c.in-Some.ensures.there c.in-Some.ensures.is refl c.in_ok-records.ensures (c.in_ok-new.ensures ∙ c.in_ok-changed_by.ensures) in
+    c.in-Some.ensures.there c.in-Some.ensures.is refl c.in_ok-records.ensures c.in_ok-new.ensures in
     let whole : record { records = c.in_ok-records.records; next = inside.next } ≡ effect_of c.args.change.now c.args.self.now =
     whole-is c.args.change.now inside c.args.self.now c.in_ok-records.records c.self.view_is c.requires.one made in
     let well : IsWellFormed (record { records = c.in_ok-records.records; next = inside.next }) = subst IsWellFormed (sym whole) c.requires.fits.left in
@@ -77,7 +77,7 @@ invariant_of-result c =
     let inside : Contents = record { records = c.self.inside.records; next = c.self.inside.next } in
     let made : c.in_ok-records.records ≡ map (changed_by c.args.change.now) inside.records =
     made-whole c.args.change.now c.self.inside.records c.in_ok-records.records c.in-Some.found.at c.in-Some.found.shape.now c.in-Some.found.shape.now c.in_ok-new.new
-    c.in-Some.ensures.there c.in-Some.ensures.is refl c.in_ok-records.ensures (c.in_ok-new.ensures ∙ c.in_ok-changed_by.ensures) in
+    c.in-Some.ensures.there c.in-Some.ensures.is refl c.in_ok-records.ensures c.in_ok-new.ensures in
     let whole : record { records = c.in_ok-records.records; next = inside.next } ≡ effect_of c.args.change.now c.args.self.now =
     whole-is c.args.change.now inside c.args.self.now c.in_ok-records.records c.self.view_is c.requires.one made in
     let well : IsWellFormed (record { records = c.in_ok-records.records; next = inside.next }) = subst IsWellFormed (sym whole) c.requires.fits.left in
@@ -98,7 +98,7 @@ returns c =
     let inside : Contents = record { records = c.self.inside.records; next = c.self.inside.next } in
     let made : c.in_ok-records.records ≡ map (changed_by c.args.change.now) inside.records =
     made-whole c.args.change.now c.self.inside.records c.in_ok-records.records c.in-Some.found.at c.in-Some.found.shape.now c.in-Some.found.shape.now c.in_ok-new.new
-    c.in-Some.ensures.there c.in-Some.ensures.is refl c.in_ok-records.ensures (c.in_ok-new.ensures ∙ c.in_ok-changed_by.ensures) in
+    c.in-Some.ensures.there c.in-Some.ensures.is refl c.in_ok-records.ensures c.in_ok-new.ensures in
     let whole : record { records = c.in_ok-records.records; next = inside.next } ≡ effect_of c.args.change.now c.args.self.now =
     whole-is c.args.change.now inside c.args.self.now c.in_ok-records.records c.self.view_is c.requires.one made in
     whole

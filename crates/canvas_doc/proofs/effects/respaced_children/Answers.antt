@@ -47,7 +47,7 @@ loop-at-preserved c =
           ap (map shape_of) c.in_ok-push.ensures.items
           ∙ map-append shape_of c.loop-at.children.items (c.new-child.result ∷ [])
           ∙ ap (λ (l : List Record). l ++ c.new-child.result.shape ∷ []) c.loop-at.invariant.shapes
-          ∙ ap (λ (r : Record). map (respaced p order) (take i (drop start order)) ++ r ∷ []) (c.new-child.ensures.shape ∙ c.in_ok-shape.ensures ∙ c.in_ok-respaced.ensures ∙ respaced-child p order v (end - 1 - at) child rank)
+          ∙ ap (λ (r : Record). map (respaced p order) (take i (drop start order)) ++ r ∷ []) (c.new-child.ensures.shape ∙ c.in_ok-shape.ensures ∙ respaced-child p order v (end - 1 - at) child rank)
           ∙ sym (map-append (respaced p order) (take i (drop start order)) (v ∷ []))
           ∙ ap (map (respaced p order)) (sym (one-more order start at v v from within here));
       bounds =
