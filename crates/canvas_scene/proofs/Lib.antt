@@ -1,5 +1,6 @@
 pub mod Bits
 pub mod Bounded
+pub mod Carrying
 pub mod Children
 pub mod Clipping
 pub mod Covering

@@ -1,6 +1,6 @@
 //! The cells of what a window covers, each marked or not.
 
-ghost use Rattle.std.specs.Prelude.{◌≡◌, ◌≤◌, ◌^◌, ◌||◌, ℕ, ℤ, false, true, IsTrue};
+ghost use Rattle.std.specs.Prelude.{◌≡◌, ◌<◌, ◌≤◌, ◌^◌, ◌||◌, ℕ, ℤ, false, true, IsTrue};
 ghost use Rattle.canvas_plane.specs.Page.{is_in};
 ghost use Rattle.canvas_scene.specs.Cells.{is_covered};
 ghost use Rattle.canvas_scene.specs.Places.{is_among, is_bit};
@@ -19,6 +19,17 @@ pub(crate) struct Cells {
     rows: [u64; 32],
     // The same for the cells that have a pixel of a box whose cells were marked.
     touched: [u64; 32],
+}
+
+/// The cells that a box touches, if it is not empty and lies in what the window covers, and else any: in each row from one up
+/// to another those of a word. No clause says so, for they only decide what is looked at more closely.
+#[derive(Clone, Copy)]
+struct Patch {
+    word: u64,
+    first: u32,
+    end: u32,
+    ghost begins: { first < 32 },
+    ghost ends: { end ≤ 32 },
 }
 
 impl Cells {
@@ -49,32 +60,48 @@ impl Cells {
         self.touch(part);
     }
 
-    // Notes the cells that a box touches.
+    // Notes the cells that a box in the window touches.
     fn touch(&mut self, part: &PageBox)
         ensures across { self.new.across ≡ self.old.across }
         ensures down { self.new.down ≡ self.old.down }
         ensures rows { self.new.rows ≡ self.old.rows }
     {
-        let across = self.across.touched(part.left, part.right);
-        let down = self.down.touched(part.top, part.bottom);
-        let word = bits(across);
-        for row in down.first..down.end {
-            self.touched[row as usize] = with_bits(self.touched[row as usize], word);
+        let patch = self.patch(part);
+        for row in patch.first..patch.end {
+            self.touched[row as usize] = with_bits(self.touched[row as usize], patch.word);
         }
     }
 
-    /// Whether each cell that a box touches is touched by a box whose cells were marked. If not,
-    /// some cell that it touches is not marked, and it lies within no such box.
+    /// Whether each cell that a box touches is touched by a box whose cells were marked, for boxes in the window that are not
+    /// empty. If not, some cell that it touches is not marked, and it lies within no such box.
     pub(crate) fn may_cover(&self, part: &PageBox) -> bool {
-        let across = self.across.touched(part.left, part.right);
-        let down = self.down.touched(part.top, part.bottom);
-        let word = bits(across);
-        for row in down.first..down.end {
-            if !has_bits(self.touched[row as usize], word) {
+        let patch = self.patch(part);
+        for row in patch.first..patch.end {
+            if !has_bits(self.touched[row as usize], patch.word) {
                 return false;
             }
         }
         true
+    }
+
+    // Whether of the cells that a box touches those of the first row are marked.
+    #[inline(always)]
+    fn begins_marked(&self, part: &PageBox) -> bool {
+        let patch = self.patch(part);
+        has_bits(self.rows[patch.first as usize], patch.word)
+    }
+
+    // The cells that a box touches, if it is not empty and lies in what the window covers.
+    #[inline(always)]
+    fn patch(&self, part: &PageBox) -> Patch {
+        let left = self.across.cell_near(part.left);
+        let right = self.across.cell_near(part.right.wrapping_sub(1));
+        let bottom = self.down.cell_near(part.bottom.wrapping_sub(1));
+        Patch {
+            word: bit(right + 1).wrapping_sub(bit(left)),
+            first: self.down.cell_near(part.top),
+            end: bottom + 1,
+        }
     }
 
     // The box of the cells.
@@ -89,13 +116,13 @@ impl Cells {
         }
     }
 
-    /// Whether a box lies in what the window covers, and each cell that it touches is marked. Inlined, it shares
-    /// the cells that a box touches with `may_cover`.
+    /// Whether a box lies in what the window covers, and each cell that it touches is marked. Most others fail in the first
+    /// row. Inlined, it shares the cells of a box with `may_cover`.
     #[inline(always)]
     pub(crate) fn covers(&self, part: &PageBox) -> bool
         ensures { IsTrue result → (x y : ℤ) → is_in part.now x y ≡ true → is_covered self.now x y ≡ true }
     {
-        if !lies_within(part, &self.area()) {
+        if !self.begins_marked(part) || !lies_within(part, &self.area()) {
             return false;
         }
         let across = self.across.touched(part.left, part.right);

@@ -1,6 +1,6 @@
 //! The sides of what a window covers, in cells.
 
-ghost use Rattle.std.specs.Prelude.{◌≡◌, ◌≤◌, ◌*◌, ◌^◌, ◌+ℤ◌, ◌-ℤ◌, ◌≤ℤ◌, pos, ℤ, true, int_le, nat_le, unsigned_abs};
+ghost use Rattle.std.specs.Prelude.{◌≡◌, ◌<◌, ◌≤◌, ◌*◌, ◌^◌, ◌+ℤ◌, ◌-ℤ◌, ◌≤ℤ◌, pos, ℤ, true, int_le, nat_le, unsigned_abs};
 ghost use Rattle.canvas_shape.specs.Spans.{is_from_to};
 ghost use Rattle.canvas_scene.specs.Places.{cell_of, is_among};
 
@@ -58,6 +58,15 @@ impl Side {
             first: self.ended(from),
             end: self.begun(to),
         }
+    }
+
+    /// The cell that has a place of the side, and of a place elsewhere some cell. No clause says so: it is asked for where a
+    /// wrong answer costs time alone.
+    #[inline(always)]
+    pub(crate) fn cell_near(&self, at: i64) -> u32
+        ensures { result < 32 }
+    {
+        (at.wrapping_sub(self.start) >> self.shift).rem_euclid(32) as u32
     }
 
     // How many cells begin before a place.

@@ -207,8 +207,62 @@ fn carried<'a>(bump: &'a Bump, page: &Pose, points: &[Point]) -> Result<&'a [Poi
     ensures near { IfOk result (λ vertices. All (λ p. size_of p ≤ 2 ^ 27) vertices.now) }
 {
     let mut vertices = Vec::with_capacity(bump, points.len())?;
-    for point in points {
-        vertices.push(page.apply(*point))?;
-    }
+    vertices.extend_from_slice(points)?;
+    carry_all(&mut vertices, page);
     Ok(into_bump_slice(vertices))
+}
+
+// Carries vertices to the page. Each turn has a loop of its own, in which it is a constant: so it is not chosen anew for
+// each vertex.
+fn carry_all(vertices: &mut [Point], page: &Pose)
+    requires vertices { AreVertices vertices.old }
+    requires quarter { page.now.quarter ≤ 3 }
+    requires reach { reach_of page.now ≤ 2 ^ 26 }
+    ensures value { vertices.new ≡ map (carry page.now) vertices.old }
+    ensures near { All (λ p. size_of p ≤ 2 ^ 27) vertices.new }
+{
+    match page.quarter {
+        0 => carry_each(
+            vertices,
+            Pose {
+                quarter: 0,
+                ..*page
+            },
+        ),
+        1 => carry_each(
+            vertices,
+            Pose {
+                quarter: 1,
+                ..*page
+            },
+        ),
+        2 => carry_each(
+            vertices,
+            Pose {
+                quarter: 2,
+                ..*page
+            },
+        ),
+        _ => carry_each(
+            vertices,
+            Pose {
+                quarter: 3,
+                ..*page
+            },
+        ),
+    }
+}
+
+// The same by a pose that no write to a vertex can change.
+#[inline(always)]
+fn carry_each(vertices: &mut [Point], page: Pose)
+    requires vertices { AreVertices vertices.old }
+    requires quarter { page.quarter ≤ 3 }
+    requires reach { reach_of page ≤ 2 ^ 26 }
+    ensures value { vertices.new ≡ map (carry page) vertices.old }
+    ensures near { All (λ p. size_of p ≤ 2 ^ 27) vertices.new }
+{
+    for vertex in vertices.iter_mut() {
+        *vertex = page.apply(*vertex);
+    }
 }
