@@ -1,4 +1,5 @@
 use Rattle.std.proofs.Common.{◌≡◌, ◌∙◌, ◌++◌, List, sym, ap, take}
+use Rattle.std.proofs.lemmas.List.{take_all}
 use Rattle.canvas_list.specs.Chunks.{joined}
 use Rattle.canvas_list.proofs.Joined.{joined_more}
 use Rattle.canvas_list.proofs.chunk.items_of.Goals as goal
@@ -11,3 +12,9 @@ loop-chunk-preserved g c =
     pushed
     ∙ ap (λ (l : List g.row.T.Denot). l ++ item) c.loop-chunk.invariant
     ∙ sym (joined_more c.args.chunks.now c.loop-chunk.chunk-index item c.loop-chunk-test.true ∙ ap (λ (l : List g.row.T.Denot). joined (take c.loop-chunk.chunk-index c.args.chunks.now) ++ l) (sym c.chunk-item.is))
+
+pub loop-chunk-init : goal.loop-chunk-init
+loop-chunk-init g c = c.in_ok-items.ensures.items
+
+pub returns : goal.returns
+returns g c = c.loop-chunk.invariant ∙ ap (λ (l : List (List g.row.T.Denot)). joined l) (take_all c.loop-chunk.chunk-index c.args.chunks.now c.loop-chunk-test.false)

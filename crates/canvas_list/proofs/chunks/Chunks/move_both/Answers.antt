@@ -1,8 +1,10 @@
-use Rattle.std.proofs.Common.{◌∙◌, ap, arith, cond, get_or, refl, sym}
+use Rattle.std.proofs.Common.{◌∙◌, ap, arith, cond, get_or, refl, sym, ◌<◌, List, subst}
 use Rattle.std.specs.List.{insert, remove}
+use Rattle.canvas_list.specs.Chunks.{joined, IsTable}
 use Rattle.canvas_list.proofs.Blocks.{of-block}
-use Rattle.canvas_list.proofs.Joined.{len-is}
+use Rattle.canvas_list.proofs.Joined.{has-chunk, len-is, search-some}
 use Rattle.canvas_list.proofs.Moved.{goal-fits, is-move, items-within, moved-apart, same-part, table-apart, table-within}
+use Rattle.canvas_list.proofs.Ends.{chunk-unchanged, ordered, undone}
 use Rattle.canvas_list.proofs.chunks.Chunks.move_both.Goals as goal
 
 pub place_before-place-requires : goal.place_before-place-requires
@@ -48,3 +50,56 @@ returns-then-made-clause-items g c =
     let move = is-move c.self.inside.chunks.items c.deref.result.now c.deref-2.result.now c.args.self.now c.self.inside.count c.spot_of-source.result.chunk c.spot_of-source.result.start c.spot_of-target.result.chunk c.spot_of-target.result.start c.args.from c.args.to c.place_before-place.result c.index.result.now c.index_mut-2.result.now c.self.invariant c.self.view_is c.deref.ensures.value c.spot_of-source.ensures c.deref-2.ensures.value c.spot_of-target.ensures c.index.ensures c.index_mut-2.ensures.value c.requires.from c.requires.to c.place_before-place.ensures.behind c.place_before-place.ensures.before in
     moved-apart c.self.inside.chunks.items c.args.self.now c.spot_of-source.result.chunk c.spot_of-source.result.start c.spot_of-target.result.chunk c.spot_of-target.result.start c.args.from c.args.to c.place_before-place.result c.index.result.now c.index_mut-2.result.now move c.in-Some.left c.in-Some.ensures.items c.change_both-made.new.self c.args.item c.if-made.ensures.items c.if-source-target.false
     ∙ ap (λ made. cond made (insert (remove c.args.self.now c.args.from) c.args.to c.args.item) c.args.self.now) (sym c.if-made.true)
+
+pub spot_of-source-requires : goal.spot_of-source-requires
+spot_of-source-requires g c =
+    search-some c.self.inside.chunks.items c.deref.result.now c.deref.ensures.value (has-chunk c.self.inside.chunks.items c.args.self.now c.args.from c.self.view_is c.requires.from)
+
+pub spot_of-target-requires : goal.spot_of-target-requires
+spot_of-target-requires g c =
+    search-some c.self.inside.chunks.items c.deref-2.result.now c.deref-2.ensures.value (has-chunk c.self.inside.chunks.items c.args.self.now c.args.from c.self.view_is c.requires.from)
+
+pub index_mut-requires : goal.index_mut-requires
+index_mut-requires g c = subst (λ n. c.spot_of-source.result.chunk < n) c.deref.ensures.len c.spot_of-source.ensures.within
+
+pub index_mut-requires-2 : goal.index_mut-requires-2
+index_mut-requires-2 g c = subst (λ n. c.spot_of-target.result.chunk < n) c.deref-2.ensures.len c.spot_of-target.ensures.within
+
+pub index_mut-requires-then-made : goal.index_mut-requires-then-made
+index_mut-requires-then-made g c = subst (λ n. c.spot_of-source.result.chunk < n) c.deref.ensures.len c.spot_of-source.ensures.within
+
+pub overflow_sub-from : goal.overflow_sub-from
+overflow_sub-from g c = c.spot_of-source.ensures.from
+
+pub overflow_sub-from-2 : goal.overflow_sub-from-2
+overflow_sub-from-2 g c = c.spot_of-source.ensures.from
+
+pub overflow_sub-to : goal.overflow_sub-to
+overflow_sub-to g c =
+    let move = is-move c.self.inside.chunks.items c.deref.result.now c.deref-2.result.now c.args.self.now c.self.inside.count c.spot_of-source.result.chunk c.spot_of-source.result.start c.spot_of-target.result.chunk c.spot_of-target.result.start c.args.from c.args.to c.place_before-place.result c.index_mut.result.now c.index_mut.result.now c.self.invariant c.self.view_is c.deref.ensures.value c.spot_of-source.ensures c.deref-2.ensures.value c.spot_of-target.ensures c.index_mut.ensures.value (c.index_mut.ensures.value ∙ ap (λ i. get_or c.self.inside.chunks.items i c.index_mut.result.now) c.if-source-target.true) c.requires.from c.requires.to c.place_before-place.ensures.behind c.place_before-place.ensures.before in
+    (same-part c.self.inside.chunks.items c.args.self.now c.spot_of-source.result.chunk c.spot_of-source.result.start c.spot_of-target.result.chunk c.spot_of-target.result.start c.args.from c.args.to c.place_before-place.result c.index_mut.result.now c.index_mut.result.now move c.if-source-target.true).0
+
+pub overflow_sub-part : goal.overflow_sub-part
+overflow_sub-part g c = ordered c.small_about-part.result.first c.spot_of-source.result.chunk c.small_about-part.result.end c.small_about-part.ensures.first c.small_about-part.ensures.end
+
+pub overflow_sub-place : goal.overflow_sub-place
+overflow_sub-place g c = c.spot_of-target.ensures.from
+
+pub returns-in_default : goal.returns-in_default
+returns-in_default g c = record { items = refl; other = refl }
+
+pub returns-then-part-gt1 : goal.returns-then-part-gt1
+returns-then-part-gt1 g c = record { items = refl; other = refl }
+
+pub invariant_of-self-else-made : goal.invariant_of-self-else-made
+invariant_of-self-else-made g c =
+    let same = chunk-unchanged c.self.inside.chunks.items c.spot_of-target.result.chunk c.index_mut-2.result.now c.change_both-made.new.self (undone c.change_both-made.result c.index_mut-2.result.now c.change_both-made.new.self _ c.change_both-made.ensures.items c.if-made.false) c.index_mut-2.ensures.value in
+    subst (λ (l : List (List g.row.T.Denot)). IsTable l c.self.inside.count) (sym same) c.self.invariant
+
+pub returns-else-made : goal.returns-else-made
+returns-else-made g c =
+    let same = chunk-unchanged c.self.inside.chunks.items c.spot_of-target.result.chunk c.index_mut-2.result.now c.change_both-made.new.self (undone c.change_both-made.result c.index_mut-2.result.now c.change_both-made.new.self _ c.change_both-made.ensures.items c.if-made.false) c.index_mut-2.ensures.value in
+    record {
+      items = ap joined same ∙ c.self.view_is ∙ ap (λ made. cond made (insert (remove c.args.self.now c.args.from) c.args.to c.args.item) c.args.self.now) (sym c.if-made.false);
+      other = c.change_both-made.ensures.other;
+    }

@@ -1,9 +1,10 @@
-use Rattle.std.proofs.Common.{◌≡◌, ◌+◌, ◌-◌, ◌<◌, ◌++◌, List, IfOk, refl, ap, subst, arith, length, take, drop}
+use Rattle.std.proofs.Common.{◌≡◌, ◌+◌, ◌-◌, ◌<◌, ◌++◌, List, IfOk, refl, ap, subst, arith, length, take, drop, ◌∙◌, ◌∷◌, ◌^◌, sym}
 use Rattle.std.specs.List.{insert}
 use Rattle.std.proofs.lemmas.List.Edits.{length-insert}
 use Rattle.canvas_list.specs.Chunks.{joined}
 use Rattle.canvas_list.proofs.Joined.{found, has-chunk, len-is, search-some}
 use Rattle.canvas_list.proofs.Spliced.{inserted, of-spot, sum-parts, IsOfSpot}
+use Rattle.canvas_list.proofs.Ends.{few-with, from-none, placed-last, same-end}
 use Rattle.canvas_list.proofs.chunks.Chunks.with_inserted.Goals as goal
 use Rattle.canvas_list.proofs.chunks.Chunks.with_inserted.Goals.{else-at-len-via-then-at-len+else-ends_full, else-at-len-via-else-at-len}
 
@@ -43,3 +44,33 @@ returns g c =
     let same : joined (take c.spot_of-spot.result.chunk c.deref-4.result.now) ++ new ++ joined (drop (c.spot_of-spot.result.chunk + 1) c.deref-4.result.now) ≡ insert c.args.self.now c.args.at c.args.item =
     inserted c.self.inside.chunks.items c.deref-4.result.now c.args.self.now c.spot_of-spot.result.chunk (c.spot_of-spot.result.chunk + 1) c.spot_of-spot.result.start c.args.at c.in_ok-items.items.items new c.args.item p.part p.place c.deref-4.ensures.value c.in_ok-insert.ensures.items c.requires.within in
     subst (λ (l : List g.row.T.Denot). IfOk c.spliced.result (λ (list : List g.row.T.Denot). list ≡ l)) same c.spliced.ensures
+
+pub overflow_sub-at : goal.overflow_sub-at
+overflow_sub-at g c = c.spot_of-spot.ensures.from
+
+pub with_chunk-requires : goal.with_chunk-requires
+with_chunk-requires g c = record {
+  chunk = c.requires.chunk;
+  within = same-end c.len-then-ends_full.result (length c.deref-then-ends_full.result.now) c.self.inside.chunks.len c.len-then-ends_full.ensures c.deref-then-ends_full.ensures.len;
+  few = few-with c.self.inside.chunks.items c.deref-then-ends_full.result.now c.args.self.now (2 ^ 32) c.deref-then-ends_full.ensures.value c.self.view_is c.requires.few;
+}
+
+pub with_chunk-requires-then-starts_full : goal.with_chunk-requires-then-starts_full
+with_chunk-requires-then-starts_full g c = record {
+  chunk = c.requires.chunk;
+  within = from-none (length c.deref-then-starts_full.result.now);
+  few = few-with c.self.inside.chunks.items c.deref-then-starts_full.result.now c.args.self.now (2 ^ 32) c.deref-then-starts_full.ensures.value c.self.view_is c.requires.few;
+}
+
+pub returns-then-ends_full : goal.returns-then-ends_full
+returns-then-ends_full g c =
+    let same = placed-last c.self.inside.chunks.items c.deref-then-ends_full.result.now c.args.self.now c.len-then-ends_full.result c.args.at c.len.result c.args.item c.deref-then-ends_full.ensures.value c.self.view_is c.if-at-len.true c.len.ensures.len (c.len-then-ends_full.ensures ∙ c.self.inside.chunks.ok.0) in
+    subst (λ (l : List g.row.T.Denot). IfOk c.with_chunk.result (λ (list : List g.row.T.Denot). list ≡ l)) same c.with_chunk.ensures
+
+pub returns-then-starts_full : goal.returns-then-starts_full
+returns-then-starts_full g c =
+    let same : c.args.item ∷ joined c.deref-then-starts_full.result.now ≡ insert c.args.self.now c.args.at c.args.item =
+    ap (λ (l : List (List g.row.T.Denot)). c.args.item ∷ joined l) c.deref-then-starts_full.ensures.value
+    ∙ ap (λ (l : List g.row.T.Denot). c.args.item ∷ l) c.self.view_is
+    ∙ sym (ap (λ n. insert c.args.self.now n c.args.item) c.if-at-eq0.true) in
+    subst (λ (l : List g.row.T.Denot). IfOk c.with_chunk-then-starts_full.result (λ (list : List g.row.T.Denot). list ≡ l)) same c.with_chunk-then-starts_full.ensures

@@ -3,7 +3,8 @@ use Rattle.std.specs.List.{insert, remove}
 use Rattle.std.proofs.lemmas.List.Edits.{length-insert, length-remove}
 use Rattle.canvas_list.specs.Chunks.{joined}
 use Rattle.canvas_list.proofs.Blocks.{of-block}
-use Rattle.canvas_list.proofs.Joined.{len-is}
+use Rattle.canvas_list.proofs.Ends.{few-after, room-after}
+use Rattle.canvas_list.proofs.Joined.{has-chunk, len-is, search-some}
 use Rattle.canvas_list.proofs.Spliced.{moved, sum-parts, IsOfSpot}
 use Rattle.canvas_list.proofs.table.SharedList.with_moved.Goals as goal
 
@@ -35,3 +36,26 @@ returns g c =
     let same : joined (take c.spot_of-spot.result.chunk c.deref-2.result.now) ++ c.in_ok-new.new ++ joined (drop (c.spot_of-spot.result.chunk + 1) c.deref-2.result.now) ≡ insert (remove c.args.self.now c.args.from) c.args.to c.args.item =
     moved c.self.inside.blocks.items c.deref-2.result.now c.args.self.now c.spot_of-spot.result.chunk (c.spot_of-spot.result.chunk + 1) c.spot_of-spot.result.start c.args.from c.args.to c.chunks-old.result.now c.in_ok-new.new c.args.item p.part p.place c.deref-2.ensures.value c.in_ok-new.ensures c.requires.from (omega (arith, c.if-to-spot.false)) high in
     subst (λ (l : List g.row.T.Denot). IfOk c.spliced.result (λ (list : List g.row.T.Denot). list ≡ l)) same c.spliced.ensures
+
+pub spot_of-spot-requires : goal.spot_of-spot-requires
+spot_of-spot-requires g c =
+    search-some c.self.inside.blocks.items c.deref.result.now c.deref.ensures.value (has-chunk c.self.inside.blocks.items c.args.self.now c.args.from c.self.view_is c.requires.from)
+
+pub overflow_sub-from : goal.overflow_sub-from
+overflow_sub-from g c = c.spot_of-spot.ensures.from
+
+pub overflow_sub-to : goal.overflow_sub-to
+overflow_sub-to g c = c.if-to-spot.false
+
+pub overflow_sub-to-2 : goal.overflow_sub-to-2
+overflow_sub-to-2 g c = c.if-to-spot.false
+
+pub with_inserted-requires : goal.with_inserted-requires
+with_inserted-requires g c = record {
+  within = room-after c.args.self.now c.in_ok-without.field-0 c.args.from c.args.to c.in_ok-without.ensures c.requires.from c.requires.to;
+  few = few-after c.self.inside.blocks.items c.args.self.now c.in_ok-without.field-0 c.self.inside.count c.args.from c.self.invariant c.self.view_is c.in_ok-without.ensures c.requires.from;
+}
+
+pub returns-then-to-spot : goal.returns-then-to-spot
+returns-then-to-spot g c =
+    subst (λ (l : List g.row.T.Denot). IfOk c.with_inserted-then-to-spot.result (λ (list : List g.row.T.Denot). list ≡ l)) (ap (λ (l : List g.row.T.Denot). insert l c.args.to c.args.item) c.in_ok-without.ensures) c.with_inserted-then-to-spot.ensures
