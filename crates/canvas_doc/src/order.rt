@@ -58,10 +58,13 @@ impl Document {
         } = children_of(&self.order, parent);
         let area = Bounds::of_clip(out, clip);
         let mut seen = Vec::with_capacity(alloc, ROOM.min(end - start))?;
-        let mut at = reader.next_meeting(start, end, &area);
+        let mut at = start;
         'walk: while at < end {
-            seen.push(reader.at(at).shape.value())?;
-            at = reader.next_meeting(at + 1, end, &area);
+            at = reader.next_meeting(at, end, &area);
+            if at < end {
+                seen.push(reader.at(at).shape.value())?;
+                at += 1;
+            }
         }
         Ok(seen)
     }

@@ -10,7 +10,7 @@ use crate::bounds::Bounds;
 use crate::place_order::hint_of_place;
 use crate::records::{ListedRecord, Record, Records};
 use canvas_code::OutOfMemory;
-use canvas_list::{Hint, ItemChange, Reader, Share, Shared, SharedList};
+use canvas_list::{Hint, ItemChange, Reader, Share, Shared, SharedList, ShortHint};
 use std::alloc::Global;
 use std::marker::Model;
 
@@ -23,32 +23,6 @@ pub(crate) struct PlacedShape {
     short: ShortHint,
 }
 
-/// A hint of a place, as far as the first half of its minor number.
-#[derive(Clone, Copy)]
-pub(crate) struct ShortHint {
-    major: u32,
-    minor: u32,
-}
-
-impl ShortHint {
-    #[inline(always)]
-    fn of(hint: Hint) -> ShortHint {
-        ShortHint {
-            major: hint.major,
-            minor: (hint.minor >> 32) as u32,
-        }
-    }
-
-    // An index of up to four bytes has no other hint: its zeros count as the greatest.
-    #[inline(always)]
-    fn whole(self) -> Hint {
-        Hint {
-            major: self.major,
-            minor: u64::from(self.minor) << 32 | u64::from(u32::MAX),
-        }
-    }
-}
-
 impl PlacedShape {
     /// A record with bounds, to stand at its place.
     #[inline(always)]
@@ -56,7 +30,7 @@ impl PlacedShape {
         ensures shape { result.shape ≡ shape }
         ensures bounds { result.bounds ≡ bounds }
     {
-        let short = ShortHint::of(hint_of_place(&shape.value().place));
+        let short = hint_of_place(&shape.value().place).short();
         PlacedShape {
             shape,
             bounds,
@@ -90,8 +64,8 @@ impl Share for PlacedShape {
     }
 
     #[inline(always)]
-    fn short_hint(&self) -> Hint {
-        self.short.whole()
+    fn short_hint(&self) -> ShortHint {
+        self.short
     }
 
     #[inline(always)]

@@ -5,7 +5,7 @@ ghost use Rattle.canvas_doc.specs.declared.records.Record.{Record};
 
 use canvas_code::OutOfMemory;
 use canvas_key::Key;
-use canvas_list::{Hint, Hinted, Share, Shared, SharedList};
+use canvas_list::{Hint, Hinted, Share, Shared, SharedList, ShortHint};
 use canvas_plane::Pose;
 use canvas_shape::Kind;
 use std::alloc::Global;
@@ -145,8 +145,8 @@ impl Share for ListedRecord {
     }
 
     #[inline(always)]
-    fn short_hint(&self) -> Hint {
-        hint_of_id(self.id)
+    fn short_hint(&self) -> ShortHint {
+        hint_of_id(self.id).short()
     }
 
     #[inline(always)]

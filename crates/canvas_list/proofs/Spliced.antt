@@ -1,7 +1,7 @@
 -- Other items in place of some chunks.
-use Rattle.std.proofs.Common.{◌≡◌, ◌∙◌, ℕ, ◌+◌, ◌-◌, ◌<◌, ◌≤◌, List, ◌++◌, take, drop, slice_set, slice_range, sym, ap, arith, length}
+use Rattle.std.proofs.Common.{◌≡◌, ◌∙◌, ℕ, suc, ◌+◌, ◌-◌, ◌<◌, ◌≤◌, List, [], ◌∷◌, ◌++◌, take, drop, slice_set, slice_range, sym, ap, arith, length}
 use Rattle.std.specs.List.{insert, remove, sum_by}
-use Rattle.std.proofs.lemmas.List.{append_assoc, length-append, set-append_left, set-append_right}
+use Rattle.std.proofs.lemmas.List.{append_assoc, length-append, set-append_left, set-append_right, set_split, take_rest}
 use Rattle.std.proofs.lemmas.List.Edits.{insert-append_left, insert-append_right, length-remove, remove-append_left, remove-append_right, split_between}
 use Rattle.std.proofs.Math.Seq.{take-add}
 use Rattle.canvas_list.specs.Chunks.{joined, IsSpot, IsTable}
@@ -112,6 +112,28 @@ moved {X} cs ds xs i j s from to old new x p q e is h low high =
     ∙ ap (λ l. front ++ l) (sym (insert-append_left left back (to - s) x within))
     ∙ sym (insert-append_right front (left ++ back) s to x (sym p.start) low)
     ∙ ap (λ l. insert l to x) (sym others)
+
+-- the items before one, and those behind it
+pub all-but : {X : Type 0} (xs all none front items : List X) (i : ℕ) → all ≡ xs → none ≡ [] → front ≡ none ++ take i all → items ≡ front ++ take (length all - (i + 1)) (drop (i + 1) all) → items ≡ remove xs i
+all-but xs all none front items i a n f e =
+    let next : i + 1 ≡ suc i = omega arith in
+    e
+    ∙ ap (λ l. l ++ take (length all - (i + 1)) (drop (i + 1) all)) (f ∙ ap (λ l. l ++ take i all) n)
+    ∙ ap (λ l. take i all ++ l) (take_rest all (i + 1))
+    ∙ ap (λ l. take i l ++ drop (i + 1) l) a
+    ∙ ap (λ n. take i xs ++ drop n xs) next
+
+-- and another between them
+pub all-with : {X : Type 0} (xs all none front more items : List X) (i : ℕ) (x : X) → all ≡ xs → none ≡ [] → front ≡ none ++ take i all → more ≡ front ++ x ∷ [] → items ≡ more ++ take (length all - (i + 1)) (drop (i + 1) all) → i < length xs → items ≡ slice_set xs i x
+all-with xs all none front more items i x a n f m e h =
+    let next : i + 1 ≡ suc i = omega arith in
+    e
+    ∙ ap (λ l. l ++ take (length all - (i + 1)) (drop (i + 1) all)) (m ∙ ap (λ l. l ++ x ∷ []) (f ∙ ap (λ l. l ++ take i all) n))
+    ∙ append_assoc (take i all) (x ∷ []) (take (length all - (i + 1)) (drop (i + 1) all))
+    ∙ ap (λ l. take i all ++ x ∷ l) (take_rest all (i + 1))
+    ∙ ap (λ l. take i l ++ x ∷ drop (i + 1) l) a
+    ∙ ap (λ n. take i xs ++ x ∷ drop n xs) next
+    ∙ sym (set_split xs i x h)
 
 -- the items of the chunk of a position
 pub record IsOfSpot {X : Type 0} (cs : List (List X)) (xs : List X) (k s at : ℕ) (old : List X) : Type 0 where

@@ -1,6 +1,6 @@
 //! Items side by side, shared by all lists that have them.
 
-ghost use Rattle.std.specs.Prelude.{◌≡◌, ◌<◌, ◌≤◌, ◌++◌, All, IfOk, IfSome, OnOk, cond, length};
+ghost use Rattle.std.specs.Prelude.{◌≡◌, ◌<◌, ◌≤◌, ◌++◌, All, IfOk, IfSome, OnOk, cond, length, slice_set};
 ghost use Rattle.std.specs.List.{insert, remove, slice_get};
 ghost use Rattle.canvas_list.specs.Chunks.{joined, FitsChunk};
 ghost use Rattle.canvas_list.specs.Changed.{changed_if, IsPositionOf};
@@ -160,10 +160,37 @@ impl<T: Share> Chunk<T> {
         if self.items.len() == 1 {
             return None;
         }
-        let mut items = Vec::with_capacity(alloc, self.items.len()).ok()?;
-        push_shared(&mut items, &self.items).ok()?;
-        items.remove(at);
-        Chunk::new(alloc, items).ok()
+        Chunk::new(alloc, self.items_but(alloc, at).ok()?).ok()
+    }
+
+    /// All items but one, to be changed, with room for as many as there are.
+    pub(crate) fn items_but(&self, alloc: Global, at: usize) -> Result<Vec<T>, OutOfMemory>
+        requires { at < length self.now }
+        ensures { IfOk result (λ items. items.items ≡ remove self.now at) }
+    {
+        let all = self.items();
+        let mut items = Vec::with_capacity(alloc, all.len())?;
+        push_shared(&mut items, &all[..at])?;
+        push_shared(&mut items, &all[at + 1..])?;
+        Ok(items)
+    }
+
+    /// The items with another one in the place of one.
+    pub(crate) fn items_with(
+        &self,
+        alloc: Global,
+        at: usize,
+        item: T,
+    ) -> Result<Vec<T>, OutOfMemory>
+        requires { at < length self.now }
+        ensures { IfOk result (λ items. items.items ≡ slice_set self.now at item) }
+    {
+        let all = self.items();
+        let mut items = Vec::with_capacity(alloc, all.len())?;
+        push_shared(&mut items, &all[..at])?;
+        items.push(item)?;
+        push_shared(&mut items, &all[at + 1..])?;
+        Ok(items)
     }
 
     /// A summary of all items.

@@ -221,9 +221,7 @@ impl<T: Share> Chunks<T> {
     {
         let spot = spot_of(&self.chunks, at);
         let end = spot.chunk + 1;
-        let count = self.chunks[spot.chunk].count();
-        let mut items = items_of(alloc, &self.chunks[spot.chunk..end], count)?;
-        items[at - spot.start] = item;
+        let items = self.chunks[spot.chunk].items_with(alloc, at - spot.start, item)?;
         spliced(alloc, &self.chunks, spot.chunk, end, items, per_chunk)
     }
 
@@ -292,14 +290,13 @@ impl<T: Share> Chunks<T> {
     {
         let spot = spot_of(&self.chunks, from);
         let end = spot.chunk + 1;
-        let count = self.chunks[spot.chunk].count();
-        if to < spot.start || to - spot.start >= count {
+        let chunk = &self.chunks[spot.chunk];
+        if to < spot.start || to - spot.start >= chunk.count() {
             return self
                 .without(alloc, from, per_chunk)?
                 .with_inserted(alloc, to, item, per_chunk);
         }
-        let mut items = items_of(alloc, &self.chunks[spot.chunk..end], count)?;
-        items.remove(from - spot.start);
+        let mut items = chunk.items_but(alloc, from - spot.start)?;
         items.insert(to - spot.start, item)?;
         spliced(alloc, &self.chunks, spot.chunk, end, items, per_chunk)
     }

@@ -62,6 +62,12 @@ pub(crate) fn spot_near<P: Counted>(parts: &[P], hint: Hint) -> Spot
     Spot { chunk, start }
 }
 
+/// The hint of a part, if there is one of that number.
+#[inline(always)]
+pub(crate) fn hint_at<P: Counted>(parts: &[P], part: usize) -> Option<Hint> {
+    Some(parts.get(part)?.hint())
+}
+
 /// How many items some parts have.
 pub(crate) fn count_of<P: Counted>(parts: &[P]) -> usize
     requires { sum_by P.size parts.now < 2 ^ 32 }

@@ -17,6 +17,28 @@ impl Hint {
     pub(crate) fn is_before(self, other: Hint) -> bool {
         self.major < other.major || (self.major == other.major && self.minor < other.minor)
     }
+
+    /// Its beginning.
+    #[inline(always)]
+    pub fn short(self) -> ShortHint {
+        ShortHint {
+            bits: u64::from(self.major) << 32 | self.minor >> 32,
+        }
+    }
+}
+
+/// The beginning of a hint: its major number, and the first half of its minor one. Two are compared at once.
+#[derive(Clone, Copy)]
+pub struct ShortHint {
+    bits: u64,
+}
+
+impl ShortHint {
+    /// Whether it points before another. Where only what follows differs it does not.
+    #[inline(always)]
+    pub(crate) fn is_before(self, other: ShortHint) -> bool {
+        self.bits < other.bits
+    }
 }
 
 /// A value that tells where it most likely stands.

@@ -21,7 +21,7 @@ mod sizes;
 mod splice;
 mod table;
 
-pub use hint::{Hint, Hinted};
+pub use hint::{Hint, Hinted, ShortHint};
 pub use in_place::ItemChange;
 pub use items::Items;
 pub use reader::Reader;

@@ -6,7 +6,7 @@ ghost use Rattle.canvas_list.specs.Chunks.{joined, AllBetween, IsRun};
 use crate::block::Block;
 use crate::chunk::Chunk;
 use crate::chunks::Chunks;
-use crate::counted::{Counted, spot_near, spot_of};
+use crate::counted::{Counted, hint_at, spot_near, spot_of};
 use crate::hint::Hint;
 use crate::share::Share;
 use crate::table::SharedList;
@@ -55,6 +55,7 @@ impl<'a, T: Share> Reader<'a, T> {
 
     /// The position of the first item from `from` on that may meet what is sought, or `end` where none before that may.
     /// Parts whose summaries lie apart from it are passed over.
+    #[inline(always)]
     pub fn next_meeting(&mut self, from: usize, end: usize, sought: &T::Summary) -> usize
         requires order { from ≤ end }
         requires within { end ≤ length self.old }
@@ -163,7 +164,8 @@ struct Stretch<'a, T: Share> {
     behind: &'a [Chunk<T>],
 }
 
-/// The items of a chunk to be searched, where they start, its hint, and the chunks of its block behind it.
+/// The items of a chunk to be searched, where they start, its hint, the chunks of its block behind it, and the hint of the
+/// next block.
 #[derive(Drop)]
 pub(crate) struct Run<'a, T: Share> {
     pub(crate) items: &'a [T],
@@ -171,6 +173,8 @@ pub(crate) struct Run<'a, T: Share> {
     // What the table notes of the first one.
     pub(crate) hint: Hint,
     pub(crate) behind: &'a [Chunk<T>],
+    // What the list notes of the first item of the next block, if there is one and the list was asked.
+    pub(crate) next: Option<Hint>,
 }
 
 // How many items come before the first that may meet what is sought, or all.
@@ -342,6 +346,7 @@ impl<T: Share> SharedList<T> {
         Some(Run {
             items: run.items,
             start: spot.start + run.start,
+            next: hint_at(&self.blocks, spot.chunk + 1),
             ..run
         })
     }
@@ -391,5 +396,6 @@ fn run_in<T: Share>(chunks: &[Chunk<T>], hint: Hint) -> Run<'_, T>
         start: spot.start,
         hint: chunks[spot.chunk].hint(),
         behind,
+        next: None,
     }
 }

@@ -11,7 +11,7 @@ use crate::block::Block;
 use crate::chunk::Chunk;
 use crate::chunks::Chunks;
 use crate::counted::{Counted, count_of};
-use crate::hint::Hint;
+use crate::hint::{Hint, ShortHint};
 use crate::reader::{Reader, Run};
 use crate::share::Share;
 use crate::table::SharedList;
@@ -120,14 +120,11 @@ impl<T: Share> SharedList<T> {
             };
         };
         let start = self.partition_point_by(&run, from, before);
-        if !run.ends_behind(to) {
-            return FoundRange {
-                start,
-                end: self.partition_point_near(to, within),
-                reader: self.reader(),
-            };
-        }
-        let end = self.partition_point_by(&self.run_from(&run, to), to, within);
+        let end = if run.ends_before_next(to) {
+            self.partition_point_by(&self.run_from(&run, to), to, within)
+        } else {
+            self.partition_point_near(to, within)
+        };
         FoundRange {
             start,
             end,
@@ -247,36 +244,46 @@ impl<T: Share> Run<'_, T> {
 }
 
 impl<T: Share> Run<'_, T> {
-    // Whether the items that come before a hint most likely end in its block.
+    // Whether the items that come before a hint most likely end in its block: the next one does not begin with such an item.
     #[inline(always)]
-    fn ends_behind(&self, hint: Hint) -> bool {
-        match self.behind.last() {
-            Some(last) => !last.hint().is_before(hint),
-            None => self
-                .items
-                .last()
-                .is_some_and(|item| !item.short_hint().is_before(hint)),
+    fn ends_before_next(&self, hint: Hint) -> bool {
+        match self.next {
+            Some(next) => !next.is_before(hint),
+            None => true,
         }
     }
 
     // How many of its items come before a hint by their own: as many as the majors are apart, if that is so, as where
-    // they are numbers with no gap. Else they are counted by halves.
+    // they are numbers with no gap. Else they are counted.
     #[inline(always)]
     fn place_by_hints(&self, hint: Hint) -> usize
         ensures { result ≤ length self.now.items.now }
     {
+        let sought = hint.short();
         let apart = hint.major.saturating_sub(self.hint.major) as usize;
         let place = apart.min(self.items.len());
-        let is_behind = place == 0 || self.items[place - 1].short_hint().is_before(hint);
+        let is_behind = place == 0 || self.items[place - 1].short_hint().is_before(sought);
         let is_before = place == self.items.len()
-            || !self.items[place].short_hint().is_before(hint);
+            || !self.items[place].short_hint().is_before(sought);
         if is_behind && is_before {
             place
         } else {
-            self.items
-                .partition_point(|item| item.short_hint().is_before(hint))
+            count_before(self.items, sought)
         }
     }
+}
+
+// How many items come before a hint by their own. All of a chunk are asked, which is quicker than by halves: no step of it
+// waits for a choice that can't be foreseen.
+#[inline(always)]
+fn count_before<T: Share>(items: &[T], hint: ShortHint) -> usize
+    ensures { result ≤ length items.now }
+{
+    let mut count = 0;
+    for item in items {
+        count += usize::from(item.short_hint().is_before(hint));
+    }
+    count
 }
 
 // Whether the item before a place passes a test, and the one there fails it, as far as there are such items.

@@ -2,7 +2,7 @@
 
 ghost use Rattle.std.specs.Prelude.{◌≡◌, IfOk, false, ⊤};
 
-use crate::hint::{Hint, Hinted};
+use crate::hint::{Hint, Hinted, ShortHint};
 use canvas_code::OutOfMemory;
 use std::alloc::Global;
 use std::marker::Model;
@@ -27,8 +27,8 @@ pub trait Share: Drop {
     /// Where it most likely stands in a list.
     fn hint(&self) -> Hint;
 
-    /// The same, as far as it is told without a look at what is shared. A search asks it of the items of a chunk.
-    fn short_hint(&self) -> Hint;
+    /// The beginning of that hint. A search asks it of the items of a chunk, so it is best told without a look at what is shared.
+    fn short_hint(&self) -> ShortHint;
 
     /// A summary of this item alone.
     fn summary(&self) -> Self::Summary
@@ -98,8 +98,8 @@ impl<T: Drop + Hinted> Share for Shared<T> {
     }
 
     #[inline(always)]
-    fn short_hint(&self) -> Hint {
-        self.value.hint()
+    fn short_hint(&self) -> ShortHint {
+        self.value.hint().short()
     }
 
     #[inline(always)]

@@ -5,7 +5,7 @@ ghost use Rattle.std.specs.List.Sorted.{IsNonDecreasingBy};
 
 use crate::reader::{meets, reads_on};
 use canvas_code::OutOfMemory;
-use canvas_list::{Hint, Hinted, Items, Share, Shared, SharedList};
+use canvas_list::{Hint, Hinted, Items, Share, Shared, SharedList, ShortHint};
 use std::alloc::Global;
 use std::marker::Model;
 
@@ -80,7 +80,7 @@ impl Share for NumberItem {
         self.number.hint()
     }
 
-    fn short_hint(&self) -> Hint {
+    fn short_hint(&self) -> ShortHint {
         self.number.short_hint()
     }
 

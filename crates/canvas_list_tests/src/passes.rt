@@ -4,7 +4,7 @@ ghost use Rattle.std.specs.Prelude.{◌≡◌};
 
 use crate::numbers::{Number, Span};
 use canvas_code::OutOfMemory;
-use canvas_list::{Hint, Share, Shared, SharedList};
+use canvas_list::{Hint, Share, Shared, SharedList, ShortHint};
 use std::alloc::Global;
 use std::test::Fail;
 
@@ -54,8 +54,8 @@ impl Share for Watched {
         }
     }
 
-    fn short_hint(&self) -> Hint {
-        self.hint()
+    fn short_hint(&self) -> ShortHint {
+        self.hint().short()
     }
 
     fn summary(&self) -> Note {

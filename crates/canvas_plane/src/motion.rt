@@ -210,25 +210,20 @@ fn flip(flip: bool, point: Point) -> Point
     }
 }
 
+// Both steps are choices between values, not jumps: the quarters of shapes that a walk comes to are as good as random.
 fn turn(quarter: u8, point: Point) -> Point
     requires quarters { quarter ≤ 3 }
     requires within { size_of point ≤ 2 ^ 27 }
     ensures value { result ≡ turned quarter point }
     ensures size { size_of result ≡ size_of point }
 {
-    match quarter {
-        0 => point,
-        1 => Point {
+    let once = if quarter % 2 == 1 {
+        Point {
             x: -point.y,
             y: point.x,
-        },
-        2 => Point {
-            x: -point.x,
-            y: -point.y,
-        },
-        _ => Point {
-            x: point.y,
-            y: -point.x,
-        },
-    }
+        }
+    } else {
+        point
+    };
+    if quarter >= 2 { opposite(once) } else { once }
 }

@@ -106,7 +106,14 @@ fn is_out_of_sight(shape: &Record, page: &Pose, clip: &PageBox, shown: &Shown<'_
     ensures nothing { IsTrue result → (inner : Option Colour) (x y : ℤ) → first_fill shown.now x y ≡ or_else (first_fill shown.now x y) (seen (is_in clip.now x y) (shape_answer shape.now (holds_of shape.now.kind (carry page.now) x y) inner)) }
     ensures shown { result ≡ false → shape.now.hidden ≡ false }
 {
-    shape.hidden || shown.hides(&part_of(&shape.kind, page, clip))
+    if shape.hidden {
+        return true;
+    }
+    match shape.kind {
+        // Its part is the whole clip, of which the walk has asked whenever something more was shown.
+        Kind::Group => false,
+        _ => shown.hides(&part_of(&shape.kind, page, clip)),
+    }
 }
 
 // Adds the node of a shape with all below it, of which something may be seen, to those in front of

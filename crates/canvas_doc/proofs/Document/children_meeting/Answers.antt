@@ -1,4 +1,4 @@
-use Rattle.std.proofs.Common.{◌≡◌, ◌<◌, ◌∙◌, ◌+◌, ◌-◌, ◌++◌, [], ◌∷◌, ℕ, All, List, arith, ap, drop, length, map, refl, subst, sym, take}
+use Rattle.std.proofs.Common.{◌≡◌, ◌<◌, ◌≤◌, ◌∙◌, ◌+◌, ◌-◌, ◌++◌, [], ◌∷◌, ℕ, All, List, arith, ap, drop, length, map, refl, subst, sym, take}
 use Rattle.std.proofs.lemmas.List.{map-append}
 use Rattle.canvas_doc.specs.declared.bounds.Bounds.{Bounds}
 use Rattle.canvas_doc.specs.declared.placed_shapes.PlacedShape.{PlacedShape}
@@ -17,24 +17,14 @@ use Rattle.canvas_doc.proofs.Document.children_meeting.Goals as goal
 pub walk-init : goal.walk-init
 walk-init g c =
     let now : Contents = c.args.self.now in
-    let order : List Record = c.self.inside.order.shapes in
-    let bounds : List Bounds = c.self.inside.order.bounds in
     let start : ℕ = c.children_of-start.result.start in
-    let at : ℕ = c.next_meeting-at.result in
-    let keeps : IsKeptInOrder now order bounds = subst (λ (d : Contents). IsKeptInOrder d order bounds) c.self.view_is c.self.invariant in
     let none : 0 ≡ start - start = omega arith in
-    let begun : AreInSight now.records c.args.out.now c.args.clip.now [] (take (start - start) (drop start order)) =
-    subst (λ (n : ℕ). AreInSight now.records c.args.out.now c.args.clip.now [] (take n (drop start order))) none (none-seen now.records c.args.out.now c.args.clip.now) in
-    let gone : AreInSight now.records c.args.out.now c.args.clip.now [] (take (at - start) (drop start order)) =
-    sight-kept now c.children_of-start.result.reader c.children_of-start.result.reader c.self.inside.order c.children_of-start.ensures.reader refl keeps c.args.out.now c.args.clip.now c.of_clip-area.result c.requires.quarter c.of_clip-area.ensures
-    start at c.next_meeting-at.ensures.from (omega (arith, c.next_meeting-at.ensures.upto, c.children_of-start.ensures.children.bound)) c.next_meeting-at.ensures.apart [] start (omega arith) begun in
-    let shapes : map shape_of c.next_meeting-at.new.self ≡ order = ap (map shape_of) c.next_meeting-at.ensures.same ∙ ap (λ (p : Placements). p.shapes) c.children_of-start.ensures.reader in
     record {
       reader = refl;
-      from = c.next_meeting-at.ensures.from;
-      upto = c.next_meeting-at.ensures.upto;
-      seen = subst (λ (l : List Record). AreInSight now.records c.args.out.now c.args.clip.now l (take (at - start) (drop start (map shape_of c.next_meeting-at.new.self)))) (sym (ap (map record_of) c.in_ok-seen.ensures.items))
-          (subst (λ (l : List Record). AreInSight now.records c.args.out.now c.args.clip.now [] (take (at - start) (drop start l))) (sym shapes) gone);
+      from = omega arith;
+      upto = c.children_of-start.ensures.children.from;
+      seen = subst (λ (l : List Record). AreInSight now.records c.args.out.now c.args.clip.now l (take (start - start) (drop start (map shape_of c.children_of-start.result.reader)))) (sym (ap (map record_of) c.in_ok-seen.ensures.items))
+          (subst (λ (n : ℕ). AreInSight now.records c.args.out.now c.args.clip.now [] (take n (drop start (map shape_of c.children_of-start.result.reader)))) none (none-seen now.records c.args.out.now c.args.clip.now));
     }
 
 pub walk-preserved : goal.walk-preserved
@@ -44,47 +34,67 @@ walk-preserved g c =
     let bounds : List Bounds = c.self.inside.order.bounds in
     let start : ℕ = c.children_of-start.result.start in
     let at : ℕ = c.walk.at in
-    let next : ℕ = c.next_meeting-at-in-walk.result in
-    let x : PlacedShape = c.at.result.now in
+    let next : ℕ = c.next_meeting-at.result in
     let seen : List Record = map record_of c.walk.seen.items in
     let keeps : IsKeptInOrder now order bounds = subst (λ (d : Contents). IsKeptInOrder d order bounds) c.self.view_is c.self.invariant in
-    let shapes : map shape_of c.next_meeting-at.new.self ≡ order = ap (map shape_of) c.next_meeting-at.ensures.same ∙ ap (λ (p : Placements). p.shapes) c.children_of-start.ensures.reader in
-    let same : c.walk.reader ≡ c.children_of-start.result.reader = c.walk.invariant.reader ∙ c.next_meeting-at.ensures.same in
-    let within : at < length order = omega (arith, c.children_of-start.ensures.children.bound, c.walk-test.true) in
-    let here : StandsThere order bounds start at x.shape x.bounds =
-    stands-there c.children_of-start.result.reader c.walk.reader c.self.inside.order start at x c.children_of-start.ensures.reader same c.walk.invariant.from within c.at.ensures.item in
-    let all : List Record = take (at - start) (drop start order) in
-    let before : AreInSight now.records c.args.out.now c.args.clip.now seen all =
-    subst (λ (l : List Record). AreInSight now.records c.args.out.now c.args.clip.now seen (take (at - start) (drop start l))) shapes c.walk.invariant.seen in
+    let shapes : map shape_of c.children_of-start.result.reader ≡ order = ap (λ (p : Placements). p.shapes) c.children_of-start.ensures.reader in
+    let gone : AreInSight now.records c.args.out.now c.args.clip.now seen (take (next - start) (drop start order)) =
+    sight-kept now c.children_of-start.result.reader c.walk.reader c.self.inside.order c.children_of-start.ensures.reader c.walk.invariant.reader keeps c.args.out.now c.args.clip.now c.of_clip-area.result c.requires.quarter c.of_clip-area.ensures
+    at next c.next_meeting-at.ensures.from (omega (arith, c.next_meeting-at.ensures.upto, c.children_of-start.ensures.children.bound)) c.next_meeting-at.ensures.apart seen start c.walk.invariant.from
+    (subst (λ (l : List Record). AreInSight now.records c.args.out.now c.args.clip.now seen (take (at - start) (drop start l))) shapes c.walk.invariant.seen) in
+    record {
+      reader = c.next_meeting-at.ensures.same ∙ c.walk.invariant.reader;
+      from = omega (arith, c.walk.invariant.from, c.next_meeting-at.ensures.from);
+      upto = c.next_meeting-at.ensures.upto;
+      seen = subst (λ (l : List Record). AreInSight now.records c.args.out.now c.args.clip.now seen (take (next - start) (drop start l))) (sym shapes) gone;
+    }
+
+pub walk-preserved-then-at-end : goal.walk-preserved-then-at-end
+walk-preserved-then-at-end g c =
+    let now : Contents = c.args.self.now in
+    let order : List Record = c.self.inside.order.shapes in
+    let bounds : List Bounds = c.self.inside.order.bounds in
+    let start : ℕ = c.children_of-start.result.start in
+    let at : ℕ = c.walk.at in
+    let next : ℕ = c.next_meeting-at.result in
+    let seen : List Record = map record_of c.walk.seen.items in
+    let keeps : IsKeptInOrder now order bounds = subst (λ (d : Contents). IsKeptInOrder d order bounds) c.self.view_is c.self.invariant in
+    let shapes : map shape_of c.children_of-start.result.reader ≡ order = ap (λ (p : Placements). p.shapes) c.children_of-start.ensures.reader in
+    let gone : AreInSight now.records c.args.out.now c.args.clip.now seen (take (next - start) (drop start order)) =
+    sight-kept now c.children_of-start.result.reader c.walk.reader c.self.inside.order c.children_of-start.ensures.reader c.walk.invariant.reader keeps c.args.out.now c.args.clip.now c.of_clip-area.result c.requires.quarter c.of_clip-area.ensures
+    at next c.next_meeting-at.ensures.from (omega (arith, c.next_meeting-at.ensures.upto, c.children_of-start.ensures.children.bound)) c.next_meeting-at.ensures.apart seen start c.walk.invariant.from
+    (subst (λ (l : List Record). AreInSight now.records c.args.out.now c.args.clip.now seen (take (at - start) (drop start l))) shapes c.walk.invariant.seen) in
+    let x : PlacedShape = c.at.result.now in
+    let from : start ≤ next = omega (arith, c.walk.invariant.from, c.next_meeting-at.ensures.from) in
+    let within : next < length order = omega (arith, c.children_of-start.ensures.children.bound, c.if-at-end.true) in
+    let here : StandsThere order bounds start next x.shape x.bounds =
+    stands-there c.children_of-start.result.reader c.next_meeting-at.new.self c.self.inside.order start next x c.children_of-start.ensures.reader (c.next_meeting-at.ensures.same ∙ c.walk.invariant.reader) from within c.at.ensures.item in
+    let all : List Record = take (next - start) (drop start order) in
     let pushed : seen ++ x.shape ∷ [] ≡ map record_of c.push.new.self.items =
     ap (λ (r : Record). seen ++ r ∷ []) (sym c.value.ensures)
     ∙ sym (map-append record_of c.walk.seen.items (c.value.result ∷ []))
     ∙ ap (map record_of) (sym c.in_ok-push.ensures.items) in
-    let met : AreInSight now.records c.args.out.now c.args.clip.now (map record_of c.push.new.self.items) (take (at + 1 - start) (drop start order)) =
+    let met : AreInSight now.records c.args.out.now c.args.clip.now (map record_of c.push.new.self.items) (take (next + 1 - start) (drop start order)) =
     subst (λ (l : List Record). AreInSight now.records c.args.out.now c.args.clip.now (map record_of c.push.new.self.items) l) (sym here.more)
-    (subst (λ (l : List Record). AreInSight now.records c.args.out.now c.args.clip.now l (all ++ x.shape ∷ [])) pushed (one-seen now.records c.args.out.now c.args.clip.now seen all x.shape before)) in
-    let gone : AreInSight now.records c.args.out.now c.args.clip.now (map record_of c.push.new.self.items) (take (next - start) (drop start order)) =
-    sight-kept now c.children_of-start.result.reader c.at.new.self c.self.inside.order c.children_of-start.ensures.reader (c.at.ensures.same ∙ same) keeps c.args.out.now c.args.clip.now c.of_clip-area.result c.requires.quarter c.of_clip-area.ensures
-    (at + 1) next c.next_meeting-at-in-walk.ensures.from (omega (arith, c.next_meeting-at-in-walk.ensures.upto, c.children_of-start.ensures.children.bound)) c.next_meeting-at-in-walk.ensures.apart
-    (map record_of c.push.new.self.items) start (omega (arith, c.walk.invariant.from)) met in
+    (subst (λ (l : List Record). AreInSight now.records c.args.out.now c.args.clip.now l (all ++ x.shape ∷ [])) pushed (one-seen now.records c.args.out.now c.args.clip.now seen all x.shape gone)) in
     record {
-      reader = c.next_meeting-at-in-walk.ensures.same ∙ c.at.ensures.same ∙ c.walk.invariant.reader;
-      from = omega (arith, c.walk.invariant.from, c.next_meeting-at-in-walk.ensures.from);
-      upto = c.next_meeting-at-in-walk.ensures.upto;
-      seen = subst (λ (l : List Record). AreInSight now.records c.args.out.now c.args.clip.now (map record_of c.push.new.self.items) (take (next - start) (drop start l))) (sym shapes) gone;
+      reader = c.at.ensures.same ∙ c.next_meeting-at.ensures.same ∙ c.walk.invariant.reader;
+      from = omega (arith, from);
+      upto = omega (arith, c.if-at-end.true);
+      seen = subst (λ (l : List Record). AreInSight now.records c.args.out.now c.args.clip.now (map record_of c.push.new.self.items) (take (next + 1 - start) (drop start l))) (sym shapes) met;
     }
 
 pub returns-clause-part : goal.returns-clause-part
 returns-clause-part g c =
     (children-in_sight (record { records = c.self.inside.records; next = c.self.inside.next }) c.args.self.now c.self.inside.order.shapes c.self.inside.order.bounds c.self.invariant c.self.view_is c.args.parent c.args.out.now c.args.clip.now
     (map record_of c.walk.seen.items) c.children_of-start.result.start c.walk.at c.children_of-start.result.end c.children_of-start.ensures.children (omega (arith, c.walk.invariant.upto, c.walk-test.false))
-    (subst (λ (l : List Record). AreInSight c.args.self.now.records c.args.out.now c.args.clip.now (map record_of c.walk.seen.items) (take (c.walk.at - c.children_of-start.result.start) (drop c.children_of-start.result.start l))) (ap (map shape_of) c.next_meeting-at.ensures.same ∙ ap (λ (p : Placements). p.shapes) c.children_of-start.ensures.reader) c.walk.invariant.seen)).part
+    (subst (λ (l : List Record). AreInSight c.args.self.now.records c.args.out.now c.args.clip.now (map record_of c.walk.seen.items) (take (c.walk.at - c.children_of-start.result.start) (drop c.children_of-start.result.start l))) (ap (λ (p : Placements). p.shapes) c.children_of-start.ensures.reader) c.walk.invariant.seen)).part
 
 pub returns-clause-answers : goal.returns-clause-answers
 returns-clause-answers g c =
     (children-in_sight (record { records = c.self.inside.records; next = c.self.inside.next }) c.args.self.now c.self.inside.order.shapes c.self.inside.order.bounds c.self.invariant c.self.view_is c.args.parent c.args.out.now c.args.clip.now
     (map record_of c.walk.seen.items) c.children_of-start.result.start c.walk.at c.children_of-start.result.end c.children_of-start.ensures.children (omega (arith, c.walk.invariant.upto, c.walk-test.false))
-    (subst (λ (l : List Record). AreInSight c.args.self.now.records c.args.out.now c.args.clip.now (map record_of c.walk.seen.items) (take (c.walk.at - c.children_of-start.result.start) (drop c.children_of-start.result.start l))) (ap (map shape_of) c.next_meeting-at.ensures.same ∙ ap (λ (p : Placements). p.shapes) c.children_of-start.ensures.reader) c.walk.invariant.seen)).answers
+    (subst (λ (l : List Record). AreInSight c.args.self.now.records c.args.out.now c.args.clip.now (map record_of c.walk.seen.items) (take (c.walk.at - c.children_of-start.result.start) (drop c.children_of-start.result.start l))) (ap (λ (p : Placements). p.shapes) c.children_of-start.ensures.reader) c.walk.invariant.seen)).answers
 
 pub returns-clause-limits : goal.returns-clause-limits
 returns-clause-limits g c =
@@ -92,6 +102,6 @@ returns-clause-limits g c =
     let seen : AreInSight rs c.args.out.now c.args.clip.now (map record_of c.walk.seen.items) (children c.args.parent rs) =
     children-in_sight (record { records = c.self.inside.records; next = c.self.inside.next }) c.args.self.now c.self.inside.order.shapes c.self.inside.order.bounds c.self.invariant c.self.view_is c.args.parent c.args.out.now c.args.clip.now
     (map record_of c.walk.seen.items) c.children_of-start.result.start c.walk.at c.children_of-start.result.end c.children_of-start.ensures.children (omega (arith, c.walk.invariant.upto, c.walk-test.false))
-    (subst (λ (l : List Record). AreInSight c.args.self.now.records c.args.out.now c.args.clip.now (map record_of c.walk.seen.items) (take (c.walk.at - c.children_of-start.result.start) (drop c.children_of-start.result.start l))) (ap (map shape_of) c.next_meeting-at.ensures.same ∙ ap (λ (p : Placements). p.shapes) c.children_of-start.ensures.reader) c.walk.invariant.seen) in
+    (subst (λ (l : List Record). AreInSight c.args.self.now.records c.args.out.now c.args.clip.now (map record_of c.walk.seen.items) (take (c.walk.at - c.children_of-start.result.start) (drop c.children_of-start.result.start l))) (ap (λ (p : Placements). p.shapes) c.children_of-start.ensures.reader) c.walk.invariant.seen) in
     let limits : All IsInLimits rs = subst (λ (d : Contents). All IsInLimits d.records) c.self.view_is c.self.invariant.well_formed.limits in
     all-by_reference IsInLimits c.walk.seen.items (part-all IsInLimits (map record_of c.walk.seen.items) (children c.args.parent rs) (all-children IsInLimits c.args.parent rs limits) seen.part)

@@ -1,58 +1,60 @@
-use Rattle.std.proofs.Common.{◌≡◌, ◌∙◌, ◌-◌, ◌+◌, ◌<◌, ◌++◌, List, IfOk, ap, subst, arith, length, take, drop}
+use Rattle.std.proofs.Common.{◌≡◌, ◌∙◌, ◌-◌, ◌+◌, ◌<◌, ◌++◌, List, IfOk, refl, ap, subst, arith, length, take, drop}
 use Rattle.std.specs.List.{insert, remove}
 use Rattle.std.proofs.lemmas.List.Edits.{length-insert, length-remove}
 use Rattle.canvas_list.specs.Chunks.{joined}
-use Rattle.canvas_list.proofs.Blocks.{one-counted}
+use Rattle.canvas_list.proofs.Blocks.{of-block}
 use Rattle.canvas_list.proofs.Joined.{has-chunk, len-is, search-some}
-use Rattle.canvas_list.proofs.Spliced.{moved, of-spot, sum-parts, IsOfSpot}
+use Rattle.canvas_list.proofs.Spliced.{moved, sum-parts, IsOfSpot}
 use Rattle.canvas_list.proofs.Ends.{end-read, few-after, room-after}
 use Rattle.canvas_list.proofs.chunks.Chunks.with_moved.Goals as goal
 
-pub remove-requires : goal.remove-requires
-remove-requires g c =
-    let p : IsOfSpot c.self.inside.chunks.items c.args.self.now c.spot_of-spot.result.chunk c.spot_of-spot.result.start c.args.from c.in_ok-items.items.items = of-spot c.self.inside.chunks.items c.deref-2.result.now c.deref.result.now c.args.self.now c.self.inside.count c.spot_of-spot.result.chunk c.spot_of-spot.result.start c.args.from c.in_ok-items.items.items c.self.invariant c.deref.ensures.value c.spot_of-spot.ensures c.self.view_is c.deref-2.ensures.value c.in_ok-items.ensures in
-    omega (arith, p.place.before c.requires.from, c.in_ok-items.items.ok)
+pub items_but-requires : goal.items_but-requires
+items_but-requires g c =
+    let p : IsOfSpot c.self.inside.chunks.items c.args.self.now c.spot_of-spot.result.chunk c.spot_of-spot.result.start c.args.from c.index-chunk.result.now = of-block c.self.inside.chunks.items c.deref.result.now c.args.self.now c.self.inside.count c.spot_of-spot.result.chunk c.spot_of-spot.result.start c.args.from c.index-chunk.result.now c.index-chunk.result.now c.self.invariant c.deref.ensures.value c.spot_of-spot.ensures c.self.view_is c.index-chunk.ensures refl in
+    p.place.before c.requires.from
 
 pub insert-requires : goal.insert-requires
 insert-requires g c =
-    let p : IsOfSpot c.self.inside.chunks.items c.args.self.now c.spot_of-spot.result.chunk c.spot_of-spot.result.start c.args.from c.in_ok-items.items.items = of-spot c.self.inside.chunks.items c.deref-2.result.now c.deref.result.now c.args.self.now c.self.inside.count c.spot_of-spot.result.chunk c.spot_of-spot.result.start c.args.from c.in_ok-items.items.items c.self.invariant c.deref.ensures.value c.spot_of-spot.ensures c.self.view_is c.deref-2.ensures.value c.in_ok-items.ensures in
-    let high : c.args.to - c.spot_of-spot.result.start < length c.in_ok-items.items.items = omega (arith, one-counted c.self.inside.chunks.items c.deref-2.result.now c.spot_of-spot.result.chunk c.index.result.now c.in_ok-items.items.items p.within c.deref-2.ensures.value c.index.ensures c.in_ok-items.ensures, c.count-count.ensures.count, c.if-to-spot-2.false) in
-    omega (arith, high, c.remove.new.self.ok, ap length c.remove.ensures.items, length-remove c.in_ok-items.items.items (c.args.from - c.spot_of-spot.result.start) (p.place.before c.requires.from))
+    let p : IsOfSpot c.self.inside.chunks.items c.args.self.now c.spot_of-spot.result.chunk c.spot_of-spot.result.start c.args.from c.index-chunk.result.now = of-block c.self.inside.chunks.items c.deref.result.now c.args.self.now c.self.inside.count c.spot_of-spot.result.chunk c.spot_of-spot.result.start c.args.from c.index-chunk.result.now c.index-chunk.result.now c.self.invariant c.deref.ensures.value c.spot_of-spot.ensures c.self.view_is c.index-chunk.ensures refl in
+    let high : c.args.to - c.spot_of-spot.result.start < length c.index-chunk.result.now = omega (arith, c.count.ensures.count, c.if-to-spot-2.false) in
+    let left : List g.row.T.Denot = remove c.index-chunk.result.now (c.args.from - c.spot_of-spot.result.start) in
+    let fewer : length left + 1 ≡ length c.index-chunk.result.now = omega (arith, length-remove c.index-chunk.result.now (c.args.from - c.spot_of-spot.result.start) (p.place.before c.requires.from), p.place.before c.requires.from) in
+    omega (arith, high, fewer, c.in_ok-items.items.ok, ap length c.in_ok-items.ensures)
 
 pub spliced-requires-clause-small : goal.spliced-requires-clause-small
 spliced-requires-clause-small g c =
-    let p : IsOfSpot c.self.inside.chunks.items c.args.self.now c.spot_of-spot.result.chunk c.spot_of-spot.result.start c.args.from c.in_ok-items.items.items = of-spot c.self.inside.chunks.items c.deref-2.result.now c.deref.result.now c.args.self.now c.self.inside.count c.spot_of-spot.result.chunk c.spot_of-spot.result.start c.args.from c.in_ok-items.items.items c.self.invariant c.deref.ensures.value c.spot_of-spot.ensures c.self.view_is c.deref-2.ensures.value c.in_ok-items.ensures in
-    let high : c.args.to - c.spot_of-spot.result.start < length c.in_ok-items.items.items = omega (arith, one-counted c.self.inside.chunks.items c.deref-2.result.now c.spot_of-spot.result.chunk c.index.result.now c.in_ok-items.items.items p.within c.deref-2.ensures.value c.index.ensures c.in_ok-items.ensures, c.count-count.ensures.count, c.if-to-spot-2.false) in
-    let left : List g.row.T.Denot = remove c.in_ok-items.items.items (c.args.from - c.spot_of-spot.result.start) in
-    let fewer : length left + 1 ≡ length c.in_ok-items.items.items = omega (arith, length-remove c.in_ok-items.items.items (c.args.from - c.spot_of-spot.result.start) (p.place.before c.requires.from), p.place.before c.requires.from) in
+    let p : IsOfSpot c.self.inside.chunks.items c.args.self.now c.spot_of-spot.result.chunk c.spot_of-spot.result.start c.args.from c.index-chunk.result.now = of-block c.self.inside.chunks.items c.deref.result.now c.args.self.now c.self.inside.count c.spot_of-spot.result.chunk c.spot_of-spot.result.start c.args.from c.index-chunk.result.now c.index-chunk.result.now c.self.invariant c.deref.ensures.value c.spot_of-spot.ensures c.self.view_is c.index-chunk.ensures refl in
+    let high : c.args.to - c.spot_of-spot.result.start < length c.index-chunk.result.now = omega (arith, c.count.ensures.count, c.if-to-spot-2.false) in
+    let left : List g.row.T.Denot = remove c.index-chunk.result.now (c.args.from - c.spot_of-spot.result.start) in
+    let fewer : length left + 1 ≡ length c.index-chunk.result.now = omega (arith, length-remove c.index-chunk.result.now (c.args.from - c.spot_of-spot.result.start) (p.place.before c.requires.from), p.place.before c.requires.from) in
     omega (
       arith,
       fewer,
       ap length c.in_ok-insert.ensures.items,
-      ap length c.remove.ensures.items,
-      length-insert c.remove.new.self.items (c.args.to - c.spot_of-spot.result.start) c.args.item (omega (arith, high, fewer, ap length c.remove.ensures.items)),
+      ap length c.in_ok-items.ensures,
+      length-insert c.in_ok-items.items.items (c.args.to - c.spot_of-spot.result.start) c.args.item (omega (arith, high, fewer, ap length c.in_ok-items.ensures)),
       len-is c.self.inside.chunks.items c.self.inside.count c.args.self.now c.self.invariant c.self.view_is,
       c.self.invariant.is_small,
-      sum-parts c.self.inside.chunks.items c.deref-3.result.now c.args.self.now c.spot_of-spot.result.chunk (c.spot_of-spot.result.chunk + 1) c.spot_of-spot.result.start c.in_ok-items.items.items p.part c.deref-3.ensures.value,
+      sum-parts c.self.inside.chunks.items c.deref-2.result.now c.args.self.now c.spot_of-spot.result.chunk (c.spot_of-spot.result.chunk + 1) c.spot_of-spot.result.start c.index-chunk.result.now p.part c.deref-2.ensures.value,
     )
 
 pub returns : goal.returns
 returns g c =
-    let p : IsOfSpot c.self.inside.chunks.items c.args.self.now c.spot_of-spot.result.chunk c.spot_of-spot.result.start c.args.from c.in_ok-items.items.items = of-spot c.self.inside.chunks.items c.deref-2.result.now c.deref.result.now c.args.self.now c.self.inside.count c.spot_of-spot.result.chunk c.spot_of-spot.result.start c.args.from c.in_ok-items.items.items c.self.invariant c.deref.ensures.value c.spot_of-spot.ensures c.self.view_is c.deref-2.ensures.value c.in_ok-items.ensures in
-    let high : c.args.to - c.spot_of-spot.result.start < length c.in_ok-items.items.items = omega (arith, one-counted c.self.inside.chunks.items c.deref-2.result.now c.spot_of-spot.result.chunk c.index.result.now c.in_ok-items.items.items p.within c.deref-2.ensures.value c.index.ensures c.in_ok-items.ensures, c.count-count.ensures.count, c.if-to-spot-2.false) in
+    let p : IsOfSpot c.self.inside.chunks.items c.args.self.now c.spot_of-spot.result.chunk c.spot_of-spot.result.start c.args.from c.index-chunk.result.now = of-block c.self.inside.chunks.items c.deref.result.now c.args.self.now c.self.inside.count c.spot_of-spot.result.chunk c.spot_of-spot.result.start c.args.from c.index-chunk.result.now c.index-chunk.result.now c.self.invariant c.deref.ensures.value c.spot_of-spot.ensures c.self.view_is c.index-chunk.ensures refl in
+    let high : c.args.to - c.spot_of-spot.result.start < length c.index-chunk.result.now = omega (arith, c.count.ensures.count, c.if-to-spot-2.false) in
     let new : List g.row.T.Denot = c.insert.new.self.items in
-    let is : new ≡ insert (remove c.in_ok-items.items.items (c.args.from - c.spot_of-spot.result.start)) (c.args.to - c.spot_of-spot.result.start) c.args.item =
-    c.in_ok-insert.ensures.items ∙ ap (λ l. insert l (c.args.to - c.spot_of-spot.result.start) c.args.item) c.remove.ensures.items in
-    let same : joined (take c.spot_of-spot.result.chunk c.deref-3.result.now) ++ new ++ joined (drop (c.spot_of-spot.result.chunk + 1) c.deref-3.result.now) ≡ insert (remove c.args.self.now c.args.from) c.args.to c.args.item =
-    moved c.self.inside.chunks.items c.deref-3.result.now c.args.self.now c.spot_of-spot.result.chunk (c.spot_of-spot.result.chunk + 1) c.spot_of-spot.result.start c.args.from c.args.to c.in_ok-items.items.items new c.args.item p.part p.place c.deref-3.ensures.value is c.requires.from (omega (arith, c.if-to-spot.false)) high in
+    let is : new ≡ insert (remove c.index-chunk.result.now (c.args.from - c.spot_of-spot.result.start)) (c.args.to - c.spot_of-spot.result.start) c.args.item =
+    c.in_ok-insert.ensures.items ∙ ap (λ l. insert l (c.args.to - c.spot_of-spot.result.start) c.args.item) c.in_ok-items.ensures in
+    let same : joined (take c.spot_of-spot.result.chunk c.deref-2.result.now) ++ new ++ joined (drop (c.spot_of-spot.result.chunk + 1) c.deref-2.result.now) ≡ insert (remove c.args.self.now c.args.from) c.args.to c.args.item =
+    moved c.self.inside.chunks.items c.deref-2.result.now c.args.self.now c.spot_of-spot.result.chunk (c.spot_of-spot.result.chunk + 1) c.spot_of-spot.result.start c.args.from c.args.to c.index-chunk.result.now new c.args.item p.part p.place c.deref-2.ensures.value is c.requires.from (omega (arith, c.if-to-spot.false)) high in
     subst (λ (l : List g.row.T.Denot). IfOk c.spliced.result (λ (list : List g.row.T.Denot). list ≡ l)) same c.spliced.ensures
 
 pub spot_of-spot-requires : goal.spot_of-spot-requires
 spot_of-spot-requires g c =
     search-some c.self.inside.chunks.items c.deref.result.now c.deref.ensures.value (has-chunk c.self.inside.chunks.items c.args.self.now c.args.from c.self.view_is c.requires.from)
 
-pub slice_bounds-items_of-end : goal.slice_bounds-items_of-end
-slice_bounds-items_of-end g c = end-read c.self.inside.chunks.items c.deref-2.result.now c.deref.result.now c.spot_of-spot.result.chunk c.deref-2.ensures.value c.deref.ensures.value c.spot_of-spot.ensures.within
+pub spliced-requires-clause-end : goal.spliced-requires-clause-end
+spliced-requires-clause-end g c = end-read c.self.inside.chunks.items c.deref-2.result.now c.deref.result.now c.spot_of-spot.result.chunk c.deref-2.ensures.value c.deref.ensures.value c.spot_of-spot.ensures.within
 
 pub overflow_sub-from : goal.overflow_sub-from
 overflow_sub-from g c = c.spot_of-spot.ensures.from
