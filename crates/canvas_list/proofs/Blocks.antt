@@ -11,10 +11,6 @@ one-part cs k c h =
     let one : k + 1 - k ≡ 1 = omega arith in
     ap (λ n. joined (take n (drop k cs))) one ∙ ap (λ l. joined (take 1 l)) (drop_more cs k c h) ∙ append-nil (get_or cs k c)
 
--- so many items are read of one chunk
-pub one-counted : {X : Type 0} (cs ds : List (List X)) (k : ℕ) (c items : List X) → k < length cs → ds ≡ cs → c ≡ get_or cs k c → items ≡ joined (slice_range ds k (k + 1)) → length items ≡ length c
-one-counted cs ds k c items h e is read = ap length (read ∙ ap (λ l. joined (slice_range l k (k + 1))) e ∙ one-part cs k c h ∙ sym is)
-
 -- the items of the block of a position
 pub of-block : {X : Type 0} (cs rs : List (List X)) (xs : List X) (n k s at : ℕ) (c items : List X) → IsTable cs n → rs ≡ cs → IsSpot length rs at k s → joined cs ≡ xs → c ≡ get_or cs k c → items ≡ c → IsOfSpot cs xs k s at items
 of-block cs rs xs n k s at c items t e last all is same =

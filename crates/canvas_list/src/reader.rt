@@ -12,8 +12,8 @@ use crate::share::Share;
 use crate::table::SharedList;
 use std::marker::Model;
 
-/// A reader of a list, seen as that list. It holds the chunk of the item that it gave last, that a walk came to, or in
-/// which the search for a range ended, if there was one. Of this it gives another item without a search, as it does of
+/// A reader of a list, seen as that list. It holds the chunk of the item that it gave last, that a walk came to, or to
+/// which the hint of a range's start led, if there was one. Of this it gives another item without a search, as it does of
 /// the next chunk of the same block.
 #[derive(Drop)]
 pub struct Reader<'a, T: Share> {

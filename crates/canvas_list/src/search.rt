@@ -273,8 +273,8 @@ impl<T: Share> Run<'_, T> {
     }
 }
 
-// How many items come before a hint by their own. All of a chunk are asked, which is quicker than by halves: no step of it
-// waits for a choice that can't be foreseen.
+// How many items come before a hint by their own. All of a chunk are asked, and no step of it waits for a choice that can't
+// be foreseen, as by halves. That is meant for hints that are told without a look at what is shared.
 #[inline(always)]
 fn count_before<T: Share>(items: &[T], hint: ShortHint) -> usize
     ensures { result ≤ length items.now }
