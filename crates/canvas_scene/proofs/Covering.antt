@@ -49,6 +49,25 @@ hidden false a o h = or_else-none a
 pub hidden-box : (items : List Item) (box : PageBox) (o : Option Colour) (x y : ℤ) → IsHidden items box → first_fill items x y ≡ or_else (first_fill items x y) (seen (is_in box x y) o)
 hidden-box items box o x y h = hidden (is_in box x y) (first_fill items x y) o (h x y)
 
+-- what lies in a hidden box where it lies in its clip is not seen
+pub hidden-part : (clip held : Bool) (a o : Option Colour) → (clip ≡ true → held ≡ true → is_filled a ≡ true) → a ≡ or_else a (seen clip (seen held o))
+hidden-part true true a o h = filled-stays a o (h refl refl)
+hidden-part true false a o h = or_else-none a
+hidden-part false true a o h = or_else-none a
+hidden-part false false a o h = or_else-none a
+
+-- what both boxes hold is held by what they have in common
+pub in-both : (common clip box : Bool) → common ≡ (clip && box) → clip ≡ true → box ≡ true → common ≡ true
+in-both common true true e h g = e
+in-both common true false e h g = cc
+in-both common false box e h g = cc
+
+pub swapped : (a b : Bool) → (a && b) ≡ (b && a)
+swapped true true = refl
+swapped true false = refl
+swapped false true = refl
+swapped false false = refl
+
 cut-twice : (held box clip : Bool) (o : Option Colour) → (held ≡ true → box ≡ true) → seen (box && clip) (seen held o) ≡ seen clip (seen held o)
 cut-twice true true clip o h = refl
 cut-twice true false clip o h = let z : false ≡ true = h refl in cc

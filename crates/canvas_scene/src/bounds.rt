@@ -6,22 +6,25 @@ ghost use Rattle.canvas_plane.specs.Page.{is_in};
 ghost use Rattle.canvas_shape.specs.Edges.{is_in_polygon};
 ghost use Rattle.canvas_shape.specs.Inside.{AreVertices, IsSound};
 ghost use Rattle.canvas_shape.specs.declared.Colour.{Colour};
+ghost use Rattle.canvas_doc.specs.Contents.{is_container};
 ghost use Rattle.canvas_scene.specs.Nodes.{seen, shown_of};
+ghost use Rattle.canvas_scene.specs.Trees.{clip_of};
 
 use canvas_plane::{PageBox, Point, Pose};
 use canvas_shape::{Carried, Kind, bounds};
 
 /// The part of a clip in which a shape of a kind with all below it may be seen, where `page`
-/// carries its own points to the page.
+/// carries its own points to the page. For the children of a group or a frame it is the clip.
 pub(crate) fn part_of(kind: &Kind, page: &Pose, clip: &PageBox) -> PageBox
     requires kind { IsSound kind.now }
     requires quarter { page.now.quarter ≤ 3 }
     requires reach { reach_of page.now ≤ 2 ^ 26 }
-    ensures { (inner : Option Colour) (x y : ℤ) → seen (is_in result x y) (shown_of kind.now page.now inner x y) ≡ seen (is_in clip.now x y) (shown_of kind.now page.now inner x y) }
+    ensures seen { (inner : Option Colour) (x y : ℤ) → seen (is_in result x y) (shown_of kind.now page.now inner x y) ≡ seen (is_in clip.now x y) (shown_of kind.now page.now inner x y) }
+    ensures clip { is_container kind.now ≡ true → result ≡ clip_of kind.now (carry page.now) clip.now }
 {
     match kind {
         Kind::Group => *clip,
-        Kind::Frame { w, h, .. } => Carried::rect(page, *w, *h).page_box().meet(clip),
+        Kind::Frame { w, h, .. } => clip.meet(&Carried::rect(page, *w, *h).page_box()),
         Kind::Rect { w, h, .. } => Carried::rect(page, *w, *h).page_box().meet(clip),
         Kind::Ellipse { w, h, .. } => Carried::ellipse(page, *w, *h).page_box().meet(clip),
         Kind::Polygon { points, .. } => carried_bounds(page, points.as_slice()).meet(clip),

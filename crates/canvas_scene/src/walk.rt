@@ -7,13 +7,14 @@ ghost use Rattle.canvas_plane.specs.Page.{is_in};
 ghost use Rattle.canvas_shape.specs.Inside.{AreVertices, IsSound, holds_of};
 ghost use Rattle.canvas_shape.specs.declared.Colour.{Colour};
 ghost use Rattle.canvas_shape.specs.Leaves.{carried_holds};
+ghost use Rattle.canvas_doc.specs.Contents.{is_container};
 ghost use Rattle.canvas_doc.specs.Picture.{answer_among, colour, or_else, or_white, shape_answer};
 ghost use Rattle.canvas_doc.specs.declared.records.Parent.TheVariants.{Page, Shape};
 ghost use Rattle.canvas_doc.specs.declared.records.Record.{Record};
 ghost use Rattle.canvas_scene.specs.Clips.{IsClipped};
 ghost use Rattle.canvas_scene.specs.Covers.{first_fill};
 ghost use Rattle.canvas_scene.specs.Nodes.{AreShown, back_item, items_along, seen, shown_of};
-ghost use Rattle.canvas_scene.specs.Trees.{AreNodesOf, IsOneMore, is_leaf_of, is_node_of};
+ghost use Rattle.canvas_scene.specs.Trees.{AreNodesOf, clip_of, IsOneMore, is_leaf_of, is_node_of};
 ghost use Rattle.canvas_scene.specs.declared.item.Item.{Item};
 
 use crate::bounds::part_of;
@@ -84,11 +85,21 @@ fn nodes_among<'a>(
     let mut nodes = Vec::with_capacity(bump, children.len().min(ROOM))?;
     for child in &children {
         let page = child.pose.then(out);
-        if is_out_of_sight(child, &page, clip, shown) {
+        let part = part_of(&child.kind, &page, clip);
+        if is_out_of_sight(child, &page, clip, &part, shown) {
             continue;
         }
         let before = shown.rectangle_count();
-        add_node(document, levels - 1, child, &page, clip, shown, &mut nodes)?;
+        add_node(
+            document,
+            levels - 1,
+            child,
+            &page,
+            clip,
+            &part,
+            shown,
+            &mut nodes,
+        )?;
         if shown.hides_by_last(clip, before) {
             break;
         }
@@ -98,11 +109,15 @@ fn nodes_among<'a>(
 }
 
 // Whether nothing of a shape with all below it may be seen behind what is shown, where `page`
-// carries its own points to the page.
-fn is_out_of_sight(shape: &Record, page: &Pose, clip: &PageBox, shown: &Shown<'_>) -> bool
-    requires kind { IsSound shape.now.kind }
-    requires quarter { page.now.quarter ≤ 3 }
-    requires reach { reach_of page.now ≤ 2 ^ 26 }
+// carries its own points to the page, and `part` is that of the clip in which it may be seen.
+fn is_out_of_sight(
+    shape: &Record,
+    page: &Pose,
+    clip: &PageBox,
+    part: &PageBox,
+    shown: &Shown<'_>,
+) -> bool
+    requires part { (inner : Option Colour) (x y : ℤ) → seen (is_in part.now x y) (shown_of shape.now.kind page.now inner x y) ≡ seen (is_in clip.now x y) (shown_of shape.now.kind page.now inner x y) }
     ensures nothing { IsTrue result → (inner : Option Colour) (x y : ℤ) → first_fill shown.now x y ≡ or_else (first_fill shown.now x y) (seen (is_in clip.now x y) (shape_answer shape.now (holds_of shape.now.kind (carry page.now) x y) inner)) }
     ensures shown { result ≡ false → shape.now.hidden ≡ false }
 {
@@ -112,12 +127,13 @@ fn is_out_of_sight(shape: &Record, page: &Pose, clip: &PageBox, shown: &Shown<'_
     match shape.kind {
         // Its part is the whole clip, of which the walk has asked whenever something more was shown.
         Kind::Group => false,
-        _ => shown.hides(&part_of(&shape.kind, page, clip)),
+        _ => shown.hides(part),
     }
 }
 
 // Adds the node of a shape with all below it, of which something may be seen, to those in front of
-// it. `page` carries its own points to the page. Not inlined, its room is made for such shapes alone.
+// it. `page` carries its own points to the page, and `part` is that of the clip in which it may be
+// seen. Not inlined, its room is made for such shapes alone.
 #[cycle(walk)]
 #[inline(never)]
 fn add_node<'a>(
@@ -126,12 +142,14 @@ fn add_node<'a>(
     shape: &Record,
     page: &Pose,
     clip: &PageBox,
+    part: &PageBox,
     shown: &mut Shown<'a>,
     nodes: &mut Vec<Node<'a>, &'a Bump>,
 ) -> Result<(), OutOfMemory>
     requires kind { IsSound shape.now.kind }
     requires quarter { page.now.quarter ≤ 3 }
     requires reach { reach_of page.now + levels * 2 ^ 20 ≤ 2 ^ 26 }
+    requires part { is_container shape.now.kind ≡ true → part.now ≡ clip_of shape.now.kind (carry page.now) clip.now }
     ensures fills { OnOk result ((x y : ℤ) → first_fill shown.new x y ≡ or_else (first_fill shown.old x y) (seen (is_in clip.now x y) (shown_of shape.now.kind page.now (answer_among levels document.now.records (Shape shape.now.id) (carry page.now) x y) x y))) }
     ensures items { OnOk result ((start : List Item) → AreShown start shown.old nodes.old.items → AreShown start shown.new nodes.new.items) }
     ensures clips { OnOk result (All (IsClipped clip.now) nodes.old.items → All (IsClipped clip.now) nodes.new.items) }
@@ -146,11 +164,9 @@ fn add_node<'a>(
             Ok(())
         }
         Kind::Frame { w, h, fill } => {
-            let leaf = Carried::rect(page, *w, *h);
-            let inner = clip.meet(&leaf.page_box());
-            let children = nodes_among(bump, document, levels, inside, page, &inner, shown)?;
-            let back = back_of(leaf, clip, *fill, shown)?;
-            keep(nodes, branch(inner, back, children))?;
+            let children = nodes_among(bump, document, levels, inside, page, part, shown)?;
+            let back = back_of(Carried::rect(page, *w, *h), clip, part, *fill, shown)?;
+            keep(nodes, branch(*part, back, children))?;
             Ok(())
         }
         Kind::Rect { w, h, fill } => {
@@ -166,13 +182,15 @@ fn add_node<'a>(
     }
 }
 
-// A frame's own item, if it has a fill that may be seen.
+// A frame's own item, if it has a fill that may be seen. `part` is what of its box lies in the clip.
 fn back_of<'a>(
     leaf: Carried<'a>,
     clip: &PageBox,
+    part: &PageBox,
     fill: Option<Colour>,
     shown: &mut Shown<'a>,
 ) -> Result<Option<Item<'a>>, OutOfMemory>
+    requires part { (x y : ℤ) → is_in clip.now x y ≡ true → carried_holds leaf x y ≡ true → is_in part.now x y ≡ true }
     ensures fills { IfOk result (λ back. (x y : ℤ) → first_fill shown.new x y ≡ or_else (first_fill shown.old x y) (seen (is_in clip.now x y) (seen (carried_holds leaf.entry x y) fill))) }
     ensures items { IfOk result (λ back. shown.new ≡ shown.old ++ back_item back) }
     ensures clip { IfOk result (λ back. IfSome back (λ i. i.clip ≡ clip.now)) }
@@ -180,7 +198,7 @@ fn back_of<'a>(
     let Some(fill) = fill else {
         return Ok(None);
     };
-    if shown.hides(&leaf.page_box().meet(clip)) {
+    if shown.hides(part) {
         return Ok(None);
     }
     let item = shown.add(leaf, clip, fill)?;

@@ -1,6 +1,8 @@
-use Rattle.std.proofs.Common.{◌∙◌, refl, sym, ap, arith, cond, rules, ◌+◌, ◌-◌, reverse, None, All, List, map, subst}
+use Rattle.std.proofs.Common.{◌∙◌, refl, sym, ap, arith, rules, ◌+◌, ◌-◌, ◌≡◌, ◌&&◌, ℤ, reverse, None, All, List, map, subst}
 use Rattle.canvas_plane.specs.Motion.{carry}
-use Rattle.canvas_plane.specs.Page.{is_in, meet_of}
+use Rattle.canvas_plane.specs.Page.{is_in}
+use Rattle.canvas_plane.proofs.Boxes.{meet-exact}
+use Rattle.canvas_shape.specs.Box.{box_of}
 use Rattle.canvas_doc.specs.declared.records.Parent.TheVariants.{Shape}
 use Rattle.canvas_doc.specs.Children.{children}
 use Rattle.canvas_doc.specs.Contents.{is_container}
@@ -13,7 +15,7 @@ use Rattle.canvas_scene.specs.Nodes.{items_along, seen, shown_of}
 use Rattle.canvas_scene.specs.Trees.{AreNodesOf, clip_of, is_back_of}
 use Rattle.canvas_scene.proofs.Children.{child-answered, child-unseen, left-more, left-none, left_from, record_of}
 use Rattle.canvas_scene.proofs.Clipping.{all-more, all-reversed, branch-clipped, meet-within}
-use Rattle.canvas_scene.proofs.Covering.{added-child, added-frame, hidden-box}
+use Rattle.canvas_scene.proofs.Covering.{added-child, added-frame, hidden-box, in-both}
 use Rattle.canvas_scene.proofs.Ordered.{frame-back, is-branch, leaf-added, nodes-none, so-far-all, so-far-left_out, so-far-more, so-far-none}
 use Rattle.canvas_scene.proofs.Seen.{list-none, or_else-none, seen-none, seen-same}
 use Rattle.canvas_scene.proofs.walk.+walk.Goals.{nodes_among-then-loop-child-test+else-is_out_of_sight+in_ok-add_node+then-hides_by_last, nodes_among-else-loop-child-test}
@@ -127,13 +129,13 @@ pub add_node-returns-in_ok-keep-in-Frame-clause-tree : goal.add_node-returns-in_
 add_node-returns-in_ok-keep-in-Frame-clause-tree t c =
     let page = carry c.args.page.now in
     let outer = c.args.clip.now in
-    let box = c.page_box.ensures.value ∙ c.rect-leaf.ensures.sides in
+    let container = ap is_container c.in-Frame.is in
     record {
-      node = c.branch-inner.result;
+      node = c.branch-part.result;
       is = c.in_ok-keep-in-Frame.ensures.nodes;
-      has = is-branch c.args.document.now.records c.args.shape.now page outer c.meet-inner.result c.in_ok-back-in-Frame.back c.in_ok-children-in-Frame.children.now c.branch-inner.result (c.branch-inner.ensures.tree c.args.document.now.records)
-          (ap is_container c.in-Frame.is)
-          (c.meet-inner.ensures.value ∙ ap (meet_of outer) box ∙ sym (ap (λ k. clip_of k page outer) c.in-Frame.is))
+      has = is-branch c.args.document.now.records c.args.shape.now page outer c.args.part.now c.in_ok-back-in-Frame.back c.in_ok-children-in-Frame.children.now c.branch-part.result (c.branch-part.ensures.tree c.args.document.now.records)
+          container
+          (c.requires.part container)
           (ap (λ k. is_back_of c.in_ok-back-in-Frame.back k outer) c.in-Frame.is ∙ frame-back c.in_ok-back-in-Frame.back _ _ c.in-Frame.fill outer c.in_ok-back-in-Frame.ensures.clip)
           c.in_ok-children-in-Frame.ensures.tree;
     }
@@ -155,17 +157,32 @@ add_node-returns-in_ok-keep-in-Group-clause-clips t c = λ h.
     all-more (IsClipped c.args.clip.now) c.args.nodes.now.items c.keep.new.nodes.items c.branch-clip.result c.in_ok-keep-in-Group.ensures.nodes h
     (branch-clipped c.args.clip.now c.args.clip.now None c.in_ok-children-in-Group.children.now c.branch-clip.result c.branch-clip.ensures.pixels (λ x y h. h) tt c.in_ok-children-in-Group.ensures.clips)
 
+-- what of a frame's box lies in the clip
+pub add_node-back_of-requires : goal.add_node-back_of-requires
+add_node-back_of-requires t c =
+    let box = box_of (carry c.args.page.now) c.in-Frame.w c.in-Frame.h in
+    record {
+      part = λ x y inside held.
+          in-both (is_in c.args.part.now x y) (is_in c.args.clip.now x y) (is_in box x y)
+          (ap (λ b. is_in b x y) (c.requires.part (ap is_container c.in-Frame.is) ∙ ap (λ k. clip_of k (carry c.args.page.now) c.args.clip.now) c.in-Frame.is) ∙ meet-exact c.args.clip.now box x y)
+          inside (sym (c.rect.ensures.pixels x y) ∙ held);
+    }
+
 pub add_node-returns-in_ok-keep-in-Frame-clause-fills : goal.add_node-returns-in_ok-keep-in-Frame-clause-fills
 add_node-returns-in_ok-keep-in-Frame-clause-fills t c = λ x y.
     let inner = answer_among c.args.levels c.args.document.now.records (Shape c.args.shape.now.id) (carry c.args.page.now) x y in
-    let box = c.page_box.ensures.value ∙ c.rect-leaf.ensures.sides in
-    added-frame (first_fill c.args.shown.now x y) (first_fill c.nodes_among-in-Frame.new.shown x y) (first_fill c.back_of.new.shown x y) c.in-Frame.fill inner (is_in c.args.clip.now x y) (is_in c.page_box.result x y) (is_in c.meet-inner.result x y) (c.meet-inner.ensures.exact x y)
+    let box = box_of (carry c.args.page.now) c.in-Frame.w c.in-Frame.h in
+    let exact : is_in c.args.part.now x y ≡ (is_in c.args.clip.now x y && is_in box x y) =
+    ap (λ b. is_in b x y) (c.requires.part (ap is_container c.in-Frame.is) ∙ ap (λ k. clip_of k (carry c.args.page.now) c.args.clip.now) c.in-Frame.is) ∙ meet-exact c.args.clip.now box x y in
+    added-frame (first_fill c.args.shown.now x y) (first_fill c.nodes_among-in-Frame.new.shown x y) (first_fill c.back_of.new.shown x y) c.in-Frame.fill inner (is_in c.args.clip.now x y) (is_in box x y) (is_in c.args.part.now x y) exact
     (c.in_ok-children-in-Frame.ensures.fills x y)
-    (c.in_ok-back-in-Frame.ensures.fills x y ∙ ap (λ b. or_else (first_fill c.nodes_among-in-Frame.new.shown x y) (seen (is_in c.args.clip.now x y) (seen b c.in-Frame.fill))) (c.rect-leaf.ensures.pixels x y ∙ ap (λ b. is_in b x y) (sym box)))
-    ∙ ap (λ b. or_else (first_fill c.args.shown.now x y) (seen (is_in c.args.clip.now x y) (cond b (or_else inner c.in-Frame.fill) None))) (ap (λ b. is_in b x y) box)
+    (c.in_ok-back-in-Frame.ensures.fills x y ∙ ap (λ b. or_else (first_fill c.nodes_among-in-Frame.new.shown x y) (seen (is_in c.args.clip.now x y) (seen b c.in-Frame.fill))) (c.rect.ensures.pixels x y))
     ∙ ap (λ k. or_else (first_fill c.args.shown.now x y) (seen (is_in c.args.clip.now x y) (shown_of k c.args.page.now inner x y))) (sym c.in-Frame.is)
 
 pub add_node-returns-in_ok-keep-in-Frame-clause-clips : goal.add_node-returns-in_ok-keep-in-Frame-clause-clips
 add_node-returns-in_ok-keep-in-Frame-clause-clips t c = λ h.
-    all-more (IsClipped c.args.clip.now) c.args.nodes.now.items c.keep-in-Frame.new.nodes.items c.branch-inner.result c.in_ok-keep-in-Frame.ensures.nodes h
-    (branch-clipped c.args.clip.now c.meet-inner.result c.in_ok-back-in-Frame.back c.in_ok-children-in-Frame.children.now c.branch-inner.result c.branch-inner.ensures.pixels (meet-within c.args.clip.now c.page_box.result c.meet-inner.result c.meet-inner.ensures.exact) c.in_ok-back-in-Frame.ensures.clip c.in_ok-children-in-Frame.ensures.clips)
+    let box = box_of (carry c.args.page.now) c.in-Frame.w c.in-Frame.h in
+    let exact : (x y : ℤ) → is_in c.args.part.now x y ≡ (is_in c.args.clip.now x y && is_in box x y) =
+    λ x y. ap (λ b. is_in b x y) (c.requires.part (ap is_container c.in-Frame.is) ∙ ap (λ k. clip_of k (carry c.args.page.now) c.args.clip.now) c.in-Frame.is) ∙ meet-exact c.args.clip.now box x y in
+    all-more (IsClipped c.args.clip.now) c.args.nodes.now.items c.keep-in-Frame.new.nodes.items c.branch-part.result c.in_ok-keep-in-Frame.ensures.nodes h
+    (branch-clipped c.args.clip.now c.args.part.now c.in_ok-back-in-Frame.back c.in_ok-children-in-Frame.children.now c.branch-part.result c.branch-part.ensures.pixels (meet-within c.args.clip.now box c.args.part.now exact) c.in_ok-back-in-Frame.ensures.clip c.in_ok-children-in-Frame.ensures.clips)
