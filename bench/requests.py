@@ -1,28 +1,34 @@
 #!/usr/bin/env python3
-"""Times of requests of the built program: rates beside a line counter, how they grow with the document, looks over wide documents, and
-pictures from farther away.
+"""Times of requests of the built program: rates beside a line counter, how they grow with the document, looks over wide documents,
+pictures from farther away, and pictures by several workers.
 
-usage: bench/requests.py [rates|growth|walks|levels ..] [hundreds of thousands of requests for the rates; 1 where it is left out]
+usage: bench/requests.py [rates|growth|walks|levels|workers ..] [hundreds of thousands of requests for the rates; 1 where it is left out]
 
-Without a word it measures all four. The program serves request lines from a file, with one worker. How the figures are got:
+Without a word it measures all five. The program serves request lines from a file or a pipe, with one worker where nothing else is said.
+How the figures are got:
 
 - rates: each workload is a file of request lines, the replies go to a file that is then removed. Printed for each: requests a second, the
   ratio to a line counter (wc -l) over the same file, both the least of three runs, and the greatest size of the program in memory at
   100,000 requests and at a tenth of them, which shows whether memory grows with the number of requests.
-- growth: documents of 10 to 16,384 squares of 10 by 10, each in a tile of its own, on one page and in groups of 63 (the groups count among
-  the records). A request's time is that from the last reply to the edits that make the document until the program has answered the
-  requests and ended, the least of three runs, the replies read from a pipe and thrown away: a small edit (a pose of some square), a mixed edit (a pose, a mark,
-  a new shape's values, a move to the front, a deletion and a new square in turn), and a tile of level 0 that one square meets. Ratios are
-  to the document of 10, and of the greatest to that of 4,096.
-- walks: looks at pixels all over such documents of 10, 4,000 and 16,000 squares, most of which no square holds: points, and patches of one
-  pixel, which cost what a tile's scene does. Times are got as in `growth`.
+- growth: documents of 10 to 16,384 records: squares of 10 by 10, each in a tile of its own, three of them in one group, the others on one page
+  or in groups of 63. A request's time is that from the last reply to the edits that make the document until the program has answered the
+  requests and ended, the least of three runs, the replies read from a pipe and thrown away: a small edit (a pose of some square), a mixed
+  edit (a pose, a mark, another kind, a move to the front, a deletion and a new square, and new indexes for the group of three, in turn), and
+  a tile of level 0 that one square meets. Ratios are to the document of 10, and of the greatest to that of 4,096.
+- walks: looks at pixels all over such documents of 10, 4,000 and 16,000 records, most of which no square holds: points, and patches of one
+  pixel, which cost what a tile's scene does. In shuffled tiles, siblings that stand side by side in the order lie all over the page. Times
+  are got as in `growth`.
 - levels: 16,384 small shapes 128 pixels apart, of which a tile at level k meets 4 to the power of k + 1. Beside it stands the same document
   made 2^k times smaller, of which a tile at level 0 meets as many shapes; of squares it is the same picture byte by byte, which is checked.
   A tile's time is got as in `growth`, the two in turn in one run; printed are both and their ratio.
+- workers: one tile again and again, by up to 1, 2, 4 and 16 workers: a script keeps no pictures. Times are got as in `growth`, the least of
+  three rounds in which the numbers of workers take turns; ratios are to one worker.
 """
 
 import json
+import math
 import os
+import random
 import subprocess
 import sys
 import tempfile
@@ -143,39 +149,59 @@ def measure(name, workload, count, folder):
 
 # -- how times grow with the document ----------------------------------------------------------------------------------
 
+SMALL = 1
+"""The group whose squares get new indexes."""
+OTHERS = SMALL + 1 + 3
+"""Where the numbers of the other records begin, behind those of its three squares."""
+
+
 def is_group(number, in_groups):
-    return in_groups and number % 64 == 1
+    return number == SMALL or in_groups and number >= OTHERS and (number - OTHERS) % 64 == 0
 
 
-def squares(count, in_groups):
-    """Requests for squares, each in a tile of its own, on the page or in groups of 63."""
-    lines = []
+def parent_of(number, in_groups):
+    """The group that a square of a document hangs in, if it is in one."""
+    if number < OTHERS:
+        return SMALL
+    return number - (number - OTHERS) % 64 if in_groups else None
+
+
+def pose_in(tile):
+    return {"dx": tile % EDGE * 256, "dy": tile // EDGE * 256}
+
+
+def squares(count, in_groups, is_shuffled=False):
+    """Requests for squares, each in a tile of its own, three in a group, the others on the page or in groups of 63."""
+    lines, tiles = [], list(range(count + 1))
+    if is_shuffled:
+        random.Random(1).shuffle(tiles)
     for number in range(1, count + 1):
-        parent = number - (number - 1) % 64 if in_groups else None
         if is_group(number, in_groups):
             lines.append({"verb": "create", "shape": {"kind": "group"}})
         else:
-            pose = {"dx": number % EDGE * 256, "dy": number // EDGE * 256}
-            lines.append({**rectangle(number, 10), "pose": pose, "parent": parent})
+            lines.append({**rectangle(number, 10), "pose": pose_in(tiles[number]), "parent": parent_of(number, in_groups)})
     return lines
+
+
+def others(count, in_groups):
+    """The squares outside the small group."""
+    return [number for number in range(OTHERS, count + 1) if not is_group(number, in_groups)]
 
 
 def small_edits(count, in_groups):
     """Poses of the squares, which stay in their tiles."""
-    leaves = [number for number in range(1, count + 1) if not is_group(number, in_groups)]
+    leaves = others(count, in_groups)
     for n in range(EDITS):
         number = leaves[n * 7919 % len(leaves)]
-        yield {"verb": "pose", "id": number, "pose": {"dx": number % EDGE * 256 + n % 9, "dy": number // EDGE * 256}}
+        pose = pose_in(number)
+        yield {"verb": "pose", "id": number, "pose": {**pose, "dx": pose["dx"] + n % 9}}
 
 
 def mixed_edits(count, in_groups):
-    """Edits of squares in turn; each that is deleted is made again, with the next id."""
-    leaves, parents, fresh = [], {}, count + 1
-    for number in range(1, count + 1):
-        if not is_group(number, in_groups):
-            leaves.append(number)
-            parents[number] = number - (number - 1) % 64 if in_groups else None
-    for n in range(EDITS // 6):
+    """Edits of squares in turn; each that is deleted is made again, with the next id. The new indexes are the same each time."""
+    leaves, fresh = others(count, in_groups), count + 1
+    parents = {number: parent_of(number, in_groups) for number in leaves}
+    for n in range(EDITS // 7):
         at = n * 7919 % len(leaves)
         number = leaves[at]
         parent = parents.pop(number)
@@ -185,13 +211,16 @@ def mixed_edits(count, in_groups):
         yield {"verb": "move", "id": number, "parent": parent, "spot": "front"}
         yield {"verb": "delete", "id": number}
         yield {**rectangle(n, 10), "pose": {"dx": n % 9000, "dy": 9}, "parent": parent}
+        yield {"verb": "respace", "parent": SMALL}
         leaves[at], parents[fresh] = fresh, parent
         fresh += 1
 
 
 def one_tile_each(count, in_groups):
+    """Tiles in turn, each of which one square meets."""
+    numbers = [number for number in range(1, count + 1) if not is_group(number, in_groups)]
     for n in range(TILES):
-        number = n % count + 1
+        number = numbers[n % len(numbers)]
         yield {"verb": "tile", "col": number % EDGE, "row": number // EDGE}
 
 
@@ -208,11 +237,11 @@ def read_replies(pipe, room, count=None):
             count -= room[:size].count(b"\n")
 
 
-def timed(making, lines):
+def timed(making, lines, workers=1):
     """The least seconds of three sessions from the last reply to the edits that make a document until the program has ended after the lines."""
     found = []
     for _ in range(3):
-        child = subprocess.Popen([str(BUILT), "script", "1"], stdin=subprocess.PIPE, stdout=subprocess.PIPE, bufsize=0)
+        child = subprocess.Popen([str(BUILT), "script", str(workers)], stdin=subprocess.PIPE, stdout=subprocess.PIPE, bufsize=0)
         room, pipe = bytearray(1 << 20), child.stdout.fileno()
         feeder = threading.Thread(target=feed, args=(child.stdin, making, False))
         feeder.start()
@@ -249,10 +278,10 @@ def bodies(lines, folder):
     return found
 
 
-def microseconds(making, lines):
+def microseconds(making, lines, workers=1):
     """The time of each of some requests after those that make a document."""
     lines = list(lines)
-    return timed(text_of(making), text_of(lines)) / len(lines) * 1e6
+    return timed(text_of(making), text_of(lines), workers) / len(lines) * 1e6
 
 
 def measure_growth(folder):
@@ -283,12 +312,19 @@ LOOKED = {
 }
 
 
+LAYOUTS = {
+    "on one page": lambda count: squares(count, False),
+    "on one page, in shuffled tiles": lambda count: squares(count, False, is_shuffled=True),
+    "in groups of 63": lambda count: squares(count, True),
+}
+
+
 def measure_walks():
-    for in_groups in (False, True):
+    for layout, making in LAYOUTS.items():
         for name, look in LOOKED.items():
-            times = [microseconds(squares(count, in_groups), (look(x, y) for x, y in places())) for count in WALKED]
+            times = [microseconds(making(count), (look(x, y) for x, y in places())) for count in WALKED]
             told = ", ".join(f"{count:,}: {it:.1f}" for count, it in zip(WALKED, times))
-            print(f"{name}, {'in groups of 63' if in_groups else 'on one page'}, microseconds over so many squares: {told}", flush=True)
+            print(f"{name}, {layout}, microseconds over so many records: {told}", flush=True)
 
 
 # -- pictures from farther away ----------------------------------------------------------------------------------------
@@ -333,8 +369,38 @@ def measure_levels(name, kind, folder):
               f"at level 0 with as many: {at_zero:.0f}; ratio {at_level / at_zero:.2f}", flush=True)
 
 
+# -- pictures by several workers ---------------------------------------------------------------------------------------
+
+WORKERS = [1, 2, 4, 16]
+
+
+def crowd(count, kind):
+    """Shapes of 12 by 12, so many of which meet one tile."""
+    for n in range(count):
+        shape = {"kind": kind, "w": 12, "h": 12, "fill": f"{n * 4099 % (1 << 24):06x}"}
+        yield {"verb": "create", "shape": shape, "pose": {"dx": n * 37 % 250, "dy": n * 101 % 250}}
+
+
+CROWDS = {
+    "10 rectangles": lambda: first_path(0),
+    "100 rectangles": lambda: crowd(100, "rect"),
+    "1,000 rectangles": lambda: crowd(1000, "rect"),
+    "1,000 ellipses": lambda: crowd(1000, "ellipse"),
+}
+
+
+def measure_workers():
+    asked = [{"verb": "tile", "col": 0, "row": 0}] * TILES
+    for name, making in CROWDS.items():
+        lines, found = list(making()), {}
+        for workers in WORKERS * 3:
+            found[workers] = min(found.get(workers, math.inf), microseconds(lines, asked, workers))
+        told = ", ".join(f"{workers}: {it:.0f} ({it / found[1]:.2f})" for workers, it in found.items())
+        print(f"a tile of {name}, microseconds by so many workers (ratio to one): {told}", flush=True)
+
+
 def main():
-    words = [word for word in sys.argv[1:] if not word.isdigit()] or ["rates", "growth", "walks", "levels"]
+    words = [word for word in sys.argv[1:] if not word.isdigit()] or ["rates", "growth", "walks", "levels", "workers"]
     numbers = [int(word) for word in sys.argv[1:] if word.isdigit()]
     subprocess.run([str(PROGRAM), "script", "1"], stdin=subprocess.DEVNULL, check=True)
     with tempfile.TemporaryDirectory() as folder:
@@ -348,6 +414,8 @@ def main():
         if "levels" in words:
             measure_levels("squares", square_of, folder)
             measure_levels("ellipses and polygons", mixed_of, folder)
+        if "workers" in words:
+            measure_workers()
 
 
 if __name__ == "__main__":

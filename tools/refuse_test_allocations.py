@@ -4,11 +4,13 @@
 usage: tools/refuse_test_allocations.py [--built]
 
 Proves and builds the tests (with --built it takes what was built before), and runs each of them again and again, with the N-th
-allocation refused, N rising until a run meets no refusal. A run is right where the test passes, or where it ends with the error of a call that it needs; it is wrong where an
-assertion fails or the run ends in another way. Prints a last line 'N passed, M failed'. Needs a C compiler.
+allocation refused, N rising until a run meets no refusal. A run is right where the test passes, or where want of memory ends it, at a
+call that it needs. It is wrong where an assertion fails, where another refusal ends the test, or where the run ends in another way.
+Prints a last line 'N passed, M failed'. Needs a C compiler.
 """
 
 import os
+import re
 import subprocess
 import sys
 import tempfile
@@ -34,6 +36,9 @@ TESTS = {
     "canvas_server_tests": ["memory::a_server_with_little_memory"],
 }
 MOST_RUNS = 5_000
+# The status of a test that an error ends, and the line that it prints then: the error is std's or a refusal of one of the crates.
+FAILED = 101
+WANT_OF_MEMORY = re.compile(r"^error: .*\b(OutOfMemory|AllocError|AllocFailed)\b", re.MULTILINE)
 
 
 def program(crate):
@@ -51,10 +56,9 @@ def run(shim, crate, test, number):
 
 def fault(done):
     """What is wrong with a run, or None."""
-    told = done.stdout + done.stderr
-    if "assert" in told or done.returncode < 0:
-        return f"status {done.returncode}: {told.strip()}"
-    return None
+    if done.returncode == 0 or done.returncode == FAILED and WANT_OF_MEMORY.search(done.stderr):
+        return None
+    return f"status {done.returncode}: {(done.stdout + done.stderr).strip()}"
 
 
 def sweep(shim, crate, test):

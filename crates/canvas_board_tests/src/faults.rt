@@ -1,4 +1,4 @@
-//! The number, the name and the text of every refusal.
+//! The number, the name and the text of each refusal, but for those of lines and of servers.
 
 use canvas_board::BoardFault;
 use canvas_code::OutOfMemory;

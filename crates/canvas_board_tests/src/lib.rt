@@ -1,4 +1,4 @@
-//! Tests of boards, and of the number, the name and the text of every refusal.
+//! Tests of boards, and of the numbers, the names and the texts of refusals.
 #![tactic(auto)]
 
 #[cfg(test)]

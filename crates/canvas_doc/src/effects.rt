@@ -1,39 +1,31 @@
 //! The document after a change.
 
-ghost use Rattle.std.specs.Prelude.{◌≡◌, ◌+◌, ◌-◌, ◌≤◌, ◌<◌, ◌++◌, ◌∷◌, [], map, filter, length, ◌==◌, IfOk, IfSome, MatchOption, None, drop, false, take, true, slice_index_or, slice_set};
+ghost use Rattle.std.specs.Prelude.{◌≡◌, ◌+◌, ◌<◌, ◌++◌, ◌∷◌, [], map, length, ◌==◌, IfOk, IfSome, MatchOption, None, false, true, slice_index_or, slice_set};
 ghost use Rattle.std.specs.List.{remove};
-ghost use Rattle.std.specs.List.Sorted.{IsStrictlySortedBy};
-ghost use Rattle.std.specs.Option.{unwrap_or};
-ghost use Rattle.canvas_key.specs.Rank.{fresh_key};
 ghost use Rattle.canvas_doc.specs.Bounds.{AreBounds, HaveOneShape};
-ghost use Rattle.canvas_doc.specs.Children.{is_child};
-ghost use Rattle.canvas_doc.specs.Contents.{record_of, HaveIds, AreRising, IsWellFormed, most_records};
+ghost use Rattle.canvas_doc.specs.Contents.{AreRising, IsWellFormed};
 ghost use Rattle.canvas_doc.specs.declared.records.Record.{Record};
-ghost use Rattle.canvas_doc.specs.Effect.{changed_by, respaced, Replaces};
-ghost use Rattle.canvas_doc.specs.Placements.{placements_of};
-ghost use Rattle.canvas_doc.specs.PlaceOrder.{comes_first, AreChildrenWithin, IsInPlaceOrder};
+ghost use Rattle.canvas_doc.specs.Effect.{changed_by, Replaces};
+ghost use Rattle.canvas_doc.specs.PlaceOrder.{IsInPlaceOrder};
 
 use crate::Document;
 use crate::ancestry::{STEPS, is_container};
 use crate::deletion::{Lists, without_below, without_shape};
 use crate::edits::Change;
 use crate::kept_bounds::{bounds_for, raised};
-use crate::lookup::{Standing, locate, position_of};
+use crate::lookup::{Standing, locate};
 use crate::place_order::{children_range, position_in, position_without};
-use crate::placed_shapes::{PlacedShape, PlacedShapes};
+use crate::placed_shapes::PlacedShapes;
 use crate::records::{ListedRecord, Parent, Place, Record, Records};
 use canvas_code::OutOfMemory;
-use canvas_key::fresh;
-use canvas_list::{Share, Shared};
 use canvas_plane::Pose;
 use canvas_shape::Kind;
 use std::alloc::Global;
-use std::ops::Range;
 
 impl Document {
     ghost use Rattle.std.specs.Prelude.{◌+◌, ℤ, true};
     ghost use Rattle.canvas_doc.specs.Effect.{changes_one, effect_of, Fits, SpacesOnly};
-    ghost use Rattle.canvas_doc.specs.declared.edits.Change.TheVariants.{Delete, Respace};
+    ghost use Rattle.canvas_doc.specs.declared.edits.Change.TheVariants.{Delete};
     ghost use Rattle.canvas_doc.specs.Picture.{colour};
 
     /// The document after a change that fits.
@@ -217,21 +209,6 @@ impl Document {
             next: self.next,
         })
     }
-
-    // The document with new indexes for the children of a parent.
-    fn with_new_indexes(&self, alloc: Global, parent: Parent) -> Result<Document, OutOfMemory>
-        ensures { IfOk result (λ after. after ≡ effect_of (Respace parent) self.now) }
-    {
-        let Range { start, end } = children_range(&self.order, parent);
-        let children = respaced_children(alloc, &self.order, parent, start, end)?;
-        let records = with_each(alloc, &self.records, &children)?;
-        let order = self.order.with_spliced(alloc, start, end, children)?;
-        Ok(Document {
-            records,
-            order,
-            next: self.next,
-        })
-    }
 }
 
 // A record after a change, with its first owner. It is made in the call that gives it that, so that it need not be moved.
@@ -367,82 +344,4 @@ fn changed_id(change: &Change) -> Option<u32>
         Change::Delete { .. } => None,
         Change::Respace { .. } => None,
     }
-}
-
-// The children of a parent, which stand from one position up to another, each with the index that
-// stands for its place from the back, and with its bounds.
-fn respaced_children(
-    alloc: Global,
-    order: &PlacedShapes,
-    parent: Parent,
-    start: usize,
-    end: usize,
-) -> Result<Vec<PlacedShape>, OutOfMemory>
-    requires rising { IsStrictlySortedBy comes_first order.now.shapes }
-    requires children { AreChildrenWithin parent order.now.shapes start end }
-    requires few { end ≤ start + most_records }
-    ensures shapes { IfOk result (λ children. (placements_of children.items).shapes ≡ map (respaced parent order.now.shapes) (filter (is_child parent) order.now.shapes)) }
-    ensures bounds { IfOk result (λ children. (placements_of children.items).bounds ≡ take (end - start) (drop start order.now.bounds)) }
-{
-    let mut all = order.reader();
-    let mut children = Vec::with_capacity(alloc, end - start)?;
-    for at in start..end {
-        let placed = all.at(at);
-        let rank = (end - 1 - at) as u32;
-        let shape = respaced(alloc, placed.shape.value(), rank)?;
-        let child = PlacedShape::new(shape, placed.bounds);
-        children.push(child)?;
-    }
-    Ok(children)
-}
-
-// A record with the index that stands for a rank, with its first owner.
-fn respaced(alloc: Global, shape: &Record, rank: u32) -> Result<Shared<Record>, OutOfMemory>
-    requires { rank < most_records }
-    ensures { IfOk result (λ after. after ≡ record shape.now { place = record shape.now.place { index = fresh_key rank } }) }
-{
-    Shared::new(
-        alloc,
-        Record {
-            id: shape.id,
-            kind: shape.kind.try_clone(alloc)?,
-            pose: shape.pose,
-            hidden: shape.hidden,
-            place: Place {
-                parent: shape.place.parent,
-                index: fresh(rank),
-            },
-        },
-    )
-}
-
-// The records, with others in the place of those that have their ids.
-fn with_each(
-    alloc: Global,
-    records: &Records,
-    others: &[PlacedShape],
-) -> Result<Records, OutOfMemory>
-    requires few { length records.now ≤ most_records }
-    requires rising { AreRising records.now }
-    requires once { HaveIds (placements_of others.now).shapes }
-    ensures { IfOk result (λ all. all ≡ map (λ r. unwrap_or (record_of r.id (placements_of others.now).shapes) r) records.now) }
-{
-    let mut all = listed(alloc, records)?;
-    for other in others {
-        if let Some(at) = position_of(records, other.shape.value().id) {
-            all[at] = ListedRecord::of(other.shape.share()?);
-        }
-    }
-    Records::from_vec(alloc, all)
-}
-
-// All records, side by side, for one more list.
-fn listed(alloc: Global, records: &Records) -> Result<Vec<ListedRecord>, OutOfMemory>
-    ensures { IfOk result (λ all. all.items ≡ records.now) }
-{
-    let mut all = Vec::with_capacity(alloc, records.len())?;
-    for shape in records.iter() {
-        all.push(shape.share()?)?;
-    }
-    Ok(all)
 }

@@ -19,6 +19,7 @@ mod fits;
 mod in_place;
 mod kept_bounds;
 mod lookup;
+mod new_indexes;
 mod order;
 mod place_order;
 mod placed_shapes;

@@ -1,8 +1,10 @@
-//! Tests of lines: worked examples, settings, want of memory, and twenty-four threads at one line.
+//! Tests of lines: worked examples, settings, texts of refusals, want of memory, and twenty-four threads at one line.
 #![tactic(auto)]
 
 #[cfg(test)]
 mod editor;
+#[cfg(test)]
+mod faults;
 #[cfg(test)]
 mod lines;
 #[cfg(test)]

@@ -94,7 +94,11 @@ fn items_between<T: Share>(
 ) -> Result<Vec<T>, OutOfMemory>
     ensures { IfOk result (λ all. all.items ≡ before.now ++ items.items ++ behind.now) }
 {
-    let mut all = Vec::new(alloc);
+    let room = before
+        .len()
+        .saturating_add(items.len())
+        .saturating_add(behind.len());
+    let mut all = Vec::with_capacity(alloc, room)?;
     push_shared(&mut all, before)?;
     for item in items {
         all.push(item)?;

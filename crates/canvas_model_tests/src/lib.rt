@@ -6,6 +6,8 @@ mod both;
 #[cfg(test)]
 mod damage;
 #[cfg(test)]
+mod large;
+#[cfg(test)]
 mod plain;
 #[cfg(test)]
 mod random;

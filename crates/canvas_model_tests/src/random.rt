@@ -227,10 +227,10 @@ fn looks_alike(
     document.colour_at(x, y) == colour_at(rt, alloc, plain, at)
 }
 
-// Whether a document shows some pixels as the plain one does.
-fn look_alike(rt: &impl Abort, alloc: Global, dice: &mut Dice, both: &Both) -> bool {
+// Whether a document shows so many pixels as the plain one does.
+fn look_alike(rt: &impl Abort, alloc: Global, dice: &mut Dice, both: &Both, looks: u32) -> bool {
     let mut same = true;
-    for _ in 0..6u32 {
+    for _ in 0..looks {
         let x = dice.below(50) as i32 - 25;
         let y = dice.below(50) as i32 - 25;
         same = same && looks_alike(rt, alloc, &both.document, &both.plain, (x, y));
@@ -260,21 +260,38 @@ fn answers_agree(rt: &impl Abort, alloc: Global, both: &mut Both, asked: &Edit, 
     }
 }
 
-// An edit at random, judged and made beside the plain model.
-fn edit_agrees(rt: &impl Abort, alloc: Global, dice: &mut Dice, both: &mut Both, number: u32) {
-    let asked = edit(rt, alloc, dice, &both.plain);
-    answers_agree(rt, alloc, both, &asked, number);
+/// Judges an edit by both, makes it in both, and compares all records.
+pub(crate) fn edit_agrees(
+    rt: &impl Abort,
+    alloc: Global,
+    both: &mut Both,
+    asked: &Edit,
+    number: u32,
+) {
+    answers_agree(rt, alloc, both, asked, number);
     assert!(rt;
         agree(rt, alloc, &both.document, &both.plain),
         "records {number}"
     );
-    assert!(rt; look_alike(rt, alloc, dice, both), "colours {number}");
 }
 
-fn edits_agree(rt: &impl Abort, alloc: Global, dice: &mut Dice, levels: u32, edits: u32) {
-    let mut both = Both::nested(rt, alloc, levels);
+/// Makes so many edits at random beside the plain model, and looks at so many pixels after each.
+pub(crate) fn edits_agree(
+    rt: &impl Abort,
+    alloc: Global,
+    dice: &mut Dice,
+    start: Both,
+    edits: u32,
+    looks: u32,
+) {
+    let mut both = start;
     for number in 0..edits {
-        edit_agrees(rt, alloc, dice, &mut both, number);
+        let asked = edit(rt, alloc, dice, &both.plain);
+        edit_agrees(rt, alloc, &mut both, &asked, number);
+        assert!(rt;
+            look_alike(rt, alloc, dice, &both, looks),
+            "colours {number}"
+        );
     }
 }
 
@@ -282,7 +299,8 @@ fn edits_agree(rt: &impl Abort, alloc: Global, dice: &mut Dice, levels: u32, edi
 fn random_edits_from_an_empty_document(rt: HostRuntime) {
     let mut dice = Dice::new(1);
     for _ in 0..30u32 {
-        edits_agree(&rt, rt.alloc(), &mut dice, 0, 80);
+        let empty = Both::nested(&rt, rt.alloc(), 0);
+        edits_agree(&rt, rt.alloc(), &mut dice, empty, 80, 6);
     }
 }
 
@@ -290,6 +308,7 @@ fn random_edits_from_an_empty_document(rt: HostRuntime) {
 fn random_edits_of_nested_groups(rt: HostRuntime) {
     let mut dice = Dice::new(2);
     for levels in 0..30u32 {
-        edits_agree(&rt, rt.alloc(), &mut dice, levels.saturating_add(2), 60);
+        let nested = Both::nested(&rt, rt.alloc(), levels.saturating_add(2));
+        edits_agree(&rt, rt.alloc(), &mut dice, nested, 60, 6);
     }
 }

@@ -1,8 +1,10 @@
-//! Tests of the server, on threads and over the loopback, and of the words that ask for it.
+//! Tests of the server, on threads and over the loopback, of the words that ask for it, and of the texts of its faults.
 #![tactic(auto)]
 
 #[cfg(test)]
 mod crowd;
+#[cfg(test)]
+mod faults;
 #[cfg(test)]
 mod memory;
 #[cfg(test)]

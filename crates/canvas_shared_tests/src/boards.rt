@@ -3,7 +3,7 @@
 ghost use Rattle.std.specs.Prelude.{◌≡◌};
 
 use canvas_board::{Board, BoardFault, Edited, Picture, Shared};
-use canvas_doc::{Document, Edit, Parent, Spot};
+use canvas_doc::{Document, Edit, Parent, Refusal, Spot};
 use canvas_line::{Line, LineFault, Lines, Opened, Seat};
 use canvas_plane::{Pose, Window};
 use canvas_shape::{Colour, Kind};
@@ -196,6 +196,66 @@ fn spends<B: Lines, H: Wait + Abort>(rt: &H, alloc: Global, opened: Opened, docu
     let missing = Edit::Delete { id: 9 };
     assert!(rt; board.edit(rt, &missing) == Err(BoardFault::VersionsSpent));
     check_dot(rt, &mut board, 2, RED);
+}
+
+// The version and the text of a board's document.
+fn saved<B: Lines>(rt: &impl Abort, board: &mut Shared<B>) -> (u64, Vec<u8>) {
+    let saved = board.saved().expect(rt, "a saved document");
+    (saved.version, saved.text)
+}
+
+// Asserts that an edit has this fault, and that the board is saved as before.
+fn check_kept<B: Lines, H: Wait + Abort>(
+    rt: &H,
+    board: &mut Shared<B>,
+    edit: &Edit,
+    fault: BoardFault,
+) {
+    let before = saved(rt, board);
+    assert!(rt; board.edit(rt, edit) == Err(fault), "{fault}");
+    assert!(rt; saved(rt, board) == before, "{fault}");
+}
+
+// Asserts that no picture is painted by so many workers, and that the board is saved as before.
+fn check_unpainted<B: Lines, H: Threads + Wait + Abort + Sync>(
+    rt: &H,
+    board: &mut Shared<B>,
+    workers: u32,
+) {
+    let window = Window::new(0, 0, 16, 16).expect(rt, "a window");
+    let before = saved(rt, board);
+    let answer = board.picture(rt, &window, workers);
+    assert!(rt; answer.is_err_and(|fault| fault.code() == 31));
+    assert!(rt; saved(rt, board) == before);
+}
+
+#[test]
+fn refusals_change_nothing(rt: HostRuntime) {
+    let alloc = rt.alloc();
+    keeps::<Brand, _>(&rt, alloc, Opened::new(), Document::empty(alloc))
+}
+
+fn keeps<B: Lines, H: Threads + Wait + Abort + Sync>(
+    rt: &H,
+    alloc: Global,
+    opened: Opened,
+    document: Document,
+)
+    requires { B.line 1 ≡ record { book = opened.head.word.book; opening = document; limit = 2 } }
+{
+    let mut board = first_board::<B, H>(rt, alloc, opened, document, 2);
+    check_edit(rt, &mut board, &square(1, 0), 1, Some(1));
+    let missing = Edit::Delete { id: 9 };
+    let refused = BoardFault::Refused(Refusal::NoSuchShape);
+    check_kept(rt, &mut board, &missing, refused);
+    let empty = BoardFault::Refused(Refusal::BadSize);
+    check_kept(rt, &mut board, &square(0, 0), empty);
+    check_unpainted(rt, &mut board, 0);
+    check_unpainted(rt, &mut board, 17);
+    check_edit(rt, &mut board, &square(2, 5), 2, Some(2));
+    let last = Edit::Delete { id: 1 };
+    check_kept(rt, &mut board, &last, BoardFault::VersionsSpent);
+    board.close(rt);
 }
 
 #[test]

@@ -6,8 +6,8 @@ use Rattle.canvas_doc.specs.declared.records.Record.{Record}
 use Rattle.canvas_doc.specs.Contents.{record_of, StandsAt, most_records}
 use Rattle.canvas_doc.proofs.Placements.{map-read, shape_of}
 use Rattle.canvas_doc.proofs.Respacing.{none-put, nothing-put, one-put}
-use Rattle.canvas_doc.proofs.effects.with_each.Goals as goal
-use Rattle.canvas_doc.proofs.effects.with_each.Goals.{in-Some+in_ok-share, in_default}
+use Rattle.canvas_doc.proofs.new_indexes.with_many.Goals as goal
+use Rattle.canvas_doc.proofs.new_indexes.with_many.Goals.{in-Some+in_ok-share, in_default}
 
 pub loop-other-init : goal.loop-other-init
 loop-other-init c = c.in_ok-all.ensures ∙ nothing-put c.args.records.now (map shape_of c.args.others.now)

@@ -2,7 +2,7 @@ use Rattle.std.proofs.Common.{◌≡◌, map, take}
 use Rattle.std.specs.Option.{unwrap_or}
 use Rattle.canvas_doc.specs.Contents.{record_of}
 use Rattle.canvas_doc.proofs.Placements.{shape_of}
-use Rattle.canvas_doc.proofs.effects.with_each.Given as goal
+use Rattle.canvas_doc.proofs.new_indexes.with_many.Given as goal
 
 abbrev pub invariant-loop-other : goal.invariant-loop-other
 invariant-loop-other l = l.all.items ≡ map (λ r. unwrap_or (record_of r.id (take l.other-index (map shape_of l.others))) r) l.records

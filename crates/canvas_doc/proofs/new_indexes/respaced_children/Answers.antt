@@ -10,7 +10,7 @@ use Rattle.canvas_doc.specs.Placements.{placements_of}
 use Rattle.canvas_doc.proofs.ChildrenInOrder.{one-more}
 use Rattle.canvas_doc.proofs.Placements.{bounds-at, bounds_of, long-bounds, shape-at, shape_of}
 use Rattle.canvas_doc.proofs.Spaced.{all-passing, rank-at, respaced-child}
-use Rattle.canvas_doc.proofs.effects.respaced_children.Goals as goal
+use Rattle.canvas_doc.proofs.new_indexes.respaced_children.Goals as goal
 
 pub loop-at-preserved : goal.loop-at-preserved
 loop-at-preserved c =

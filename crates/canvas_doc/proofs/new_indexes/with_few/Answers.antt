@@ -1,0 +1,40 @@
+use Rattle.std.proofs.Common.{◌≡◌, ◌<◌, ◌∙◌, ◌+◌, ℕ, List, [], ◌∷◌, IfOk, None, ap, arith, get_or, length, map, rules, set, subst, suc, sym}
+use Rattle.std.specs.Option.{unwrap_or}
+use Rattle.std.proofs.lemmas.List.{length-map, nil_from_length}
+use Rattle.canvas_doc.specs.declared.placed_shapes.PlacedShape.{PlacedShape}
+use Rattle.canvas_doc.specs.declared.records.Record.{Record}
+use Rattle.canvas_doc.specs.Contents.{record_of, StandsAt}
+use Rattle.canvas_doc.proofs.Placements.{map-read, shape_of}
+use Rattle.canvas_doc.proofs.Respacing.{none-put, nothing-put, one-put}
+use Rattle.canvas_doc.proofs.new_indexes.with_few.Goals as goal
+use Rattle.canvas_doc.proofs.new_indexes.with_few.Goals.{in-Some-position_of+in_ok-put, in_default-position_of}
+
+pub returns-in_default : goal.returns-in_default
+returns-in_default c =
+    let rs : List Record = c.args.records.now in
+    let none : c.args.others.now ≡ [] = nil_from_length c.args.others.now (search rules) in
+    subst (λ (l : List Record). IfOk c.try_clone.result (λ all. all ≡ l))
+    (nothing-put rs [] ∙ ap (λ (l : List PlacedShape). map (λ (r : Record). unwrap_or (record_of r.id (map shape_of l)) r) rs) (sym none)) c.try_clone.ensures
+
+pub loop-other-preserved : goal.loop-other-preserved
+loop-other-preserved c =
+    let rs : List Record = c.args.records.now in
+    let rest : List PlacedShape = c.in-Some.rest.now in
+    let whole : c.args.others.now ≡ c.in-Some.first.now ∷ rest = search rules in
+    let others : List Record = map shape_of c.args.others.now in
+    let j : ℕ = c.loop-other.other-index in
+    let next : suc j ≡ j + 1 = omega arith in
+    let o : Record = c.other-item.result.shape in
+    let within : j + 1 < length others = omega (arith, c.loop-other-test.true, length-map c.args.others.now shape_of, ap length whole) in
+    let is : o ≡ get_or others (j + 1) o =
+    map-read shape_of rest j c.other-item.result c.other-item.is
+    ∙ ap (λ n. get_or (map shape_of (c.in-Some.first.now ∷ rest)) n o) next
+    ∙ ap (λ (l : List PlacedShape). get_or (map shape_of l) (j + 1) o) (sym whole) in
+    elim c.match-position_of.branch [
+      | in-Some-position_of+in_ok-put w ↦
+          w.all-is
+          ∙ w.in_ok-put.ensures
+          ∙ ap (λ (l : List Record). set l w.in-Some-position_of.at o) c.loop-other.invariant
+          ∙ one-put rs others (j + 1) w.in-Some-position_of.at o c.requires.rising c.requires.once within is (subst (λ (x : Record). StandsAt rs x.id w.in-Some-position_of.at) c.value.ensures w.in-Some-position_of.ensures)
+      | in_default-position_of w ↦ w.all-is ∙ c.loop-other.invariant ∙ none-put rs others (j + 1) o c.requires.once within is (subst (λ (x : Record). record_of x.id rs ≡ None) c.value.ensures w.in_default-position_of.ensures)
+    ]

@@ -1,0 +1,201 @@
+//! New indexes for the children of a parent.
+
+ghost use Rattle.std.specs.Prelude.{◌≡◌, ◌+◌, ◌-◌, ◌≤◌, ◌<◌, ◌∷◌, [], map, filter, length, IfOk, OnOk, drop, take, slice_set};
+ghost use Rattle.std.specs.List.Sorted.{IsStrictlySortedBy};
+ghost use Rattle.std.specs.Option.{unwrap_or};
+ghost use Rattle.canvas_key.specs.Rank.{fresh_key};
+ghost use Rattle.canvas_doc.specs.Children.{is_child};
+ghost use Rattle.canvas_doc.specs.Contents.{record_of, HaveIds, AreRising, most_records};
+ghost use Rattle.canvas_doc.specs.Effect.{respaced};
+ghost use Rattle.canvas_doc.specs.Placements.{placements_of};
+ghost use Rattle.canvas_doc.specs.PlaceOrder.{comes_first, AreChildrenWithin};
+
+use crate::Document;
+use crate::lookup::position_of;
+use crate::place_order::children_range;
+use crate::placed_shapes::{PlacedShape, PlacedShapes};
+use crate::records::{ListedRecord, Parent, Place, Record, Records};
+use canvas_code::OutOfMemory;
+use canvas_key::fresh;
+use canvas_list::{ItemChange, Share, Shared};
+use std::alloc::Global;
+use std::ops::Range;
+
+impl Document {
+    ghost use Rattle.canvas_doc.specs.Effect.{effect_of};
+    ghost use Rattle.canvas_doc.specs.declared.edits.Change.TheVariants.{Respace};
+
+    /// The document with new indexes for the children of a parent.
+    pub(crate) fn with_new_indexes(
+        &self,
+        alloc: Global,
+        parent: Parent,
+    ) -> Result<Document, OutOfMemory>
+        ensures { IfOk result (λ after. after ≡ effect_of (Respace parent) self.now) }
+    {
+        let Range { start, end } = children_range(&self.order, parent);
+        let children = respaced_children(alloc, &self.order, parent, start, end)?;
+        let records = with_each(alloc, &self.records, &children)?;
+        let order = self.order.with_spliced(alloc, start, end, children)?;
+        Ok(Document {
+            records,
+            order,
+            next: self.next,
+        })
+    }
+}
+
+// The children of a parent, which stand from one position up to another, each with the index that
+// stands for its place from the back, and with its bounds.
+fn respaced_children(
+    alloc: Global,
+    order: &PlacedShapes,
+    parent: Parent,
+    start: usize,
+    end: usize,
+) -> Result<Vec<PlacedShape>, OutOfMemory>
+    requires rising { IsStrictlySortedBy comes_first order.now.shapes }
+    requires children { AreChildrenWithin parent order.now.shapes start end }
+    requires few { end ≤ start + most_records }
+    ensures shapes { IfOk result (λ children. (placements_of children.items).shapes ≡ map (respaced parent order.now.shapes) (filter (is_child parent) order.now.shapes)) }
+    ensures bounds { IfOk result (λ children. (placements_of children.items).bounds ≡ take (end - start) (drop start order.now.bounds)) }
+{
+    let mut all = order.reader();
+    let mut children = Vec::with_capacity(alloc, end - start)?;
+    for at in start..end {
+        let placed = all.at(at);
+        let rank = (end - 1 - at) as u32;
+        let shape = respaced(alloc, placed.shape.value(), rank)?;
+        let child = PlacedShape::new(shape, placed.bounds);
+        children.push(child)?;
+    }
+    Ok(children)
+}
+
+// A record with the index that stands for a rank, with its first owner.
+fn respaced(alloc: Global, shape: &Record, rank: u32) -> Result<Shared<Record>, OutOfMemory>
+    requires { rank < most_records }
+    ensures { IfOk result (λ after. after ≡ record shape.now { place = record shape.now.place { index = fresh_key rank } }) }
+{
+    Shared::new(
+        alloc,
+        Record {
+            id: shape.id,
+            kind: shape.kind.try_clone(alloc)?,
+            pose: shape.pose,
+            hidden: shape.hidden,
+            place: Place {
+                parent: shape.place.parent,
+                index: fresh(rank),
+            },
+        },
+    )
+}
+
+// Up to one record in so many is replaced by itself, which makes a chunk and two tables anew at most. For more a whole list
+// is made, which counts up the owners of all.
+const RECORDS_FOR_EACH_REPLACED: usize = 64;
+
+// The records, with others in the place of those that have their ids.
+fn with_each(
+    alloc: Global,
+    records: &Records,
+    others: &[PlacedShape],
+) -> Result<Records, OutOfMemory>
+    requires few { length records.now ≤ most_records }
+    requires rising { AreRising records.now }
+    requires once { HaveIds (placements_of others.now).shapes }
+    ensures { IfOk result (λ all. all ≡ map (λ r. unwrap_or (record_of r.id (placements_of others.now).shapes) r) records.now) }
+{
+    if others.len() <= records.len() / RECORDS_FOR_EACH_REPLACED {
+        with_few(alloc, records, others)
+    } else {
+        with_many(alloc, records, others)
+    }
+}
+
+// The same, where the others are few: what they leave alone is shared.
+fn with_few(
+    alloc: Global,
+    records: &Records,
+    others: &[PlacedShape],
+) -> Result<Records, OutOfMemory>
+    requires rising { AreRising records.now }
+    requires once { HaveIds (placements_of others.now).shapes }
+    ensures { IfOk result (λ all. all ≡ map (λ r. unwrap_or (record_of r.id (placements_of others.now).shapes) r) records.now) }
+{
+    let Some((first, rest)) = others.split_first() else {
+        return records.try_clone(alloc);
+    };
+    let mut all = with_one(alloc, records, &first.shape)?;
+    for other in rest {
+        if let Some(at) = position_of(records, other.shape.value().id) {
+            put(alloc, &mut all, at, &other.shape)?;
+        }
+    }
+    Ok(all)
+}
+
+// The records, with another one in the place of that which has its id.
+fn with_one(
+    alloc: Global,
+    records: &Records,
+    other: &Shared<Record>,
+) -> Result<Records, OutOfMemory>
+    requires { AreRising records.now }
+    ensures { IfOk result (λ all. all ≡ map (λ r. unwrap_or (record_of r.id (other.now ∷ [])) r) records.now) }
+{
+    match position_of(records, other.value().id) {
+        Some(at) => records.with_replaced(alloc, at, ListedRecord::of(other.share()?)),
+        None => records.try_clone(alloc),
+    }
+}
+
+// Puts another record in the place of the one at a position: in place where no other list has the chunk.
+fn put(
+    alloc: Global,
+    records: &mut Records,
+    at: usize,
+    shape: &Shared<Record>,
+) -> Result<(), OutOfMemory>
+    requires { at < length records.old }
+    ensures { OnOk result (records.new ≡ slice_set records.old at shape.now) }
+{
+    let new = ListedRecord::of(shape.share()?);
+    if !records.change(at, ItemChange::Replace(new)) {
+        let new = ListedRecord::of(shape.share()?);
+        *records = records.with_replaced(alloc, at, new)?;
+    }
+    Ok(())
+}
+
+// The same, where the others are many: a list made at once.
+fn with_many(
+    alloc: Global,
+    records: &Records,
+    others: &[PlacedShape],
+) -> Result<Records, OutOfMemory>
+    requires few { length records.now ≤ most_records }
+    requires rising { AreRising records.now }
+    requires once { HaveIds (placements_of others.now).shapes }
+    ensures { IfOk result (λ all. all ≡ map (λ r. unwrap_or (record_of r.id (placements_of others.now).shapes) r) records.now) }
+{
+    let mut all = listed(alloc, records)?;
+    for other in others {
+        if let Some(at) = position_of(records, other.shape.value().id) {
+            all[at] = ListedRecord::of(other.shape.share()?);
+        }
+    }
+    Records::from_vec(alloc, all)
+}
+
+// All records, side by side, for one more list.
+fn listed(alloc: Global, records: &Records) -> Result<Vec<ListedRecord>, OutOfMemory>
+    ensures { IfOk result (λ all. all.items ≡ records.now) }
+{
+    let mut all = Vec::with_capacity(alloc, records.len())?;
+    for shape in records.iter() {
+        all.push(shape.share()?)?;
+    }
+    Ok(all)
+}
