@@ -6,11 +6,9 @@ use crate::changes::Both;
 use crate::dice::Dice;
 use crate::numbers::{evens, has, plain_evens};
 use crate::picks::{MOST, again, made_anew, plain_after, some_change};
-use canvas_code::OutOfMemory;
 use canvas_list::{ItemChange, SharedList};
 use std::alloc::Global;
 use std::process::Abort;
-use std::test::Fail;
 
 /// How many changes were made in place, and how many were not.
 #[derive(Drop)]
@@ -37,60 +35,61 @@ impl Count {
 }
 
 /// The first even numbers.
-pub(crate) fn first_evens(alloc: Global, count: u32) -> Result<Both, OutOfMemory>
+pub(crate) fn first_evens(rt: &impl Abort, alloc: Global, count: u32) -> Both
     requires { count ≤ 100000 }
 {
-    Ok(Both {
-        list: SharedList::from_vec(alloc, evens(alloc, count)?)?,
-        plain: plain_evens(alloc, count)?,
-    })
+    let items = evens(alloc, count).expect(rt, "memory");
+    Both {
+        list: SharedList::from_vec(alloc, items).expect(rt, "memory"),
+        plain: plain_evens(alloc, count).expect(rt, "memory"),
+    }
 }
 
 /// A clone of the list, with the plain list of this moment.
-pub(crate) fn clone_of(alloc: Global, both: &Both) -> Result<Both, OutOfMemory> {
-    Ok(Both {
-        list: both.list.try_clone(alloc)?,
-        plain: both.plain.clone()?,
-    })
+pub(crate) fn clone_of(rt: &impl Abort, alloc: Global, both: &Both) -> Both {
+    Both {
+        list: both.list.try_clone(alloc).expect(rt, "memory"),
+        plain: both.plain.clone().expect(rt, "memory"),
+    }
 }
 
 /// A change at some place, in place where that can be. Counts it if it is a replacement.
 pub(crate) fn change(
+    rt: &impl Abort,
     alloc: Global,
     dice: &mut Dice,
     both: &mut Both,
     grows: usize,
     replaced: &mut Count,
-) -> Result<(), OutOfMemory> {
+) {
     if both.list.len() >= MOST {
-        return Ok(());
+        return;
     }
-    let pick = some_change(alloc, dice, &both.list, grows)?;
-    both.plain = plain_after(&both.plain, &pick)?;
+    let pick = some_change(rt, alloc, dice, &both.list, grows);
+    both.plain = plain_after(rt, &both.plain, &pick);
     let is_replacement = matches!(pick.change, ItemChange::Replace(_));
-    let same = again(&pick.change)?;
+    let same = again(rt, &pick.change);
     let is_in_place = both.list.change(pick.at, pick.change);
     if !is_in_place {
-        both.list = made_anew(alloc, &both.list, pick.at, same)?;
+        both.list = made_anew(rt, alloc, &both.list, pick.at, same);
     }
     if is_replacement {
         replaced.add(is_in_place);
     }
-    Ok(())
 }
 
 // Some changes in turn.
 fn changes(
+    rt: &impl Abort,
     alloc: Global,
     dice: &mut Dice,
     both: &mut Both,
     grows: usize,
     replaced: &mut Count,
-) -> Result<(), OutOfMemory> {
+) {
     for _ in 0..50u32 {
-        change(alloc, dice, both, grows, replaced)?;
+        change(rt, alloc, dice, both, grows, replaced);
     }
-    Ok(())
 }
 
 // Changes of a list of so many numbers, in turns without a clone and beside one that is kept.
@@ -101,32 +100,30 @@ fn changes_from(
     count: u32,
     alone: &mut Count,
     beside: &mut Count,
-) -> Result<(), OutOfMemory>
+)
     requires { count ≤ 100000 }
 {
-    let mut both = first_evens(alloc, count)?;
+    let mut both = first_evens(rt, alloc, count);
     for turn in 0..12u32 {
         let grows = if turn % 6 < 3 { 9 } else { 3 };
-        changes(alloc, dice, &mut both, grows, alone)?;
+        changes(rt, alloc, dice, &mut both, grows, alone);
         assert!(rt; has(&both.list, &both.plain), "{count}, {turn}");
-        let clone = clone_of(alloc, &both)?;
-        changes(alloc, dice, &mut both, grows, beside)?;
+        let clone = clone_of(rt, alloc, &both);
+        changes(rt, alloc, dice, &mut both, grows, beside);
         assert!(rt; has(&both.list, &both.plain), "{count}, {turn}");
         assert!(rt; has(&clone.list, &clone.plain), "{count}, {turn}");
     }
-    Ok(())
 }
 
 #[test]
-fn changes_in_place_beside_a_plain_list(rt: HostRuntime) -> Result<(), Fail> {
+fn changes_in_place_beside_a_plain_list(rt: HostRuntime) {
     let alloc = rt.alloc();
     let mut dice = Dice { state: 2_468 };
     let mut alone = Count::none();
     let mut beside = Count::none();
     for count in [0u32, 1, 7, 90, 96, 383, 700, 1_500, 3_000, 6_100] {
-        changes_from(&rt, alloc, &mut dice, count, &mut alone, &mut beside)?;
+        changes_from(&rt, alloc, &mut dice, count, &mut alone, &mut beside);
     }
     assert!(rt; alone.in_place > 1_000 && alone.others < 100);
     assert!(rt; beside.in_place > 100 && beside.others > 100);
-    Ok(())
 }

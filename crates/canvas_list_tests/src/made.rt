@@ -5,10 +5,9 @@ ghost use Rattle.std.specs.Prelude.{◌≡◌, ◌<◌, ◌≤◌, length};
 ghost use Rattle.std.specs.List.Sorted.{IsNonDecreasingBy, IsPartitionPoint};
 
 use crate::numbers::{Numbers, evens, has, plain_evens};
-use canvas_code::OutOfMemory;
 use canvas_list::{FoundRange, Hint, SharedList};
 use std::alloc::Global;
-use std::test::Fail;
+use std::process::Abort;
 
 // Where the first number stands that is no less than another.
 fn place_of(list: &Numbers, least: u32) -> usize
@@ -102,33 +101,38 @@ fn finds_all(list: &Numbers, count: u32) -> bool
 }
 
 // Whether the list is right while all of it is taken away from its middle.
-fn goes_away(alloc: Global, list: &Numbers, mut plain: Vec<u32>) -> Result<bool, OutOfMemory> {
-    let mut rest = list.try_clone(alloc)?;
+fn goes_away(rt: &impl Abort, alloc: Global, list: &Numbers, mut plain: Vec<u32>) -> bool {
+    let mut rest = list.try_clone(alloc).expect(rt, "memory");
+    let mut is_right = true;
     for _ in 0..list.len() {
         let at = plain.len() / 2;
         if at >= rest.len() || at >= plain.len() {
-            return Ok(false);
+            break;
         }
-        rest = rest.without(alloc, at)?;
+        rest = rest.without(alloc, at).expect(rt, "memory");
         plain.remove(at);
-        if rest.len() % 50 == 0 && !has(&rest, &plain) {
-            return Ok(false);
-        }
+        is_right = is_right && (rest.len() % 50 != 0 || has(&rest, &plain));
     }
-    Ok(rest.is_empty())
+    is_right && rest.is_empty()
+}
+
+// Asserts that a list of so many numbers is right, made at once and taken away.
+fn check_made(rt: &impl Abort, alloc: Global, count: u32)
+    requires { count ≤ 100000 }
+{
+    let items = evens(alloc, count).expect(rt, "memory");
+    let list = SharedList::from_vec(alloc, items).expect(rt, "memory");
+    let plain = plain_evens(alloc, count).expect(rt, "memory");
+    assert!(rt; has(&list, &plain), "{count} items");
+    assert!(rt; finds_all(&list, count), "{count} items");
+    assert!(rt; goes_away(rt, alloc, &list, plain), "{count} items");
 }
 
 #[test]
-fn lists_made_at_once(rt: HostRuntime) -> Result<(), Fail> {
-    let alloc = rt.alloc();
+fn lists_made_at_once(rt: HostRuntime) {
     for count in [
         0u32, 1, 5, 6, 7, 23, 24, 25, 95, 96, 97, 383, 384, 385, 1_535, 1_536, 1_537, 3_000, 6_144,
     ] {
-        let list = SharedList::from_vec(alloc, evens(alloc, count)?)?;
-        let plain = plain_evens(alloc, count)?;
-        assert!(rt; has(&list, &plain), "{count} items");
-        assert!(rt; finds_all(&list, count), "{count} items");
-        assert!(rt; goes_away(alloc, &list, plain)?, "{count} items");
+        check_made(&rt, rt.alloc(), count);
     }
-    Ok(())
 }

@@ -8,21 +8,19 @@ use crate::in_place::{Count, clone_of, first_evens};
 use crate::numbers::{has, shared_number};
 use crate::picks::{plain_after, some_replacement};
 use crate::together::have;
-use canvas_code::OutOfMemory;
 use std::alloc::Global;
 use std::process::Abort;
-use std::test::Fail;
 
 // A plain list without the number at a position, and with another in front of what then stands at `to`.
-fn moved(plain: &Vec<u32>, from: usize, to: usize, number: u32) -> Result<Vec<u32>, OutOfMemory> {
-    let mut after = plain.clone()?;
+fn moved(rt: &impl Abort, plain: &Vec<u32>, from: usize, to: usize, number: u32) -> Vec<u32> {
+    let mut after = plain.clone().expect(rt, "memory");
     if from < after.len() {
         after.remove(from);
     }
     if to <= after.len() {
-        after.insert(to, number)?;
+        after.insert(to, number).expect(rt, "memory");
     }
-    Ok(after)
+    after
 }
 
 // Where a number goes to: far away, near, or to the front.
@@ -39,22 +37,23 @@ fn some_target(dice: &mut Dice, from: usize, len: usize) -> usize
 
 // Moves a number of the first list and replaces one of the second, or neither.
 fn move_both(
+    rt: &impl Abort,
     alloc: Global,
     dice: &mut Dice,
     first: &mut Both,
     second: &mut Both,
     number: u32,
-) -> Result<bool, OutOfMemory> {
+) -> bool {
     let len = first.list.len();
     if len == 0 || second.list.len() == 0 {
-        return Ok(false);
+        return false;
     }
     let from = dice.below(len);
     let to = some_target(dice, from, len);
-    let item = shared_number(alloc, number)?;
-    let also = some_replacement(alloc, dice, &second.list)?;
-    let plain = moved(&first.plain, from, to, number)?;
-    let other = plain_after(&second.plain, &also)?;
+    let item = shared_number(alloc, number).expect(rt, "memory");
+    let also = some_replacement(rt, alloc, dice, &second.list);
+    let plain = moved(rt, &first.plain, from, to, number);
+    let other = plain_after(rt, &second.plain, &also);
     let list = &mut second.list;
     let made = first
         .list
@@ -63,7 +62,7 @@ fn move_both(
         first.plain = plain;
         second.plain = other;
     }
-    Ok(made)
+    made
 }
 
 // Numbers are moved and counted.
@@ -74,12 +73,11 @@ fn moves_in_turn(
     first: &mut Both,
     second: &mut Both,
     count: &mut Count,
-) -> Result<(), OutOfMemory> {
+) {
     for round in 0..60u32 {
-        count.add(move_both(alloc, dice, first, second, round)?);
+        count.add(move_both(rt, alloc, dice, first, second, round));
         assert!(rt; have(first, second), "move {round}");
     }
-    Ok(())
 }
 
 // Moves in a list of so many numbers, in turns with no clone, with one of it and with one of the other list.
@@ -90,41 +88,38 @@ fn moves_of(
     count: u32,
     alone: &mut Count,
     beside: &mut Count,
-) -> Result<(), OutOfMemory>
+)
     requires { count ≤ 100000 }
 {
-    let mut first = first_evens(alloc, count)?;
-    let mut second = first_evens(alloc, 400)?;
-    moves_in_turn(rt, alloc, dice, &mut first, &mut second, alone)?;
-    let clone = clone_of(alloc, &second)?;
-    moves_in_turn(rt, alloc, dice, &mut first, &mut second, beside)?;
+    let mut first = first_evens(rt, alloc, count);
+    let mut second = first_evens(rt, alloc, 400);
+    moves_in_turn(rt, alloc, dice, &mut first, &mut second, alone);
+    let clone = clone_of(rt, alloc, &second);
+    moves_in_turn(rt, alloc, dice, &mut first, &mut second, beside);
     assert!(rt; has(&clone.list, &clone.plain));
-    Ok(())
 }
 
 // A list that shares its blocks with a clone changes no chunk that the clone has.
-fn moves_beside(rt: &impl Abort, alloc: Global, dice: &mut Dice) -> Result<(), OutOfMemory> {
+fn moves_beside(rt: &impl Abort, alloc: Global, dice: &mut Dice) {
     let mut count = Count::none();
-    let mut first = first_evens(alloc, 3_000)?;
-    let mut second = first_evens(alloc, 400)?;
-    let clone = clone_of(alloc, &first)?;
-    moves_in_turn(rt, alloc, dice, &mut first, &mut second, &mut count)?;
+    let mut first = first_evens(rt, alloc, 3_000);
+    let mut second = first_evens(rt, alloc, 400);
+    let clone = clone_of(rt, alloc, &first);
+    moves_in_turn(rt, alloc, dice, &mut first, &mut second, &mut count);
     assert_eq!(rt; count.in_place, 0);
     assert!(rt; has(&clone.list, &clone.plain));
-    Ok(())
 }
 
 #[test]
-fn moves_are_made_in_place_or_not_at_all(rt: HostRuntime) -> Result<(), Fail> {
+fn moves_are_made_in_place_or_not_at_all(rt: HostRuntime) {
     let alloc = rt.alloc();
     let mut dice = Dice { state: 97_531 };
     let mut alone = Count::none();
     let mut beside = Count::none();
     for count in [0u32, 1, 2, 7, 40, 300, 1_500, 3_000] {
-        moves_of(&rt, alloc, &mut dice, count, &mut alone, &mut beside)?;
+        moves_of(&rt, alloc, &mut dice, count, &mut alone, &mut beside);
     }
     assert!(rt; alone.in_place > 150 && alone.others > 150);
     assert_eq!(rt; beside.in_place, 0);
-    moves_beside(&rt, alloc, &mut dice)?;
-    Ok(())
+    moves_beside(&rt, alloc, &mut dice);
 }

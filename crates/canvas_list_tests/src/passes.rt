@@ -6,7 +6,7 @@ use crate::numbers::{Number, Span};
 use canvas_code::OutOfMemory;
 use canvas_list::{Hint, Share, Shared, SharedList, ShortHint};
 use std::alloc::Global;
-use std::test::Fail;
+use std::process::Abort;
 
 /// A number that never lies apart by its own summary, but by that of its part alone.
 #[derive(Drop)]
@@ -98,38 +98,36 @@ fn count_given<T: Share>(list: &SharedList<T>, sought: &T::Summary) -> usize {
 }
 
 // The first numbers.
-fn first_watched(alloc: Global) -> Result<SharedList<Watched>, OutOfMemory> {
+fn first_watched(rt: &impl Abort, alloc: Global) -> SharedList<Watched> {
     let mut items = Vec::new(alloc);
     for value in 0..COUNT {
-        items.push(Watched { value })?;
+        items.push(Watched { value }).expect(rt, "memory");
     }
-    SharedList::from_vec(alloc, items)
+    SharedList::from_vec(alloc, items).expect(rt, "memory")
 }
 
 const COUNT: u32 = 3_000;
 
 #[test]
-fn walks_pass_over_parts(rt: HostRuntime) -> Result<(), Fail> {
-    let alloc = rt.alloc();
-    let list = first_watched(alloc)?;
+fn walks_pass_over_parts(rt: HostRuntime) {
+    let list = first_watched(&rt, rt.alloc());
     assert_eq!(rt; count_given(&list, &Note::sought(0, COUNT)), 3_000);
     assert_eq!(rt; count_given(&list, &Note::sought(COUNT, COUNT)), 0);
     for value in [0, 1, 1_234, 2_000, COUNT - 1] {
         let given = count_given(&list, &Note::sought(value, value));
         assert!(rt; 0 < given && given < 200, "{given} for {value}");
     }
-    Ok(())
 }
 
 #[test]
-fn walks_give_all_shared_values(rt: HostRuntime) -> Result<(), Fail> {
+fn walks_give_all_shared_values(rt: HostRuntime) {
     let alloc = rt.alloc();
     let mut items = Vec::new(alloc);
     for value in 0..COUNT {
-        items.push(Shared::new(alloc, Number { value })?)?;
+        let item = Shared::new(alloc, Number { value }).expect(&rt, "memory");
+        items.push(item).expect(&rt, "memory");
     }
-    let list = SharedList::from_vec(alloc, items)?;
-    let list = list.try_clone(alloc)?;
+    let list = SharedList::from_vec(alloc, items).expect(&rt, "memory");
+    let list = list.try_clone(alloc).expect(&rt, "memory");
     assert_eq!(rt; count_given(&list, &()), 3_000);
-    Ok(())
 }

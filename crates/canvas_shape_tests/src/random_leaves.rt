@@ -3,12 +3,11 @@
 ghost use Rattle.std.specs.Prelude.{◌≡◌, ◌<◌, ◌≤◌, ◌≤ℤ◌, ◌<ℤ◌, ◌+ℤ◌, ◌^◌, All, length, nat_le, pos, true};
 ghost use Rattle.canvas_plane.specs.Motion.{size_of};
 
-use canvas_code::OutOfMemory;
 use canvas_plane::{PageBox, Point, Pose, Window};
 use canvas_shape::{Carried, Colour, EdgeFlags, Kind, Points, Span};
 use std::alloc::Global;
 use std::cmp::Ordering;
-use std::test::Fail;
+use std::process::Abort;
 
 // A plain congruential generator: the same numbers in each run.
 #[derive(Drop)]
@@ -117,24 +116,19 @@ fn are_rising(out: &[Span]) -> bool {
 }
 
 // Whether the spans of a row are the pixels that the leaf holds one by one, behind what was there.
-fn agrees(
-    alloc: Global,
-    leaf: &Carried<'_>,
-    y: i32,
-    left: i32,
-    right: i32,
-) -> Result<bool, OutOfMemory>
+fn agrees(rt: &impl Abort, alloc: Global, leaf: &Carried<'_>, y: i32, left: i32, right: i32) -> bool
     requires { left ≤ℤ right }
 {
     let there = Span { from: 7, to: 7 };
     let mut out = Vec::new(alloc);
-    out.push(there)?;
-    leaf.row_spans(alloc, y, left, right, &mut out)?;
+    out.push(there).expect(rt, "memory");
+    let spans = leaf.row_spans(alloc, y, left, right, &mut out);
+    spans.expect(rt, "spans");
     let mut same = out.first() == Some(&there) && are_rising(&out);
     for x in left..right {
         same = same && has(&out, x) == leaf.holds(x, y);
     }
-    Ok(same)
+    same
 }
 
 // The number as a coordinate of a pixel, or the nearest one.
@@ -143,7 +137,7 @@ fn pixel(at: i64) -> i32 {
 }
 
 // Rows near the edges of a leaf, and columns near its sides.
-fn rows_agree(alloc: Global, dice: &mut Dice, leaf: &Carried<'_>) -> Result<bool, OutOfMemory> {
+fn rows_agree(rt: &impl Abort, alloc: Global, dice: &mut Dice, leaf: &Carried<'_>) -> bool {
     let shape = leaf.page_box();
     let mut same = true;
     for k in 0..6 {
@@ -162,14 +156,14 @@ fn rows_agree(alloc: Global, dice: &mut Dice, leaf: &Carried<'_>) -> Result<bool
         let left = pixel(left);
         let right = left.saturating_add(40);
         if left <= right {
-            same = same && agrees(alloc, leaf, pixel(y), left, right)?;
+            same = same && agrees(rt, alloc, leaf, pixel(y), left, right);
         }
     }
-    Ok(same)
+    same
 }
 
 #[test]
-fn boxes_agree_with_their_pixels(rt: HostRuntime) -> Result<(), Fail> {
+fn boxes_agree_with_their_pixels(rt: HostRuntime) {
     let mut dice = Dice { state: 1 };
     for k in 0..2000u32 {
         let pose = dice.pose(1 << 26);
@@ -178,27 +172,34 @@ fn boxes_agree_with_their_pixels(rt: HostRuntime) -> Result<(), Fail> {
         if pose.quarter <= 3 && pose.reach() <= 1 << 26 {
             let flat = Carried::rect(&pose, w, h);
             let round = Carried::ellipse(&pose, w, h);
-            assert!(rt; rows_agree(rt.alloc(), &mut dice, &flat)?, "rectangle {k}");
-            assert!(rt; rows_agree(rt.alloc(), &mut dice, &round)?, "ellipse {k}");
+            assert!(rt;
+                rows_agree(&rt, rt.alloc(), &mut dice, &flat),
+                "rectangle {k}"
+            );
+            assert!(rt;
+                rows_agree(&rt, rt.alloc(), &mut dice, &round),
+                "ellipse {k}"
+            );
         }
     }
-    Ok(())
 }
 
 #[test]
-fn polygons_agree_with_their_pixels(rt: HostRuntime) -> Result<(), Fail> {
+fn polygons_agree_with_their_pixels(rt: HostRuntime) {
     let mut dice = Dice { state: 2 };
     for k in 0..1500u32 {
         let size = if k % 3 == 0 { 1 << 27 } else { 12 };
         let count = dice.below(12) + 1;
         let mut points = Vec::new(rt.alloc());
         for _ in 0..count {
-            points.push(dice.point(size))?;
+            points.push(dice.point(size)).expect(&rt, "memory");
         }
-        let leaf = polygon(&points).ok_or("a vertex is far")?;
-        assert!(rt; rows_agree(rt.alloc(), &mut dice, &leaf)?, "polygon {k}");
+        let leaf = polygon(&points).expect(&rt, "near vertices");
+        assert!(rt;
+            rows_agree(&rt, rt.alloc(), &mut dice, &leaf),
+            "polygon {k}"
+        );
     }
-    Ok(())
 }
 
 // A width that is often that of a word or of all words.
@@ -272,20 +273,23 @@ fn is_set(words: &[u64; 4], i: u32) -> bool {
 // Whether the held columns of a window's row, and their spans from the pixel `left` on, are the page pixels that the leaf holds
 // one by one, and nothing else.
 fn row_agrees(
+    rt: &impl Abort,
     alloc: Global,
     flags: &EdgeFlags,
     leaf: &Carried<'_>,
     window: &Window,
     row: u32,
     left: i32,
-) -> Result<bool, OutOfMemory>
+) -> bool
     requires { (left +ℤ pos 256) ≤ℤ pos 2147483647 }
 {
     let there = Span { from: 7, to: 7 };
     let mut out = Vec::new(alloc);
-    out.push(there)?;
+    out.push(there).expect(rt, "memory");
     let width = window.w();
-    flags.append_spans(left, width, &mut out)?;
+    flags
+        .append_spans(left, width, &mut out)
+        .expect(rt, "spans");
     let held = flags.held();
     let y = shown(window, window.y(), row);
     let mut same = out.first() == Some(&there) && are_rising(&out);
@@ -294,53 +298,48 @@ fn row_agrees(
         same = same && is_set(&held, i) == is_held;
         same = same && (i >= width || has(&out, left.saturating_add(i as i32)) == is_held);
     }
-    Ok(same)
+    same
 }
 
 // Whether the flagged rows of a polygon in a window hold its pixels.
-fn flags_agree(alloc: Global, dice: &mut Dice, leaf: &Carried<'_>) -> Result<bool, OutOfMemory> {
+fn flags_agree(rt: &impl Abort, alloc: Global, dice: &mut Dice, leaf: &Carried<'_>) -> bool {
     let Carried::Polygon(vertices) = leaf else {
-        return Ok(false);
+        return false;
     };
     let Some(window) = some_window(dice, &vertices.bounds) else {
-        return Ok(false);
+        return false;
     };
     let mut rows = [EdgeFlags { words: [5; 4] }; 5];
     let first = dice.below(256) as u32 % window.h();
     if first + 5 > window.h() {
-        return Ok(true);
+        return true;
     }
     vertices.flag_rows(&window, first as usize, &mut rows);
     let left = first_column(dice.wild(i32::MAX as u32));
     let mut same = true;
     for (k, row) in rows.iter().enumerate() {
-        same = same
-            && row_agrees(
-                alloc,
-                row,
-                leaf,
-                &window,
-                first.saturating_add(k as u32),
-                left,
-            )?;
+        let at = first.saturating_add(k as u32);
+        same = same && row_agrees(rt, alloc, row, leaf, &window, at, left);
     }
-    Ok(same)
+    same
 }
 
 #[test]
-fn flagged_rows_agree_with_their_pixels(rt: HostRuntime) -> Result<(), Fail> {
+fn flagged_rows_agree_with_their_pixels(rt: HostRuntime) {
     let mut dice = Dice { state: 5 };
     for k in 0..400u32 {
         let size = if k % 3 == 0 { 1 << 27 } else { 120 };
         let count = dice.below(12) + 1;
         let mut points = Vec::new(rt.alloc());
         for _ in 0..count {
-            points.push(dice.point(size))?;
+            points.push(dice.point(size)).expect(&rt, "memory");
         }
-        let leaf = polygon(&points).ok_or("a vertex is far")?;
-        assert!(rt; flags_agree(rt.alloc(), &mut dice, &leaf)?, "polygon {k}");
+        let leaf = polygon(&points).expect(&rt, "near vertices");
+        assert!(rt;
+            flags_agree(&rt, rt.alloc(), &mut dice, &leaf),
+            "polygon {k}"
+        );
     }
-    Ok(())
 }
 
 // On which side of the line from `a` to `b` a point lies.
@@ -384,7 +383,7 @@ fn carried(pose: &Pose, point: Point) -> Option<Point> {
 }
 
 #[test]
-fn triangles_share_an_edge_in_every_pose(rt: HostRuntime) -> Result<(), Fail> {
+fn triangles_share_an_edge_in_every_pose(rt: HostRuntime) {
     let mut dice = Dice { state: 3 };
     for pair in 0..900u32 {
         let [a, b, c, d] = [dice.point(8), dice.point(8), dice.point(8), dice.point(8)];
@@ -392,7 +391,6 @@ fn triangles_share_an_edge_in_every_pose(rt: HostRuntime) -> Result<(), Fail> {
             assert!(rt; share_an_edge_in_every_pose(a, b, c, d), "pair {pair}");
         }
     }
-    Ok(())
 }
 
 fn share_an_edge_in_every_pose(a: Point, b: Point, c: Point, d: Point) -> bool {
@@ -412,12 +410,12 @@ fn share_an_edge_in_every_pose(a: Point, b: Point, c: Point, d: Point) -> bool {
 }
 
 #[test]
-fn kinds_hold_what_their_leaves_hold(rt: HostRuntime) -> Result<(), Fail> {
+fn kinds_hold_what_their_leaves_hold(rt: HostRuntime) {
     let mut dice = Dice { state: 4 };
     for k in 0..300u32 {
         let mut points = Points::new(rt.alloc());
         for _ in 0..dice.below(6) + 3 {
-            points.push(dice.point(9))?;
+            points.push(dice.point(9)).expect(&rt, "memory");
         }
         let kind = Kind::Polygon {
             points,
@@ -425,36 +423,33 @@ fn kinds_hold_what_their_leaves_hold(rt: HostRuntime) -> Result<(), Fail> {
         };
         let pose = dice.pose(5);
         assert_eq!(rt;
-            holds_as_leaf(rt.alloc(), &kind, &pose)?,
+            holds_as_leaf(&rt, rt.alloc(), &kind, &pose),
             Some(true),
             "kind {k}"
         );
     }
-    Ok(())
 }
 
 // Whether a polygon holds what its carried vertices hold.
-fn holds_as_leaf(alloc: Global, kind: &Kind, pose: &Pose) -> Result<Option<bool>, OutOfMemory> {
+fn holds_as_leaf(rt: &impl Abort, alloc: Global, kind: &Kind, pose: &Pose) -> Option<bool> {
     let Kind::Polygon { points, .. } = kind else {
-        return Ok(None);
+        return None;
     };
     let mut vertices = Vec::new(alloc);
     for point in points.as_slice() {
         if let Some(point) = carried(pose, *point) {
-            vertices.push(point)?;
+            vertices.push(point).expect(rt, "memory");
         }
     }
     if kind.check().is_err() || pose.quarter > 3 || pose.reach() > 1 << 26 {
-        return Ok(None);
+        return None;
     }
-    let Some(leaf) = polygon(&vertices) else {
-        return Ok(None);
-    };
+    let leaf = polygon(&vertices)?;
     let mut same = true;
     for y in -20..20 {
         for x in -20..20 {
             same = same && kind.holds(pose, x, y) == leaf.holds(x, y);
         }
     }
-    Ok(Some(same))
+    Some(same)
 }
