@@ -23,17 +23,17 @@ fn looks(count: u32) -> u32 {
 
 #[test]
 fn random_edits_of_large_pages(rt: HostRuntime) {
-    sizes_agree(&rt, rt.alloc(), Form::Flat, 200);
+    sizes_agree(&rt, rt.alloc(), Form::Flat, 1_000);
 }
 
 #[test]
 fn random_edits_of_many_groups(rt: HostRuntime) {
-    sizes_agree(&rt, rt.alloc(), Form::Grouped, 200);
+    sizes_agree(&rt, rt.alloc(), Form::Grouped, 1_000);
 }
 
 #[test]
 fn random_edits_of_large_documents_32_deep(rt: HostRuntime) {
-    sizes_agree(&rt, rt.alloc(), Form::Deep, 40);
+    sizes_agree(&rt, rt.alloc(), Form::Deep, 200);
 }
 
 // Moves the shapes of some ids to the front of a parent, one after the other.
