@@ -253,7 +253,8 @@ def timed(making, lines, workers=1):
         read_replies(pipe, room)
         found.append(time.perf_counter() - begin)
         feeder.join()
-        child.wait()
+        if child.wait() != 0:
+            sys.exit(f"{BUILT} ended with status {child.returncode}")
     return min(found)
 
 
@@ -378,7 +379,7 @@ def crowd(count, kind):
     """Shapes of 12 by 12, so many of which meet one tile."""
     for n in range(count):
         shape = {"kind": kind, "w": 12, "h": 12, "fill": f"{n * 4099 % (1 << 24):06x}"}
-        yield {"verb": "create", "shape": shape, "pose": {"dx": n * 37 % 250, "dy": n * 101 % 250}}
+        yield {"verb": "create", "shape": shape, "pose": {"dx": n * 37 % 250, "dy": n * 101 % 251}}
 
 
 CROWDS = {
@@ -389,10 +390,11 @@ CROWDS = {
 }
 
 
-def measure_workers():
+def measure_workers(folder):
     asked = [{"verb": "tile", "col": 0, "row": 0}] * TILES
     for name, making in CROWDS.items():
         lines, found = list(making()), {}
+        bodies(lines + asked[:1], folder)
         for workers in WORKERS * 3:
             found[workers] = min(found.get(workers, math.inf), microseconds(lines, asked, workers))
         told = ", ".join(f"{workers}: {it:.0f} ({it / found[1]:.2f})" for workers, it in found.items())
@@ -415,7 +417,7 @@ def main():
             measure_levels("squares", square_of, folder)
             measure_levels("ellipses and polygons", mixed_of, folder)
         if "workers" in words:
-            measure_workers()
+            measure_workers(folder)
 
 
 if __name__ == "__main__":
