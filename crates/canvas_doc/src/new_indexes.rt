@@ -92,8 +92,8 @@ fn respaced(alloc: Global, shape: &Record, rank: u32) -> Result<Shared<Record>, 
     )
 }
 
-// Up to one record in so many is replaced by itself, which makes a chunk and two tables anew at most. For more a whole list
-// is made, which counts up the owners of all.
+// Where at most one record in so many changes, each is replaced on its own, which makes a chunk and two tables anew at most.
+// Else a whole list is made, which counts up the owners of all.
 const RECORDS_FOR_EACH_REPLACED: usize = 64;
 
 // The records, with others in the place of those that have their ids.

@@ -29,7 +29,7 @@ impl Both {
         Both { document, plain }
     }
 
-    /// So many squares and groups that hang in such a way.
+    /// A document of so many squares and groups, which hang as the form says.
     pub(crate) fn filled(rt: &impl Abort, alloc: Global, form: Form, count: u32) -> Both {
         let document = filled_document(rt, alloc, form, count);
         let plain = Plain {
