@@ -54,6 +54,7 @@ pub mod Childless
 pub mod Spaced
 pub mod Respacing
 pub mod Rebounded
+pub mod Respacings
 pub mod Untouched
 pub mod Besides
 pub mod Damaged

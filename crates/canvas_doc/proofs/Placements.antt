@@ -7,7 +7,7 @@ use Rattle.std.proofs.lemmas.List as list
 use Rattle.std.proofs.lemmas.List.{append_assoc, drop-drop, length-map, map-append, map-set, take-append-drop}
 use Rattle.canvas_list.specs.declared.in_place.ItemChange.{ItemChange}
 use Rattle.canvas_list.specs.declared.in_place.ItemChange.TheVariants.{Replace, Remove, Insert}
-use Rattle.canvas_list.specs.Changed.{changed_if, IsPositionOf}
+use Rattle.canvas_list.specs.Changed.{changed_if, replaced_run, IsPositionOf}
 use Rattle.canvas_doc.specs.declared.bounds.Bounds.{Bounds}
 use Rattle.canvas_doc.specs.declared.placed_shapes.PlacedShape.{PlacedShape}
 use Rattle.canvas_doc.specs.declared.records.Record.{Record}
@@ -133,3 +133,19 @@ pub bounds-moved : (list new : List PlacedShape) (all : Placements) (from to : �
 bounds-moved list new all from to placed false e is = ap (map bounds_of) is ∙ bounds-are list all e
 bounds-moved list new all from to placed true e is =
     ap (map bounds_of) is ∙ map-insert bounds_of (remove list from) to placed ∙ ap (λ l. insert l to placed.bounds) (map-remove bounds_of list from ∙ ap (λ l. remove l from) (bounds-are list all e))
+
+-- ---- others in the place of as many that stand side by side
+
+map-run : {X Y : Type 0} (f : X → Y) (list new items : List X) (others : List Y) (at : ℕ) (made : Bool) → map f list ≡ others → new ≡ cond made (replaced_run at items list) list → map f new ≡ cond made (replaced_run at (map f items) others) others
+map-run f list new items others at false all is = ap (map f) is ∙ all
+map-run f list new items others at true all is =
+    ap (map f) is
+    ∙ map-splice f list items at (at + length items)
+    ∙ ap (λ n. take at (map f list) ++ map f items ++ drop (at + n) (map f list)) (sym (length-map items f))
+    ∙ ap (replaced_run at (map f items)) all
+
+pub shapes-run : (list new items : List PlacedShape) (all : Placements) (at : ℕ) (made : Bool) → placements_of list ≡ all → new ≡ cond made (replaced_run at items list) list → map shape_of new ≡ cond made (replaced_run at (map shape_of items) all.shapes) all.shapes
+shapes-run list new items all at made e is = map-run shape_of list new items all.shapes at made (shapes-are list all e) is
+
+pub bounds-run : (list new items : List PlacedShape) (all : Placements) (at : ℕ) (made : Bool) → placements_of list ≡ all → new ≡ cond made (replaced_run at items list) list → map bounds_of new ≡ cond made (replaced_run at (map bounds_of items) all.bounds) all.bounds
+bounds-run list new items all at made e is = map-run bounds_of list new items all.bounds at made (bounds-are list all e) is

@@ -66,7 +66,7 @@ impl Document {
             Change::Reshape { .. } => self.replace_in_place(alloc, change),
             Change::Show { .. } => self.replace_in_place(alloc, change),
             Change::Move { .. } => self.move_in_place(alloc, change),
-            Change::Respace { .. } => false,
+            Change::Respace { parent } => self.respace_in_place(alloc, *parent),
         }
     }
 
@@ -127,7 +127,6 @@ impl Document {
         };
         let placed = PlacedShape::new(shape, bounds);
         self.order.move_both(
-            alloc,
             from,
             to,
             placed,

@@ -45,6 +45,37 @@ impl Document {
     }
 }
 
+// Of how many children at most the order is changed in place. More would hardly stand in one block of it.
+const MOST_RESPACED_IN_PLACE: usize = 64;
+
+impl Document {
+    ghost use Rattle.std.specs.Prelude.{cond};
+    ghost use Rattle.canvas_doc.specs.Effect.{effect_of};
+    ghost use Rattle.canvas_doc.specs.declared.edits.Change.TheVariants.{Respace};
+
+    /// Gives the few children of a parent new indexes: in the order in place, of the records a new list is made first.
+    /// Answers whether it did; else the document is as it was.
+    pub(crate) fn respace_in_place(&mut self, alloc: Global, parent: Parent) -> bool
+        ensures { self.new ≡ cond result (effect_of (Respace parent) self.old) self.old }
+    {
+        let Range { start, end } = children_range(&self.order, parent);
+        if start == end || end - start > MOST_RESPACED_IN_PLACE {
+            return false;
+        }
+        let Ok(children) = respaced_children(alloc, &self.order, parent, start, end) else {
+            return false;
+        };
+        let Ok(records) = with_each(alloc, &self.records, &children) else {
+            return false;
+        };
+        let made = self.order.replace_run(start, children);
+        if made {
+            self.records = records;
+        }
+        made
+    }
+}
+
 // The children of a parent, which stand from one position up to another, each with the index that
 // stands for its place from the back, and with its bounds.
 fn respaced_children(
@@ -92,8 +123,9 @@ fn respaced(alloc: Global, shape: &Record, rank: u32) -> Result<Shared<Record>, 
     )
 }
 
-// Where at most one record in so many changes, each is replaced on its own, which makes a chunk and two tables anew at most.
-// Else a whole list is made, which counts up the owners of all.
+// Where no more than a few records change, or one in so many, each is replaced on its own, which makes a chunk and two tables
+// anew at most. Else a whole list is made, which counts up the owners of all.
+const FEW_REPLACED: usize = 4;
 const RECORDS_FOR_EACH_REPLACED: usize = 64;
 
 // The records, with others in the place of those that have their ids.
@@ -107,7 +139,7 @@ fn with_each(
     requires once { HaveIds (placements_of others.now).shapes }
     ensures { IfOk result (λ all. all ≡ map (λ r. unwrap_or (record_of r.id (placements_of others.now).shapes) r) records.now) }
 {
-    if others.len() <= records.len() / RECORDS_FOR_EACH_REPLACED {
+    if others.len() <= FEW_REPLACED.max(records.len() / RECORDS_FOR_EACH_REPLACED) {
         with_few(alloc, records, others)
     } else {
         with_many(alloc, records, others)

@@ -3,7 +3,7 @@
 ghost use Rattle.std.specs.Prelude.{◌≡◌, ◌≤◌, ◌<◌, ◌+◌, ◌++◌, ◌^◌, [], IfOk, cond, drop, length, slice_index_or, slice_set, take};
 ghost use Rattle.std.specs.List.{insert, remove, slice_get};
 ghost use Rattle.std.specs.Option.{option_copied};
-ghost use Rattle.canvas_list.specs.Changed.{changed_if, IsPositionOf};
+ghost use Rattle.canvas_list.specs.Changed.{changed_if, replaced_run, IsPositionOf};
 ghost use Rattle.canvas_doc.specs.Placements.{bounds_change, placements_of, shape_change};
 
 use crate::bounds::Bounds;
@@ -285,7 +285,6 @@ impl PlacedShapes {
     /// end, together with a change of other records: both are made in place, or neither.
     pub(crate) fn move_both(
         &mut self,
-        alloc: Global,
         from: usize,
         to: usize,
         placed: PlacedShape,
@@ -301,7 +300,18 @@ impl PlacedShapes {
         ensures other { records.new ≡ changed_if result other_change other_at records.old }
     {
         self.list
-            .move_both(alloc, from, to, placed, records, other_at, other_change)
+            .move_both(from, to, placed, records, other_at, other_change)
+    }
+
+    /// Puts others with their bounds in the place of as many that stand side by side, from a position on: all in
+    /// place, or none.
+    pub(crate) fn replace_run(&mut self, at: usize, placed: Vec<PlacedShape>) -> bool
+        requires some { 0 < length placed.items }
+        requires within { at + length placed.items ≤ length self.old.shapes }
+        ensures shapes { self.new.shapes ≡ cond result (replaced_run at (placements_of placed.items).shapes self.old.shapes) self.old.shapes }
+        ensures bounds { self.new.bounds ≡ cond result (replaced_run at (placements_of placed.items).bounds self.old.bounds) self.old.bounds }
+    {
+        self.list.replace_run(at, placed)
     }
 
     /// The same with others in place of those from `first` up to `end`, which itself stays.

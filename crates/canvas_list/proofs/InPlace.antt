@@ -1,5 +1,6 @@
 -- A table after a change in place of one of its parts.
-use Rattle.std.proofs.Common.{◌≡◌, ◌∙◌, ℕ, ◌+◌, ◌-◌, ◌<◌, ◌≤◌, ◌^◌, Bool, true, false, List, ◌++◌, take, drop, set, refl, sym, ap, arith, length, get_or}
+use Rattle.std.proofs.Common.{◌≡◌, ◌∙◌, ℕ, ◌+◌, ◌-◌, ◌<◌, ◌≤◌, ◌^◌, Bool, true, false, List, ◌++◌, take, drop, set, refl, subst, sym, ap, arith, length, get_or}
+use Rattle.std.specs.List.{remove}
 use Rattle.std.proofs.lemmas.List.{append_assoc, drop-set-lt, get_or-set_same, length-append, take-set}
 use Rattle.std.proofs.lemmas.List.Edits.{length-insert, length-remove}
 use Rattle.std.proofs.lemmas.List.Elements.{All-set}
@@ -87,3 +88,18 @@ module _ {X : Type 0} (cs : List (List X)) (xs : List X) (n k s at : ℕ) (c : L
   pub some-after : (made : Bool) (change : ItemChange X) (new : List X) → IsChangedPart cs xs n k s at c change → 0 < length new → 0 < length (joined (set cs k new))
   some-after made change new p some =
       omega (arith, ap length (other-part cs k new p.spot.within), length-append (joined (take k cs) ++ new) (joined (drop (k + 1) cs)), length-append (joined (take k cs)) new)
+
+  -- the table has one item less
+  pub table-less : (made : Bool) (new : List X) → IsChangedPart cs xs n k s at c Remove → new ≡ changed_if made Remove (at - s) c → made ≡ true → 0 < length new → IsTable (set cs k new) (n - 1)
+  table-less made new p e is some =
+      let less : new ≡ remove c (at - s) = e ∙ ap (λ m. changed_if m Remove (at - s) c) is in
+      subst (λ m. IsTable (set cs k new) m) (omega (arith, ap length less, length-remove c (at - s) (place-in Remove p), place-in Remove p, part-fewer Remove p)) (table-after made Remove new (length c) (length new) p e refl refl some)
+
+  -- the part has one item more, and so has the table
+  pub part-more : (made : Bool) (item : X) (new : List X) → IsChangedPart cs xs n k s at c (Insert item) → new ≡ changed_if made (Insert item) (at - s) c → made ≡ true → length new ≡ length c + 1
+  part-more made item new p e is = ap length (e ∙ ap (λ m. changed_if m (Insert item) (at - s) c) is) ∙ length-insert c (at - s) item (place-in (Insert item) p).0
+
+  pub table-more : (made : Bool) (item : X) (new : List X) → IsChangedPart cs xs n k s at c (Insert item) → new ≡ changed_if made (Insert item) (at - s) c → made ≡ true → IsTable (set cs k new) (n + 1)
+  table-more made item new p e is =
+      let more : length new ≡ length c + 1 = part-more made item new p e is in
+      subst (λ m. IsTable (set cs k new) m) (omega (arith, more, part-fewer (Insert item) p)) (table-after made (Insert item) new (length c) (length new) p e refl refl (omega (arith, more)))

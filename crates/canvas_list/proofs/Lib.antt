@@ -10,6 +10,7 @@ pub mod Joined
 pub mod Kept
 mod Moved
 pub mod Parted
+pub mod Replaced
 pub mod Runs
 pub mod Spliced
 pub mod Visited

@@ -1,24 +1,66 @@
 -- A table after an item went from one of its parts to another.
-use Rattle.std.proofs.Common.{◌≡◌, ◌≢◌, ◌∙◌, ◌^◌, ℕ, Bool, true, false, cond, zero, suc, ◌+◌, ◌-◌, ◌<◌, ◌≤◌, List, [], ◌∷◌, ◌++◌, take, drop, slice_range, set, refl, sym, ap, inl, inr, arith, length, get_or}
+use Rattle.std.proofs.Common.{◌≡◌, ◌≢◌, ◌∙◌, ◌^◌, ℕ, Bool, true, false, cond, zero, suc, ◌+◌, ◌-◌, ◌<◌, ◌≤◌, List, [], ◌∷◌, ◌++◌, take, drop, slice_range, set, add-zero, refl, subst, sym, ap, inl, inr, arith, length, get_or}
 use Rattle.std.specs.List.{insert, remove}
 use Rattle.std.proofs.lemmas.Bool.{cases_lt}
-use Rattle.std.proofs.lemmas.List.{append_assoc, drop-set-lt, get_or-set_other, length-append, take-append-drop, take-set-le}
+use Rattle.std.proofs.lemmas.List.{append_assoc, drop-set-lt, get_or-drop, get_or-set_other, get_or-take, length-append, length-take-le, set-append_left, set-append_right, take-append-drop, take-append-le, take-set-le, take_all}
 use Rattle.std.proofs.lemmas.List.Edits.{length-insert, length-remove}
 use Rattle.std.proofs.lemmas.List.Elements.{All-set}
 use Rattle.std.proofs.Math.ListN.{length-set}
+use Rattle.canvas_list.specs.declared.in_place.ItemChange.TheVariants.{Remove, Insert}
+use Rattle.canvas_list.specs.Changed.{changed_if}
 use Rattle.canvas_list.specs.Chunks.{joined, IsSpot, IsTable}
 use Rattle.canvas_list.proofs.Blocks.{of-block, one-part}
+use Rattle.canvas_list.proofs.Ends.{chunk-unchanged}
 use Rattle.canvas_list.proofs.InPlace.{other-part}
 use Rattle.canvas_list.proofs.Joined.{fewer, joined-append, len-is, split_at}
 use Rattle.canvas_list.proofs.Spliced.{inserted, is-part, moved, part-end, removed, IsIn, IsOfSpot, IsPart}
 
+-- one of two numbers that are not the same is below the other
+pub below : (i j : ℕ) → i ≤ j → i ≢ j → i < j
+below i j h apart = elim (cases_lt i j) [ inl l ↦ l | inr l ↦ absurd (apart (omega arith)) ]
+
 -- two changes at different positions, in either order
-set-swap : {X : Type 0} (xs : List X) (i j : ℕ) (a b : X) → i ≢ j → set (set xs i a) j b ≡ set (set xs j b) i a
+pub set-swap : {X : Type 0} (xs : List X) (i j : ℕ) (a b : X) → i ≢ j → set (set xs i a) j b ≡ set (set xs j b) i a
 set-swap [] i j a b apart = refl
 set-swap (x ∷ xs) zero zero a b apart = absurd (apart refl)
 set-swap (x ∷ xs) zero (suc j) a b apart = refl
 set-swap (x ∷ xs) (suc i) zero a b apart = refl
 set-swap (x ∷ xs) (suc i) (suc j) a b apart = ap (λ l. x ∷ l) (set-swap xs i j a b (λ e. apart (ap suc e)))
+
+-- one item changed in each of the two parts of a list
+set-parted : {X : Type 0} (xs : List X) (i j : ℕ) (a b : X) → i < j → j < length xs → set (take j xs) i a ++ set (drop j xs) 0 b ≡ set (set xs i a) j b
+set-parted xs i j a b h k =
+    let front : length (take j xs) ≡ j = length-take-le j xs (omega arith) in
+    let none : j - j ≡ 0 = omega arith in
+    sym (ap (λ l. set (set l i a) j b) (sym (take-append-drop j xs))
+    ∙ ap (λ l. set l j b) (set-append_left (take j xs) (drop j xs) i a (omega arith))
+    ∙ set-append_right (set (take j xs) i a) (drop j xs) j j b (length-set (take j xs) i a ∙ front) (omega arith)
+    ∙ ap (λ n. set (take j xs) i a ++ set (drop j xs) n b) none)
+
+-- the parts that a table is cut into
+pub record AreHalves {X : Type 0} (cs front back : List X) (b : ℕ) : Type 0 where
+  pub before : front ≡ take b cs
+  pub from : back ≡ drop b cs
+
+pub halves : {X : Type 0} (cs rs front back : List X) (b : ℕ) → rs ≡ cs → front ≡ take b rs → back ≡ drop b rs → AreHalves cs front back b
+halves cs rs front back b e before from = record { before = before ∙ ap (λ l. take b l) e; from = from ∙ ap (λ l. drop b l) e }
+
+module _ {X : Type 0} (cs front back : List X) (b : ℕ) (parts : AreHalves cs front back b) where
+  pub in-front : (i : ℕ) (x : X) → x ≡ get_or front i x → i < b → x ≡ get_or cs i x
+  in-front i x e h = e ∙ ap (λ l. get_or l i x) parts.before ∙ get_or-take b cs i x h
+
+  pub in-back : (x : X) → x ≡ get_or back 0 x → x ≡ get_or cs b x
+  in-back x e = e ∙ ap (λ l. get_or l 0 x) parts.from ∙ get_or-drop b cs 0 x ∙ ap (λ i. get_or cs i x) (add-zero b)
+
+  -- the table whose halves they are then
+  pub joined-halves : (len i : ℕ) (x y : X) → len ≡ length cs → i < b → b < length cs → take len ((set front i x ++ set back 0 y) ++ drop (length (set front i x ++ set back 0 y)) cs) ≡ set (set cs i x) b y
+  joined-halves len i x y long h k =
+      let both : set front i x ++ set back 0 y ≡ set (set cs i x) b y =
+      ap (λ l. set l i x ++ set back 0 y) parts.before ∙ ap (λ l. set (take b cs) i x ++ set l 0 y) parts.from ∙ set-parted cs i b x y h k in
+      let all : length (set front i x ++ set back 0 y) ≡ len = ap length both ∙ length-set (set cs i x) b y ∙ length-set cs i x ∙ sym long in
+      take-append-le len (set front i x ++ set back 0 y) (drop (length (set front i x ++ set back 0 y)) cs) (omega arith)
+      ∙ take_all len (set front i x ++ set back 0 y) (omega arith)
+      ∙ both
 
 -- how many items stand before a part and from it on
 cut : {X : Type 0} (cs : List (List X)) (k : ℕ) → length (joined cs) ≡ length (joined (take k cs)) + length (joined (drop k cs))
@@ -192,3 +234,23 @@ module _ {X : Type 0} (cs : List (List X)) (xs : List X) (k s m t from to place 
               omega (arith, move.target.part.start))
         ],
       )
+
+  -- both parts after the move, if it was made
+  pub items-changed : (made : Bool) (left new : List X) (item : X) → left ≡ changed_if made Remove (from - s) old → new ≡ changed_if made (Insert item) (place - t) goal → k ≢ m → joined (set (set cs m new) k left) ≡ cond made (insert (remove xs from) to item) xs
+  items-changed true left new item out in_ apart = moved-apart left out new item in_ apart
+  items-changed false left new item out in_ apart =
+      ap (λ l. joined (set (set cs m l) k left)) in_
+      ∙ ap (λ l. joined (set l k left)) (chunk-unchanged cs m goal goal refl move.is)
+      ∙ ap (λ l. joined (set cs k l)) out
+      ∙ ap joined (chunk-unchanged cs k old old refl move.was)
+      ∙ move.source.part.all
+
+  pub table-changed : (made : Bool) (n : ℕ) (left new : List X) (item : X) → IsTable cs n → 0 < length left → left ≡ changed_if made Remove (from - s) old → new ≡ changed_if made (Insert item) (place - t) goal → k ≢ m → IsTable (set (set cs m new) k left) n
+  table-changed true n left new item table some out in_ apart = table-apart left out n new item table some in_ apart
+  table-changed false n left new item table some out in_ apart =
+      let same : set (set cs m new) k left ≡ cs =
+      ap (λ l. set (set cs m l) k left) in_
+      ∙ ap (λ l. set l k left) (chunk-unchanged cs m goal goal refl move.is)
+      ∙ ap (λ l. set cs k l) out
+      ∙ chunk-unchanged cs k old old refl move.was in
+      subst (λ l. IsTable l n) (sym same) table

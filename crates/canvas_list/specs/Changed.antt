@@ -1,5 +1,5 @@
--- A change of a list at one position, made or not.
-use Rattle.std.specs.Prelude.{ℕ, ◌<◌, ◌≤◌, ◌+◌, ◌^◌, List, Bool, cond, length, slice_set}
+-- A change of a list at one position, made or not, and of some items side by side.
+use Rattle.std.specs.Prelude.{ℕ, ◌<◌, ◌≤◌, ◌+◌, ◌^◌, ◌++◌, List, Bool, cond, length, slice_set, take, drop}
 use Rattle.std.specs.List.{insert, remove}
 use Rattle.canvas_list.specs.declared.sizes.TheConstants.{MOST_IN_CHUNK}
 use Rattle.canvas_list.specs.declared.in_place.ItemChange.{ItemChange}
@@ -26,3 +26,7 @@ abbrev pub IsReadyFor : {X : Type 0} → ItemChange X → ℕ → ℕ → Type 0
 IsReadyFor (Replace item) len room = Unit {0}
 IsReadyFor Remove len room = 1 < len
 IsReadyFor (Insert item) len room = (len < MOST_IN_CHUNK) × (len < room)
+
+-- the list with other items in the place of as many, from a position on
+abbrev pub replaced_run : {X : Type 0} → ℕ → List X → List X → List X
+replaced_run at items xs = take at xs ++ items ++ drop (at + length items) xs

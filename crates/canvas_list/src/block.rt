@@ -1,9 +1,9 @@
 //! Chunks side by side, shared by all lists that have them.
 
-ghost use Rattle.std.specs.Prelude.{◌≡◌, ◌<◌, ◌^◌, All, IfOk, IfSome, cond, length};
+ghost use Rattle.std.specs.Prelude.{◌≡◌, ◌<◌, ◌≤◌, ◌+◌, ◌^◌, All, IfOk, IfSome, cond, length};
 ghost use Rattle.std.specs.List.{insert, remove, slice_get};
 ghost use Rattle.canvas_list.specs.Chunks.{joined, FitsChunk};
-ghost use Rattle.canvas_list.specs.Changed.{changed_if, IsPositionOf};
+ghost use Rattle.canvas_list.specs.Changed.{changed_if, replaced_run, IsPositionOf};
 
 use crate::chunks::Chunks;
 use crate::counted::Counted;
@@ -119,7 +119,6 @@ impl<T: Share> Block<T> {
     /// with a change of a list: both are made in place, or neither. A chunk gets so many items.
     pub(crate) fn move_both<U: Share>(
         &mut self,
-        alloc: Global,
         from: usize,
         to: usize,
         item: T,
@@ -139,7 +138,6 @@ impl<T: Share> Block<T> {
             return false;
         };
         let made = chunks.move_both(
-            alloc,
             from,
             to,
             item,
@@ -155,18 +153,68 @@ impl<T: Share> Block<T> {
         made
     }
 
-    /// The block without an item, if another one is left and memory is not refused. A chunk gets so many items.
-    pub(crate) fn without(&self, alloc: Global, at: usize, per_chunk: usize) -> Option<Block<T>>
+    /// Takes the item at `from` away and puts another into another block, together with a change of a list: all is
+    /// made in place, or nothing. A chunk gets so many items.
+    pub(crate) fn move_to<U: Share>(
+        &mut self,
+        from: usize,
+        target: &mut Block<T>,
+        place: usize,
+        item: T,
+        per_chunk: usize,
+        other: &mut SharedList<U>,
+        other_at: usize,
+        other_change: ItemChange<U>,
+    ) -> bool
         requires chunk { FitsChunk per_chunk }
-        requires within { at < length self.now }
-        ensures items { IfSome result (λ block. block ≡ remove self.now at) }
-        ensures some { IfSome result (λ block. 0 < length block) }
+        requires from { from < length self.old }
+        requires place { IsPositionOf (ItemChange.Insert item) place target.old }
+        requires other { IsPositionOf other_change other_at other.old }
+        ensures items { self.new ≡ changed_if result ItemChange.Remove from self.old }
+        ensures some { 0 < length self.new }
+        ensures target { target.new ≡ changed_if result (ItemChange.Insert item) place target.old }
+        ensures other { other.new ≡ changed_if result other_change other_at other.old }
     {
-        let left = self.chunks().without(alloc, at, per_chunk).ok()?;
-        if left.len() == 0 {
-            return None;
+        let Some(chunks) = Arc::get_mut(&mut self.chunks) else {
+            return false;
+        };
+        let Some(goal) = Arc::get_mut(&mut target.chunks) else {
+            return false;
+        };
+        let made = chunks.move_to(
+            from,
+            goal,
+            place,
+            item,
+            per_chunk,
+            other,
+            other_at,
+            other_change,
+        );
+        if made {
+            self.noted = noted_after(self.noted, chunks, from);
+            self.summary = chunks.summary();
+            target.noted = noted_after(target.noted, goal, place);
+            target.summary = goal.summary();
         }
-        Block::new(alloc, left).ok()
+        made
+    }
+
+    /// Puts items in the place of as many that stand side by side, from a position on: all in place, or none.
+    pub(crate) fn replace_run(&mut self, at: usize, items: Vec<T>) -> bool
+        requires some { 0 < length items.items }
+        requires within { at + length items.items ≤ length self.old }
+        ensures { self.new ≡ cond result (replaced_run at items.items self.old) self.old }
+    {
+        let Some(chunks) = Arc::get_mut(&mut self.chunks) else {
+            return false;
+        };
+        let made = chunks.replace_run(at, items);
+        if made {
+            self.noted = noted_after(self.noted, chunks, at);
+            self.summary = chunks.summary();
+        }
+        made
     }
 
     /// A summary of all items.

@@ -1,9 +1,9 @@
 //! Items side by side, shared by all lists that have them.
 
-ghost use Rattle.std.specs.Prelude.{◌≡◌, ◌<◌, ◌≤◌, ◌++◌, All, IfOk, IfSome, OnOk, cond, length, slice_set};
+ghost use Rattle.std.specs.Prelude.{◌≡◌, ◌<◌, ◌≤◌, ◌+◌, ◌++◌, All, IfOk, IfSome, OnOk, cond, length, slice_set};
 ghost use Rattle.std.specs.List.{insert, remove, slice_get};
 ghost use Rattle.canvas_list.specs.Chunks.{joined, FitsChunk};
-ghost use Rattle.canvas_list.specs.Changed.{changed_if, IsPositionOf};
+ghost use Rattle.canvas_list.specs.Changed.{changed_if, replaced_run, IsPositionOf};
 
 use crate::counted::Counted;
 use crate::hint::Hint;
@@ -151,16 +151,77 @@ impl<T: Share> Chunk<T> {
         true
     }
 
-    /// The chunk without an item, if another one is left and memory is not refused.
-    pub(crate) fn without(&self, alloc: Global, at: usize) -> Option<Chunk<T>>
-        requires { at < length self.now }
-        ensures items { IfSome result (λ chunk. chunk ≡ remove self.now at) }
-        ensures some { IfSome result (λ chunk. 0 < length chunk) }
+    /// Takes the item at `from` away and puts another into another chunk, together with a change of a list: all is
+    /// made in place, or nothing. It is not made where no item would be left. A chunk gets so many items.
+    pub(crate) fn move_to<U: Share>(
+        &mut self,
+        from: usize,
+        target: &mut Chunk<T>,
+        place: usize,
+        item: T,
+        per_chunk: usize,
+        other: &mut SharedList<U>,
+        other_at: usize,
+        other_change: ItemChange<U>,
+    ) -> bool
+        requires chunk { FitsChunk per_chunk }
+        requires from { from < length self.old }
+        requires place { IsPositionOf (ItemChange.Insert item) place target.old }
+        requires other { IsPositionOf other_change other_at other.old }
+        ensures items { self.new ≡ changed_if result ItemChange.Remove from self.old }
+        ensures some { 0 < length self.new }
+        ensures target { target.new ≡ changed_if result (ItemChange.Insert item) place target.old }
+        ensures other { other.new ≡ changed_if result other_change other_at other.old }
     {
-        if self.items.len() == 1 {
-            return None;
+        let Some(items) = Arc::get_mut(&mut self.items) else {
+            return false;
+        };
+        let insert = ItemChange::Insert(item);
+        if items.len() == 1
+            || !target.change_both(place, insert, per_chunk, other, other_at, other_change)
+        {
+            return false;
         }
-        Chunk::new(alloc, self.items_but(alloc, at).ok()?).ok()
+        items.remove(from);
+        self.noted = noted_after(self.noted, items, from);
+        self.summary = summary_of(items);
+        true
+    }
+
+    /// Puts items in the place of as many that stand side by side, from a position on, here and in the chunks behind:
+    /// all in place, or none. None where a block shares one of these chunks, or room is refused.
+    pub(crate) fn replace_run(
+        &mut self,
+        at: usize,
+        items: Vec<T>,
+        behind: &mut [Chunk<T>],
+    ) -> bool
+        requires place { at ≤ length self.old }
+        requires within { at + length items.items ≤ length (self.old ++ joined behind.old) }
+        ensures items { self.new ++ joined behind.new ≡ cond result (replaced_run at items.items (self.old ++ joined behind.old)) (self.old ++ joined behind.old) }
+        ensures some { 0 < length self.new }
+        ensures some_behind { All (λ chunk. 0 < length chunk) behind.old → All (λ chunk. 0 < length chunk) behind.new }
+    {
+        let Some(own) = Arc::get_mut(&mut self.items) else {
+            return false;
+        };
+        let mut first = items;
+        let room = own.len() - at;
+        if first.len() > room {
+            let Ok(rest) = first.split_off(room) else {
+                return false;
+            };
+            let Some((next, others)) = behind.split_first_mut() else {
+                return false;
+            };
+            if !next.replace_run(0, rest, others) {
+                return false;
+            }
+        }
+        put_run(own, at, first);
+        self.noted = noted_after(self.noted, own, at);
+        self.summary = summary_of(own);
+        true
     }
 
     /// All items but one, to be changed, with room for as many as there are.
@@ -224,7 +285,16 @@ impl<T: Share> Counted for Chunk<T> {
     }
 }
 
-// What is noted of items of which one was changed.
+// Puts items in the place of as many, from a position on.
+fn put_run<T: Drop>(items: &mut Vec<T>, at: usize, mut others: Vec<T>)
+    requires { at + length others.items ≤ length items.old.items }
+    ensures { items.new.items ≡ replaced_run at others.items items.old.items }
+{
+    let end = at + others.len();
+    items[at..end].swap_with_slice(&mut others);
+}
+
+// What is noted of items of which some were changed, the first of them at a position.
 fn noted_after<T: Share>(before: Noted, items: &[T], at: usize) -> Noted
     requires some { 0 < length items.now }
     requires few { length items.now ≤ MOST_IN_CHUNK }

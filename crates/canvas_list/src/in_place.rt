@@ -59,9 +59,9 @@ pub(crate) fn change_items<T: Drop>(items: &mut Vec<T>, at: usize, change: ItemC
     }
 }
 
-// Whether a table keeps its chunks where an item of one is changed: none becomes so short that it and one
-// beside it are to be one.
-fn keeps_parts<T: Share>(
+/// Whether a table keeps its chunks where an item of one is changed: none becomes so short that it and one
+/// beside it are to be one.
+pub(crate) fn keeps_parts<T: Share>(
     chunks: &[Chunk<T>],
     chunk: usize,
     change: &ItemChange<T>,

@@ -15,6 +15,7 @@ mod made;
 mod moves;
 mod noted;
 mod reader;
+mod run_in_place;
 mod search;
 mod share;
 mod sizes;

@@ -57,7 +57,7 @@ fn move_both(
     let list = &mut second.list;
     let made = first
         .list
-        .move_both(alloc, from, to, item, list, also.at, also.change);
+        .move_both(from, to, item, list, also.at, also.change);
     if made {
         first.plain = plain;
         second.plain = other;

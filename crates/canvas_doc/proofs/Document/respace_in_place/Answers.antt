@@ -1,0 +1,50 @@
+use Rattle.std.proofs.Common.{◌≡◌, ◌∙◌, ◌≤◌, ◌<◌, List, ap, arith, cond, length, map, subst, sym}
+use Rattle.std.proofs.lemmas.List.{length-map}
+use Rattle.std.specs.Option.{unwrap_or}
+use Rattle.canvas_doc.specs.declared.records.Record.{Record}
+use Rattle.canvas_doc.specs.Contents.{record_of, Contents, HaveIds}
+use Rattle.canvas_doc.specs.Effect.{respaced}
+use Rattle.canvas_doc.proofs.Placements.{bounds_of, shape_of}
+use Rattle.canvas_doc.proofs.Respacings.{kept-in-place, once, records-are, shapes-many, AreRespaced, AreToBeRespaced}
+use Rattle.canvas_doc.proofs.Document.respace_in_place.Goals as goal
+
+pub with_each-requires-clause-once : goal.with_each-requires-clause-once
+with_each-requires-clause-once c =
+    let d : Contents = record { records = c.self.inside.records; next = c.self.inside.next } in
+    let at : AreToBeRespaced d c.self.inside.order.shapes c.self.inside.order.bounds c.args.parent c.children_range-start.result.start c.children_range-start.result.end =
+    record { kept = c.self.invariant; children = c.children_range-start.ensures } in
+    let are : AreRespaced c.self.inside.order.shapes c.self.inside.order.bounds c.args.parent c.children_range-start.result.start c.children_range-start.result.end (map shape_of c.in-Ok.children.items) (map bounds_of c.in-Ok.children.items) =
+    record { shapes_are = c.in-Ok.ensures.shapes; boxes_are = c.in-Ok.ensures.bounds } in
+    subst HaveIds (sym (ap (map shape_of) c.deref.ensures.value)) (once d c.self.inside.order.shapes c.self.inside.order.bounds c.args.parent c.children_range-start.result.start c.children_range-start.result.end at (map shape_of c.in-Ok.children.items) (map bounds_of c.in-Ok.children.items) are)
+
+pub replace_run-made-requires-clause-some : goal.replace_run-made-requires-clause-some
+replace_run-made-requires-clause-some c =
+    let d : Contents = record { records = c.self.inside.records; next = c.self.inside.next } in
+    let at : AreToBeRespaced d c.self.inside.order.shapes c.self.inside.order.bounds c.args.parent c.children_range-start.result.start c.children_range-start.result.end =
+    record { kept = c.self.invariant; children = c.children_range-start.ensures } in
+    let are : AreRespaced c.self.inside.order.shapes c.self.inside.order.bounds c.args.parent c.children_range-start.result.start c.children_range-start.result.end (map shape_of c.in-Ok.children.items) (map bounds_of c.in-Ok.children.items) =
+    record { shapes_are = c.in-Ok.ensures.shapes; boxes_are = c.in-Ok.ensures.bounds } in
+    let from : c.children_range-start.result.start ≤ c.children_range-start.result.end = c.children_range-start.ensures.from in
+    omega (arith, from, c.if-start-end.false, length-map c.in-Ok.children.items shape_of, shapes-many d c.self.inside.order.shapes c.self.inside.order.bounds c.args.parent c.children_range-start.result.start c.children_range-start.result.end at (map shape_of c.in-Ok.children.items) (map bounds_of c.in-Ok.children.items) are)
+
+pub invariant_of-self : goal.invariant_of-self
+invariant_of-self c =
+    let d : Contents = record { records = c.self.inside.records; next = c.self.inside.next } in
+    let at : AreToBeRespaced d c.self.inside.order.shapes c.self.inside.order.bounds c.args.parent c.children_range-start.result.start c.children_range-start.result.end =
+    record { kept = c.self.invariant; children = c.children_range-start.ensures } in
+    let are : AreRespaced c.self.inside.order.shapes c.self.inside.order.bounds c.args.parent c.children_range-start.result.start c.children_range-start.result.end (map shape_of c.in-Ok.children.items) (map bounds_of c.in-Ok.children.items) =
+    record { shapes_are = c.in-Ok.ensures.shapes; boxes_are = c.in-Ok.ensures.bounds } in
+    kept-in-place d c.self.inside.order.shapes c.self.inside.order.bounds c.args.parent c.children_range-start.result.start c.children_range-start.result.end at (map shape_of c.in-Ok.children.items) (map bounds_of c.in-Ok.children.items) are c.replace_run-made.result c.in-Ok-with_each.records c.replace_run-made.new.self.shapes c.replace_run-made.new.self.bounds c.if-made.true
+    (c.in-Ok-with_each.ensures ∙ ap (λ (l : List Record). map (λ (r : Record). unwrap_or (record_of r.id l) r) c.self.inside.records) (ap (map shape_of) c.deref.ensures.value))
+    c.replace_run-made.ensures.shapes c.replace_run-made.ensures.bounds
+
+pub returns-then-made : goal.returns-then-made
+returns-then-made c =
+    let d : Contents = record { records = c.self.inside.records; next = c.self.inside.next } in
+    let at : AreToBeRespaced d c.self.inside.order.shapes c.self.inside.order.bounds c.args.parent c.children_range-start.result.start c.children_range-start.result.end =
+    record { kept = c.self.invariant; children = c.children_range-start.ensures } in
+    let are : AreRespaced c.self.inside.order.shapes c.self.inside.order.bounds c.args.parent c.children_range-start.result.start c.children_range-start.result.end (map shape_of c.in-Ok.children.items) (map bounds_of c.in-Ok.children.items) =
+    record { shapes_are = c.in-Ok.ensures.shapes; boxes_are = c.in-Ok.ensures.bounds } in
+    ap (λ (l : List Record). record { records = l; next = c.self.inside.next }) (records-are d c.self.inside.order.shapes c.self.inside.order.bounds c.args.parent c.children_range-start.result.start c.children_range-start.result.end at (map shape_of c.in-Ok.children.items) (map bounds_of c.in-Ok.children.items) are c.in-Ok-with_each.records (c.in-Ok-with_each.ensures ∙ ap (λ (l : List Record). map (λ (r : Record). unwrap_or (record_of r.id l) r) c.self.inside.records) (ap (map shape_of) c.deref.ensures.value)))
+    ∙ ap (λ (e : Contents). record { records = map (respaced c.args.parent e.records) e.records; next = e.next }) c.self.view_is
+    ∙ ap (λ made. cond made (record { records = map (respaced c.args.parent c.args.self.now.records) c.args.self.now.records; next = c.args.self.now.next }) c.args.self.now) (sym c.if-made.true)

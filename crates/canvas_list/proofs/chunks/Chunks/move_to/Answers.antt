@@ -1,0 +1,44 @@
+use Rattle.std.proofs.Common.{arith}
+use Rattle.canvas_list.specs.declared.in_place.ItemChange.TheVariants.{Remove, Insert}
+use Rattle.canvas_list.proofs.InPlace.{changed-part, items-after, part-more, place-in, some-after, table-less, table-more}
+use Rattle.canvas_list.proofs.chunks.Chunks.move_to.Goals as goal
+
+pub move_to-made-requires-clause-from : goal.move_to-made-requires-clause-from
+move_to-made-requires-clause-from g c =
+    let p = changed-part c.self.inside.chunks.items c.deref.result.now c.args.self.now c.self.inside.count c.spot_of-spot.result.chunk c.spot_of-spot.result.start c.args.from c.index_mut-chunk.result.now Remove c.self.invariant c.deref.ensures.value c.spot_of-spot.ensures c.self.view_is c.index_mut-chunk.ensures.value c.requires.from in
+    place-in c.self.inside.chunks.items c.args.self.now c.self.inside.count c.spot_of-spot.result.chunk c.spot_of-spot.result.start c.args.from c.index_mut-chunk.result.now Remove p
+
+pub move_to-made-requires-clause-place : goal.move_to-made-requires-clause-place
+move_to-made-requires-clause-place g c =
+    let p = changed-part c.target.inside.chunks.items c.deref-2.result.now c.args.target.now c.target.inside.count c.spot_of-goal.result.chunk c.spot_of-goal.result.start c.args.place c.index_mut.result.now (Insert c.args.item) c.target.invariant c.deref-2.ensures.value c.spot_of-goal.ensures c.target.view_is c.index_mut.ensures.value c.requires.place in
+    place-in c.target.inside.chunks.items c.args.target.now c.target.inside.count c.spot_of-goal.result.chunk c.spot_of-goal.result.start c.args.place c.index_mut.result.now (Insert c.args.item) p
+
+pub invariant_of-self : goal.invariant_of-self
+invariant_of-self g c =
+    let p = changed-part c.self.inside.chunks.items c.deref.result.now c.args.self.now c.self.inside.count c.spot_of-spot.result.chunk c.spot_of-spot.result.start c.args.from c.index_mut-chunk.result.now Remove c.self.invariant c.deref.ensures.value c.spot_of-spot.ensures c.self.view_is c.index_mut-chunk.ensures.value c.requires.from in
+    table-less c.self.inside.chunks.items c.args.self.now c.self.inside.count c.spot_of-spot.result.chunk c.spot_of-spot.result.start c.args.from c.index_mut-chunk.result.now c.move_to-made.result c.move_to-made.new.self p c.move_to-made.ensures.items c.if-made.true c.move_to-made.ensures.some
+
+pub invariant_of-target : goal.invariant_of-target
+invariant_of-target g c =
+    let p = changed-part c.target.inside.chunks.items c.deref-2.result.now c.args.target.now c.target.inside.count c.spot_of-goal.result.chunk c.spot_of-goal.result.start c.args.place c.index_mut.result.now (Insert c.args.item) c.target.invariant c.deref-2.ensures.value c.spot_of-goal.ensures c.target.view_is c.index_mut.ensures.value c.requires.place in
+    table-more c.target.inside.chunks.items c.args.target.now c.target.inside.count c.spot_of-goal.result.chunk c.spot_of-goal.result.start c.args.place c.index_mut.result.now c.move_to-made.result c.args.item c.move_to-made.new.target p c.move_to-made.ensures.target c.if-made.true
+
+pub returns-then-made-clause-items : goal.returns-then-made-clause-items
+returns-then-made-clause-items g c =
+    let p = changed-part c.self.inside.chunks.items c.deref.result.now c.args.self.now c.self.inside.count c.spot_of-spot.result.chunk c.spot_of-spot.result.start c.args.from c.index_mut-chunk.result.now Remove c.self.invariant c.deref.ensures.value c.spot_of-spot.ensures c.self.view_is c.index_mut-chunk.ensures.value c.requires.from in
+    items-after c.self.inside.chunks.items c.args.self.now c.self.inside.count c.spot_of-spot.result.chunk c.spot_of-spot.result.start c.args.from c.index_mut-chunk.result.now c.move_to-made.result Remove c.move_to-made.new.self p c.move_to-made.ensures.items
+
+pub returns-then-made-clause-some : goal.returns-then-made-clause-some
+returns-then-made-clause-some g c =
+    let p = changed-part c.self.inside.chunks.items c.deref.result.now c.args.self.now c.self.inside.count c.spot_of-spot.result.chunk c.spot_of-spot.result.start c.args.from c.index_mut-chunk.result.now Remove c.self.invariant c.deref.ensures.value c.spot_of-spot.ensures c.self.view_is c.index_mut-chunk.ensures.value c.requires.from in
+    some-after c.self.inside.chunks.items c.args.self.now c.self.inside.count c.spot_of-spot.result.chunk c.spot_of-spot.result.start c.args.from c.index_mut-chunk.result.now c.move_to-made.result Remove c.move_to-made.new.self p c.move_to-made.ensures.some
+
+pub returns-then-made-clause-target : goal.returns-then-made-clause-target
+returns-then-made-clause-target g c =
+    let p = changed-part c.target.inside.chunks.items c.deref-2.result.now c.args.target.now c.target.inside.count c.spot_of-goal.result.chunk c.spot_of-goal.result.start c.args.place c.index_mut.result.now (Insert c.args.item) c.target.invariant c.deref-2.ensures.value c.spot_of-goal.ensures c.target.view_is c.index_mut.ensures.value c.requires.place in
+    items-after c.target.inside.chunks.items c.args.target.now c.target.inside.count c.spot_of-goal.result.chunk c.spot_of-goal.result.start c.args.place c.index_mut.result.now c.move_to-made.result (Insert c.args.item) c.move_to-made.new.target p c.move_to-made.ensures.target
+
+pub returns-then-made-clause-some_there : goal.returns-then-made-clause-some_there
+returns-then-made-clause-some_there g c =
+    let p = changed-part c.target.inside.chunks.items c.deref-2.result.now c.args.target.now c.target.inside.count c.spot_of-goal.result.chunk c.spot_of-goal.result.start c.args.place c.index_mut.result.now (Insert c.args.item) c.target.invariant c.deref-2.ensures.value c.spot_of-goal.ensures c.target.view_is c.index_mut.ensures.value c.requires.place in
+    some-after c.target.inside.chunks.items c.args.target.now c.target.inside.count c.spot_of-goal.result.chunk c.spot_of-goal.result.start c.args.place c.index_mut.result.now c.move_to-made.result (Insert c.args.item) c.move_to-made.new.target p (omega (arith, part-more c.target.inside.chunks.items c.args.target.now c.target.inside.count c.spot_of-goal.result.chunk c.spot_of-goal.result.start c.args.place c.index_mut.result.now c.move_to-made.result c.args.item c.move_to-made.new.target p c.move_to-made.ensures.target c.if-made.true))
