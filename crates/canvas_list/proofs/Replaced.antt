@@ -1,5 +1,5 @@
 -- Other items in the place of as many that stand side by side.
-use Rattle.std.proofs.Common.{◌≡◌, ◌∙◌, ℕ, suc, ◌+◌, ◌-◌, ◌<◌, ◌≤◌, Bool, true, false, cond, List, [], ◌∷◌, ◌++◌, take, drop, set, zero-add, refl, sym, ap, arith, length, get_or}
+use Rattle.std.proofs.Common.{◌≡◌, ◌∙◌, ℕ, suc, ◌+◌, ◌-◌, ◌<◌, ◌≤◌, Bool, true, false, cond, List, ◌∷◌, ◌++◌, take, drop, set, zero-add, refl, sym, ap, arith, length, get_or}
 use Rattle.std.specs.List.{All}
 use Rattle.std.proofs.lemmas.List.{append-nil, append_assoc, append_cancel_left, drop-append-le, drop-drop, drop_all, drop_at, length-append, length-drop, length-take-le, take-append-drop, take-append-le, take_all, take_at}
 use Rattle.std.proofs.lemmas.List.Elements.{All-append, All-cons, All-drop, All-rest, All-same, All-set, All-tail, All-take}

@@ -151,11 +151,11 @@ impl<T: Share> Chunk<T> {
         true
     }
 
-    /// Takes the item at `from` away and puts another into another chunk, together with a change of a list: all is
+    /// Takes the item at `at` away and puts another into another chunk, together with a change of a list: all is
     /// made in place, or nothing. It is not made where no item would be left. A chunk gets so many items.
     pub(crate) fn move_to<U: Share>(
         &mut self,
-        from: usize,
+        at: usize,
         target: &mut Chunk<T>,
         place: usize,
         item: T,
@@ -165,10 +165,10 @@ impl<T: Share> Chunk<T> {
         other_change: ItemChange<U>,
     ) -> bool
         requires chunk { FitsChunk per_chunk }
-        requires from { from < length self.old }
+        requires at { at < length self.old }
         requires place { IsPositionOf (ItemChange.Insert item) place target.old }
         requires other { IsPositionOf other_change other_at other.old }
-        ensures items { self.new ≡ changed_if result ItemChange.Remove from self.old }
+        ensures items { self.new ≡ changed_if result ItemChange.Remove at self.old }
         ensures some { 0 < length self.new }
         ensures target { target.new ≡ changed_if result (ItemChange.Insert item) place target.old }
         ensures other { other.new ≡ changed_if result other_change other_at other.old }
@@ -182,8 +182,8 @@ impl<T: Share> Chunk<T> {
         {
             return false;
         }
-        items.remove(from);
-        self.noted = noted_after(self.noted, items, from);
+        items.remove(at);
+        self.noted = noted_after(self.noted, items, at);
         self.summary = summary_of(items);
         true
     }

@@ -1,5 +1,4 @@
-use Rattle.std.proofs.Common.{◌≡◌, ◌∙◌, ◌+◌, ◌-◌, ◌^◌, ap, arith, cond, get_or, length, refl, subst, sym, ◌<◌, ◌≤◌, List}
-use Rattle.std.specs.List.{insert, remove}
+use Rattle.std.proofs.Common.{◌∙◌, ◌+◌, ◌-◌, ◌^◌, ap, arith, get_or, length, subst, sym, ◌<◌, ◌≤◌, List}
 use Rattle.canvas_list.specs.declared.in_place.ItemChange.TheVariants.{Remove, Insert}
 use Rattle.canvas_list.specs.Changed.{changed_if}
 use Rattle.canvas_list.specs.Chunks.{joined, IsTable}
@@ -49,8 +48,8 @@ overflow_sub-to g c =
     let move = is-move c.self.inside.chunks.items c.deref.result.now c.deref-2.result.now c.args.self.now c.self.inside.count c.spot_of-source.result.chunk c.spot_of-source.result.start c.spot_of-target.result.chunk c.spot_of-target.result.start c.args.from c.args.to c.place_before-place.result c.index_mut.result.now c.index_mut.result.now c.self.invariant c.self.view_is c.deref.ensures.value c.spot_of-source.ensures c.deref-2.ensures.value c.spot_of-target.ensures c.index_mut.ensures.value (c.index_mut.ensures.value ∙ ap (λ i. get_or c.self.inside.chunks.items i c.index_mut.result.now) c.if-source-target.true) c.requires.from c.requires.to c.place_before-place.ensures.behind c.place_before-place.ensures.before in
     (same-part c.self.inside.chunks.items c.args.self.now c.spot_of-source.result.chunk c.spot_of-source.result.start c.spot_of-target.result.chunk c.spot_of-target.result.start c.args.from c.args.to c.place_before-place.result c.index_mut.result.now c.index_mut.result.now move c.if-source-target.true).0
 
-pub move_to-requires-clause-from : goal.move_to-requires-clause-from
-move_to-requires-clause-from g c =
+pub move_to-requires-clause-at : goal.move_to-requires-clause-at
+move_to-requires-clause-at g c =
     let parts = halves c.self.inside.chunks.items c.deref_mut.result.now c.split_at_mut-front.result.0.now c.split_at_mut-front.result.1.now c.spot_of-target.result.chunk c.deref_mut.ensures.value c.split_at_mut-front.ensures.front c.split_at_mut-front.ensures.back in
     let low : c.spot_of-source.result.chunk < c.spot_of-target.result.chunk = c.if-source-target-2.true in
     let move = is-move c.self.inside.chunks.items c.deref.result.now c.deref-2.result.now c.args.self.now c.self.inside.count c.spot_of-source.result.chunk c.spot_of-source.result.start c.spot_of-target.result.chunk c.spot_of-target.result.start c.args.from c.args.to c.place_before-place.result c.index-front-source.result c.index-back-0.result c.self.invariant c.self.view_is c.deref.ensures.value c.spot_of-source.ensures c.deref-2.ensures.value c.spot_of-target.ensures (in-front c.self.inside.chunks.items c.split_at_mut-front.result.0.now c.split_at_mut-front.result.1.now c.spot_of-target.result.chunk parts c.spot_of-source.result.chunk c.index-front-source.result c.index-front-source.is low) (in-back c.self.inside.chunks.items c.split_at_mut-front.result.0.now c.split_at_mut-front.result.1.now c.spot_of-target.result.chunk parts c.index-back-0.result c.index-back-0.is) c.requires.from c.requires.to c.place_before-place.ensures.behind c.place_before-place.ensures.before in
@@ -86,8 +85,8 @@ returns-then-source-target-2-clause-items g c =
     (c.move_to.ensures.target ∙ ap (λ l. changed_if c.move_to.result (Insert c.args.item) (c.place_before-place.result - c.spot_of-target.result.start) l) (sym c.index-back-0.is))
     c.if-source-target.false
 
-pub move_to-requires-else-source-target-2-clause-from : goal.move_to-requires-else-source-target-2-clause-from
-move_to-requires-else-source-target-2-clause-from g c =
+pub move_to-requires-else-source-target-2-clause-at : goal.move_to-requires-else-source-target-2-clause-at
+move_to-requires-else-source-target-2-clause-at g c =
     let parts = halves c.self.inside.chunks.items c.deref_mut-else-source-target-2.result.now c.split_at_mut-front-else-source-target-2.result.0.now c.split_at_mut-front-else-source-target-2.result.1.now c.spot_of-source.result.chunk c.deref_mut-else-source-target-2.ensures.value c.split_at_mut-front-else-source-target-2.ensures.front c.split_at_mut-front-else-source-target-2.ensures.back in
     let low : c.spot_of-target.result.chunk < c.spot_of-source.result.chunk = below c.spot_of-target.result.chunk c.spot_of-source.result.chunk c.if-source-target-2.false (λ e. c.if-source-target.false (sym e)) in
     let move = is-move c.self.inside.chunks.items c.deref.result.now c.deref-2.result.now c.args.self.now c.self.inside.count c.spot_of-source.result.chunk c.spot_of-source.result.start c.spot_of-target.result.chunk c.spot_of-target.result.start c.args.from c.args.to c.place_before-place.result c.index-back-0-else-source-target-2.result c.index-front-target.result c.self.invariant c.self.view_is c.deref.ensures.value c.spot_of-source.ensures c.deref-2.ensures.value c.spot_of-target.ensures (in-back c.self.inside.chunks.items c.split_at_mut-front-else-source-target-2.result.0.now c.split_at_mut-front-else-source-target-2.result.1.now c.spot_of-source.result.chunk parts c.index-back-0-else-source-target-2.result c.index-back-0-else-source-target-2.is) (in-front c.self.inside.chunks.items c.split_at_mut-front-else-source-target-2.result.0.now c.split_at_mut-front-else-source-target-2.result.1.now c.spot_of-source.result.chunk parts c.spot_of-target.result.chunk c.index-front-target.result c.index-front-target.is low) c.requires.from c.requires.to c.place_before-place.ensures.behind c.place_before-place.ensures.before in

@@ -3,8 +3,8 @@ use Rattle.canvas_list.specs.declared.in_place.ItemChange.TheVariants.{Remove, I
 use Rattle.canvas_list.proofs.InPlace.{changed-part, items-after, part-more, place-in, some-after, table-less, table-more}
 use Rattle.canvas_list.proofs.chunks.Chunks.move_to.Goals as goal
 
-pub move_to-made-requires-clause-from : goal.move_to-made-requires-clause-from
-move_to-made-requires-clause-from g c =
+pub move_to-made-requires-clause-at : goal.move_to-made-requires-clause-at
+move_to-made-requires-clause-at g c =
     let p = changed-part c.self.inside.chunks.items c.deref.result.now c.args.self.now c.self.inside.count c.spot_of-spot.result.chunk c.spot_of-spot.result.start c.args.from c.index_mut-chunk.result.now Remove c.self.invariant c.deref.ensures.value c.spot_of-spot.ensures c.self.view_is c.index_mut-chunk.ensures.value c.requires.from in
     place-in c.self.inside.chunks.items c.args.self.now c.self.inside.count c.spot_of-spot.result.chunk c.spot_of-spot.result.start c.args.from c.index_mut-chunk.result.now Remove p
 

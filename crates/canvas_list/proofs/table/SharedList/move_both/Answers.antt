@@ -1,9 +1,8 @@
-use Rattle.std.proofs.Common.{◌≡◌, ◌∙◌, ◌+◌, ◌-◌, ◌^◌, ap, arith, cond, get_or, length, refl, subst, sym, ◌<◌, ◌≤◌, List}
-use Rattle.std.specs.List.{insert, remove}
+use Rattle.std.proofs.Common.{◌∙◌, ◌+◌, ◌-◌, ◌^◌, ap, get_or, length, subst, sym, ◌<◌, ◌≤◌, List}
 use Rattle.canvas_list.specs.declared.in_place.ItemChange.TheVariants.{Remove, Insert}
 use Rattle.canvas_list.specs.Changed.{changed_if}
 use Rattle.canvas_list.specs.Chunks.{joined, IsTable}
-use Rattle.canvas_list.proofs.Joined.{has-chunk, len-is, search-some}
+use Rattle.canvas_list.proofs.Joined.{has-chunk, search-some}
 use Rattle.canvas_list.proofs.Moved.{below, goal-fits, halves, in-back, in-front, is-move, items-changed, items-within, joined-halves, same-part, set-swap, table-changed, table-within}
 use Rattle.canvas_list.proofs.table.SharedList.move_both.Goals as goal
 

@@ -1,4 +1,4 @@
-use Rattle.std.proofs.Common.{◌+◌, ◌-◌, ◌≤◌, arith, length, refl}
+use Rattle.std.proofs.Common.{arith, refl}
 use Rattle.canvas_list.proofs.Blocks.{of-block}
 use Rattle.canvas_list.proofs.Replaced.{items-run, table-run}
 use Rattle.canvas_list.proofs.table.SharedList.replace_run.Goals as goal
