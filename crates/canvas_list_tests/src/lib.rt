@@ -22,4 +22,6 @@ mod picks;
 #[cfg(test)]
 mod reader;
 #[cfg(test)]
+mod runs;
+#[cfg(test)]
 mod together;
