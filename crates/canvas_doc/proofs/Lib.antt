@@ -55,6 +55,7 @@ pub mod Spaced
 pub mod Respacing
 pub mod Rebounded
 pub mod Respacings
+pub mod WidenedAbove
 pub mod Untouched
 pub mod Besides
 pub mod Damaged

@@ -1,5 +1,6 @@
 //! Changes of a document in place, where it shares with no other what they touch. Each inner call answers
-//! whether it made the change; where it did not, the document is as it was, and `apply` goes by `with`.
+//! whether it made the change; where it did not, the document is as it was, but for bounds of groups, which may be
+//! wider, and in the end `apply` goes by `with`.
 
 ghost use Rattle.std.specs.Prelude.{◌≡◌, ◌<◌, ◌+◌, ◌++◌, ◌∷◌, [], OnErr, OnOk, cond, length, true};
 ghost use Rattle.std.specs.List.{remove};
@@ -9,9 +10,10 @@ ghost use Rattle.canvas_doc.specs.Contents.{IsWellFormed};
 ghost use Rattle.canvas_doc.specs.Effect.{changed_by};
 
 use crate::Document;
+use crate::ancestry::STEPS;
 use crate::edits::Change;
 use crate::effects::{changed_by, changed_record};
-use crate::kept_bounds::{bounds_for, is_held_above};
+use crate::kept_bounds::{bounds_for, is_held_above, widen_above};
 use crate::place_order::{position_in, position_without};
 use crate::placed_shapes::PlacedShape;
 use crate::records::{ListedRecord, Record};
@@ -30,7 +32,8 @@ impl Document {
         ensures effect { OnOk result (self.new ≡ effect_of change.now self.old) }
         ensures same { OnErr result (self.new ≡ self.old) }
     {
-        if !self.make_in_place(alloc, change) {
+        // A first try may want wider bounds of groups, which it makes for the second.
+        if !self.make_in_place(alloc, change) && !self.make_in_place(alloc, change) {
             *self = self.with(alloc, change)?;
         }
         Ok(())
@@ -87,6 +90,8 @@ impl Document {
         let from = position_in(&self.order, &new.value().place);
         let bounds = bounds_for(&self.order, new.value());
         if !is_held_above(&self.records, &self.order, new.value(), &bounds) {
+            let parent = new.value().place.parent;
+            widen_above(&self.records, &mut self.order, parent, &bounds, STEPS);
             return false;
         }
         let Ok(shape) = new.shared() else {
@@ -120,6 +125,8 @@ impl Document {
         let to = position_without(&self.order, from, &new.value().place);
         let bounds = *self.order.bounds_at(from);
         if !is_held_above(&self.records, &self.order, new.value(), &bounds) {
+            let parent = new.value().place.parent;
+            widen_above(&self.records, &mut self.order, parent, &bounds, STEPS);
             return false;
         }
         let Ok(shape) = new.shared() else {
@@ -145,6 +152,8 @@ impl Document {
         let last = self.records.len();
         let bounds = bounds_for(&self.order, &shape);
         if !is_held_above(&self.records, &self.order, &shape, &bounds) {
+            let parent = shape.place.parent;
+            widen_above(&self.records, &mut self.order, parent, &bounds, STEPS);
             return false;
         }
         let Ok(new) = ListedRecord::new(alloc, shape) else {

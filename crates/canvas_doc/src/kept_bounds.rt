@@ -72,6 +72,39 @@ pub(crate) fn is_held_above(
     order.bounds_at(up).contains(&bounds.carried(&group.pose))
 }
 
+// Makes the bounds of the groups above wider in place, where that can be done, to hold those of a shape that hangs in a
+// parent or is to: the outermost group's first, so that all hold what lies below them throughout.
+pub(crate) fn widen_above(
+    records: &Records,
+    order: &mut PlacedShapes,
+    parent: Parent,
+    bounds: &Bounds,
+    steps: u32,
+)
+    requires in_order { IsInPlaceOrder order.old.shapes records.now }
+    requires rising { AreRising records.now }
+    requires limits { All IsInLimits records.now }
+    requires grounded { All (λ r. reaches_page 31 records.now r.place.parent ≡ true) records.now }
+    requires bounded { AreBounds order.old.shapes order.old.bounds }
+    ensures shapes { order.new.shapes ≡ order.old.shapes }
+    ensures bounds { AreBounds order.new.shapes order.new.bounds }
+{
+    let Some(group) = shown_group(records, parent) else {
+        return;
+    };
+    if steps == 0 {
+        return;
+    }
+    let up = position_in(order, &group.place);
+    let wider = order.bounds_at(up).hull(&bounds.carried(&group.pose));
+    if !is_held_above(records, order, group, &wider) {
+        widen_above(records, order, group.place.parent, &wider, steps - 1);
+    }
+    if is_held_above(records, order, group, &wider) && wider.contains(order.bounds_at(up)) {
+        order.change_bounds(up, wider);
+    }
+}
+
 // The order, the bounds of the groups above a record made wide enough to hold the record's.
 pub(crate) fn raised(
     alloc: Global,

@@ -126,6 +126,7 @@ fn respaced(alloc: Global, shape: &Record, rank: u32) -> Result<Shared<Record>, 
 // Where no more than a few records change, or one in so many, each is replaced on its own, which makes a chunk and two tables
 // anew at most. Else a whole list is made, which counts up the owners of all.
 const FEW_REPLACED: usize = 4;
+
 const RECORDS_FOR_EACH_REPLACED: usize = 64;
 
 // The records, with others in the place of those that have their ids.

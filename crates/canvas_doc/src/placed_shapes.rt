@@ -303,6 +303,19 @@ impl PlacedShapes {
             .move_both(from, to, placed, records, other_at, other_change)
     }
 
+    /// Puts other bounds at a position, in place, and answers whether it did.
+    pub(crate) fn change_bounds(&mut self, at: usize, bounds: Bounds) -> bool
+        requires { at < length self.old.shapes }
+        ensures shapes { self.new.shapes ≡ self.old.shapes }
+        ensures bounds { self.new.bounds ≡ cond result (slice_set self.old.bounds at bounds) self.old.bounds }
+    {
+        let Ok(shape) = self.at(at).share() else {
+            return false;
+        };
+        let placed = PlacedShape::new(shape, bounds);
+        self.list.change(at, ItemChange::Replace(placed))
+    }
+
     /// Puts others with their bounds in the place of as many that stand side by side, from a position on: all in
     /// place, or none.
     pub(crate) fn replace_run(&mut self, at: usize, placed: Vec<PlacedShape>) -> bool

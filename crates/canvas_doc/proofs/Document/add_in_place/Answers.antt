@@ -7,8 +7,8 @@ use Rattle.canvas_doc.specs.Contents.{Contents, IsWellFormed}
 use Rattle.canvas_doc.proofs.InPlace.{added-if}
 use Rattle.canvas_doc.proofs.Document.add_in_place.Goals as goal
 
-pub invariant_of-self : goal.invariant_of-self
-invariant_of-self c =
+pub invariant_of-self-then-made : goal.invariant_of-self-then-made
+invariant_of-self-then-made c =
     let d : Contents = record { records = c.self.inside.records; next = c.self.inside.next } in
     let well : IsWellFormed (record { records = d.records ++ c.args.shape ∷ []; next = d.next + 1 }) = subst (λ (e : Contents). IsWellFormed (record { records = e.records ++ c.args.shape ∷ []; next = e.next + 1 })) (sym c.self.view_is) c.requires in
     added-if d c.self.inside.order.shapes c.self.inside.order.bounds c.self.invariant c.change_both-made.new.records c.change_both-made.new.self.shapes c.change_both-made.new.self.bounds

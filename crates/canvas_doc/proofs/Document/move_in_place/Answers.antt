@@ -32,8 +32,8 @@ move_both-requires-clause-to c =
     c.self.invariant.in_order refl c.in-Some.ensures.there.there c.in-Some.ensures.is refl c.position_in-from.ensures).within in
     omega (arith, c.position_without-to.ensures.bound, length-remove c.self.inside.order.shapes c.position_in-from.result within)
 
-pub invariant_of-self : goal.invariant_of-self
-invariant_of-self c =
+pub invariant_of-self-2 : goal.invariant_of-self-2
+invariant_of-self-2 c =
     let d : Contents = record { records = c.self.inside.records; next = c.self.inside.next } in
     let order : List Record = c.self.inside.order.shapes in
     let bounds : List Bounds = c.self.inside.order.bounds in

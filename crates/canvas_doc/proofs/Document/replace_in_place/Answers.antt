@@ -25,8 +25,8 @@ change_both-requires-clause-place c =
     replaced-at d c.self.inside.order.shapes c.self.inside.order.bounds c.self.invariant c.in-Ok.new c.in-Some.found.at c.position_in-from.result c.in-Some.ensures.there.there place
     (subst (λ (x : Record). IsPlaceOf x.place c.self.inside.order.shapes c.position_in-from.result) c.value.ensures c.position_in-from.ensures)
 
-pub invariant_of-self : goal.invariant_of-self
-invariant_of-self c =
+pub invariant_of-self-2 : goal.invariant_of-self-2
+invariant_of-self-2 c =
     let d : Contents = record { records = c.self.inside.records; next = c.self.inside.next } in
     let place : (get_or d.records c.in-Some.found.at c.in-Ok.new).place ≡ c.in-Ok.new.place =
     one-place c.args.change.now d c.args.self.now c.in-Some.found.at c.in-Some.found.shape.now c.in-Some.found.shape.now c.in-Ok.new c.self.view_is c.requires.one c.in-Some.ensures.there c.in-Some.ensures.is refl c.in-Ok.ensures c.requires.place in
