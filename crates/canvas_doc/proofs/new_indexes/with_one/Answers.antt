@@ -1,4 +1,4 @@
-use Rattle.std.proofs.Common.{◌≡◌, ◌∙◌, ◌<◌, List, [], ◌∷◌, IfOk, None, ap, arith, length, refl, set, subst}
+use Rattle.std.proofs.Common.{◌≡◌, ◌∙◌, List, [], ◌∷◌, IfOk, None, ap, arith, refl, set, subst}
 use Rattle.canvas_doc.specs.declared.records.Record.{Record}
 use Rattle.canvas_doc.specs.Contents.{record_of, HaveIds, StandsAt}
 use Rattle.canvas_doc.proofs.Respacing.{none-put, nothing-put, one-put}
