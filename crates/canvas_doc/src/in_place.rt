@@ -14,9 +14,10 @@ use crate::ancestry::STEPS;
 use crate::edits::Change;
 use crate::effects::{changed_by, changed_record};
 use crate::kept_bounds::{bounds_for, is_held_above, widen_above};
+use crate::lookup::locate;
 use crate::place_order::{position_in, position_without};
 use crate::placed_shapes::PlacedShape;
-use crate::records::{ListedRecord, Record};
+use crate::records::{ListedRecord, Place, Record};
 use canvas_code::OutOfMemory;
 use canvas_list::ItemChange;
 use std::alloc::Global;
@@ -32,11 +33,54 @@ impl Document {
         ensures effect { OnOk result (self.new ≡ effect_of change.now self.old) }
         ensures same { OnErr result (self.new ≡ self.old) }
     {
-        // A first try may want wider bounds of groups, which it makes for the second.
-        if !self.make_in_place(alloc, change) && !self.make_in_place(alloc, change) {
+        if self.make_in_place(alloc, change) {
+            return Ok(());
+        }
+        // It may have wanted wider bounds of groups, which it made, or way in the lists.
+        self.make_way_for(alloc, change);
+        if !self.make_in_place(alloc, change) {
             *self = self.with(alloc, change)?;
         }
         Ok(())
+    }
+
+    // Makes way in the lists where a change puts a record or takes one away.
+    fn make_way_for(&mut self, alloc: Global, change: &Change)
+        ensures { self.new ≡ self.old }
+    {
+        match change {
+            Change::Create { place, .. } => self.make_way_at(alloc, place),
+            Change::Move { id, place } => {
+                self.make_way_about(alloc, *id);
+                self.make_way_at(alloc, place);
+            }
+            Change::Delete { id } => self.make_way_about(alloc, *id),
+            Change::Pose { .. } => {}
+            Change::Reshape { .. } => {}
+            Change::Show { .. } => {}
+            Change::Respace { .. } => {}
+        }
+    }
+
+    // Makes way where a record would stand.
+    fn make_way_at(&mut self, alloc: Global, place: &Place)
+        ensures { self.new ≡ self.old }
+    {
+        let at = position_in(&self.order, place);
+        self.order.make_way(alloc, at);
+    }
+
+    // Makes way where a shape stands, if there is such a one.
+    fn make_way_about(&mut self, alloc: Global, id: u32)
+        ensures { self.new ≡ self.old }
+    {
+        let Some(found) = locate(&self.records, id) else {
+            return;
+        };
+        let at = found.at;
+        let from = position_in(&self.order, &found.shape.place);
+        self.order.make_way(alloc, from);
+        self.records.make_way(alloc, at);
     }
 
     // Makes a change in place.

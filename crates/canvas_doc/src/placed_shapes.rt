@@ -303,6 +303,13 @@ impl PlacedShapes {
             .move_both(from, to, placed, records, other_at, other_change)
     }
 
+    /// Makes way about a position for a change in place that was refused.
+    pub(crate) fn make_way(&mut self, alloc: Global, at: usize)
+        ensures { self.new ≡ self.old }
+    {
+        self.list.make_way(alloc, at);
+    }
+
     /// Puts other bounds at a position, in place, and answers whether it did.
     pub(crate) fn change_bounds(&mut self, at: usize, bounds: Bounds) -> bool
         requires { at < length self.old.shapes }

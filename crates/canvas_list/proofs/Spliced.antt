@@ -158,3 +158,12 @@ of-part cs ds rs bs xs n k t i j s at old table e last all d l m b read is =
     let start : s ≡ length (joined (take i cs)) = start-read cs bs i s b read in
     let p : IsPart cs xs i j s old = is-part cs ds xs i j s old (omega arith) all start d is in
     record { part = p; place = is-in cs xs n k t i j s at old f (len-is cs n xs table all) l m p }
+
+-- the same items in place of some chunks
+pub unchanged : {X : Type 0} (cs ds : List (List X)) (xs : List X) (i j s : ℕ) (old : List X) → IsPart cs xs i j s old → ds ≡ cs → joined (take i ds) ++ old ++ joined (drop j ds) ≡ xs
+unchanged cs ds xs i j s old p e =
+    ap (λ l. joined (take i l) ++ old ++ joined (drop j l)) e
+    ∙ ap (λ l. joined (take i cs) ++ l ++ joined (drop j cs)) p.items
+    ∙ append_assoc (joined (take i cs)) (joined (slice_range cs i j)) (joined (drop j cs))
+    ∙ sym (parts cs i j p.order)
+    ∙ p.all

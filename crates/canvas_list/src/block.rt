@@ -137,15 +137,7 @@ impl<T: Share> Block<T> {
         let Some(chunks) = Arc::get_mut(&mut self.chunks) else {
             return false;
         };
-        let made = chunks.move_both(
-            from,
-            to,
-            item,
-            per_chunk,
-            other,
-            other_at,
-            other_change,
-        );
+        let made = chunks.move_both(from, to, item, per_chunk, other, other_at, other_change);
         if made {
             self.noted = noted_after(self.noted, chunks, 0);
             self.summary = chunks.summary();

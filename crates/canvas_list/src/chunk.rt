@@ -190,12 +190,7 @@ impl<T: Share> Chunk<T> {
 
     /// Puts items in the place of as many that stand side by side, from a position on, here and in the chunks behind:
     /// all in place, or none. None where a block shares one of these chunks, or room is refused.
-    pub(crate) fn replace_run(
-        &mut self,
-        at: usize,
-        items: Vec<T>,
-        behind: &mut [Chunk<T>],
-    ) -> bool
+    pub(crate) fn replace_run(&mut self, at: usize, items: Vec<T>, behind: &mut [Chunk<T>]) -> bool
         requires place { at ≤ length self.old }
         requires within { at + length items.items ≤ length (self.old ++ joined behind.old) }
         ensures items { self.new ++ joined behind.new ≡ cond result (replaced_run at items.items (self.old ++ joined behind.old)) (self.old ++ joined behind.old) }

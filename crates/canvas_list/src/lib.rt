@@ -21,6 +21,7 @@ mod share;
 mod sizes;
 mod splice;
 mod table;
+mod way;
 
 pub use hint::{Hint, Hinted, ShortHint};
 pub use in_place::ItemChange;

@@ -56,18 +56,41 @@ impl<T: Share> Chunks<T> {
                 other_change,
             );
         }
-        if !keeps_parts(&self.chunks, source.chunk, &ItemChange::<T>::Remove, per_chunk) {
+        if !keeps_parts(
+            &self.chunks,
+            source.chunk,
+            &ItemChange::<T>::Remove,
+            per_chunk,
+        ) {
             return false;
         }
         let (left, there) = (from - source.start, place - target.start);
         if source.chunk < target.chunk {
             let (front, back) = self.chunks.split_at_mut(target.chunk);
             let (chunk, goal) = (&mut front[source.chunk], &mut back[0]);
-            chunk.move_to(left, goal, there, item, per_chunk, other, other_at, other_change)
+            chunk.move_to(
+                left,
+                goal,
+                there,
+                item,
+                per_chunk,
+                other,
+                other_at,
+                other_change,
+            )
         } else {
             let (front, back) = self.chunks.split_at_mut(source.chunk);
             let (goal, chunk) = (&mut front[target.chunk], &mut back[0]);
-            chunk.move_to(left, goal, there, item, per_chunk, other, other_at, other_change)
+            chunk.move_to(
+                left,
+                goal,
+                there,
+                item,
+                per_chunk,
+                other,
+                other_at,
+                other_change,
+            )
         }
     }
 
@@ -97,7 +120,12 @@ impl<T: Share> Chunks<T> {
     {
         let spot = spot_of(&self.chunks, from);
         let goal = spot_of(&target.chunks, place);
-        if !keeps_parts(&self.chunks, spot.chunk, &ItemChange::<T>::Remove, per_chunk) {
+        if !keeps_parts(
+            &self.chunks,
+            spot.chunk,
+            &ItemChange::<T>::Remove,
+            per_chunk,
+        ) {
             return false;
         }
         let chunk = &mut self.chunks[spot.chunk];
@@ -157,11 +185,29 @@ impl<T: Share> SharedList<T> {
         if source.chunk < target.chunk {
             let (front, back) = self.blocks.split_at_mut(target.chunk);
             let (block, goal) = (&mut front[source.chunk], &mut back[0]);
-            block.move_to(left, goal, there, item, per_chunk, other, other_at, other_change)
+            block.move_to(
+                left,
+                goal,
+                there,
+                item,
+                per_chunk,
+                other,
+                other_at,
+                other_change,
+            )
         } else {
             let (front, back) = self.blocks.split_at_mut(source.chunk);
             let (goal, block) = (&mut front[target.chunk], &mut back[0]);
-            block.move_to(left, goal, there, item, per_chunk, other, other_at, other_change)
+            block.move_to(
+                left,
+                goal,
+                there,
+                item,
+                per_chunk,
+                other,
+                other_at,
+                other_change,
+            )
         }
     }
 }

@@ -25,3 +25,5 @@ mod reader;
 mod runs;
 #[cfg(test)]
 mod together;
+#[cfg(test)]
+mod way;

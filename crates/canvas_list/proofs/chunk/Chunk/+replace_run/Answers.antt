@@ -20,8 +20,7 @@ invariant_of-self-2 g t c =
     elim c.if-len-room.branch [
       | then-len-room+in-Ok+in-Some-split_first_mut+else-not-replace_run w ↦ omega (arith, low, long, c.len.ensures, c.len-2.ensures, c.args.items.ok.0, w.if-len-room.true, ap (λ (v : Vec g.row.T.Denot Global). length v.items) w.first-is, ap length w.in-Ok.ensures.items, length-take-le (c.len.result - c.args.at) c.args.items.items (omega (arith, c.len-2.ensures, c.args.items.ok.0, w.if-len-room.true)))
       | else-len-room w ↦ omega (arith, low, long, c.len.ensures, c.len-2.ensures, c.args.items.ok.0, w.if-len-room.false, ap (λ (v : Vec g.row.T.Denot Global). length v.items) w.first-is)
-    ] in
-    (
+    ] in (
       subst (λ n. FitsChunk n) (sym (ap length c.put_run.ensures ∙ run-long c.in-Some.own.now.items c.if-len-room.first.items c.args.at fits ∙ ap (λ (v : Vec g.row.T.Denot Global). length v.items) c.in-Some.ensures.value)) c.self.invariant.0,
       c.noted_after-self-inside.ensures ∙ ap length c.deref.ensures.value,
       subst (λ (l : List g.row.T.Denot). All (g.T.Share.covers c.summary_of-self-inside.result) l) c.deref-2.ensures.value c.summary_of-self-inside.ensures,

@@ -1,0 +1,87 @@
+//! Way for a change in place: chunks that are neither full nor short.
+
+ghost use Rattle.std.specs.Prelude.{◌≡◌, ◌<◌, IfOk, length};
+ghost use Rattle.canvas_list.specs.Chunks.{FitsChunk};
+
+use crate::block::Block;
+use crate::chunk::items_of;
+use crate::chunks::{Chunks, small_about, spliced};
+use crate::counted::{Counted, spot_of};
+use crate::share::Share;
+use crate::sizes::PartSizes;
+use crate::table::SharedList;
+use canvas_code::OutOfMemory;
+use std::alloc::Global;
+use std::marker::Model;
+
+impl<T: Share> Chunks<T> {
+    // Whether the chunk that has a position is full, or short beside a short one.
+    fn wants_way(&self, at: usize, per_chunk: usize) -> bool
+        requires { 0 < length self.now }
+    {
+        let spot = spot_of(&self.chunks, at);
+        let part = small_about(&self.chunks, spot.chunk, per_chunk);
+        part.end - part.first > 1 || self.chunks[spot.chunk].count() >= per_chunk
+    }
+
+    // The same items. The chunk that has a position is cut in two where it is full, and becomes one with a neighbour
+    // where both are short. A chunk gets so many items.
+    fn with_way(&self, alloc: Global, at: usize, per_chunk: usize) -> Result<Chunks<T>, OutOfMemory>
+        requires chunk { FitsChunk per_chunk }
+        requires some { 0 < length self.now }
+        ensures { IfOk result (λ chunks. chunks ≡ self.now) }
+    {
+        let spot = spot_of(&self.chunks, at);
+        let part = small_about(&self.chunks, spot.chunk, per_chunk);
+        let items = items_of(alloc, &self.chunks[part.first..part.end], per_chunk)?;
+        let most = if items.len() < per_chunk {
+            per_chunk
+        } else {
+            per_chunk / 2 + 1
+        };
+        spliced(
+            alloc,
+            &self.chunks,
+            part.first,
+            part.end,
+            items,
+            most.min(per_chunk),
+        )
+    }
+}
+
+impl<T: Share> Block<T> {
+    // The same of a block. Where memory is refused, it stays as it is.
+    fn make_way(&mut self, alloc: Global, at: usize, per_chunk: usize)
+        requires { FitsChunk per_chunk }
+        ensures { self.new ≡ self.old }
+    {
+        if !self.chunks().wants_way(at, per_chunk) {
+            return;
+        }
+        let Ok(chunks) = self.chunks().with_way(alloc, at, per_chunk) else {
+            return;
+        };
+        if let Ok(block) = Block::new(alloc, chunks) {
+            *self = block;
+        }
+    }
+}
+
+impl<T: Share> SharedList<T> {
+    /// Makes the chunk that has a position, or the last one, anew where it is full or short, for a change in place that was
+    /// refused. The items stay, and where memory is refused the chunks do, too. A block with many chunks stays as it is.
+    pub fn make_way(&mut self, alloc: Global, at: usize)
+        ensures { self.new ≡ self.old }
+    {
+        if self.blocks.is_empty() {
+            return;
+        }
+        let sizes = PartSizes::of(self.len());
+        let spot = spot_of(&self.blocks, at);
+        let block = &mut self.blocks[spot.chunk];
+        if !block.chunks().is_over(sizes.per_block) {
+            block.make_way(alloc, at - spot.start, sizes.per_chunk);
+        }
+    }
+}
