@@ -49,7 +49,10 @@ impl Document {
         ensures { self.new ≡ self.old }
     {
         match change {
-            Change::Create { place, .. } => self.make_way_at(alloc, place),
+            Change::Create { place, .. } => {
+                self.make_way_at(alloc, place);
+                self.records.make_way(alloc, self.records.len());
+            }
             Change::Move { id, place } => {
                 self.make_way_about(alloc, *id);
                 self.make_way_at(alloc, place);

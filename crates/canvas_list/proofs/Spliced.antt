@@ -1,7 +1,7 @@
 -- Other items in place of some chunks.
-use Rattle.std.proofs.Common.{◌≡◌, ◌∙◌, ℕ, suc, ◌+◌, ◌-◌, ◌<◌, ◌≤◌, List, [], ◌∷◌, ◌++◌, take, drop, slice_set, slice_range, sym, ap, arith, length}
+use Rattle.std.proofs.Common.{◌≡◌, ◌∙◌, ℕ, suc, ◌+◌, ◌-◌, ◌<◌, ◌≤◌, List, [], ◌∷◌, ◌++◌, take, drop, slice_set, slice_range, refl, sym, ap, arith, length}
 use Rattle.std.specs.List.{insert, remove, sum_by}
-use Rattle.std.proofs.lemmas.List.{append_assoc, length-append, set-append_left, set-append_right, set_split, take_rest}
+use Rattle.std.proofs.lemmas.List.{append_assoc, length-append, set-append_left, set-append_right, set_split, take-append-drop, take_rest}
 use Rattle.std.proofs.lemmas.List.Edits.{insert-append_left, insert-append_right, length-remove, remove-append_left, remove-append_right, split_between}
 use Rattle.std.proofs.Math.Seq.{take-add}
 use Rattle.canvas_list.specs.Chunks.{joined, IsSpot, IsTable}
@@ -159,11 +159,25 @@ of-part cs ds rs bs xs n k t i j s at old table e last all d l m b read is =
     let p : IsPart cs xs i j s old = is-part cs ds xs i j s old (omega arith) all start d is in
     record { part = p; place = is-in cs xs n k t i j s at old f (len-is cs n xs table all) l m p }
 
--- the same items in place of some chunks
-pub unchanged : {X : Type 0} (cs ds : List (List X)) (xs : List X) (i j s : ℕ) (old : List X) → IsPart cs xs i j s old → ds ≡ cs → joined (take i ds) ++ old ++ joined (drop j ds) ≡ xs
-unchanged cs ds xs i j s old p e =
-    ap (λ l. joined (take i l) ++ old ++ joined (drop j l)) e
-    ∙ ap (λ l. joined (take i cs) ++ l ++ joined (drop j cs)) p.items
-    ∙ append_assoc (joined (take i cs)) (joined (slice_range cs i j)) (joined (drop j cs))
+-- the same items in place of some chunks, cut in two
+pub unchanged : {X : Type 0} (cs ds es : List (List X)) (xs : List X) (i j s k : ℕ) (old first second none front more all : List X) → IsPart cs xs i j s old → ds ≡ cs → es ≡ cs → first ≡ take k old → second ≡ drop k old → none ≡ [] → front ≡ none ++ joined (take i ds) → more ≡ front ++ first → all ≡ more ++ second → all ++ joined (drop j es) ≡ xs
+unchanged {X} cs ds es xs i j s k old first second none front more all p d e f g n h m a =
+    let F : List X = joined (take i cs) in
+    let B : List X = joined (drop j cs) in
+    let before : front ≡ F = h ∙ ap (λ l. l ++ joined (take i ds)) n ∙ ap (λ l. joined (take i l)) d in
+    let both : first ++ second ≡ old = ap (λ l. l ++ second) f ∙ ap (λ l. take k old ++ l) g ∙ take-append-drop k old in
+    ap (λ l. l ++ joined (drop j es)) (a ∙ ap (λ l. l ++ second) (m ∙ ap (λ l. l ++ first) before) ∙ append_assoc F first second ∙ ap (λ l. F ++ l) both)
+    ∙ ap (λ l. (F ++ old) ++ joined (drop j l)) e
+    ∙ ap (λ l. (F ++ l) ++ B) p.items
+    ∙ append_assoc F (joined (slice_range cs i j)) B
     ∙ sym (parts cs i j p.order)
     ∙ p.all
+
+-- how many items these are
+pub cut-long : {X : Type 0} (cs ds es : List (List X)) (xs : List X) (i j s k : ℕ) (old first second : List X) → IsPart cs xs i j s old → ds ≡ cs → es ≡ cs → first ≡ take k old → second ≡ drop k old → length (joined (take i ds)) + length first + length second + length (joined (drop j es)) ≡ length xs
+cut-long cs ds es xs i j s k old first second p d e f g =
+    let both : first ++ second ≡ old = ap (λ l. l ++ second) f ∙ ap (λ l. take k old ++ l) g ∙ take-append-drop k old in
+    let long : length first + length second ≡ length old = sym (length-append first second) ∙ ap length both in
+    let front : length (joined (take i ds)) ≡ length (joined (take i cs)) = ap (λ l. length (joined (take i l))) d in
+    let back : length (joined (drop j es)) ≡ length (joined (drop j cs)) = ap (λ l. length (joined (drop j l))) e in
+    omega (arith, sum-parts cs cs xs i j s old p refl)

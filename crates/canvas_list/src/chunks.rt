@@ -314,8 +314,8 @@ pub(crate) fn summed_chunks<T: Share>(other: &T::Summary, chunks: &[Chunk<T>]) -
     summary
 }
 
-/// Other items in place of some chunks, in chunks that get so many.
-pub(crate) fn spliced<T: Share>(
+// Other items in place of some chunks, in chunks that get so many.
+fn spliced<T: Share>(
     alloc: Global,
     chunks: &[Chunk<T>],
     first: usize,

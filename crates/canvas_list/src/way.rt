@@ -1,11 +1,11 @@
 //! Way for a change in place: chunks that are neither full nor short.
 
-ghost use Rattle.std.specs.Prelude.{◌≡◌, ◌<◌, IfOk, length};
+ghost use Rattle.std.specs.Prelude.{◌≡◌, ◌<◌, ◌≤◌, IfOk, length};
 ghost use Rattle.canvas_list.specs.Chunks.{FitsChunk};
 
 use crate::block::Block;
 use crate::chunk::items_of;
-use crate::chunks::{Chunks, small_about, spliced};
+use crate::chunks::{Chunks, small_about};
 use crate::counted::{Counted, spot_of};
 use crate::share::Share;
 use crate::sizes::PartSizes;
@@ -33,20 +33,31 @@ impl<T: Share> Chunks<T> {
     {
         let spot = spot_of(&self.chunks, at);
         let part = small_about(&self.chunks, spot.chunk, per_chunk);
-        let items = items_of(alloc, &self.chunks[part.first..part.end], per_chunk)?;
-        let most = if items.len() < per_chunk {
-            per_chunk
-        } else {
-            per_chunk / 2 + 1
-        };
-        spliced(
-            alloc,
-            &self.chunks,
-            part.first,
-            part.end,
-            items,
-            most.min(per_chunk),
-        )
+        let mut items = items_of(alloc, &self.chunks[part.first..part.end], per_chunk)?;
+        let is_one = part.end - part.first == 1;
+        let cut = cut_at(is_one, at - spot.start, items.len());
+        let behind = items.split_off(cut)?;
+        Chunks::with_room(alloc, self.chunks.len() + 2)?
+            .and_all(&self.chunks[..part.first])?
+            .and_items(alloc, items, per_chunk)?
+            .and_items(alloc, behind, per_chunk)?
+            .and_all(&self.chunks[part.end..])
+    }
+}
+
+// Where so many items of one chunk are cut in two for one more at a position: beside an end of theirs where it comes to that
+// end, so that items that are put there one after another leave nearly full chunks behind. Those of two chunks stay together.
+fn cut_at(is_one: bool, at: usize, len: usize) -> usize
+    ensures { result ≤ len }
+{
+    if !is_one {
+        len
+    } else if at == 0 {
+        len.min(1)
+    } else if at >= len {
+        len.saturating_sub(1)
+    } else {
+        len / 2
     }
 }
 
