@@ -19,7 +19,7 @@ use crate::place_order::{position_in, position_without};
 use crate::placed_shapes::PlacedShape;
 use crate::records::{ListedRecord, Place, Record};
 use canvas_code::OutOfMemory;
-use canvas_list::ItemChange;
+use canvas_list::{ItemChange, Way};
 use std::alloc::Global;
 
 impl Document {
@@ -36,54 +36,65 @@ impl Document {
         if self.make_in_place(alloc, change) {
             return Ok(());
         }
-        // It may have wanted wider bounds of groups, which it made, or way in the lists.
-        self.make_way_for(alloc, change);
-        if !self.make_in_place(alloc, change) {
+        // Where bounds of groups were too narrow they are wider now, and where the lists had no way there is some.
+        let again = self.make_way_for(alloc, change);
+        if !again || !self.make_in_place(alloc, change) {
             *self = self.with(alloc, change)?;
         }
         Ok(())
     }
 
-    // Makes way in the lists where a change puts a record or takes one away.
-    fn make_way_for(&mut self, alloc: Global, change: &Change)
+    // Makes way in the lists where a change puts a record or takes one away. Answers whether another try may go better.
+    fn make_way_for(&mut self, alloc: Global, change: &Change) -> bool
         ensures { self.new ≡ self.old }
     {
         match change {
             Change::Create { place, .. } => {
                 self.make_way_at(alloc, place);
-                self.records.make_way(alloc, self.records.len());
+                self.records.make_way(alloc, self.records.len(), Way::In);
+                true
             }
             Change::Move { id, place } => {
-                self.make_way_about(alloc, *id);
+                self.make_way_from(alloc, *id);
                 self.make_way_at(alloc, place);
+                true
             }
-            Change::Delete { id } => self.make_way_about(alloc, *id),
-            Change::Pose { .. } => {}
-            Change::Reshape { .. } => {}
-            Change::Show { .. } => {}
-            Change::Respace { .. } => {}
+            Change::Delete { id } => self.make_way_without(alloc, *id),
+            Change::Pose { .. } => true,
+            Change::Reshape { .. } => true,
+            Change::Show { .. } => true,
+            Change::Respace { .. } => false,
         }
     }
 
-    // Makes way where a record would stand.
+    // Makes way in the order where a record would stand.
     fn make_way_at(&mut self, alloc: Global, place: &Place)
         ensures { self.new ≡ self.old }
     {
         let at = position_in(&self.order, place);
-        self.order.make_way(alloc, at);
+        self.order.make_way(alloc, at, Way::In);
     }
 
-    // Makes way where a shape stands, if there is such a one.
-    fn make_way_about(&mut self, alloc: Global, id: u32)
+    // Makes way in the order where a shape stands, if there is such a one.
+    fn make_way_from(&mut self, alloc: Global, id: u32)
         ensures { self.new ≡ self.old }
     {
-        let Some(found) = locate(&self.records, id) else {
-            return;
+        if let Some(found) = locate(&self.records, id) {
+            let from = position_in(&self.order, &found.shape.place);
+            self.order.make_way(alloc, from, Way::Out);
+        }
+    }
+
+    // Makes way where a shape stands in both lists, if there is such a one and nothing lies below it.
+    fn make_way_without(&mut self, alloc: Global, id: u32) -> bool
+        ensures { self.new ≡ self.old }
+    {
+        let Some(at) = self.childless_position(id) else {
+            return false;
         };
-        let at = found.at;
-        let from = position_in(&self.order, &found.shape.place);
-        self.order.make_way(alloc, from);
-        self.records.make_way(alloc, at);
+        self.make_way_from(alloc, id);
+        self.records.make_way(alloc, at, Way::Out);
+        true
     }
 
     // Makes a change in place.

@@ -45,8 +45,9 @@ impl Document {
     }
 }
 
-// Of how many children at most the order is changed in place. More would hardly stand in one block of it.
-const MOST_RESPACED_IN_PLACE: usize = 64;
+// Of how many children at most the order is changed in place. Of more, most of the cost is making them, which would be in
+// vain where they stand in two blocks.
+const MOST_RESPACED_IN_PLACE: usize = 16;
 
 impl Document {
     ghost use Rattle.std.specs.Prelude.{cond};

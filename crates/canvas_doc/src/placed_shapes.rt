@@ -10,7 +10,7 @@ use crate::bounds::Bounds;
 use crate::place_order::hint_of_place;
 use crate::records::{ListedRecord, Record, Records};
 use canvas_code::OutOfMemory;
-use canvas_list::{Hint, ItemChange, Reader, Share, Shared, SharedList, ShortHint};
+use canvas_list::{Hint, ItemChange, Reader, Share, Shared, SharedList, ShortHint, Way};
 use std::alloc::Global;
 use std::marker::Model;
 
@@ -304,10 +304,10 @@ impl PlacedShapes {
     }
 
     /// Makes way about a position for a change in place that was refused.
-    pub(crate) fn make_way(&mut self, alloc: Global, at: usize)
+    pub(crate) fn make_way(&mut self, alloc: Global, at: usize, way: Way)
         ensures { self.new ≡ self.old }
     {
-        self.list.make_way(alloc, at);
+        self.list.make_way(alloc, at, way);
     }
 
     /// Puts other bounds at a position, in place, and answers whether it did.

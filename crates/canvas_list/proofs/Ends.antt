@@ -1,4 +1,4 @@
--- Edits at the ends of a list in chunks, steps over it from its ends, and what a move or a change that was not made leaves.
+-- Edits at the ends of a list in chunks, steps over it from its ends, and what a move leaves.
 use Rattle.std.proofs.Common.{◌≡◌, ◌∙◌, ◌+◌, ◌-◌, ◌<◌, ◌≤◌, ℕ, List, Bool, cond, false, [], ◌∷◌, ◌++◌, sym, ap, arith, length, get_or, take, drop, slice_set, ◌^◌}
 use Rattle.std.specs.List.{insert, remove}
 use Rattle.std.proofs.lemmas.List.{append-nil, append_assoc, nil_from_length, set-get_or, take-append-drop, take_all}
@@ -47,10 +47,7 @@ few-after cs xs left n from t all e h = omega (arith, t.has_len, t.is_small, ap 
 pub few-with : {X : Type 0} (cs ds : List (List X)) (xs : List X) (most : ℕ) → ds ≡ cs → joined cs ≡ xs → length xs + 1 < most → length (joined ds) + 1 < most
 few-with cs ds xs most e all h = omega (arith, ap (λ l. length (joined l)) e, ap length all)
 
--- a change that was not made
-pub undone : {X : Type 0} (made : Bool) (old new after : List X) → new ≡ cond made after old → made ≡ false → new ≡ old
-undone made old new after e is = e ∙ ap (λ m. cond m after old) is
-
+-- a chunk that stays as it was
 pub chunk-unchanged : {X : Type 0} (cs : List (List X)) (k : ℕ) (old new : List X) → new ≡ old → old ≡ get_or cs k old → slice_set cs k new ≡ cs
 chunk-unchanged cs k old new e is = ap (λ c. slice_set cs k c) (e ∙ is) ∙ set-get_or cs k old
 

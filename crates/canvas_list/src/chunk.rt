@@ -1,6 +1,6 @@
 //! Items side by side, shared by all lists that have them.
 
-ghost use Rattle.std.specs.Prelude.{◌≡◌, ◌<◌, ◌≤◌, ◌+◌, ◌++◌, All, IfOk, IfSome, OnOk, cond, length, slice_set};
+ghost use Rattle.std.specs.Prelude.{◌≡◌, ◌<◌, ◌≤◌, ◌+◌, ◌++◌, All, IfOk, OnOk, cond, length, slice_set};
 ghost use Rattle.std.specs.List.{insert, remove, slice_get};
 ghost use Rattle.canvas_list.specs.Chunks.{joined, FitsChunk};
 ghost use Rattle.canvas_list.specs.Changed.{changed_if, replaced_run, IsPositionOf};

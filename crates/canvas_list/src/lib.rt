@@ -30,3 +30,4 @@ pub use reader::Reader;
 pub use search::{Found, FoundRange};
 pub use share::{Share, Shared};
 pub use table::SharedList;
+pub use way::Way;

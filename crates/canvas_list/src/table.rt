@@ -386,12 +386,8 @@ fn have_few_chunks<T: Share>(blocks: &[Block<T>], per_block: usize) -> bool {
     chunks / blocks.len().max(1) < per_block.saturating_mul(7) / 8
 }
 
-/// A block, with one beside it if both are small.
-pub(crate) fn small_blocks_about<T: Share>(
-    blocks: &[Block<T>],
-    block: usize,
-    per_block: usize,
-) -> Part
+// A block, with one beside it if both are small.
+fn small_blocks_about<T: Share>(blocks: &[Block<T>], block: usize, per_block: usize) -> Part
     requires { block < length blocks.now }
     ensures first { result.first ≤ block }
     ensures end { block < result.end }

@@ -1,4 +1,4 @@
-//! Way for a change in place: chunks that are neither full nor short.
+//! Way for a change in place: a full chunk is cut, and short ones become one.
 
 ghost use Rattle.std.specs.Prelude.{◌≡◌, ◌<◌, ◌≤◌, IfOk, length};
 ghost use Rattle.canvas_list.specs.Chunks.{FitsChunk};
@@ -14,14 +14,25 @@ use canvas_code::OutOfMemory;
 use std::alloc::Global;
 use std::marker::Model;
 
+/// What way is made for: an item that is to come, or one that is to go.
+#[derive(Clone, Copy)]
+pub enum Way {
+    In,
+    Out,
+}
+
 impl<T: Share> Chunks<T> {
-    // Whether the chunk that has a position is full, or short beside a short one.
-    fn wants_way(&self, at: usize, per_chunk: usize) -> bool
+    // Whether the chunk that has a position is full, where an item is to come, or short beside a short one, where one
+    // is to go.
+    fn wants_way(&self, at: usize, way: Way, per_chunk: usize) -> bool
         requires { 0 < length self.now }
     {
         let spot = spot_of(&self.chunks, at);
         let part = small_about(&self.chunks, spot.chunk, per_chunk);
-        part.end - part.first > 1 || self.chunks[spot.chunk].count() >= per_chunk
+        match way {
+            Way::In => self.chunks[spot.chunk].count() >= per_chunk,
+            Way::Out => part.end - part.first > 1,
+        }
     }
 
     // The same items. The chunk that has a position is cut in two where it is full, and becomes one with a neighbour
@@ -63,11 +74,11 @@ fn cut_at(is_one: bool, at: usize, len: usize) -> usize
 
 impl<T: Share> Block<T> {
     // The same of a block. Where memory is refused, it stays as it is.
-    fn make_way(&mut self, alloc: Global, at: usize, per_chunk: usize)
+    fn make_way(&mut self, alloc: Global, at: usize, way: Way, per_chunk: usize)
         requires { FitsChunk per_chunk }
         ensures { self.new ≡ self.old }
     {
-        if !self.chunks().wants_way(at, per_chunk) {
+        if !self.chunks().wants_way(at, way, per_chunk) {
             return;
         }
         let Ok(chunks) = self.chunks().with_way(alloc, at, per_chunk) else {
@@ -80,9 +91,9 @@ impl<T: Share> Block<T> {
 }
 
 impl<T: Share> SharedList<T> {
-    /// Makes the chunk that has a position, or the last one, anew where it is full or short, for a change in place that was
-    /// refused. The items stay, and where memory is refused the chunks do, too. A block with many chunks stays as it is.
-    pub fn make_way(&mut self, alloc: Global, at: usize)
+    /// Makes way for an item at a position, where a change in place was refused: a full chunk is cut in two, or two short
+    /// ones become one. The items stay. Where memory is refused or the block has many chunks, these stay, too.
+    pub fn make_way(&mut self, alloc: Global, at: usize, way: Way)
         ensures { self.new ≡ self.old }
     {
         if self.blocks.is_empty() {
@@ -92,7 +103,7 @@ impl<T: Share> SharedList<T> {
         let spot = spot_of(&self.blocks, at);
         let block = &mut self.blocks[spot.chunk];
         if !block.chunks().is_over(sizes.per_block) {
-            block.make_way(alloc, at - spot.start, sizes.per_chunk);
+            block.make_way(alloc, at - spot.start, way, sizes.per_chunk);
         }
     }
 }

@@ -6,7 +6,7 @@ use crate::changes::Both;
 use crate::in_place::first_evens;
 use crate::numbers::{has, shared_number};
 use crate::picks::MOST;
-use canvas_list::ItemChange;
+use canvas_list::{ItemChange, Way};
 use std::alloc::Global;
 use std::process::Abort;
 
@@ -32,33 +32,51 @@ fn remove(rt: &impl Abort, both: &mut Both, at: usize) -> bool {
     made
 }
 
-// Makes way about a position, which leaves the numbers.
-fn make_way(rt: &impl Abort, alloc: Global, both: &mut Both, at: usize) {
-    both.list.make_way(alloc, at);
+// Makes way at a position, which leaves the numbers.
+fn make_way(rt: &impl Abort, alloc: Global, both: &mut Both, at: usize, way: Way) {
+    both.list.make_way(alloc, at, way);
     assert!(rt; has(&both.list, &both.plain));
 }
 
-// A list that is made at once has full chunks. Where numbers are taken away, at one place, they become short.
-fn way_in(rt: &impl Abort, alloc: Global, count: u32)
+// In a list that is made at once most chunks are full: a number comes to such a place once there is way.
+fn way_in(rt: &impl Abort, alloc: Global, both: &mut Both, at: usize) {
+    assert!(rt; !insert(rt, alloc, both, at));
+    make_way(rt, alloc, both, at, Way::In);
+    assert!(rt; insert(rt, alloc, both, at));
+}
+
+// Numbers are taken away at one place, where chunks become short. Answers how many were only once there was way.
+fn way_out(rt: &impl Abort, alloc: Global, both: &mut Both, at: usize) -> u32 {
+    let mut helped: u32 = 0;
+    for _ in 0..40u32 {
+        if !remove(rt, both, at) {
+            make_way(rt, alloc, both, at, Way::Out);
+            if remove(rt, both, at) {
+                helped = helped.saturating_add(1);
+            }
+        }
+    }
+    helped
+}
+
+// Way in a list of so many numbers: at its front, in the middle, and where numbers go.
+fn ways_of(rt: &impl Abort, alloc: Global, count: u32) -> u32
     requires { count ≤ 100000 }
 {
     let mut both = first_evens(rt, alloc, count);
-    let at = both.list.len() / 2;
-    assert!(rt; !insert(rt, alloc, &mut both, at));
-    make_way(rt, alloc, &mut both, at);
-    assert!(rt; insert(rt, alloc, &mut both, at));
-    for _ in 0..40u32 {
-        if !remove(rt, &mut both, at) {
-            make_way(rt, alloc, &mut both, at);
-        }
-    }
-    assert!(rt; both.list.len() < count as usize);
+    let middle = both.list.len() / 2;
+    way_in(rt, alloc, &mut both, middle);
+    way_in(rt, alloc, &mut both, 0);
+    let helped = way_out(rt, alloc, &mut both, middle);
     assert!(rt; has(&both.list, &both.plain));
+    helped
 }
 
 #[test]
 fn a_refused_change_is_made_once_there_is_way(rt: HostRuntime) {
+    let mut helped: u32 = 0;
     for count in [100u32, 300, 1_500, 3_000, 7_000] {
-        way_in(&rt, rt.alloc(), count);
+        helped = helped.saturating_add(ways_of(&rt, rt.alloc(), count));
     }
+    assert!(rt; helped > 2);
 }
