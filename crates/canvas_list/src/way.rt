@@ -14,10 +14,12 @@ use canvas_code::OutOfMemory;
 use std::alloc::Global;
 use std::marker::Model;
 
-/// What way is made for: an item that is to come, or one that is to go.
+/// What way is made for.
 #[derive(Clone, Copy)]
 pub enum Way {
+    /// An item is to come.
     In,
+    /// One is to go.
     Out,
 }
 
@@ -56,8 +58,8 @@ impl<T: Share> Chunks<T> {
     }
 }
 
-// Where so many items of one chunk are cut in two for one more at a position: beside an end of theirs where it comes to that
-// end, so that items that are put there one after another leave nearly full chunks behind. Those of two chunks stay together.
+// Where so many items of one chunk are cut in two for one more at a position: beside an end where it comes to that end, so
+// that items put there one after another leave nearly full chunks behind. Those of two chunks stay together.
 fn cut_at(is_one: bool, at: usize, len: usize) -> usize
     ensures { result ≤ len }
 {
