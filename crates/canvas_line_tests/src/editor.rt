@@ -1,4 +1,5 @@
 //! A thread that edits.
+use crate::asserts::holds;
 use crate::lines::rectangle;
 use canvas_doc::Edit;
 use canvas_line::{Edited, Lines, Seat};
@@ -15,47 +16,39 @@ pub(crate) struct Accepted {
     pub(crate) edit: Edit,
 }
 
-/// What an editor did.
-#[derive(Drop)]
-pub(crate) struct Edits {
-    pub(crate) accepted: Vec<Accepted>,
-    /// How many edits were refused, or did not raise the seat's number.
-    pub(crate) wrong: u32,
-}
-
-/// So many edits: new rectangles, moved, hidden and shown, and some of them deleted.
+/// So many edits, all of them accepted: new rectangles, moved, hidden and shown, and some of them deleted.
 pub(crate) fn make_edits<B: Lines, R: Wait + Abort>(
     rt: &R,
     alloc: Global,
     seat: &mut Seat<B>,
     count: u32,
-) -> Edits {
+) -> Vec<Accepted> {
     let mut own: Vec<u32> = Vec::new(alloc);
     let mut accepted = Vec::new(alloc);
-    let mut wrong = 0u32;
     for step in 0..count {
-        match make(rt, seat, next_edit(&mut own, step)) {
-            Some(made) => {
-                if let Some(id) = made.id {
-                    own.push(id).expect(rt, "memory");
-                }
-                accepted.push(made).expect(rt, "memory");
-            }
-            None => wrong = wrong.saturating_add(1),
-        }
+        let made = make(rt, seat, &mut own, step);
+        accepted.push(made).expect(rt, "memory");
     }
-    Edits { accepted, wrong }
+    accepted
 }
 
-// Makes an edit, if it is accepted and raises the seat's number to its own.
-fn make<B: Lines, R: Wait>(rt: &R, seat: &mut Seat<B>, edit: Edit) -> Option<Accepted> {
+// Makes the next edit, which is to be accepted and to raise the seat's number to its own.
+fn make<B: Lines, R: Wait + Abort>(
+    rt: &R,
+    seat: &mut Seat<B>,
+    own: &mut Vec<u32>,
+    step: u32,
+) -> Accepted {
     let before = seat.number();
-    let Edited { number, id } = seat.edit(rt, &edit).ok()?;
-    if before < number && seat.number() == number {
-        Some(Accepted { number, id, edit })
-    } else {
-        None
+    let edit = next_edit(own, step);
+    let answer = seat.edit(rt, &edit);
+    let Edited { number, id } = answer.expect(rt, "an edit that is accepted");
+    holds(rt, "a higher number", before < number);
+    holds(rt, "the seat's number", seat.number() == number);
+    if let Some(id) = id {
+        own.push(id).expect(rt, "memory");
     }
+    Accepted { number, id, edit }
 }
 
 // The next edit of an editor that has made these shapes.

@@ -1,6 +1,7 @@
 //! Settings of a line, and seats of two lines.
 ghost use Rattle.std.specs.Prelude.{◌≡◌};
 
+use crate::asserts::equal;
 use crate::lines::only;
 use canvas_doc::Document;
 use canvas_line::{Line, LineFault, Lines, Opened, Seat};
@@ -11,24 +12,20 @@ use std::sync::Wait;
 
 #[test]
 fn settings_outside_the_ranges(rt: HostRuntime) {
-    for (seats, limit) in [
-        (0, 1),
-        (65, 1),
-        (u32::MAX, 1),
-        (1, 0),
-        (1, 1_000_001),
-        (1, u64::MAX),
-        (0, 0),
+    let bad = Some(LineFault::BadSetting);
+    for (seats, limit, wanted) in [
+        (0, 1, bad),
+        (65, 1, bad),
+        (u32::MAX, 1, bad),
+        (1, 0, bad),
+        (1, 1_000_001, bad),
+        (1, u64::MAX, bad),
+        (0, 0, bad),
+        (1, 1, None),
+        (64, 1_000_000, None),
     ] {
-        let fault = fault_of(&rt, rt.alloc(), seats, limit);
-        assert!(rt;
-            fault == Some(LineFault::BadSetting),
-            "{seats} seats, limit {limit}"
-        );
-    }
-    for (seats, limit) in [(1, 1), (64, 1_000_000)] {
-        let fault = fault_of(&rt, rt.alloc(), seats, limit);
-        assert!(rt; fault.is_none(), "{seats} seats, limit {limit}");
+        let found = (seats, limit, fault_of(&rt, rt.alloc(), seats, limit));
+        equal(&rt, "seats, limit, fault", &found, &(seats, limit, wanted));
     }
 }
 
@@ -59,9 +56,9 @@ fn refused<B: Lines, R: Wait + Abort>(
 
 // Closes the seats of a line, of which there are to be so many.
 fn close_all<B: Lines, R: Wait + Abort>(rt: &R, all: Vec<Seat<B>>, seats: u32) {
-    assert_eq!(rt; all.len(), seats as usize);
+    equal(rt, "seats", &all.len(), &(seats as usize));
     for seat in all {
-        assert_eq!(rt; seat.number(), 0);
+        equal(rt, "a seat's number", &seat.number(), &0);
         seat.close(rt);
     }
 }
@@ -88,8 +85,9 @@ fn apart<B: Lines, R: Wait + Abort>(
     let ones = Line::open::<B, R>(rt, alloc, first, 1, one, 1, 10).expect(rt, "a line");
     let twos = Line::open::<B, R>(rt, alloc, second, 2, two, 1, 10).expect(rt, "a line");
     let strangers = LineFault::Strangers { own: 1, found: 2 };
-    assert!(rt; met(rt, only(rt, ones), only(rt, twos)) == Err(strangers));
-    assert_eq!(rt; strangers.code(), 18);
+    let met = met(rt, only(rt, ones), only(rt, twos));
+    equal(rt, "seats that met", &met, &Err(strangers));
+    equal(rt, "its code", &strangers.code(), &18);
 }
 
 fn met<B: Lines, R: Wait>(rt: &R, mut one: Seat<B>, mut other: Seat<B>) -> Result<(), LineFault> {

@@ -1,9 +1,9 @@
 //! Twenty-four threads at one line, more than it has readers: four edit, twenty look and paint.
 ghost use Rattle.std.specs.Prelude.{◌≡◌};
 
-use crate::editor::{Accepted, Edits, make_edits};
-use crate::replayed::{by_number, is_right, replayed};
-use crate::viewer::{Sight, Sights, take_looks};
+use crate::editor::{Accepted, make_edits};
+use crate::replayed::{check_sights, put, replayed};
+use crate::viewer::{Sight, take_looks};
 use canvas_doc::Document;
 use canvas_line::{Line, Lines, Opened, Seat};
 use std::alloc::Global;
@@ -27,18 +27,19 @@ const SEATS: u32 = 24;
 /// One in so many seats edits, the others look.
 const TURN: usize = 6;
 
-/// A thread's work at its seat.
+/// A thread's work at its seat: so many edits, and so many looks.
 #[derive(Drop)]
 struct Job<B: Lines> {
     seat: Seat<B>,
-    edits: bool,
+    edits: u32,
+    looks: u32,
 }
 
 /// What a thread gives back.
 #[derive(Drop)]
-enum Done {
-    Edits(Edits),
-    Sights(Sights),
+struct Done {
+    accepted: Vec<Accepted>,
+    seen: Vec<Sight>,
 }
 
 #[test]
@@ -64,66 +65,52 @@ fn crowd<B: Lines + Send + Sync, R: Threads + Wait + Abort + Sync>(
     let seats = Line::open::<B, R>(rt, alloc, opened, 1, document, SEATS, 1_000_000);
     let jobs = jobs_of(rt, alloc, seats.expect(rt, "a line"));
     let done = thread::map_vec(rt, jobs, &|job: Job<B>| work(rt, alloc, job));
-    let (accepted, seen) = gathered(rt, alloc, done.expect(rt, "threads"));
-    check(rt, alloc, accepted, &seen);
+    check(rt, alloc, &done.expect(rt, "threads"));
 }
 
 fn jobs_of<B: Lines, R: Abort>(rt: &R, alloc: Global, seats: Vec<Seat<B>>) -> Vec<Job<B>> {
     let mut jobs = Vec::new(alloc);
     for seat in seats {
-        let edits = jobs.len() % TURN == 0;
-        jobs.push(Job { seat, edits }).expect(rt, "memory");
+        let (edits, looks) = work_at(jobs.len());
+        let job = Job { seat, edits, looks };
+        jobs.push(job).expect(rt, "memory");
     }
     jobs
 }
 
-fn work<B: Lines, R: Threads + Wait + Abort + Sync>(rt: &R, alloc: Global, job: Job<B>) -> Done {
-    let Job { mut seat, edits } = job;
-    if edits {
-        Done::Edits(make_edits(rt, alloc, &mut seat, EDITS))
+// How many edits and how many looks are the work at a place.
+fn work_at(place: usize) -> (u32, u32) {
+    if place % TURN == 0 {
+        (EDITS, 0)
     } else {
-        Done::Sights(take_looks(rt, alloc, &mut seat, LOOKS))
+        (0, LOOKS)
     }
 }
 
-// What all threads gave back, of which nothing was wrong.
-fn gathered<R: Abort>(rt: &R, alloc: Global, done: Vec<Done>) -> (Vec<Accepted>, Vec<Sight>) {
-    let mut accepted = Vec::new(alloc);
-    let mut seen = Vec::new(alloc);
-    for one in done {
-        match one {
-            Done::Edits(edits) => add_edits(rt, edits, &mut accepted),
-            Done::Sights(sights) => add_sights(rt, sights, &mut seen),
-        }
-    }
-    (accepted, seen)
+fn work<B: Lines, R: Threads + Wait + Abort + Sync>(rt: &R, alloc: Global, job: Job<B>) -> Done {
+    let Job {
+        mut seat,
+        edits,
+        looks,
+    } = job;
+    let accepted = make_edits(rt, alloc, &mut seat, edits);
+    let seen = take_looks(rt, alloc, &mut seat, looks);
+    Done { accepted, seen }
 }
 
-fn add_edits<R: Abort>(rt: &R, edits: Edits, accepted: &mut Vec<Accepted>) {
-    assert_eq!(rt; edits.wrong, 0);
-    for one in edits.accepted {
-        accepted.push(one).expect(rt, "memory");
-    }
-}
-
-fn add_sights<R: Abort>(rt: &R, sights: Sights, seen: &mut Vec<Sight>) {
-    assert_eq!(rt; sights.wrong, 0);
-    for one in sights.seen {
-        seen.push(one).expect(rt, "memory");
-    }
-}
-
-fn check<R: Threads + Abort + Sync>(
-    rt: &R,
-    alloc: Global,
-    accepted: Vec<Accepted>,
-    seen: &[Sight],
-) {
-    assert_eq!(rt; accepted.len(), 4 * EDITS as usize);
-    let edits = by_number(rt, alloc, accepted);
+fn check<R: Threads + Abort + Sync>(rt: &R, alloc: Global, done: &[Done]) {
+    let edits = by_number(rt, alloc, done);
     let documents = replayed(rt, alloc, &edits);
-    for sight in seen {
-        let number = sight.version.number;
-        assert!(rt; is_right(rt, alloc, &documents, sight), "version {number}");
+    for one in done {
+        check_sights(rt, alloc, &documents, &one.seen);
     }
+}
+
+// The accepted edits by their numbers, which are to be 1 to the number of edits, each given once.
+fn by_number<'a, R: Abort>(rt: &R, alloc: Global, done: &'a [Done]) -> Vec<Option<&'a Accepted>> {
+    let mut places = vec![in alloc; None; 4 * EDITS as usize].expect(rt, "memory");
+    for one in done {
+        put(rt, &mut places, &one.accepted);
+    }
+    places
 }

@@ -1,4 +1,5 @@
 //! A thread that looks and paints.
+use crate::asserts::holds;
 use bumpalo::Bump;
 use canvas_doc::Document;
 use canvas_line::{Lines, Seat, Version};
@@ -17,36 +18,27 @@ pub(crate) struct Sight {
     pub(crate) raster: Vec<u8>,
 }
 
-/// What a viewer saw.
-#[derive(Drop)]
-pub(crate) struct Sights {
-    pub(crate) seen: Vec<Sight>,
-    /// How many looks were refused, went back, or were not at the seat's number.
-    pub(crate) wrong: u32,
-}
-
-/// So many looks, each version painted where it is another than the last one.
+/// So many looks, each version painted where it is another than the last one. No look is refused, goes back, or is not at
+/// the seat's number.
 pub(crate) fn take_looks<B: Lines, R: Threads + Sync + Abort>(
     rt: &R,
     alloc: Global,
     seat: &mut Seat<B>,
     count: u32,
-) -> Sights {
+) -> Vec<Sight> {
     let mut seen: Vec<Sight> = Vec::new(alloc);
-    let mut wrong = 0u32;
     for _ in 0..count {
         let before = seat.number();
-        match seat.look() {
-            Ok(version) if before <= version.number && seat.number() == version.number => {
-                if before < version.number {
-                    let raster = raster(rt, alloc, &version.document);
-                    seen.push(Sight { version, raster }).expect(rt, "memory");
-                }
-            }
-            _ => wrong = wrong.saturating_add(1),
+        let version = seat.look().expect(rt, "a version");
+        let number = version.number;
+        holds(rt, "a look that does not go back", before <= number);
+        holds(rt, "a look at the seat's number", seat.number() == number);
+        if before < number {
+            let raster = raster(rt, alloc, &version.document);
+            seen.push(Sight { version, raster }).expect(rt, "memory");
         }
     }
-    Sights { seen, wrong }
+    seen
 }
 
 /// The raster of a small window of a document, by one worker.

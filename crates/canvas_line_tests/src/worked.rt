@@ -1,14 +1,14 @@
 //! Worked examples.
 ghost use Rattle.std.specs.Prelude.{◌≡◌};
 
-use crate::lines::{Play, RED, at_a_line, edited, only, rectangle, seen};
+use crate::asserts::equal;
+use crate::lines::{Play, accept, at_a_line, check_red, edited, only, rectangle, refuse, seen};
 use canvas_doc::{Document, Edit, Refusal};
-use canvas_line::{Line, LineFault, Lines, Opened, Seat};
+use canvas_line::{Edited, Line, LineFault, Lines, Opened, Seat};
 use std::alloc::Global;
 use std::marker::Brand;
 use std::process::Abort;
 use std::sync::Wait;
-use std::test::Fail;
 use std::thread::{Threads, join};
 
 #[test]
@@ -31,7 +31,7 @@ fn meeting<B: Lines + Send + Sync, R: Threads + Wait + Abort + Sync>(
     let mut a = edit_beside(rt, a, &b);
     a.meet(rt, &mut b).expect(rt, "a seat of the same line");
     let b = look_beside(rt, b, &a);
-    assert_eq!(rt; (a.number(), b.number()), (1, 1));
+    equal(rt, "both numbers", &(a.number(), b.number()), &(1, 1));
 }
 
 // The two seats of a line.
@@ -55,9 +55,9 @@ fn edit_beside<B: Lines + Send + Sync, R: Threads + Wait + Abort + Sync>(
         },
         || b.number(),
     );
-    let answer = answer.expect(rt, "an edit that is accepted");
-    assert_eq!(rt; (before, answer.number), (0, 1));
-    assert!(rt; answer.id == Some(1));
+    equal(rt, "the number of one that looks on", &before, &0);
+    let (number, id) = (1, Some(1));
+    equal(rt, "the answer", &answer, &Ok(Edited { number, id }));
     a
 }
 
@@ -75,9 +75,8 @@ fn look_beside<B: Lines + Send + Sync, R: Threads + Wait + Abort + Sync>(
         },
         || a.number(),
     );
-    let version = version.expect(rt, "a version");
-    assert_eq!(rt; (number, version.number), (1, 1));
-    assert!(rt; version.document.colour_at(0, 0) == RED);
+    equal(rt, "the number of one that looks on", &number, &1);
+    check_red(rt, version, 1);
     b
 }
 
@@ -90,26 +89,20 @@ fn number_seen<B: Lines, R: Abort>(rt: &R, seat: &mut Seat<B>) -> u64 {
 struct Spending;
 
 impl Play for Spending {
-    fn play<B: Lines, R: Wait + Abort>(
-        rt: &R,
-        _alloc: Global,
-        seat: &mut Seat<B>,
-    ) -> Result<(), Fail> {
-        assert!(rt; edited(rt, seat, &rectangle(1, 1, 0)).is_ok());
-        assert!(rt; edited(rt, seat, &rectangle(1, 1, 1)).is_ok());
-        let missing = Edit::Delete { id: 9 };
-        assert!(rt; edited(rt, seat, &missing) == Err(LineFault::VersionsSpent));
-        assert!(rt; edited(rt, seat, &rectangle(1, 1, 2)) == Err(LineFault::VersionsSpent));
-        assert_eq!(rt; seat.number(), 2);
-        assert_eq!(rt; number_seen(rt, seat), 2);
-        Ok(())
+    fn play<B: Lines, R: Wait + Abort>(rt: &R, _alloc: Global, seat: &mut Seat<B>) {
+        accept(rt, seat, rectangle(1, 1, 0));
+        accept(rt, seat, rectangle(1, 1, 1));
+        refuse(rt, seat, Edit::Delete { id: 9 }, LineFault::VersionsSpent);
+        refuse(rt, seat, rectangle(1, 1, 2), LineFault::VersionsSpent);
+        equal(rt, "the seat's number", &seat.number(), &2);
+        equal(rt, "the version's number", &number_seen(rt, seat), &2);
     }
 }
 
 #[test]
-fn a_line_accepts_no_more_than_its_limit(rt: HostRuntime) -> Result<(), Fail> {
+fn a_line_accepts_no_more_than_its_limit(rt: HostRuntime) {
     let document = Document::empty(rt.alloc());
-    at_a_line::<Spending, _>(&rt, rt.alloc(), document, 2)
+    at_a_line::<Spending, _>(&rt, rt.alloc(), document, 2);
 }
 
 #[test]
@@ -138,13 +131,12 @@ fn check_apart<B: Lines, R: Wait + Abort>(
     b: &mut Seat<B>,
     c: &mut Seat<B>,
 ) {
-    assert!(rt; edited(rt, a, &rectangle(1, 1, 0)).is_ok());
-    let refused = LineFault::Refused(Refusal::NoSuchShape);
-    assert!(rt; edited(rt, b, &Edit::Delete { id: 9 }) == Err(refused));
-    assert_eq!(rt; b.number(), 1);
-    assert_eq!(rt; c.number(), 0);
-    assert_eq!(rt; number_seen(rt, c), 1);
-    assert!(rt; edited(rt, a, &rectangle(1, 1, 1)).is_ok());
-    assert_eq!(rt; number_seen(rt, c), 2);
-    assert_eq!(rt; b.number(), 1);
+    accept(rt, a, rectangle(1, 1, 0));
+    let missing = LineFault::Refused(Refusal::NoSuchShape);
+    refuse(rt, b, Edit::Delete { id: 9 }, missing);
+    equal(rt, "after b's edit", &(b.number(), c.number()), &(1, 0));
+    equal(rt, "what c sees", &number_seen(rt, c), &1);
+    accept(rt, a, rectangle(1, 1, 1));
+    equal(rt, "what c sees then", &number_seen(rt, c), &2);
+    equal(rt, "b's number", &b.number(), &1);
 }

@@ -1,5 +1,6 @@
 //! Strips at a gate: each strip of a picture passes it once, whatever the window's rows.
 
+use crate::asserts::equal;
 use bumpalo::Bump;
 use canvas_doc::Document;
 use canvas_paint::{FreeGate, Gate, paint};
@@ -52,20 +53,20 @@ fn passes(gate: &Counting) -> ([u64; 4], u64) {
     (passed, gate.others.load(Ordering::SeqCst))
 }
 
-// The picture of an empty document in a window of so many rows, by so many workers, and how often each strip passed.
+// The picture of an empty document in a window of so many rows, by so many workers who pass a gate.
 fn painted<R: Threads + Sync + Abort>(
     rt: &R,
     alloc: Global,
     rows: u32,
     workers: u32,
-) -> (Vec<u8>, ([u64; 4], u64)) {
+    gate: &Counting,
+) -> Vec<u8> {
     let document = Document::empty(alloc);
     let window = Window::new(0, 0, 4, rows).expect(rt, "a window");
     let bump = Bump::new(alloc);
     let scene = Scene::build(&bump, &document, &window).expect(rt, "memory");
-    let gate = nobody_passed();
-    let raster = paint(rt, alloc, scene.display_list(), &window, workers, &gate);
-    (raster.expect(rt, "a picture"), passes(&gate))
+    let raster = paint(rt, alloc, scene.display_list(), &window, workers, gate);
+    raster.expect(rt, "a picture")
 }
 
 // The same picture by one worker through a gate that lets all pass.
@@ -78,18 +79,29 @@ fn alone<R: Threads + Sync + Abort>(rt: &R, alloc: Global, rows: u32) -> Vec<u8>
     raster.expect(rt, "a picture")
 }
 
+// Asserts that so many workers paint a picture of so many rows as one does, and that so often each strip passes.
+fn check<R: Threads + Sync + Abort>(
+    rt: &R,
+    alloc: Global,
+    rows: u32,
+    workers: u32,
+    wanted: [u64; 4],
+) {
+    let gate = nobody_passed();
+    let raster = painted(rt, alloc, rows, workers, &gate);
+    let found = (rows, workers, passes(&gate));
+    equal(rt, "passes", &found, &(rows, workers, (wanted, 0)));
+    let same = (rows, workers, alone(rt, alloc, rows));
+    equal(rt, "the picture", &(rows, workers, raster), &same);
+}
+
 // More workers than the window has rows are as many strips, and one worker is one.
 #[test]
 fn each_strip_passes_the_gate_once(rt: HostRuntime) {
-    let alloc = rt.alloc();
-    let wanted = [[1, 0, 0, 0], [1, 1, 0, 0], [1, 1, 1, 0], [1, 1, 1, 1]];
-    for rows in [1, 2, 3] {
-        let mut workers = 0u32;
-        for once in wanted {
-            workers = workers.wrapping_add(1);
-            let (raster, passed) = painted(&rt, alloc, rows, workers);
-            assert!(rt; raster == alone(&rt, alloc, rows), "{workers}");
-            assert_eq!(rt; passed, (once, 0));
-        }
+    for rows in 1..4u32 {
+        check(&rt, rt.alloc(), rows, 1, [1, 0, 0, 0]);
+        check(&rt, rt.alloc(), rows, 2, [1, 1, 0, 0]);
+        check(&rt, rt.alloc(), rows, 3, [1, 1, 1, 0]);
+        check(&rt, rt.alloc(), rows, 4, [1, 1, 1, 1]);
     }
 }

@@ -1,7 +1,9 @@
 //! P6 images read and written by hand.
 
+use crate::asserts::equal;
 use canvas_ppm::{header, read, start, write};
 use std::alloc::Global;
+use std::process::Abort;
 
 const SIX: &[u8] = b"\x00\x01\x02\xfd\xfe\xff";
 
@@ -60,34 +62,46 @@ fn reads_files_by_hand(rt: HostRuntime) {
     for (head, samples, wanted) in rows() {
         let mut bytes = Vec::from_slice(rt.alloc(), head).expect(&rt, "memory");
         bytes.extend_from_slice(samples).expect(&rt, "memory");
-        assert_eq!(rt; sides(rt.alloc(), &bytes), *wanted, "at {head:?}");
+        let found = (*head, sides(rt.alloc(), &bytes));
+        equal(&rt, "a head and an image", &found, &(*head, *wanted));
     }
+}
+
+// Asserts that these are the wanted bytes.
+fn check(rt: &impl Abort, what: &str, found: Vec<u8>, wanted: &[u8]) {
+    equal(rt, what, &found.as_slice(), &wanted);
 }
 
 #[test]
 fn keeps_the_raster(rt: HostRuntime) {
-    let image = read(rt.alloc(), b"P6\n2 1\n255\n\x00\x01\x02\xfd\xfe\xff").expect(&rt, "an image");
-    assert_eq!(rt;
-        image.raster.as_slice(),
-        b"\x00\x01\x02\xfd\xfe\xff".as_slice()
-    );
+    let image = read(rt.alloc(), b"P6\n2 1\n255\n\x00\x01\x02\xfd\xfe\xff");
+    let raster = image.expect(&rt, "an image").raster;
+    check(&rt, "a raster", raster, b"\x00\x01\x02\xfd\xfe\xff");
 }
 
 #[test]
 fn writes_files_by_hand(rt: HostRuntime) {
-    let white = write(rt.alloc(), 2, 1, b"\xff\xff\xff\xff\xff\xff").expect(&rt, "a file");
-    assert_eq!(rt;
-        white.as_slice(),
-        b"P6\n2 1\n255\n\xff\xff\xff\xff\xff\xff".as_slice()
+    let white = write(rt.alloc(), 2, 1, b"\xff\xff\xff\xff\xff\xff");
+    check(
+        &rt,
+        "white",
+        white.expect(&rt, "a file"),
+        b"P6\n2 1\n255\n\xff\xff\xff\xff\xff\xff",
     );
-    let red = write(rt.alloc(), 3, 1, b"\xff\x00\x00\xff\x00\x00\xff\xff\xff").expect(
-        &rt, "a file",
+    let red = write(rt.alloc(), 3, 1, b"\xff\x00\x00\xff\x00\x00\xff\xff\xff");
+    check(
+        &rt,
+        "red",
+        red.expect(&rt, "a file"),
+        b"P6\n3 1\n255\n\xff\x00\x00\xff\x00\x00\xff\xff\xff",
     );
-    assert_eq!(rt;
-        red.as_slice(),
-        b"P6\n3 1\n255\n\xff\x00\x00\xff\x00\x00\xff\xff\xff".as_slice()
+    let longest = header(65_535, 65_535);
+    equal(
+        &rt,
+        "a header",
+        &longest.as_str(),
+        &"P6\n65535 65535\n255\n",
     );
-    assert_eq!(rt; header(65_535, 65_535).as_str(), "P6\n65535 65535\n255\n");
     let begun = start(rt.alloc(), 256, 100).expect(&rt, "a file");
-    assert_eq!(rt; begun.as_slice(), b"P6\n256 100\n255\n".as_slice());
+    check(&rt, "begun", begun, b"P6\n256 100\n255\n");
 }

@@ -1,5 +1,8 @@
 //! Worked pictures, strips and workers, and free rows.
 
+ghost use Rattle.std.specs.Prelude.{◌≤ℤ◌};
+
+use crate::asserts::{equal, holds};
 use crate::shapes::{GREEN, RED, after, frame, nested, page_box, rect, red_rectangle, with};
 use bumpalo::Bump;
 use canvas_doc::{Document, Edit, Parent};
@@ -8,7 +11,7 @@ use canvas_paint::{
 };
 use canvas_plane::{PageBox, Pose, Window};
 use canvas_scene::Scene;
-use canvas_shape::{Colour, Span};
+use canvas_shape::Span;
 use std::alloc::Global;
 use std::process::Abort;
 use std::sync::atomic::{AtomicU64, Ordering};
@@ -29,27 +32,42 @@ fn picture<R: Threads + Sync + Abort>(
     out
 }
 
-// The colours of the pixels of so many columns and rows from the origin on.
-fn walk(rt: &impl Abort, alloc: Global, document: &Document, w: i32, h: i32) -> Vec<u8> {
+// The colours of the pixels of four columns and rows from the origin on.
+fn walk(rt: &impl Abort, alloc: Global, document: &Document) -> Vec<u8> {
     let mut out = Vec::new(alloc);
-    for y in 0..h {
-        for x in 0..w {
-            let colour = document.colour_at(x, y);
-            out.extend_from_slice(&colour.0).expect(rt, "memory");
-        }
+    for pixel in 0..16i32 {
+        let colour = document.colour_at(pixel % 4, pixel / 4);
+        out.extend_from_slice(&colour.0).expect(rt, "memory");
     }
     out
 }
 
-// The clips of a document's items in a window.
-fn clips(rt: &impl Abort, alloc: Global, document: &Document, window: &Window) -> Vec<PageBox> {
+// Asserts that the picture of a document in the window 0, 0, 4, 4 has the colours of the walk.
+fn check_walk<R: Threads + Sync + Abort>(
+    rt: &R,
+    alloc: Global,
+    document: &Document,
+    window: &Window,
+) {
+    let bytes = picture(rt, alloc, document, window);
+    equal(rt, "the picture", &bytes, &walk(rt, alloc, document));
+}
+
+// Asserts that these are the clips of a document's items in a window.
+fn check_clips(
+    rt: &impl Abort,
+    alloc: Global,
+    document: &Document,
+    window: &Window,
+    wanted: &[PageBox],
+) {
     let bump = Bump::new(alloc);
     let scene = Scene::build(&bump, document, window).expect(rt, "memory");
     let mut clips = Vec::new(alloc);
     for item in scene.display_list() {
         clips.push(item.clip).expect(rt, "memory");
     }
-    clips
+    equal(rt, "the clips", &clips.as_slice(), &wanted);
 }
 
 // A turned frame of 2 by 1 without fill that holds a rectangle of 5 by 5.
@@ -71,11 +89,9 @@ fn turned_frame_cuts_its_child(rt: HostRuntime) {
     let alloc = rt.alloc();
     let window = Window::new(0, 0, 4, 4).expect(&rt, "a window");
     let document = turned(&rt, alloc);
-    let found = clips(&rt, alloc, &document, &window);
-    assert_eq!(rt; found.as_slice(), [page_box(0, 0, 1, 2)].as_slice());
-    let bytes = picture(&rt, alloc, &document, &window);
-    assert!(rt; bytes == walk(&rt, alloc, &document, 4, 4));
-    assert_eq!(rt; document.colour_at(0, 1), RED);
+    check_clips(&rt, alloc, &document, &window, &[page_box(0, 0, 1, 2)]);
+    check_walk(&rt, alloc, &document, &window);
+    equal(&rt, "a colour", &document.colour_at(0, 1), &RED);
 }
 
 #[test]
@@ -87,17 +103,17 @@ fn a_hidden_frame_makes_no_item(rt: HostRuntime) {
         hidden: true,
     };
     let hidden = after(alloc, turned(&rt, alloc), &hide).expect(&rt, "memory");
-    assert_eq!(rt; clips(&rt, alloc, &hidden, &window).len(), 0);
+    check_clips(&rt, alloc, &hidden, &window, &[]);
 }
 
 // Two rows of four green pixels and two white ones.
 fn green_and_white(rt: &impl Abort, alloc: Global) -> Vec<u8> {
     let mut rows = Vec::new(alloc);
     for _ in 0..2u8 {
-        for x in 0..6u8 {
-            let colour = if x < 4 { GREEN } else { Colour([255; 3]) };
-            rows.extend_from_slice(&colour.0).expect(rt, "memory");
+        for _ in 0..4u8 {
+            rows.extend_from_slice(&GREEN.0).expect(rt, "memory");
         }
+        rows.extend_from_slice(&[255; 6]).expect(rt, "memory");
     }
     rows
 }
@@ -108,7 +124,7 @@ fn frames_in_frames_cut_by_both(rt: HostRuntime) {
     let window = Window::new(0, 0, 6, 2).expect(&rt, "a window");
     let document = nested(alloc).expect(&rt, "memory");
     let bytes = picture(&rt, alloc, &document, &window);
-    assert!(rt; bytes == green_and_white(&rt, alloc));
+    equal(&rt, "the picture", &bytes, &green_and_white(&rt, alloc));
 }
 
 // The picture of a document in a window of 256 by 2, in two strips of a row each.
@@ -129,12 +145,10 @@ fn strips_joined_are_the_picture(rt: HostRuntime) {
     let document = red_rectangle(alloc).expect(&rt, "memory");
     let window = Window::new(0, 0, 256, 2).expect(&rt, "a window");
     let whole = picture(&rt, alloc, &document, &window);
-    assert_eq!(rt; whole.len(), 1536);
-    assert_eq!(rt;
-        (strip_rows(2, 0, 2), strip_rows(2, 1, 2)),
-        ((0, 1), (1, 2))
-    );
-    assert!(rt; joined(&rt, alloc, &document) == whole);
+    equal(&rt, "its length", &whole.len(), &1536);
+    equal(&rt, "both strips", &joined(&rt, alloc, &document), &whole);
+    equal(&rt, "the first rows", &strip_rows(2, 0, 2), &(0, 1));
+    equal(&rt, "the second rows", &strip_rows(2, 1, 2), &(1, 2));
 }
 
 // The picture of a red rectangle in a window of so many columns and two rows, by so many workers.
@@ -165,12 +179,17 @@ fn any_number_of_workers_paints_the_same(rt: HostRuntime) {
     let want = red_corner(&rt, alloc);
     for workers in [1, 3, 16] {
         let raster = by_workers(&rt, alloc, 256, workers).expect(&rt, "a picture");
-        assert!(rt; raster == want, "{workers}");
+        equal(&rt, "a picture", &(workers, &raster), &(workers, &want));
     }
-    for workers in [0, 17] {
-        let fault = by_workers(&rt, alloc, 256, workers).err();
-        assert!(rt; fault == Some(PaintFault::BadWorkers), "{workers}");
-    }
+    let fault = Some(PaintFault::BadWorkers);
+    equal(
+        &rt,
+        "no worker",
+        &by_workers(&rt, alloc, 256, 0).err(),
+        &fault,
+    );
+    let many = by_workers(&rt, alloc, 256, 17).err();
+    equal(&rt, "17 workers", &many, &fault);
 }
 
 // Holds each of two strips until the other has come too, and counts those that waited in vain.
@@ -189,17 +208,19 @@ impl<C: Clock> Gate for Meeting<'_, C> {
             mine.store(1, Ordering::SeqCst);
         }
         for _ in 0..10_000u32 {
-            if self
-                .come
-                .iter()
-                .all(|strip| strip.load(Ordering::SeqCst) == 1)
-            {
+            if come(self) == (1, 1) {
                 return;
             }
             thread::sleep(self.clock, Duration::from_millis(1));
         }
         self.in_vain.fetch_add(1, Ordering::SeqCst);
     }
+}
+
+// How often each strip came last: 1 where it came.
+fn come<C>(gate: &Meeting<'_, C>) -> (u64, u64) {
+    let [first, second] = &gate.come;
+    (first.load(Ordering::SeqCst), second.load(Ordering::SeqCst))
 }
 
 // The same picture of four columns by two workers, at a gate where they meet.
@@ -224,12 +245,11 @@ fn two_workers_work_at_once(rt: HostRuntime) {
         in_vain: AtomicU64::new(0),
     };
     let together = by_two_that_meet(&rt, alloc, &gate);
-    assert_eq!(rt; gate.in_vain.load(Ordering::SeqCst), 0);
-    for strip in &gate.come {
-        assert_eq!(rt; strip.load(Ordering::SeqCst), 1);
-    }
+    let in_vain = gate.in_vain.load(Ordering::SeqCst);
+    equal(&rt, "those in vain", &in_vain, &0);
+    equal(&rt, "strips that came", &come(&gate), &(1, 1));
     let alone = by_workers(&rt, alloc, 4, 1).expect(&rt, "a picture");
-    assert!(rt; together == alone);
+    equal(&rt, "the picture", &together, &alone);
 }
 
 pub(crate) fn span(from: i32, to: i32) -> Span {
@@ -238,26 +258,27 @@ pub(crate) fn span(from: i32, to: i32) -> Span {
 
 #[test]
 fn free_row_gives_each_pixel_once(rt: HostRuntime) {
-    let mut row = FreeRow::new(rt.alloc(), 0, 10).expect(&rt, "memory");
-    assert!(rt; takes(&rt, rt.alloc(), &mut row, span(3, 5), &[span(3, 5)]));
-    assert!(rt; !row.is_done());
-    assert!(rt;
-        takes(
-            &rt,
-            rt.alloc(),
-            &mut row,
-            span(0, 10),
-            &[span(0, 3), span(5, 10)]
-        )
-    );
-    assert!(rt; row.is_done());
-    assert!(rt; takes(&rt, rt.alloc(), &mut row, span(2, 8), &[]));
+    let alloc = rt.alloc();
+    let mut row = FreeRow::new(alloc, 0, 10).expect(&rt, "memory");
+    check_taken(&rt, alloc, &mut row, 3, 5, &[span(3, 5)]);
+    holds(&rt, "some are free", !row.is_done());
+    check_taken(&rt, alloc, &mut row, 0, 10, &[span(0, 3), span(5, 10)]);
+    holds(&rt, "none is free", row.is_done());
+    check_taken(&rt, alloc, &mut row, 2, 8, &[]);
 }
 
-// Whether a row gives these spans of one that is asked for.
-fn takes(rt: &impl Abort, alloc: Global, row: &mut FreeRow, asked: Span, want: &[Span]) -> bool {
-    assert!(rt; asked.from <= asked.to);
+// Asserts that a row gives these spans of one that is asked for.
+fn check_taken(
+    rt: &impl Abort,
+    alloc: Global,
+    row: &mut FreeRow,
+    from: i32,
+    to: i32,
+    wanted: &[Span],
+)
+    requires { from ≤ℤ to }
+{
     let mut out = Vec::new(alloc);
-    row.take(asked, &mut out).expect(rt, "memory");
-    out.as_slice() == want
+    row.take(Span { from, to }, &mut out).expect(rt, "memory");
+    equal(rt, "the spans", &out.as_slice(), &wanted);
 }

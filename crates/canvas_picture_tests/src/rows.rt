@@ -1,6 +1,7 @@
 //! Which items make a display list: what lies wholly behind one rectangle is left out. The window
 //! has no more than one cell here.
 
+use crate::asserts::equal;
 use crate::shapes::{BLUE, GREEN, RED, frame, page_box, rect, right, with};
 use bumpalo::Bump;
 use canvas_doc::{Document, Parent};
@@ -23,12 +24,13 @@ fn after(
     with(alloc, document, kind, right(dx), parent).expect(rt, "memory")
 }
 
-// How many shapes a document has, and how many items it makes in the window 0, 0, 4, 4.
-fn counts(rt: &impl Abort, alloc: Global, document: &Document) -> (usize, usize) {
+// Asserts that a document has so many shapes, and makes so many items in the window 0, 0, 4, 4.
+fn check_counts(rt: &impl Abort, alloc: Global, document: &Document, wanted: (usize, usize)) {
     let window = Window::new(0, 0, 4, 4).expect(rt, "a window");
     let bump = Bump::new(alloc);
     let scene = Scene::build(&bump, document, &window).expect(rt, "memory");
-    (document.count(), scene.display_list().len())
+    let found = (document.count(), scene.display_list().len());
+    equal(rt, "shapes and items", &found, &wanted);
 }
 
 #[test]
@@ -38,7 +40,7 @@ fn one_rectangle_hides_another(rt: HostRuntime) {
     let document = Document::empty(alloc);
     let document = after(&rt, alloc, document, rect(2, 2, RED), 0, page);
     let document = after(&rt, alloc, document, rect(4, 4, GREEN), 0, page);
-    assert_eq!(rt; counts(&rt, alloc, &document), (2, 1));
+    check_counts(&rt, alloc, &document, (2, 1));
 }
 
 // A rectangle, and a frame that cuts one in front of it.
@@ -49,22 +51,22 @@ fn clipped(rt: &impl Abort, alloc: Global) -> Document {
     after(rt, alloc, document, rect(4, 4, GREEN), 0, Parent::Shape(2))
 }
 
-// The top row of a document in the window 0, 0, 4, 4.
-fn top_row(rt: &impl Abort, alloc: Global, document: &Document) -> Vec<u8> {
+// Asserts that these bytes are the top row of a document in the window 0, 0, 4, 4.
+fn check_top_row(rt: &impl Abort, alloc: Global, document: &Document, wanted: &[u8]) {
     let window = Window::new(0, 0, 4, 4).expect(rt, "a window");
     let bump = Bump::new(alloc);
     let scene = Scene::build(&bump, document, &window).expect(rt, "memory");
-    paint_strip(alloc, scene.display_list(), &window, 0, 1).expect(rt, "memory")
+    let row = paint_strip(alloc, scene.display_list(), &window, 0, 1).expect(rt, "memory");
+    equal(rt, "the top row", &row.as_slice(), &wanted);
 }
 
 #[test]
 fn clipped_rectangle_hides_what_its_clip_leaves(rt: HostRuntime) {
     let alloc = rt.alloc();
     let document = clipped(&rt, alloc);
-    assert_eq!(rt; counts(&rt, alloc, &document), (3, 2));
-    let row = top_row(&rt, alloc, &document);
-    let want = [0, 255, 0, 255, 0, 0, 255, 255, 255, 255, 255, 255];
-    assert_eq!(rt; row.as_slice(), want.as_slice());
+    check_counts(&rt, alloc, &document, (3, 2));
+    let wanted = [0, 255, 0, 255, 0, 0, 255, 255, 255, 255, 255, 255];
+    check_top_row(&rt, alloc, &document, &wanted);
 }
 
 #[test]
@@ -75,7 +77,7 @@ fn two_halves_of_a_cell_hide_nothing_that_lies_behind_both(rt: HostRuntime) {
     let document = after(&rt, alloc, document, rect(4, 4, RED), 0, page);
     let document = after(&rt, alloc, document, rect(2, 4, GREEN), 0, page);
     let document = after(&rt, alloc, document, rect(2, 4, BLUE), 2, page);
-    assert_eq!(rt; counts(&rt, alloc, &document), (3, 3));
+    check_counts(&rt, alloc, &document, (3, 3));
 }
 
 #[test]
@@ -90,7 +92,7 @@ fn an_ellipse_hides_nothing(rt: HostRuntime) {
     let document = Document::empty(alloc);
     let document = after(&rt, alloc, document, rect(2, 2, RED), 0, page);
     let document = after(&rt, alloc, document, wide, -100, page);
-    assert_eq!(rt; counts(&rt, alloc, &document), (2, 2));
+    check_counts(&rt, alloc, &document, (2, 2));
 }
 
 #[test]
@@ -100,9 +102,9 @@ fn frames_and_groups_are_hidden_whole(rt: HostRuntime) {
     let document = Document::empty(alloc);
     let document = after(&rt, alloc, document, frame(9, 9, Some(BLUE)), 0, page);
     let document = after(&rt, alloc, document, rect(3, 3, RED), 0, Parent::Shape(1));
-    assert_eq!(rt; counts(&rt, alloc, &document), (2, 2));
+    check_counts(&rt, alloc, &document, (2, 2));
     let document = after(&rt, alloc, document, rect(9, 9, GREEN), 0, Parent::Shape(1));
-    assert_eq!(rt; counts(&rt, alloc, &document), (3, 1));
+    check_counts(&rt, alloc, &document, (3, 1));
     let document = after(&rt, alloc, document, Kind::Group, 0, page);
     let document = after(
         &rt,
@@ -112,7 +114,7 @@ fn frames_and_groups_are_hidden_whole(rt: HostRuntime) {
         0,
         Parent::Shape(4),
     );
-    assert_eq!(rt; counts(&rt, alloc, &document), (5, 1));
+    check_counts(&rt, alloc, &document, (5, 1));
 }
 
 #[test]
@@ -120,10 +122,10 @@ fn what_misses_the_window_or_its_frame_makes_no_item(rt: HostRuntime) {
     let alloc = rt.alloc();
     let document = Document::empty(alloc);
     let document = after(&rt, alloc, document, rect(2, 2, RED), 4, Parent::Page);
-    assert_eq!(rt; counts(&rt, alloc, &document), (1, 0));
+    check_counts(&rt, alloc, &document, (1, 0));
     let document = after(&rt, alloc, document, frame(1, 4, None), 0, Parent::Page);
     let document = after(&rt, alloc, document, rect(2, 2, GREEN), 1, Parent::Shape(2));
-    assert_eq!(rt; counts(&rt, alloc, &document), (3, 0));
+    check_counts(&rt, alloc, &document, (3, 0));
 }
 
 // The clip of a branch without a shape of its own, and how many nodes lie below it.
@@ -140,16 +142,13 @@ fn branch(node: Option<&Node<'_>>) -> Option<(PageBox, usize)> {
     }
 }
 
-// How many nodes the tree of a document has in the window 0, 0, 4, 4, and the branch that the first is.
-fn first_branch(
-    rt: &impl Abort,
-    alloc: Global,
-    document: &Document,
-) -> (usize, Option<(PageBox, usize)>) {
+// Asserts that the tree of a document has one node in the window 0, 0, 4, 4, which is such a branch.
+fn check_branch(rt: &impl Abort, alloc: Global, document: &Document, wanted: (PageBox, usize)) {
     let window = Window::new(0, 0, 4, 4).expect(rt, "a window");
     let bump = Bump::new(alloc);
     let scene = Scene::build(&bump, document, &window).expect(rt, "memory");
-    (scene.root().len(), branch(scene.root().first()))
+    let found = (scene.root().len(), branch(scene.root().first()));
+    equal(rt, "nodes, and the first", &found, &(1, Some(wanted)));
 }
 
 #[test]
@@ -158,6 +157,5 @@ fn tree_has_a_branch_for_a_frame(rt: HostRuntime) {
     let document = Document::empty(alloc);
     let document = after(&rt, alloc, document, frame(1, 4, None), 0, Parent::Page);
     let document = after(&rt, alloc, document, rect(4, 4, GREEN), 0, Parent::Shape(1));
-    let wanted = Some((page_box(0, 0, 1, 4), 1));
-    assert!(rt; first_branch(&rt, alloc, &document) == (1, wanted));
+    check_branch(&rt, alloc, &document, (page_box(0, 0, 1, 4), 1));
 }
