@@ -2,7 +2,8 @@
 
 ghost use Rattle.std.specs.Prelude.{◌≡◌};
 
-use canvas_board::{Board, BoardFault, Edited, Picture, Shared};
+use crate::asserts::{equal, holds};
+use canvas_board::{Board, BoardFault, Dot, Edited, Picture, Shared};
 use canvas_doc::{Document, Edit, Parent, Refusal, Spot};
 use canvas_line::{Line, LineFault, Lines, Opened, Seat};
 use canvas_plane::{Pose, Window};
@@ -84,27 +85,29 @@ pub(crate) fn board<B: Lines>(
     Shared::new(alloc, seat, keep).ok().expect(rt, "a board")
 }
 
-/// Whether an edit was accepted as such a version, and made such a shape.
-pub(crate) fn is_edited(answer: Result<Edited, BoardFault>, number: u64, id: Option<u32>) -> bool {
-    answer == Ok(Edited { number, id })
+/// The answer to an edit that was accepted as such a version, and made such a shape.
+pub(crate) fn accepted(number: u64, id: Option<u32>) -> Result<Edited, BoardFault> {
+    Ok(Edited { number, id })
 }
 
 /// Whether a picture of 16 by 16 names such a version and has such a colour at the left of its first row, and white elsewhere
 /// from the eleventh row on.
-pub(crate) fn is_painted(answer: &Result<Picture, BoardFault>, version: u64, left: Colour) -> bool {
-    let Ok(picture) = answer else {
-        return false;
-    };
+pub(crate) fn is_painted(picture: &Picture, version: u64, left: Colour) -> bool {
     let bytes = picture.bytes.as_slice();
-    let header = b"P6\n16 16\n255\n".as_slice();
+    let lower_rows = [255; 288];
     picture.version == version
         && bytes.len() == 781
-        && bytes.starts_with(header)
-        && bytes[13..43]
-            .chunks(3)
-            .all(|pixel| pixel == left.0.as_slice())
-        && bytes[43..61].iter().all(|byte| *byte == 255)
-        && bytes[493..].iter().all(|byte| *byte == 255)
+        && bytes.starts_with(&first_row(left))
+        && bytes.ends_with(&lower_rows)
+}
+
+// The header of a picture of 16 by 16, and a row that begins with ten pixels of such a colour.
+fn first_row(left: Colour) -> [u8; 61] {
+    let pixel = left.0;
+    let mut row = [255; 61];
+    row[..13].copy_from_slice(b"P6\n16 16\n255\n");
+    row[13..43].copy_from_slice([pixel; 10].as_flattened());
+    row
 }
 
 /// Asserts that an edit is accepted as such a version, and makes such a shape. (Calls of this and of the next two tell a
@@ -112,11 +115,22 @@ pub(crate) fn is_painted(answer: &Result<Picture, BoardFault>, version: u64, lef
 pub(crate) fn check_edit<B: Lines, H: Wait + Abort>(
     rt: &H,
     board: &mut Shared<B>,
-    edit: &Edit,
+    edit: Edit,
     number: u64,
     id: Option<u32>,
 ) {
-    assert!(rt; is_edited(board.edit(rt, edit), number, id));
+    let answer = board.edit(rt, &edit);
+    equal(rt, "an edit", &answer, &accepted(number, id));
+}
+
+// Asserts that an edit has this fault.
+fn check_fault<B: Lines, H: Wait + Abort>(
+    rt: &H,
+    board: &mut Shared<B>,
+    edit: &Edit,
+    fault: BoardFault,
+) {
+    equal(rt, "a refusal", &board.edit(rt, edit), &Err(fault));
 }
 
 /// Asserts that a pixel at the page's origin has such a colour in such a version.
@@ -126,8 +140,13 @@ pub(crate) fn check_dot<B: Lines>(
     version: u64,
     colour: Colour,
 ) {
-    let dot = board.point(0, 0).expect(rt, "a colour");
-    assert!(rt; dot.version == version && dot.colour == colour);
+    let wanted = Ok(Dot { version, colour });
+    equal(rt, "a colour", &board.point(0, 0), &wanted);
+}
+
+/// A window of 16 by 16 at the page's origin.
+pub(crate) fn origin(rt: &impl Abort) -> Window {
+    Window::new(0, 0, 16, 16).expect(rt, "a window")
 }
 
 // Asserts that a picture by so many workers names such a version and has such a colour at its left.
@@ -138,17 +157,17 @@ fn check_picture<B: Lines, H: Threads + Wait + Abort + Sync>(
     version: u64,
     left: Colour,
 ) {
-    let window = Window::new(0, 0, 16, 16).expect(rt, "a window");
-    let answer = board.picture(rt, &window, workers);
-    assert!(rt; is_painted(&answer, version, left));
+    let answer = board.picture(rt, &origin(rt), workers);
+    let picture = answer.expect(rt, "a picture");
+    holds(rt, "its bytes", is_painted(&picture, version, left));
 }
 
 // Asserts that a board saves two shapes as its third version.
 fn check_saved<B: Lines>(rt: &impl Abort, alloc: Global, board: &mut Shared<B>) {
     let saved = board.saved().expect(rt, "a saved document");
-    assert_eq!(rt; saved.version, 3);
+    equal(rt, "the saved version", &saved.version, &3);
     let again = import(alloc, saved.text.as_slice()).expect(rt, "a document again");
-    assert_eq!(rt; again.count(), 2);
+    equal(rt, "its shapes", &again.count(), &2);
 }
 
 #[test]
@@ -166,15 +185,15 @@ fn moves_away<B: Lines, H: Threads + Wait + Abort + Sync>(
     requires { B.line 1 ≡ record { book = opened.head.word.book; opening = document; limit = 10 } }
 {
     let mut board = first_board::<B, H>(rt, alloc, opened, document, 10);
-    check_edit(rt, &mut board, &square(10, 0), 1, Some(1));
+    check_edit(rt, &mut board, square(10, 0), 1, Some(1));
     check_picture(rt, &mut board, 1, 1, RED);
     let away = Edit::Pose {
         id: 1,
         pose: at(100),
     };
-    check_edit(rt, &mut board, &away, 2, None);
+    check_edit(rt, &mut board, away, 2, None);
     check_picture(rt, &mut board, 2, 2, WHITE);
-    check_edit(rt, &mut board, &square(1, 500), 3, Some(2));
+    check_edit(rt, &mut board, square(1, 500), 3, Some(2));
     check_picture(rt, &mut board, 1, 3, WHITE);
     check_dot(rt, &mut board, 3, WHITE);
     check_saved(rt, alloc, &mut board);
@@ -191,10 +210,10 @@ fn spends<B: Lines, H: Wait + Abort>(rt: &H, alloc: Global, opened: Opened, docu
     requires { B.line 1 ≡ record { book = opened.head.word.book; opening = document; limit = 2 } }
 {
     let mut board = first_board::<B, H>(rt, alloc, opened, document, 2);
-    check_edit(rt, &mut board, &square(1, 0), 1, Some(1));
-    check_edit(rt, &mut board, &square(1, 0), 2, Some(2));
+    check_edit(rt, &mut board, square(1, 0), 1, Some(1));
+    check_edit(rt, &mut board, square(1, 0), 2, Some(2));
     let missing = Edit::Delete { id: 9 };
-    assert!(rt; board.edit(rt, &missing) == Err(BoardFault::VersionsSpent));
+    check_fault(rt, &mut board, &missing, BoardFault::VersionsSpent);
     check_dot(rt, &mut board, 2, RED);
 }
 
@@ -208,12 +227,12 @@ fn saved<B: Lines>(rt: &impl Abort, board: &mut Shared<B>) -> (u64, Vec<u8>) {
 fn check_kept<B: Lines, H: Wait + Abort>(
     rt: &H,
     board: &mut Shared<B>,
-    edit: &Edit,
+    edit: Edit,
     fault: BoardFault,
 ) {
     let before = saved(rt, board);
-    assert!(rt; board.edit(rt, edit) == Err(fault), "{fault}");
-    assert!(rt; saved(rt, board) == before, "{fault}");
+    check_fault(rt, board, &edit, fault);
+    holds(rt, fault.name(), saved(rt, board) == before);
 }
 
 // Asserts that no picture is painted by so many workers, and that the board is saved as before.
@@ -222,11 +241,11 @@ fn check_unpainted<B: Lines, H: Threads + Wait + Abort + Sync>(
     board: &mut Shared<B>,
     workers: u32,
 ) {
-    let window = Window::new(0, 0, 16, 16).expect(rt, "a window");
     let before = saved(rt, board);
-    let answer = board.picture(rt, &window, workers);
-    assert!(rt; answer.is_err_and(|fault| fault.code() == 31));
-    assert!(rt; saved(rt, board) == before);
+    let answer = board.picture(rt, &origin(rt), workers);
+    let fault = answer.err().expect(rt, "a refusal");
+    equal(rt, "its number", &fault.code(), &31);
+    holds(rt, "saved as before", saved(rt, board) == before);
 }
 
 #[test]
@@ -244,17 +263,17 @@ fn keeps<B: Lines, H: Threads + Wait + Abort + Sync>(
     requires { B.line 1 ≡ record { book = opened.head.word.book; opening = document; limit = 2 } }
 {
     let mut board = first_board::<B, H>(rt, alloc, opened, document, 2);
-    check_edit(rt, &mut board, &square(1, 0), 1, Some(1));
+    check_edit(rt, &mut board, square(1, 0), 1, Some(1));
     let missing = Edit::Delete { id: 9 };
     let refused = BoardFault::Refused(Refusal::NoSuchShape);
-    check_kept(rt, &mut board, &missing, refused);
+    check_kept(rt, &mut board, missing, refused);
     let empty = BoardFault::Refused(Refusal::BadSize);
-    check_kept(rt, &mut board, &square(0, 0), empty);
+    check_kept(rt, &mut board, square(0, 0), empty);
     check_unpainted(rt, &mut board, 0);
     check_unpainted(rt, &mut board, 17);
-    check_edit(rt, &mut board, &square(2, 5), 2, Some(2));
+    check_edit(rt, &mut board, square(2, 5), 2, Some(2));
     let last = Edit::Delete { id: 1 };
-    check_kept(rt, &mut board, &last, BoardFault::VersionsSpent);
+    check_kept(rt, &mut board, last, BoardFault::VersionsSpent);
     board.close(rt);
 }
 
@@ -269,10 +288,10 @@ fn share<B: Lines, H: Wait + Abort>(rt: &H, alloc: Global, opened: Opened, docum
 {
     let both = boards::<B, H>(rt, alloc, opened, document, 10);
     let (mut first, mut second) = both.expect(rt, "boards");
-    check_edit(rt, &mut first, &square(1, 0), 1, Some(1));
+    check_edit(rt, &mut first, square(1, 0), 1, Some(1));
     check_dot(rt, &mut second, 1, RED);
-    check_edit(rt, &mut second, &Edit::Delete { id: 1 }, 2, None);
-    check_edit(rt, &mut first, &square(1, 0), 3, Some(2));
+    check_edit(rt, &mut second, Edit::Delete { id: 1 }, 2, None);
+    check_edit(rt, &mut first, square(1, 0), 3, Some(2));
 }
 
 #[test]
@@ -291,12 +310,13 @@ fn goes_on<B: Lines, H: Wait + Abort>(rt: &H, alloc: Global, opened: Opened, doc
 }
 
 // Asserts that an edit is accepted as such a version, and that one that is refused leaves it.
-fn check_round<B: Lines, H: Wait + Abort>(rt: &H, board: &mut Shared<B>, number: u64) {
-    let accepted = board.edit(rt, &square(1, 0));
-    assert!(rt; accepted.is_ok_and(|edited| edited.number == number));
-    let refused = board.edit(rt, &Edit::Delete { id: 99 });
-    assert!(rt; refused.is_err_and(|fault| fault.code() == 2));
-    assert!(rt; board.point(0, 0).is_ok_and(|dot| dot.version == number));
+fn check_round<B: Lines, H: Wait + Abort>(rt: &H, board: &mut Shared<B>, number: u32) {
+    check_edit(rt, board, square(1, 0), number.into(), Some(number));
+    let missing = Edit::Delete { id: 99 };
+    let fault = BoardFault::Refused(Refusal::NoSuchShape);
+    check_fault(rt, board, &missing, fault);
+    equal(rt, "its number", &fault.code(), &2);
+    check_dot(rt, board, number.into(), RED);
 }
 
 #[test]
@@ -310,10 +330,10 @@ fn refuses<B: Lines, H: Wait + Abort>(rt: &H, alloc: Global, opened: Opened, doc
 {
     let mut seats = Line::open::<B, H>(rt, alloc, opened, 1, document, 1, 10).expect(rt, "a line");
     let mut seat = seats.pop().expect(rt, "a seat");
-    assert!(rt; seat.edit(rt, &square(1, 0)).is_ok());
+    seat.edit(rt, &square(1, 0)).expect(rt, "an edit");
     let (fault, seat) = Shared::new(alloc, seat, 257).err().expect(rt, "a refusal");
-    assert_eq!(rt; fault.code(), 32);
-    assert_eq!(rt; seat.number(), 1);
+    equal(rt, "the refusal", &fault.code(), &32);
+    equal(rt, "the version", &seat.number(), &1);
     let mut board = Shared::new(alloc, seat, 256).ok().expect(rt, "a board");
-    assert!(rt; is_edited(board.edit(rt, &square(1, 0)), 2, Some(2)));
+    check_edit(rt, &mut board, square(1, 0), 2, Some(2));
 }

@@ -2,6 +2,7 @@
 
 ghost use denote.Param.Send.{IsSync};
 
+use crate::asserts::{equal, holds, holds_at};
 use crate::boards::{RED, at, square};
 use crate::table::{Play, Table, play_at};
 use canvas_board::Board;
@@ -14,24 +15,27 @@ use std::process::Abort;
 use std::sync::Wait;
 use std::thread::Threads;
 
-/// An edit before a picture of 16 by 16 at the page's origin, one that is made so often between it and the next picture of
-/// the same window, and how many of the two are answered as kept.
-#[derive(Drop)]
-struct Row {
-    before: Edit,
-    between: Edit,
-    times: u32,
-    hits: u64,
+/// An edit of a row.
+#[derive(Clone, Copy)]
+enum Act {
+    Square { side: u32, dx: i64 },
+    HiddenSquare,
+    Group,
+    Pose { dx: i64 },
+    Show { hidden: bool },
+    Delete { id: u32 },
+    Respace,
 }
 
-fn row_of(before: Edit, between: Edit, times: u32, hits: u64) -> Row {
-    Row {
-        before,
-        between,
-        times,
-        hits,
-    }
-}
+// A square of ten at the page's origin.
+const TEN: Act = Act::Square { side: 10, dx: 0 };
+
+// A square that no window meets.
+const FAR: Act = Act::Square { side: 1, dx: 500 };
+
+/// An edit before a picture of 16 by 16 at the page's origin, one that is made so often between it and the next picture of
+/// the same window, and how many of the two are answered as kept.
+type Row = (Act, Act, u32, u64);
 
 /// Two pictures with edits of one board between them.
 #[derive(Clone, Copy)]
@@ -43,16 +47,19 @@ struct Twice<'a> {
 impl Play for Twice<'_> {
     fn play<B: Lines, H: Threads + Wait + Abort + Sync>(&self, rt: &H, table: &mut Table<B>) {
         let window = window_at(rt, 0, 0);
-        assert!(rt; table.edits(rt, self.by_viewer, &self.row.before));
-        assert!(rt; table.shows_version(rt, &window, 1));
+        let (before, between, times, hits) = *self.row;
+        table.check_edit(rt, self.by_viewer, edit_of(before));
+        let is_shown = table.shows_version(rt, &window, 1);
+        holds(rt, "the first version", is_shown);
+        let edit = edit_of(between);
         let mut version: u64 = 1;
-        for _ in 0..self.row.times {
-            if table.edits(rt, self.by_viewer, &self.row.between) {
-                version = version.saturating_add(1);
-            }
+        for _ in 0..times {
+            let is_made = table.edits(rt, self.by_viewer, &edit);
+            version = version.saturating_add(is_made as u64);
         }
-        assert!(rt; table.shows_version(rt, &window, version));
-        assert_eq!(rt; table.viewer.hits(), self.row.hits);
+        let is_shown = table.shows_version(rt, &window, version);
+        holds_at(rt, "version", version, is_shown);
+        table.check_hits(rt, version, hits);
     }
 }
 
@@ -61,11 +68,22 @@ fn play_rows<H: Threads + Wait + Abort + Sync>(rt: &H, alloc: Global, keep: u32,
     requires { IsSync H.row }
 {
     for row in rows {
-        for by_viewer in [true, false] {
-            let play = Twice { row, by_viewer };
-            play_at(rt, alloc, Document::empty(alloc), keep, &play);
-        }
+        play_row(rt, alloc, keep, row, true);
+        play_row(rt, alloc, keep, row, false);
     }
+}
+
+fn play_row<H: Threads + Wait + Abort + Sync>(
+    rt: &H,
+    alloc: Global,
+    keep: u32,
+    row: &Row,
+    by_viewer: bool,
+)
+    requires { IsSync H.row }
+{
+    let play = Twice { row, by_viewer };
+    play_at(rt, alloc, Document::empty(alloc), keep, &play)
 }
 
 // A window of 16 by 16.
@@ -78,10 +96,20 @@ fn window_of(rt: &impl Abort, level: u8, x: i32, y: i32, side: u32) -> Window {
     Window::at_level(level, x, y, side, side).expect(rt, "a window")
 }
 
-fn moved(dx: i64) -> Edit {
-    Edit::Pose {
-        id: 1,
-        pose: at(dx),
+fn edit_of(act: Act) -> Edit {
+    match act {
+        Act::Square { side, dx } => square(side, dx),
+        Act::HiddenSquare => hidden_square(),
+        Act::Group => group(),
+        Act::Pose { dx } => Edit::Pose {
+            id: 1,
+            pose: at(dx),
+        },
+        Act::Show { hidden } => Edit::Show { id: 1, hidden },
+        Act::Delete { id } => Edit::Delete { id },
+        Act::Respace => Edit::Respace {
+            parent: Parent::Page,
+        },
     }
 }
 
@@ -112,24 +140,27 @@ fn hidden_square() -> Edit {
 #[test]
 fn a_picture_is_answered_again_where_no_change_meets_it(rt: HostRuntime) {
     let rows = [
-        row_of(square(10, 0), square(1, 500), 1, 1),
-        row_of(square(10, 0), square(1, 500), 64, 1),
-        row_of(square(10, 0), square(10, 16), 1, 1),
-        row_of(square(10, 0), square(10, -10), 1, 1),
-        row_of(square(10, 500), moved(600), 1, 1),
-        row_of(square(10, 500), Edit::Delete { id: 1 }, 1, 1),
-        row_of(square(10, 0), group(), 3, 1),
-        row_of(
-            square(10, 0),
-            Edit::Respace {
-                parent: Parent::Page,
-            },
-            2,
+        (TEN, FAR, 1, 1),
+        (TEN, FAR, 64, 1),
+        (TEN, Act::Square { side: 10, dx: 16 }, 1, 1),
+        (TEN, Act::Square { side: 10, dx: -10 }, 1, 1),
+        (
+            Act::Square { side: 10, dx: 500 },
+            Act::Pose { dx: 600 },
+            1,
             1,
         ),
+        (
+            Act::Square { side: 10, dx: 500 },
+            Act::Delete { id: 1 },
+            1,
+            1,
+        ),
+        (TEN, Act::Group, 3, 1),
+        (TEN, Act::Respace, 2, 1),
         // refused
-        row_of(square(10, 0), Edit::Delete { id: 9 }, 70, 1),
-        row_of(square(10, 0), group(), 0, 1),
+        (TEN, Act::Delete { id: 9 }, 70, 1),
+        (TEN, Act::Group, 0, 1),
     ];
     play_rows(&rt, rt.alloc(), 4, &rows)
 }
@@ -137,42 +168,23 @@ fn a_picture_is_answered_again_where_no_change_meets_it(rt: HostRuntime) {
 #[test]
 fn a_picture_that_a_change_meets_is_painted_anew(rt: HostRuntime) {
     let rows = [
-        row_of(square(10, 0), square(2, 3), 1, 0),
-        row_of(square(10, 0), square(10, 15), 1, 0),
-        row_of(square(10, 0), square(10, -9), 1, 0),
-        row_of(square(10, 0), moved(100), 1, 0),
-        row_of(square(10, 100), moved(0), 1, 0),
-        row_of(square(10, 0), Edit::Delete { id: 1 }, 1, 0),
-        row_of(
-            hidden_square(),
-            Edit::Show {
-                id: 1,
-                hidden: false,
-            },
-            1,
-            0,
-        ),
-        row_of(
-            square(10, 0),
-            Edit::Show {
-                id: 1,
-                hidden: true,
-            },
-            1,
-            0,
-        ),
-        row_of(square(10, 0), square(1, 500), 65, 0),
-        row_of(square(10, 0), group(), 65, 0),
+        (TEN, Act::Square { side: 2, dx: 3 }, 1, 0),
+        (TEN, Act::Square { side: 10, dx: 15 }, 1, 0),
+        (TEN, Act::Square { side: 10, dx: -9 }, 1, 0),
+        (TEN, Act::Pose { dx: 100 }, 1, 0),
+        (Act::Square { side: 10, dx: 100 }, Act::Pose { dx: 0 }, 1, 0),
+        (TEN, Act::Delete { id: 1 }, 1, 0),
+        (Act::HiddenSquare, Act::Show { hidden: false }, 1, 0),
+        (TEN, Act::Show { hidden: true }, 1, 0),
+        (TEN, FAR, 65, 0),
+        (TEN, Act::Group, 65, 0),
     ];
     play_rows(&rt, rt.alloc(), 4, &rows)
 }
 
 #[test]
 fn a_board_that_keeps_none_paints_each_picture(rt: HostRuntime) {
-    let rows = [
-        row_of(square(10, 0), square(1, 500), 1, 0),
-        row_of(square(10, 0), group(), 0, 0),
-    ];
+    let rows = [(TEN, FAR, 1, 0), (TEN, Act::Group, 0, 0)];
     play_rows(&rt, rt.alloc(), 0, &rows)
 }
 
@@ -185,14 +197,14 @@ struct InTurn {
 
 impl Play for InTurn {
     fn play<B: Lines, H: Threads + Wait + Abort + Sync>(&self, rt: &H, table: &mut Table<B>) {
-        assert!(rt; table.edits(rt, false, &square(10, 4)));
+        table.check_edit(rt, false, square(10, 4));
         for _ in 0..3u32 {
             for number in 0..self.windows {
                 let window = window_at(rt, number, 0);
-                assert!(rt; table.shows(rt, &window));
+                holds(rt, "a picture", table.shows(rt, &window));
             }
         }
-        assert_eq!(rt; table.viewer.hits(), self.hits);
+        table.check_hits(rt, 1, self.hits);
     }
 }
 
@@ -220,18 +232,32 @@ impl Play for OfALevel {
     fn play<B: Lines, H: Threads + Wait + Abort + Sync>(&self, rt: &H, table: &mut Table<B>) {
         let window = window_of(rt, 3, 0, 0, 2);
         // Each edit makes a version, whose picture is all red, by so many answers as kept.
-        for (edit, version, hits) in [
-            (square(10, 0), 1, 0),
-            (square(1, 20), 2, 1),
-            (dot(15, 15), 3, 1),
-            (dot(16, 0), 4, 2),
-            (dot(0, -1), 5, 3),
-        ] {
-            assert!(rt; table.edits(rt, false, &edit));
-            assert!(rt; shows_red(rt, table, &window, version));
-            assert_eq!(rt; table.viewer.hits(), hits);
-        }
+        let found = red_after(rt, table, &window, square(10, 0), 1);
+        equal(rt, "a first square", &found, &(true, true, 0));
+        let found = red_after(rt, table, &window, square(1, 20), 2);
+        equal(rt, "beside them", &found, &(true, true, 1));
+        let found = red_after(rt, table, &window, dot(15, 15), 3);
+        equal(rt, "between them", &found, &(true, true, 1));
+        let found = red_after(rt, table, &window, dot(16, 0), 4);
+        equal(rt, "at their right", &found, &(true, true, 2));
+        let found = red_after(rt, table, &window, dot(0, -1), 5);
+        equal(rt, "above them", &found, &(true, true, 3));
     }
+}
+
+// Whether an edit is made, whether the picture of its version is all red, and how many are answered as kept then.
+fn red_after<B: Lines, H: Threads + Wait + Sync>(
+    rt: &H,
+    table: &mut Table<B>,
+    window: &Window,
+    edit: Edit,
+    version: u64,
+) -> (bool, bool, u64)
+    requires { IsSync H.row }
+{
+    let is_made = table.edits(rt, false, &edit);
+    let is_red = shows_red(rt, table, window, version);
+    (is_made, is_red, table.viewer.hits())
 }
 
 // Whether the picture of 2 by 2 pixels is all red, and one of such a version.
@@ -282,18 +308,18 @@ struct AtEachLevel;
 
 impl Play for AtEachLevel {
     fn play<B: Lines, H: Threads + Wait + Abort + Sync>(&self, rt: &H, table: &mut Table<B>) {
-        assert!(rt; table.edits(rt, false, &square(10, 4)));
+        table.check_edit(rt, false, square(10, 4));
         for number in 0..14u8 {
             let window = window_of(rt, number % 7, 0, 0, 16);
-            assert!(rt; table.shows(rt, &window), "picture {number}");
+            holds_at(rt, "picture", number.into(), table.shows(rt, &window));
         }
-        assert_eq!(rt; table.viewer.hits(), 7);
-        assert!(rt; table.edits(rt, false, &square(1, 16)));
+        table.check_hits(rt, 1, 7);
+        table.check_edit(rt, false, square(1, 16));
         for level in 0..7u8 {
             let window = window_of(rt, level, 0, 0, 16);
-            assert!(rt; table.shows(rt, &window), "level {level}");
+            holds_at(rt, "level", level.into(), table.shows(rt, &window));
         }
-        assert_eq!(rt; table.viewer.hits(), 8);
+        table.check_hits(rt, 2, 8);
     }
 }
 
@@ -313,12 +339,12 @@ impl Play for KeptOn {
         let mut hits: u64 = 0;
         for changes in [1, 64, 64, 40, 64, 65, 64] {
             for _ in 0..changes {
-                assert!(rt; table.edits(rt, false, &square(1, 500)));
+                table.check_edit(rt, false, square(1, 500));
             }
-            assert!(rt; table.shows(rt, &window));
-            let painted = changes == 1 || changes == 65;
-            hits = hits.saturating_add(if painted { 0 } else { 1 });
-            assert_eq!(rt; table.viewer.hits(), hits, "after {changes} changes");
+            holds_at(rt, "after", changes, table.shows(rt, &window));
+            let is_kept = changes != 1 && changes != 65;
+            hits = hits.saturating_add(is_kept as u64);
+            holds_at(rt, "hits after", changes, table.viewer.hits() == hits);
         }
     }
 }
@@ -336,11 +362,12 @@ struct Workers;
 impl Play for Workers {
     fn play<B: Lines, H: Threads + Wait + Abort + Sync>(&self, rt: &H, table: &mut Table<B>) {
         let window = window_at(rt, 0, 0);
-        assert!(rt; table.edits(rt, true, &square(10, 0)));
+        table.check_edit(rt, true, square(10, 0));
         for (workers, hits) in [(1, 0), (17, 0), (16, 1), (0, 1), (2, 2), (17, 2)] {
             let is_refused = refuses_workers(rt, table, &window, workers);
-            assert!(rt; is_refused == (workers == 0 || workers == 17));
-            assert_eq!(rt; table.viewer.hits(), hits, "{workers} workers");
+            let found = (workers, is_refused, table.viewer.hits());
+            let is_bad = workers == 0 || workers == 17;
+            equal(rt, "workers", &found, &(workers, is_bad, hits));
         }
     }
 }

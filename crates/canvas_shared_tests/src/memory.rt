@@ -3,7 +3,8 @@
 
 ghost use Rattle.std.specs.Prelude.{◌≡◌};
 
-use crate::boards::{RED, WHITE, at, boards, is_edited, is_painted, square};
+use crate::asserts::{equal, holds};
+use crate::boards::{RED, WHITE, accepted, at, boards, is_painted, origin, square};
 use crate::sessions::saved_squares;
 use canvas_board::{Board, BoardFault, Dot, Edited, Picture, Saved, Shared};
 use canvas_doc::{Document, Edit};
@@ -19,7 +20,10 @@ use std::thread::Threads;
 
 // Whether a board sees such a version.
 fn sees<B: Lines>(board: &mut Shared<B>, version: u64) -> bool {
-    board.point(0, 0).is_ok_and(|dot| dot.version == version)
+    match board.point(0, 0) {
+        Ok(dot) => dot.version == version,
+        Err(_) => false,
+    }
 }
 
 // Makes an edit, and makes it again where memory was wanted: then neither board sees a version more.
@@ -28,13 +32,13 @@ fn edited<B: Lines, H: Wait + Abort>(
     board: &mut Shared<B>,
     other: &mut Shared<B>,
     version: u64,
-    edit: &Edit,
+    edit: Edit,
 ) -> Result<Edited, BoardFault> {
-    match board.edit(rt, edit) {
+    match board.edit(rt, &edit) {
         Err(BoardFault::OutOfMemory | BoardFault::NoView) => {
-            assert!(rt; sees(board, version));
-            assert!(rt; sees(other, version));
-            board.edit(rt, edit)
+            holds(rt, "the board sees no more", sees(board, version));
+            holds(rt, "nor the other", sees(other, version));
+            board.edit(rt, &edit)
         }
         answer => answer,
     }
@@ -95,22 +99,23 @@ fn check_moves<B: Lines, H: Threads + Wait + Abort + Sync>(
     first: &mut Shared<B>,
     second: &mut Shared<B>,
 ) {
-    let answer = edited(rt, first, second, 0, &square(10, 0));
-    assert!(rt; is_edited(answer, 1, Some(1)));
+    let answer = edited(rt, first, second, 0, square(10, 0));
+    equal(rt, "a square", &answer, &accepted(1, Some(1)));
     check_picture(rt, second, 1, RED);
     let away = Edit::Pose {
         id: 1,
         pose: at(100),
     };
-    let answer = edited(rt, second, first, 1, &away);
-    assert!(rt; is_edited(answer, 2, None));
+    let answer = edited(rt, second, first, 1, away);
+    equal(rt, "away", &answer, &accepted(2, None));
     check_picture(rt, second, 2, WHITE);
-    let answer = edited(rt, first, second, 2, &square(1, 500));
-    assert!(rt; is_edited(answer, 3, Some(2)));
+    let answer = edited(rt, first, second, 2, square(1, 500));
+    equal(rt, "another", &answer, &accepted(3, Some(2)));
     // One picture at most could not be kept, so one of these is answered as kept, or both.
     check_picture(rt, second, 3, WHITE);
     check_picture(rt, second, 3, WHITE);
-    assert!(rt; second.hits() == 1 || second.hits() == 2);
+    let hits = second.hits();
+    holds(rt, "one or two hits", hits == 1 || hits == 2);
 }
 
 fn check_picture<B: Lines, H: Threads + Wait + Abort + Sync>(
@@ -119,18 +124,18 @@ fn check_picture<B: Lines, H: Threads + Wait + Abort + Sync>(
     version: u64,
     left: Colour,
 ) {
-    let window = Window::new(0, 0, 16, 16).expect(rt, "a window");
-    assert!(rt; is_painted(&painted(rt, board, &window), version, left));
+    let answer = painted(rt, board, &origin(rt));
+    let picture = answer.expect(rt, "a picture");
+    holds(rt, "its bytes", is_painted(&picture, version, left));
 }
 
 // Checks what a board answers after the three edits.
 fn check_the_end<B: Lines, R: Abort>(rt: &R, board: &mut Shared<B>) {
     for (x, colour) in [(0, WHITE), (109, RED), (500, RED)] {
-        let dot = seen(board, x);
-        assert!(rt; dot.is_ok_and(|dot| dot.version == 3 && dot.colour == colour));
+        let wanted = Ok(Dot { version: 3, colour });
+        equal(rt, "a colour at the end", &seen(board, x), &wanted);
     }
-    let saved = saved(board);
-    assert!(rt;
-        saved.is_ok_and(|saved| saved.version == 3 && saved.text.as_slice() == saved_squares())
-    );
+    let saved = saved(board).expect(rt, "a saved document");
+    equal(rt, "its version", &saved.version, &3);
+    holds(rt, "its text", saved.text.as_slice() == saved_squares());
 }

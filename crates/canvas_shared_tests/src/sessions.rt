@@ -2,6 +2,7 @@
 
 ghost use Rattle.std.specs.Prelude.{◌≡◌};
 
+use crate::asserts::{equal, holds};
 use crate::boards::first_board;
 use canvas_board::Shared;
 use canvas_doc::Document;
@@ -167,8 +168,8 @@ fn check_answers(
     written: &[u8],
 ) {
     let wanted = answers(rt, alloc);
-    assert!(rt; served == Ok(all_served(&wanted)), "other counts");
-    assert!(rt; written == wanted.as_slice(), "other answers");
+    equal(rt, "the counts", &served, &Ok(all_served(&wanted)));
+    holds(rt, "the answers", written == wanted.as_slice());
 }
 
 #[test]

@@ -3,6 +3,7 @@
 ghost use Rattle.std.specs.Prelude.{◌≡◌};
 ghost use denote.Param.Send.{IsSync};
 
+use crate::asserts::{equal, holds};
 use crate::boards::board;
 use canvas_board::{Board, Picture, Shared};
 use canvas_doc::{Document, Edit};
@@ -79,6 +80,17 @@ impl<B: Lines> Table<B> {
             Some(seen) => seen.version == version,
             None => false,
         }
+    }
+
+    /// Asserts how many pictures the viewer has answered as kept, in such a version.
+    pub(crate) fn check_hits(&self, rt: &impl Abort, version: u64, hits: u64) {
+        let found = (version, self.viewer.hits());
+        equal(rt, "version and hits", &found, &(version, hits));
+    }
+
+    /// Asserts that the editor, or the viewer in its place, makes an edit.
+    pub(crate) fn check_edit<H: Wait + Abort>(&mut self, rt: &H, by_viewer: bool, edit: Edit) {
+        holds(rt, "an edit", self.edits(rt, by_viewer, &edit));
     }
 
     /// Whether the editor, or the viewer in its place, makes an edit.

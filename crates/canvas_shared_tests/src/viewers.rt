@@ -2,6 +2,7 @@
 
 ghost use denote.Param.Send.{IsSync};
 
+use crate::asserts::{holds, holds_at};
 use crate::boards::{RED, at};
 use crate::dice::Dice;
 use crate::table::{Play, Table, play_at};
@@ -129,10 +130,10 @@ impl Play for AtRandom {
                 made = edited.id.unwrap_or(made);
             }
             let window = some_window(rt, &mut dice);
-            assert!(rt; table.shows(rt, &window), "after {number} edits");
+            holds_at(rt, "after", number.into(), table.shows(rt, &window));
         }
         let hits = table.viewer.hits();
-        assert!(rt; hits > 100 && hits < 1900, "{hits} hits");
+        holds_at(rt, "hits", hits, hits > 100 && hits < 1900);
     }
 }
 
@@ -176,23 +177,20 @@ struct Elsewhere;
 
 impl Play for Elsewhere {
     fn play<B: Lines, H: Threads + Wait + Abort + Sync>(&self, rt: &H, table: &mut Table<B>) {
-        let mut asked: u64 = 0;
         for number in 0..400u32 {
             let pose = at(i64::from(number % 7));
-            assert!(rt; table.edits(rt, false, &Edit::Pose { id: 1, pose }));
+            table.check_edit(rt, false, Edit::Pose { id: 1, pose });
             let window = tile(rt, 0, (number % 8) as i32 + 8, 64);
-            assert!(rt; table.viewer.picture(rt, &window, 1).is_ok());
-            asked = asked.saturating_add(1);
+            let picture = table.viewer.picture(rt, &window, 1);
+            picture.expect(rt, "a picture");
         }
+        // At least 90 of 100.
         let hits = table.viewer.hits();
-        assert!(rt;
-            hits.saturating_mul(100) >= asked.saturating_mul(90),
-            "{hits} of {asked}"
-        );
+        holds_at(rt, "hits", hits, hits >= 360);
         let corner = tile(rt, 0, 0, 64);
-        assert!(rt; table.shows(rt, &corner));
+        holds(rt, "the corner", table.shows(rt, &corner));
         let beside = tile(rt, 0, 8, 64);
-        assert!(rt; table.shows(rt, &beside));
+        holds(rt, "beside it", table.shows(rt, &beside));
     }
 }
 
