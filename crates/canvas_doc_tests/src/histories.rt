@@ -1,6 +1,7 @@
 //! Long histories: documents that share their records stay apart.
 
-use canvas_doc::{Document, Edit, Parent, Record, Spot};
+use crate::asserts::{equal, holds};
+use canvas_doc::{Document, Edit, Parent, Place, Record, Spot};
 use canvas_key::{Key, fresh};
 use canvas_plane::Pose;
 use canvas_samples::{BLUE, Dice, GREEN, RED, create, edited, moved, record, rectangle, restored};
@@ -69,19 +70,33 @@ fn index_after(made: u32, id: u32) -> Key {
 fn record_after(made: u32, id: u32) -> Record {
     let grouped = id % 3 == 0 || id == 2 && made >= 18;
     let parent = if grouped { GROUP } else { Parent::Page };
-    let kind = match id {
-        1 => Kind::Group,
-        128 if made >= 17 => rectangle(1, 9, BLUE),
-        _ => rectangle(id, 1, RED),
+    let pose = match id {
+        69 if made >= 15 => moved(7, 0),
+        70 if made >= 20 => moved(9, 0),
+        _ => Pose::STILL,
     };
-    let mut shape = record(id, parent, index_after(made, id), kind);
-    match id {
-        69 if made >= 15 => shape.pose = moved(7, 0),
-        70 if made >= 20 => shape.pose = moved(9, 0),
-        140 if made >= 16 => shape.hidden = true,
-        _ => {}
+    let hidden = id == 140 && made >= 16;
+    let (w, h, fill) = if id == 128 && made >= 17 {
+        (1, 9, BLUE)
+    } else {
+        (id, 1, RED)
+    };
+    let index = index_after(made, id);
+    Record {
+        id,
+        kind: group_or_rectangle(id == 1, (w, h, fill)),
+        place: Place { parent, index },
+        pose,
+        hidden,
     }
-    shape
+}
+
+fn group_or_rectangle(is_group: bool, (w, h, fill): (u32, u32, Colour)) -> Kind {
+    if is_group {
+        Kind::Group
+    } else {
+        rectangle(w, h, fill)
+    }
 }
 
 fn records_after(rt: &impl Abort, alloc: Global, made: u32) -> Vec<Record> {
@@ -97,24 +112,36 @@ fn records_after(rt: &impl Abort, alloc: Global, made: u32) -> Vec<Record> {
 
 // Whether a document has these records, as it lists them and as it finds them.
 fn are_its(document: &Document, listed: &[&Record], wanted: &[Record]) -> bool {
-    let mut same = document.count() == wanted.len();
-    for (own, other) in listed.iter().zip(wanted) {
-        same = same && *own == other && document.get(other.id) == Some(other);
+    let mut same = document.count() == wanted.len() && listed.len() == wanted.len();
+    let mut at: usize = 0;
+    for shape in wanted {
+        same = same && is_its(document, listed.get(at), shape);
+        at = at.saturating_add(1);
     }
     same
 }
 
-/// Whether a document has the records that are there after so many edits.
-pub(crate) fn has_records(rt: &impl Abort, alloc: Global, document: &Document, made: u32) -> bool {
+fn is_its(document: &Document, listed: Option<&&Record>, wanted: &Record) -> bool {
+    listed == Some(&wanted) && document.get(wanted.id) == Some(wanted)
+}
+
+/// Asserts that a document has the records that are there after so many edits.
+pub(crate) fn check_records(rt: &impl Abort, alloc: Global, document: &Document, made: u32) {
     let wanted = records_after(rt, alloc, made);
+    check_listed(rt, alloc, document, &wanted, made);
+}
+
+fn check_listed(rt: &impl Abort, alloc: Global, document: &Document, wanted: &[Record], made: u32) {
     let listed = document.records_in_order(alloc).expect(rt, "memory");
-    are_its(document, &listed, &wanted)
+    holds(rt, "after", &made, are_its(document, &listed, wanted));
 }
 
 /// Each of the documents has those that are there after as many edits as stand in front of it.
-pub(crate) fn all_have_records(rt: &impl Abort, alloc: Global, documents: &[Document]) {
-    for (document, made) in documents.iter().zip(0..23u32) {
-        assert!(rt; has_records(rt, alloc, document, made), "after {made}");
+pub(crate) fn check_all_records(rt: &impl Abort, alloc: Global, documents: &[Document]) {
+    let mut made: u32 = 0;
+    for document in documents {
+        check_records(rt, alloc, document, made);
+        made = made.saturating_add(1);
     }
 }
 
@@ -127,25 +154,28 @@ fn next_document(rt: &impl Abort, alloc: Global, last: &Document, made: u32) -> 
     edited(alloc, last, &edit_after(made)).expect(rt, "accepted")
 }
 
-// The documents with the one after the next edit, or the first.
+// The documents with the one after so many edits.
 fn push_next(rt: &impl Abort, alloc: Global, documents: &mut Vec<Document>, made: u32) {
     let next = match documents.last() {
-        Some(last) => next_document(rt, alloc, last, made),
+        Some(last) => next_document(rt, alloc, last, made.saturating_sub(1)),
         None => first_document(rt, alloc),
     };
     documents.push(next).expect(rt, "memory");
+}
+
+fn check_history(rt: &impl Abort, alloc: Global, documents: &mut Vec<Document>) {
+    for made in 0..23u32 {
+        push_next(rt, alloc, documents, made);
+        check_all_records(rt, alloc, documents);
+    }
+    equal(rt, "documents", &"all", &documents.len(), &23);
 }
 
 #[test]
 fn a_long_history_keeps_its_documents_apart(rt: HostRuntime) {
     let alloc = rt.alloc();
     let mut documents = Vec::new(alloc);
-    push_next(&rt, alloc, &mut documents, 0);
-    for made in 0..22u32 {
-        push_next(&rt, alloc, &mut documents, made);
-        all_have_records(&rt, alloc, &documents);
-    }
-    assert_eq!(rt; documents.len(), 23);
+    check_history(&rt, alloc, &mut documents);
 }
 
 // A shape of a crowd: eight groups, and rectangles of which every ninth lies on the page.
@@ -157,19 +187,18 @@ fn one_of_many(id: u32) -> Record {
     } else {
         Parent::Shape(id % 9)
     };
-    let kind = if is_group {
-        Kind::Group
-    } else {
-        rectangle(4, 2, Colour([(id % 200) as u8, 7, 9]))
-    };
-    let mut shape = record(id, parent, fresh(id), kind);
-    shape.pose = Pose {
+    let pose = Pose {
         dx: (id % 40) as i64,
         dy: (id % 30) as i64,
         quarter: (id % 4) as u8,
         flip: id % 8 > 3,
     };
-    shape
+    let fill = Colour([(id % 200) as u8, 7, 9]);
+    let kind = group_or_rectangle(is_group, (4, 2, fill));
+    Record {
+        pose,
+        ..record(id, parent, fresh(id), kind)
+    }
 }
 
 fn crowd(rt: &impl Abort, alloc: Global) -> Vec<Record> {
@@ -229,6 +258,11 @@ pub(crate) fn edited_if_accepted(alloc: Global, document: Document, edit: &Edit)
     edited(alloc, &document, edit).unwrap_or(document)
 }
 
+fn edited_in_turn(alloc: Global, dice: &mut Dice, document: Document, number: u32) -> Document {
+    let edit = edit_in_turn(dice, number);
+    edited_if_accepted(alloc, document, &edit)
+}
+
 // The document after some edits, those that are refused left out.
 fn next_version(
     rt: &impl Abort,
@@ -239,8 +273,8 @@ fn next_version(
 ) -> Document {
     let mut after = document.try_clone(alloc).expect(rt, "memory");
     for more in 0..3u32 {
-        let edit = edit_in_turn(dice, number.wrapping_mul(3).wrapping_add(more));
-        after = edited_if_accepted(alloc, after, &edit);
+        let number = number.wrapping_mul(3).wrapping_add(more);
+        after = edited_in_turn(alloc, dice, after, number);
     }
     after
 }
@@ -249,34 +283,36 @@ fn next_version(
 #[derive(PartialEq, Drop)]
 pub(crate) struct Told {
     records: Vec<Record>,
-    page: Vec<u32>,
+    page: Vec<Record>,
     colours: Vec<Colour>,
 }
 
 /// What a document is.
 pub(crate) fn tell(rt: &impl Abort, alloc: Global, document: &Document) -> Told {
     Told {
-        records: copied(rt, alloc, document),
+        records: all_of(rt, alloc, document),
         page: page_of(rt, alloc, document),
         colours: colours_of(rt, alloc, document),
     }
 }
 
-fn copied(rt: &impl Abort, alloc: Global, document: &Document) -> Vec<Record> {
+fn all_of(rt: &impl Abort, alloc: Global, document: &Document) -> Vec<Record> {
+    let listed = document.records_in_order(alloc).expect(rt, "memory");
+    copies(rt, alloc, &listed)
+}
+
+fn page_of(rt: &impl Abort, alloc: Global, document: &Document) -> Vec<Record> {
+    let children = document.children(alloc, Parent::Page).expect(rt, "memory");
+    copies(rt, alloc, &children)
+}
+
+fn copies(rt: &impl Abort, alloc: Global, shapes: &[&Record]) -> Vec<Record> {
     let mut records = Vec::new(alloc);
-    for shape in &document.records_in_order(alloc).expect(rt, "memory") {
+    for shape in shapes {
         let copy = shape.try_clone(alloc).expect(rt, "memory");
         records.push(copy).expect(rt, "memory");
     }
     records
-}
-
-fn page_of(rt: &impl Abort, alloc: Global, document: &Document) -> Vec<u32> {
-    let mut ids = Vec::new(alloc);
-    for shape in &document.children(alloc, Parent::Page).expect(rt, "memory") {
-        ids.push(shape.id).expect(rt, "memory");
-    }
-    ids
 }
 
 fn colours_of(rt: &impl Abort, alloc: Global, document: &Document) -> Vec<Colour> {
@@ -333,17 +369,24 @@ fn versions(rt: &impl Abort, alloc: Global, more: u32) -> Vec<Version> {
     versions
 }
 
-/// Whether a version still is what it was when it was kept.
-pub(crate) fn is_what_it_was(rt: &impl Abort, alloc: Global, (was, version): &Version) -> bool {
+fn is_what_it_was(rt: &impl Abort, alloc: Global, (was, version): &Version) -> bool {
     tell(rt, alloc, version) == *was
+}
+
+/// Asserts that each version still is what it was when it was kept.
+pub(crate) fn check_versions(rt: &impl Abort, alloc: Global, versions: &[Version]) {
+    let mut number: u32 = 0;
+    for version in versions {
+        let same = is_what_it_was(rt, alloc, version);
+        holds(rt, "what the version was", &number, same);
+        number = number.saturating_add(1);
+    }
 }
 
 #[test]
 fn many_versions_stay_what_they_were(rt: HostRuntime) {
     let alloc = rt.alloc();
     let versions = versions(&rt, alloc, 64);
-    assert_eq!(rt; versions.len(), 65);
-    for version in &versions {
-        assert!(rt; is_what_it_was(&rt, alloc, version));
-    }
+    equal(&rt, "versions", &"all", &versions.len(), &65);
+    check_versions(&rt, alloc, &versions);
 }

@@ -1,6 +1,7 @@
 //! Edits of which a growth may be refused: run with each allocation refused in turn, they answer want of
 //! memory or what they answer with ample memory, and leave the document as it was.
 
+use crate::asserts::{equal, holds};
 use crate::in_place::make;
 use canvas_code::OutOfMemory;
 use canvas_doc::{Document, Edit, Parent, Record, Refusal, Spot, TreeFault};
@@ -42,6 +43,11 @@ fn document(alloc: Global) -> Result<Document, Refusal> {
     Ok(document)
 }
 
+fn cloned_square(alloc: Global) -> Result<Kind, OutOfMemory> {
+    let square = square(alloc)?;
+    Ok(square.try_clone(alloc)?)
+}
+
 const EDITS: u32 = 7;
 
 // One edit of each sort, by its number.
@@ -59,7 +65,7 @@ fn edit(alloc: Global, number: u32) -> Result<Edit, OutOfMemory> {
         },
         3 => Edit::Reshape {
             id: 2,
-            kind: square(alloc)?.try_clone(alloc)?,
+            kind: cloned_square(alloc)?,
         },
         4 => Edit::Show {
             id: 1,
@@ -127,8 +133,8 @@ fn check_edits(
 ) -> Result<(), Refusal> {
     for number in 0..EDITS {
         let is_made = is_made_once_there_is_memory(alloc, document, number)?;
-        assert!(rt; is_made, "edit {number}");
-        assert!(rt; are_same(document, copy), "edit {number}");
+        holds(rt, "made", &number, is_made);
+        holds(rt, "unchanged", &number, are_same(document, copy));
     }
     Ok(())
 }
@@ -142,10 +148,14 @@ fn check_edits_beside_copy(
     check_edits(rt, alloc, document, &copy)
 }
 
+fn check_all_edits(rt: &impl Abort, alloc: Global) -> Result<(), Refusal> {
+    let document = document(alloc)?;
+    check_edits_beside_copy(rt, alloc, &document)
+}
+
 #[test]
 fn edits_with_little_memory(rt: HostRuntime) -> Result<(), Fail> {
-    let document = document(rt.alloc())?;
-    check_edits_beside_copy(&rt, rt.alloc(), &document)?;
+    check_all_edits(&rt, rt.alloc())?;
     Ok(())
 }
 
@@ -193,8 +203,15 @@ fn is_made_alone(alloc: Global, step: Step<'_>) -> Result<bool, Refusal> {
 // The same of a document that shares its records with a clone, which stays what it was.
 fn is_made_beside_clone(alloc: Global, step: Step<'_>) -> Result<bool, Refusal> {
     let clone = document(alloc)?;
-    let is_made = is_made_of_clone(alloc, &clone, step)?;
-    Ok(is_made && look_same(&clone, step.before))
+    is_made_and_clone_kept(alloc, &clone, step)
+}
+
+fn is_made_and_clone_kept(
+    alloc: Global,
+    clone: &Document,
+    step: Step<'_>,
+) -> Result<bool, Refusal> {
+    Ok(is_made_of_clone(alloc, clone, step)? && look_same(clone, step.before))
 }
 
 fn is_made_of_clone(alloc: Global, document: &Document, step: Step<'_>) -> Result<bool, Refusal> {
@@ -210,6 +227,10 @@ fn is_made_of_each(alloc: Global, edit: &Edit, before: &Document) -> Result<bool
         before,
         after: &after,
     };
+    is_made_both_ways(alloc, step)
+}
+
+fn is_made_both_ways(alloc: Global, step: Step<'_>) -> Result<bool, Refusal> {
     Ok(is_made_alone(alloc, step)? && is_made_beside_clone(alloc, step)?)
 }
 
@@ -218,13 +239,22 @@ fn is_made_in_place(alloc: Global, number: u32, before: &Document) -> Result<boo
     is_made_of_each(alloc, &edit, before)
 }
 
+fn check_edits_in_place(rt: &impl Abort, alloc: Global, before: &Document) -> Result<(), Refusal> {
+    for number in 0..EDITS {
+        let is_made = is_made_in_place(alloc, number, before)?;
+        holds(rt, "made in place", &number, is_made);
+    }
+    Ok(())
+}
+
+fn check_all_edits_in_place(rt: &impl Abort, alloc: Global) -> Result<(), Refusal> {
+    let before = document(alloc)?;
+    check_edits_in_place(rt, alloc, &before)
+}
+
 #[test]
 fn changes_in_place_with_little_memory(rt: HostRuntime) -> Result<(), Fail> {
-    let before = document(rt.alloc())?;
-    for number in 0..EDITS {
-        let is_made = is_made_in_place(rt.alloc(), number, &before)?;
-        assert!(rt; is_made, "edit {number}");
-    }
+    check_all_edits_in_place(&rt, rt.alloc())?;
     Ok(())
 }
 
@@ -254,17 +284,32 @@ fn why_refused(
     Ok(document.decide(alloc, &edit).err())
 }
 
+fn check_refusal(
+    rt: &impl Abort,
+    alloc: Global,
+    document: &Document,
+    number: u32,
+    expected: Refusal,
+) -> Result<(), OutOfMemory> {
+    let found = why_refused(alloc, document, number)?;
+    equal(rt, "refusal", &number, &found, &Some(expected));
+    Ok(())
+}
+
+fn check_refusals(rt: &impl Abort, alloc: Global, document: &Document) -> Result<(), OutOfMemory> {
+    check_refusal(rt, alloc, document, 0, Refusal::NotAContainer)?;
+    check_refusal(rt, alloc, document, 1, Refusal::IndexTaken)?;
+    check_refusal(rt, alloc, document, 2, Refusal::WrongKind)
+}
+
+fn check_all_refusals(rt: &impl Abort, alloc: Global) -> Result<(), Refusal> {
+    let document = document(alloc)?;
+    Ok(check_refusals(rt, alloc, &document)?)
+}
+
 #[test]
 fn refusals_with_little_memory(rt: HostRuntime) -> Result<(), Fail> {
-    let document = document(rt.alloc())?;
-    for (number, refusal) in [
-        (0, Refusal::NotAContainer),
-        (1, Refusal::IndexTaken),
-        (2, Refusal::WrongKind),
-    ] {
-        let found = why_refused(rt.alloc(), &document, number)?;
-        assert!(rt; found == Some(refusal), "{refusal:?}");
-    }
+    check_all_refusals(&rt, rt.alloc())?;
     Ok(())
 }
 
@@ -312,6 +357,7 @@ fn is_restored_once_there_is_memory(alloc: Global) -> Result<bool, TreeFault> {
 
 #[test]
 fn restored_with_little_memory(rt: HostRuntime) -> Result<(), Fail> {
-    assert!(rt; is_restored_once_there_is_memory(rt.alloc())?);
+    let is_restored = is_restored_once_there_is_memory(rt.alloc())?;
+    holds(&rt, "restored", &"the pair", is_restored);
     Ok(())
 }

@@ -1,5 +1,6 @@
 //! Lists of records that are documents, and the positions of the faults of others.
 
+use crate::asserts::{equal, holds};
 use canvas_doc::{Document, Edit, Parent, Record, Refusal, Spot, TreeFault};
 use canvas_key::fresh;
 use canvas_plane::Pose;
@@ -73,27 +74,22 @@ fn row_of_groups(rt: &impl Abort, alloc: Global, count: u32, step: u32) -> Vec<R
     records
 }
 
-// Lists of rows with next id 9, and what `restore` finds of each.
-fn check_all(rt: &impl Abort, alloc: Global, cases: &[(&[Row], Option<TreeFault>)]) {
-    for (rows, expected) in cases {
-        assert_eq!(rt; fault(rt, alloc, rows, 9), *expected);
-    }
+// Asserts what `restore` finds of rows with next id 9.
+fn check(rt: &impl Abort, alloc: Global, rows: &[Row], expected: Option<TreeFault>) {
+    equal(rt, "rows", &rows, &fault(rt, alloc, rows, 9), &expected);
 }
 
 #[test]
 fn ids_outside_their_range(rt: HostRuntime) {
     let alloc = rt.alloc();
-    let cases: [(&[Row], Option<TreeFault>); 5] = [
-        (&[], None),
-        (&[(1, 0, 0, GROUP), (8, 0, 1, GROUP)], None),
-        (&[(1, 0, 0, GROUP), (9, 0, 1, GROUP)], bad_record(1)),
-        (&[(1, 0, 0, GROUP), (0, 0, 1, LEAF)], bad_record(1)),
-        (
-            &[(1, 0, 0, GROUP), (12, 0, 1, LEAF), (0, 0, 2, LEAF)],
-            bad_record(1),
-        ),
-    ];
-    check_all(&rt, alloc, &cases);
+    check(&rt, alloc, &[], None);
+    check(&rt, alloc, &[(1, 0, 0, GROUP), (8, 0, 1, GROUP)], None);
+    let next = [(1, 0, 0, GROUP), (9, 0, 1, GROUP)];
+    check(&rt, alloc, &next, bad_record(1));
+    let zero = [(1, 0, 0, GROUP), (0, 0, 1, LEAF)];
+    check(&rt, alloc, &zero, bad_record(1));
+    let both = [(1, 0, 0, GROUP), (12, 0, 1, LEAF), (0, 0, 2, LEAF)];
+    check(&rt, alloc, &both, bad_record(1));
 }
 
 // What `restore` answers of a group and a second record in it.
@@ -103,10 +99,14 @@ fn fault_of_second(rt: &impl Abort, alloc: Global, shape: Record) -> Option<Tree
     restored(alloc, list, 3).err()
 }
 
-fn fault_of_pose(rt: &impl Abort, alloc: Global, pose: Pose) -> Option<TreeFault> {
-    let mut shape = record_of(&(2, 1, 0, LEAF));
-    shape.pose = pose;
-    fault_of_second(rt, alloc, shape)
+// Asserts what `restore` answers of a pose.
+fn check_pose(rt: &impl Abort, alloc: Global, pose: Pose, expected: Option<TreeFault>) {
+    let shape = Record {
+        pose,
+        ..record_of(&(2, 1, 0, LEAF))
+    };
+    let found = fault_of_second(rt, alloc, shape);
+    equal(rt, "pose", &pose, &found, &expected);
 }
 
 fn fault_of_kind(rt: &impl Abort, alloc: Global, kind: Kind) -> Option<TreeFault> {
@@ -117,29 +117,33 @@ fn fault_of_kind(rt: &impl Abort, alloc: Global, kind: Kind) -> Option<TreeFault
 #[test]
 fn poses_outside_their_limits(rt: HostRuntime) {
     let alloc = rt.alloc();
-    let mut least = moved(-1_048_576, 1_048_576);
-    least.quarter = 3;
-    least.flip = true;
-    let far = moved(0, -1_048_577);
-    let mut turned = Pose::STILL;
-    turned.quarter = 4;
-    for (pose, expected) in [(least, None), (far, bad_record(1)), (turned, bad_record(1))] {
-        let found = fault_of_pose(&rt, alloc, pose);
-        assert_eq!(rt; found, expected, "{pose:?}");
-    }
+    let least = Pose {
+        dx: -1_048_576,
+        dy: 1_048_576,
+        quarter: 3,
+        flip: true,
+    };
+    check_pose(&rt, alloc, least, None);
+    check_pose(&rt, alloc, moved(0, -1_048_577), bad_record(1));
+    let turned = Pose {
+        quarter: 4,
+        ..Pose::STILL
+    };
+    check_pose(&rt, alloc, turned, bad_record(1));
+}
+
+// Asserts what `restore` answers of the sides of a frame.
+fn check_sides(rt: &impl Abort, alloc: Global, w: u32, h: u32, expected: Option<TreeFault>) {
+    let found = fault_of_kind(rt, alloc, frame(w, h));
+    equal(rt, "sides", &(w, h), &found, &expected);
 }
 
 #[test]
 fn sides_outside_their_limits(rt: HostRuntime) {
     let alloc = rt.alloc();
-    for (w, h, expected) in [
-        (65_536, 1, None),
-        (0, 1, bad_record(1)),
-        (1, 65_537, bad_record(1)),
-    ] {
-        let found = fault_of_kind(&rt, alloc, frame(w, h));
-        assert_eq!(rt; found, expected, "{w}, {h}");
-    }
+    check_sides(&rt, alloc, 65_536, 1, None);
+    check_sides(&rt, alloc, 0, 1, bad_record(1));
+    check_sides(&rt, alloc, 1, 65_537, bad_record(1));
 }
 
 // A polygon with so many vertices.
@@ -151,89 +155,73 @@ fn polygon_of(rt: &impl Abort, alloc: Global, count: i64) -> Kind {
     polygon(alloc, &vertices).expect(rt, "memory")
 }
 
+// Asserts what `restore` answers of a polygon with so many vertices.
+fn check_vertices(rt: &impl Abort, alloc: Global, count: i64, expected: Option<TreeFault>) {
+    let found = fault_of_kind(rt, alloc, polygon_of(rt, alloc, count));
+    equal(rt, "vertices", &count, &found, &expected);
+}
+
 #[test]
 fn vertices_outside_their_limits(rt: HostRuntime) {
     let alloc = rt.alloc();
-    for (count, expected) in [(3, None), (2, bad_record(1)), (257, bad_record(1))] {
-        let kind = polygon_of(&rt, alloc, count);
-        let found = fault_of_kind(&rt, alloc, kind);
-        assert_eq!(rt; found, expected, "{count}");
-    }
+    check_vertices(&rt, alloc, 3, None);
+    check_vertices(&rt, alloc, 2, bad_record(1));
+    check_vertices(&rt, alloc, 257, bad_record(1));
 }
 
 #[test]
 fn ids_that_stand_twice(rt: HostRuntime) {
     let alloc = rt.alloc();
-    let cases: [(&[Row], Option<TreeFault>); 3] = [
-        (
-            &[(1, 0, 0, GROUP), (2, 0, 1, GROUP), (1, 0, 2, GROUP)],
-            bad_tree(2),
-        ),
-        // The first record with the id is the parent.
-        (
-            &[(2, 1, 0, GROUP), (1, 0, 0, LEAF), (1, 0, 1, GROUP)],
-            bad_tree(0),
-        ),
-        (
-            &[(2, 1, 0, GROUP), (1, 0, 0, GROUP), (1, 0, 1, LEAF)],
-            bad_tree(2),
-        ),
-    ];
-    check_all(&rt, alloc, &cases);
+    let groups = [(1, 0, 0, GROUP), (2, 0, 1, GROUP), (1, 0, 2, GROUP)];
+    check(&rt, alloc, &groups, bad_tree(2));
+    // The first record with the id is the parent.
+    let leaf_first = [(2, 1, 0, GROUP), (1, 0, 0, LEAF), (1, 0, 1, GROUP)];
+    check(&rt, alloc, &leaf_first, bad_tree(0));
+    let group_first = [(2, 1, 0, GROUP), (1, 0, 0, GROUP), (1, 0, 1, LEAF)];
+    check(&rt, alloc, &group_first, bad_tree(2));
 }
 
 #[test]
 fn parents_and_paths(rt: HostRuntime) {
     let alloc = rt.alloc();
-    let cases: [(&[Row], Option<TreeFault>); 6] = [
-        // A parent that is not there, and one that is a leaf.
-        (&[(1, 0, 0, GROUP), (2, 5, 0, GROUP)], bad_tree(1)),
-        (&[(1, 0, 0, LEAF), (2, 1, 0, GROUP)], bad_tree(1)),
-        // A shape that is its own parent, and two that are each other's.
-        (&[(1, 0, 0, GROUP), (2, 2, 0, GROUP)], bad_tree(1)),
-        (&[(1, 2, 0, GROUP), (2, 1, 0, GROUP)], bad_tree(0)),
-        // A path that breaks off higher up.
-        (
-            &[(1, 0, 0, GROUP), (2, 3, 0, GROUP), (3, 5, 0, GROUP)],
-            bad_tree(1),
-        ),
-        // A leaf higher up does not stop the walk: the record below it is at fault.
-        (
-            &[(1, 2, 0, GROUP), (2, 3, 0, GROUP), (3, 0, 0, LEAF)],
-            bad_tree(1),
-        ),
-    ];
-    check_all(&rt, alloc, &cases);
+    // A parent that is not there, and one that is a leaf.
+    let missing = [(1, 0, 0, GROUP), (2, 5, 0, GROUP)];
+    check(&rt, alloc, &missing, bad_tree(1));
+    let leaf = [(1, 0, 0, LEAF), (2, 1, 0, GROUP)];
+    check(&rt, alloc, &leaf, bad_tree(1));
+    // A shape that is its own parent, and two that are each other's.
+    let own = [(1, 0, 0, GROUP), (2, 2, 0, GROUP)];
+    check(&rt, alloc, &own, bad_tree(1));
+    let mutual = [(1, 2, 0, GROUP), (2, 1, 0, GROUP)];
+    check(&rt, alloc, &mutual, bad_tree(0));
+    // A path that breaks off higher up.
+    let broken = [(1, 0, 0, GROUP), (2, 3, 0, GROUP), (3, 5, 0, GROUP)];
+    check(&rt, alloc, &broken, bad_tree(1));
+    // A leaf higher up does not stop the walk: the record below it is at fault.
+    let under_leaf = [(1, 2, 0, GROUP), (2, 3, 0, GROUP), (3, 0, 0, LEAF)];
+    check(&rt, alloc, &under_leaf, bad_tree(1));
 }
 
 #[test]
 fn places_and_two_faults(rt: HostRuntime) {
     let alloc = rt.alloc();
-    let cases: [(&[Row], Option<TreeFault>); 5] = [
-        // One index twice under one parent, and under two.
-        (
-            &[
-                (1, 0, 0, GROUP),
-                (2, 1, 7, LEAF),
-                (3, 1, 8, LEAF),
-                (4, 1, 7, LEAF),
-            ],
-            bad_tree(3),
-        ),
-        (&[(1, 0, 7, GROUP), (2, 1, 7, LEAF)], None),
-        (&[(1, 0, 7, GROUP), (2, 0, 7, GROUP)], bad_tree(1)),
-        // The limits of a record are judged before the tree.
-        (
-            &[(1, 5, 0, GROUP), (2, 0, 0, GROUP), (0, 0, 1, LEAF)],
-            bad_record(2),
-        ),
-        // Of several faults the least position.
-        (
-            &[(1, 0, 0, GROUP), (2, 0, 0, GROUP), (1, 5, 0, LEAF)],
-            bad_tree(1),
-        ),
+    // One index twice under one parent, and under two.
+    let twice = [
+        (1, 0, 0, GROUP),
+        (2, 1, 7, LEAF),
+        (3, 1, 8, LEAF),
+        (4, 1, 7, LEAF),
     ];
-    check_all(&rt, alloc, &cases);
+    check(&rt, alloc, &twice, bad_tree(3));
+    check(&rt, alloc, &[(1, 0, 7, GROUP), (2, 1, 7, LEAF)], None);
+    let on_page = [(1, 0, 7, GROUP), (2, 0, 7, GROUP)];
+    check(&rt, alloc, &on_page, bad_tree(1));
+    // The limits of a record are judged before the tree.
+    let limits = [(1, 5, 0, GROUP), (2, 0, 0, GROUP), (0, 0, 1, LEAF)];
+    check(&rt, alloc, &limits, bad_record(2));
+    // Of several faults the least position.
+    let several = [(1, 0, 0, GROUP), (2, 0, 0, GROUP), (1, 5, 0, LEAF)];
+    check(&rt, alloc, &several, bad_tree(1));
 }
 
 // What `restore` answers of a chain, from the page down or from below up.
@@ -250,18 +238,25 @@ fn fault_of_chain(
     fault(rt, alloc, &rows, 99)
 }
 
+// Asserts what `restore` answers of a chain.
+fn check_chain(
+    rt: &impl Abort,
+    alloc: Global,
+    levels: u32,
+    is_upward: bool,
+    expected: Option<TreeFault>,
+) {
+    let found = fault_of_chain(rt, alloc, levels, is_upward);
+    equal(rt, "levels", &(levels, is_upward), &found, &expected);
+}
+
 #[test]
 fn depth(rt: HostRuntime) {
     let alloc = rt.alloc();
-    for (levels, is_upward, expected) in [
-        (32, false, None),
-        (32, true, None),
-        (33, false, bad_tree(32)),
-        (33, true, bad_tree(0)),
-    ] {
-        let found = fault_of_chain(&rt, alloc, levels, is_upward);
-        assert_eq!(rt; found, expected, "{levels} {is_upward}");
-    }
+    check_chain(&rt, alloc, 32, false, None);
+    check_chain(&rt, alloc, 32, true, None);
+    check_chain(&rt, alloc, 33, false, bad_tree(32));
+    check_chain(&rt, alloc, 33, true, bad_tree(0));
 }
 
 fn unordered(rt: &impl Abort, alloc: Global) -> Document {
@@ -275,8 +270,13 @@ fn unordered(rt: &impl Abort, alloc: Global) -> Document {
 }
 
 fn ids_of(rt: &impl Abort, alloc: Global, document: &Document) -> Vec<u32> {
+    let listed = document.records_in_order(alloc).expect(rt, "memory");
+    copied_ids(rt, alloc, &listed)
+}
+
+fn copied_ids(rt: &impl Abort, alloc: Global, listed: &[&Record]) -> Vec<u32> {
     let mut ids = Vec::new(alloc);
-    for shape in &document.records_in_order(alloc).expect(rt, "memory") {
+    for shape in listed {
         ids.push(shape.id).expect(rt, "memory");
     }
     ids
@@ -284,12 +284,13 @@ fn ids_of(rt: &impl Abort, alloc: Global, document: &Document) -> Vec<u32> {
 
 // Asserts that a document has the four records.
 fn check_ordered(rt: &impl Abort, alloc: Global, document: &Document) {
-    assert_eq!(rt; document.next_id(), 8);
+    equal(rt, "next id", &"ordered", &document.next_id(), &8);
     let ids = ids_of(rt, alloc, document);
-    assert_eq!(rt; ids.as_slice(), [2, 3, 5, 7].as_slice());
+    let are_all = ids.as_slice() == [2, 3, 5, 7].as_slice();
+    holds(rt, "ids", &"ordered", are_all);
     let found = document.get(7).expect(rt, "the leaf");
-    assert!(rt; found.place.parent == Parent::Shape(5));
-    assert!(rt; document.colour_at(1, 0) == RED);
+    equal(rt, "parent", &7, &found.place.parent, &Parent::Shape(5));
+    holds(rt, "colour", &(1, 0), document.colour_at(1, 0) == RED);
 }
 
 fn check_copy(rt: &impl Abort, alloc: Global, document: &Document) {
@@ -323,33 +324,47 @@ fn count_in_order(rt: &impl Abort, alloc: Global, document: &Document) -> usize 
     ids_of(rt, alloc, document).len()
 }
 
+fn check_count(rt: &impl Abort, document: &Document) {
+    equal(rt, "count", &"full", &document.count(), &16_384);
+}
+
+fn check_full(rt: &impl Abort, alloc: Global, full: &Document) {
+    check_count(rt, full);
+    let listed = count_in_order(rt, alloc, full);
+    equal(rt, "listed", &"full", &listed, &16_384);
+    let refusal = refusal_of_new_group(alloc, full);
+    equal(rt, "refusal", &"full", &refusal, &Some(Refusal::TooMany));
+}
+
 #[test]
 fn as_many_as_may_be(rt: HostRuntime) {
     let alloc = rt.alloc();
     let full = full_page(&rt, alloc, 1);
-    assert_eq!(rt; full.count(), 16_384);
-    assert_eq!(rt; count_in_order(&rt, alloc, &full), 16_384);
-    assert!(rt; refusal_of_new_group(alloc, &full) == Some(Refusal::TooMany));
+    check_full(&rt, alloc, &full);
 }
 
 // The document after an edit.
-fn after(rt: &impl Abort, alloc: Global, document: Document, edit: &Edit) -> Document {
-    edited(alloc, &document, edit).expect(rt, "accepted")
+fn after(rt: &impl Abort, alloc: Global, document: Document, edit: Edit) -> Document {
+    edited(alloc, &document, &edit).expect(rt, "accepted")
 }
 
 // The full page without its first group, and with a new one.
 fn full_page_again(rt: &impl Abort, alloc: Global) -> Document {
     let full = full_page(rt, alloc, 1);
-    let less = after(rt, alloc, full, &Edit::Delete { id: 1 });
-    after(rt, alloc, less, &new_group())
+    let less = after(rt, alloc, full, Edit::Delete { id: 1 });
+    after(rt, alloc, less, new_group())
+}
+
+fn has(document: &Document, id: u32) -> bool {
+    document.get(id).is_some()
 }
 
 #[test]
 fn room_for_one_after_a_deletion(rt: HostRuntime) {
     let again = full_page_again(&rt, rt.alloc());
-    assert_eq!(rt; again.count(), 16_384);
-    assert!(rt; again.get(16_385).is_some());
-    assert!(rt; again.get(1).is_none());
+    check_count(&rt, &again);
+    holds(&rt, "there", &16_385, has(&again, 16_385));
+    holds(&rt, "gone", &1, !has(&again, 1));
 }
 
 #[test]
@@ -357,7 +372,8 @@ fn a_full_page_is_respaced(rt: HostRuntime) {
     let alloc = rt.alloc();
     let full = full_page(&rt, alloc, 3);
     let parent = Parent::Page;
-    let spaced = after(&rt, alloc, full, &Edit::Respace { parent });
-    assert!(rt; index_of(&spaced, 1) == b"a0".as_slice());
-    assert!(rt; index_of(&spaced, 16_384) == b"c3FF".as_slice());
+    let spaced = after(&rt, alloc, full, Edit::Respace { parent });
+    holds(&rt, "index", &1, index_of(&spaced, 1) == b"a0".as_slice());
+    let last = index_of(&spaced, 16_384);
+    holds(&rt, "index", &16_384, last == b"c3FF".as_slice());
 }
