@@ -1,7 +1,7 @@
 //! Long histories: documents that share their records stay apart.
 
-use crate::asserts::{equal, holds};
-use canvas_doc::{Document, Edit, Parent, Place, Record, Spot};
+use crate::asserts::holds;
+use canvas_doc::{Document, Edit, Parent, Record, Refusal, Spot};
 use canvas_key::{Key, fresh};
 use canvas_plane::Pose;
 use canvas_samples::{BLUE, Dice, GREEN, RED, create, edited, moved, record, rectangle, restored};
@@ -70,33 +70,19 @@ fn index_after(made: u32, id: u32) -> Key {
 fn record_after(made: u32, id: u32) -> Record {
     let grouped = id % 3 == 0 || id == 2 && made >= 18;
     let parent = if grouped { GROUP } else { Parent::Page };
-    let pose = match id {
-        69 if made >= 15 => moved(7, 0),
-        70 if made >= 20 => moved(9, 0),
-        _ => Pose::STILL,
+    let kind = match id {
+        1 => Kind::Group,
+        128 if made >= 17 => rectangle(1, 9, BLUE),
+        _ => rectangle(id, 1, RED),
     };
-    let hidden = id == 140 && made >= 16;
-    let (w, h, fill) = if id == 128 && made >= 17 {
-        (1, 9, BLUE)
-    } else {
-        (id, 1, RED)
-    };
-    let index = index_after(made, id);
-    Record {
-        id,
-        kind: group_or_rectangle(id == 1, (w, h, fill)),
-        place: Place { parent, index },
-        pose,
-        hidden,
+    let mut shape = record(id, parent, index_after(made, id), kind);
+    match id {
+        69 if made >= 15 => shape.pose = moved(7, 0),
+        70 if made >= 20 => shape.pose = moved(9, 0),
+        140 if made >= 16 => shape.hidden = true,
+        _ => {}
     }
-}
-
-fn group_or_rectangle(is_group: bool, (w, h, fill): (u32, u32, Colour)) -> Kind {
-    if is_group {
-        Kind::Group
-    } else {
-        rectangle(w, h, fill)
-    }
+    shape
 }
 
 fn records_after(rt: &impl Abort, alloc: Global, made: u32) -> Vec<Record> {
@@ -110,30 +96,22 @@ fn records_after(rt: &impl Abort, alloc: Global, made: u32) -> Vec<Record> {
     records
 }
 
-// Whether a document has these records, as it lists them and as it finds them.
-fn are_its(document: &Document, listed: &[&Record], wanted: &[Record]) -> bool {
-    let mut same = document.count() == wanted.len() && listed.len() == wanted.len();
-    let mut at: usize = 0;
+// Whether a document finds each of these records.
+fn finds_all(document: &Document, wanted: &[Record]) -> bool {
     for shape in wanted {
-        same = same && is_its(document, listed.get(at), shape);
-        at = at.saturating_add(1);
+        if document.get(shape.id) != Some(shape) {
+            return false;
+        }
     }
-    same
+    document.count() == wanted.len()
 }
 
-fn is_its(document: &Document, listed: Option<&&Record>, wanted: &Record) -> bool {
-    listed == Some(&wanted) && document.get(wanted.id) == Some(wanted)
-}
-
-/// Asserts that a document has the records that are there after so many edits.
+/// Asserts that a document has the records that are there after so many edits, as it lists them and as it finds them.
 pub(crate) fn check_records(rt: &impl Abort, alloc: Global, document: &Document, made: u32) {
     let wanted = records_after(rt, alloc, made);
-    check_listed(rt, alloc, document, &wanted, made);
-}
-
-fn check_listed(rt: &impl Abort, alloc: Global, document: &Document, wanted: &[Record], made: u32) {
-    let listed = document.records_in_order(alloc).expect(rt, "memory");
-    holds(rt, "after", &made, are_its(document, &listed, wanted));
+    holds(rt, "found after", &made, finds_all(document, &wanted));
+    let listed = all_of(rt, alloc, document);
+    holds(rt, "listed after", &made, listed == wanted);
 }
 
 /// Each of the documents has those that are there after as many edits as stand in front of it.
@@ -150,8 +128,17 @@ pub(crate) fn first_document(rt: &impl Abort, alloc: Global) -> Document {
     restored(alloc, records_after(rt, alloc, 0), 190).expect(rt, "a document")
 }
 
+/// The document after an edit, or why it is refused.
+pub(crate) fn edited_by(
+    alloc: Global,
+    document: &Document,
+    edit: Edit,
+) -> Result<Document, Refusal> {
+    edited(alloc, document, &edit)
+}
+
 fn next_document(rt: &impl Abort, alloc: Global, last: &Document, made: u32) -> Document {
-    edited(alloc, last, &edit_after(made)).expect(rt, "accepted")
+    edited_by(alloc, last, edit_after(made)).expect(rt, "accepted")
 }
 
 // The documents with the one after so many edits.
@@ -163,19 +150,16 @@ fn push_next(rt: &impl Abort, alloc: Global, documents: &mut Vec<Document>, made
     documents.push(next).expect(rt, "memory");
 }
 
-fn check_history(rt: &impl Abort, alloc: Global, documents: &mut Vec<Document>) {
-    for made in 0..23u32 {
-        push_next(rt, alloc, documents, made);
-        check_all_records(rt, alloc, documents);
-    }
-    equal(rt, "documents", &"all", &documents.len(), &23);
-}
-
 #[test]
 fn a_long_history_keeps_its_documents_apart(rt: HostRuntime) {
     let alloc = rt.alloc();
     let mut documents = Vec::new(alloc);
-    check_history(&rt, alloc, &mut documents);
+    for made in 0..23u32 {
+        push_next(&rt, alloc, &mut documents, made);
+        check_all_records(&rt, alloc, &documents);
+    }
+    let count = documents.len();
+    holds(&rt, "23 documents", &count, count == 23);
 }
 
 // A shape of a crowd: eight groups, and rectangles of which every ninth lies on the page.
@@ -187,18 +171,19 @@ fn one_of_many(id: u32) -> Record {
     } else {
         Parent::Shape(id % 9)
     };
-    let pose = Pose {
+    let kind = if is_group {
+        Kind::Group
+    } else {
+        rectangle(4, 2, Colour([(id % 200) as u8, 7, 9]))
+    };
+    let mut shape = record(id, parent, fresh(id), kind);
+    shape.pose = Pose {
         dx: (id % 40) as i64,
         dy: (id % 30) as i64,
         quarter: (id % 4) as u8,
         flip: id % 8 > 3,
     };
-    let fill = Colour([(id % 200) as u8, 7, 9]);
-    let kind = group_or_rectangle(is_group, (4, 2, fill));
-    Record {
-        pose,
-        ..record(id, parent, fresh(id), kind)
-    }
+    shape
 }
 
 fn crowd(rt: &impl Abort, alloc: Global) -> Vec<Record> {
@@ -253,14 +238,9 @@ fn whole_edit(number: u32, group: u32) -> Edit {
     }
 }
 
-/// The document after an edit, or what it was where the edit is refused.
-pub(crate) fn edited_if_accepted(alloc: Global, document: Document, edit: &Edit) -> Document {
-    edited(alloc, &document, edit).unwrap_or(document)
-}
-
+// The document after an edit in turn, or what it was where the edit is refused.
 fn edited_in_turn(alloc: Global, dice: &mut Dice, document: Document, number: u32) -> Document {
-    let edit = edit_in_turn(dice, number);
-    edited_if_accepted(alloc, document, &edit)
+    edited_by(alloc, &document, edit_in_turn(dice, number)).unwrap_or(document)
 }
 
 // The document after some edits, those that are refused left out.
@@ -387,6 +367,7 @@ pub(crate) fn check_versions(rt: &impl Abort, alloc: Global, versions: &[Version
 fn many_versions_stay_what_they_were(rt: HostRuntime) {
     let alloc = rt.alloc();
     let versions = versions(&rt, alloc, 64);
-    equal(&rt, "versions", &"all", &versions.len(), &65);
+    let count = versions.len();
+    holds(&rt, "65 versions", &count, count == 65);
     check_versions(&rt, alloc, &versions);
 }

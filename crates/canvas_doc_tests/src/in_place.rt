@@ -32,26 +32,16 @@ fn make_next(rt: &impl Abort, alloc: Global, document: &mut Document, made: u32)
 }
 
 // Edits in turn, where a clone of each document before them is kept, or none.
-fn check_history(
-    rt: &impl Abort,
-    alloc: Global,
-    document: &mut Document,
-    kept: &mut Vec<Document>,
-    keeps: bool,
-) {
-    for made in 0..22u32 {
-        if keeps {
-            push_clone(rt, alloc, kept, document);
-        }
-        make_next(rt, alloc, document, made);
-        check_all_records(rt, alloc, kept);
-    }
-}
-
 fn history(rt: &impl Abort, alloc: Global, keeps: bool) {
     let mut document = first_document(rt, alloc);
     let mut kept = Vec::new(alloc);
-    check_history(rt, alloc, &mut document, &mut kept, keeps);
+    for made in 0..22u32 {
+        if keeps {
+            push_clone(rt, alloc, &mut kept, &document);
+        }
+        make_next(rt, alloc, &mut document, made);
+        check_all_records(rt, alloc, &kept);
+    }
 }
 
 #[test]
@@ -69,9 +59,10 @@ struct Twice {
 
 impl Twice {
     // Makes an edit of both, or of none where it is refused.
-    fn edit(&mut self, rt: &impl Abort, alloc: Global, edit: &Edit) {
-        let is_made = make(alloc, &mut self.document, edit).is_ok();
-        holds(rt, "made", &is_made, is_made == self.edit_anew(alloc, edit));
+    fn edit(&mut self, rt: &impl Abort, alloc: Global, edit: Edit) {
+        let is_made = make(alloc, &mut self.document, &edit).is_ok();
+        let is_made_anew = self.edit_anew(alloc, &edit);
+        holds(rt, "made", &is_made, is_made == is_made_anew);
     }
 
     // Whether the edit was made.
@@ -85,11 +76,6 @@ impl Twice {
         }
     }
 
-    fn edit_in_turn(&mut self, rt: &impl Abort, alloc: Global, dice: &mut Dice, number: u32) {
-        let edit = edit_in_turn(dice, number);
-        self.edit(rt, alloc, &edit);
-    }
-
     // Keeps the document as a version, and makes some edits of both.
     fn go_on(
         &mut self,
@@ -101,7 +87,8 @@ impl Twice {
     ) {
         push_version(rt, alloc, versions, clone_of(rt, alloc, &self.document));
         for more in 0..20u32 {
-            self.edit_in_turn(rt, alloc, dice, number.wrapping_mul(20).wrapping_add(more));
+            let edit = edit_in_turn(dice, number.wrapping_mul(20).wrapping_add(more));
+            self.edit(rt, alloc, edit);
         }
         let same = self.are_same(rt, alloc);
         holds(rt, "the same after", &number, same);
@@ -112,18 +99,14 @@ impl Twice {
     }
 }
 
-fn crowd_twice(rt: &impl Abort, alloc: Global) -> Twice {
-    Twice {
-        document: crowd_document(rt, alloc),
-        anew: crowd_document(rt, alloc),
-    }
-}
-
 // Eight versions, with edits between them.
 fn versions(rt: &impl Abort, alloc: Global) -> Vec<Version> {
     let mut dice = Dice::new(9);
     let mut versions = Vec::new(alloc);
-    let mut both = crowd_twice(rt, alloc);
+    let mut both = Twice {
+        document: crowd_document(rt, alloc),
+        anew: crowd_document(rt, alloc),
+    };
     for number in 0..8u32 {
         both.go_on(rt, alloc, &mut dice, &mut versions, number);
     }

@@ -1,7 +1,7 @@
 //! Edits of which a growth may be refused: run with each allocation refused in turn, they answer want of
 //! memory or what they answer with ample memory, and leave the document as it was.
 
-use crate::asserts::{equal, holds};
+use crate::asserts::holds;
 use crate::in_place::make;
 use canvas_code::OutOfMemory;
 use canvas_doc::{Document, Edit, Parent, Record, Refusal, Spot, TreeFault};
@@ -43,11 +43,6 @@ fn document(alloc: Global) -> Result<Document, Refusal> {
     Ok(document)
 }
 
-fn cloned_square(alloc: Global) -> Result<Kind, OutOfMemory> {
-    let square = square(alloc)?;
-    Ok(square.try_clone(alloc)?)
-}
-
 const EDITS: u32 = 7;
 
 // One edit of each sort, by its number.
@@ -65,7 +60,7 @@ fn edit(alloc: Global, number: u32) -> Result<Edit, OutOfMemory> {
         },
         3 => Edit::Reshape {
             id: 2,
-            kind: cloned_square(alloc)?,
+            kind: square(alloc)?.try_clone(alloc)?,
         },
         4 => Edit::Show {
             id: 1,
@@ -148,14 +143,10 @@ fn check_edits_beside_copy(
     check_edits(rt, alloc, document, &copy)
 }
 
-fn check_all_edits(rt: &impl Abort, alloc: Global) -> Result<(), Refusal> {
-    let document = document(alloc)?;
-    check_edits_beside_copy(rt, alloc, &document)
-}
-
 #[test]
 fn edits_with_little_memory(rt: HostRuntime) -> Result<(), Fail> {
-    check_all_edits(&rt, rt.alloc())?;
+    let document = document(rt.alloc())?;
+    check_edits_beside_copy(&rt, rt.alloc(), &document)?;
     Ok(())
 }
 
@@ -203,15 +194,8 @@ fn is_made_alone(alloc: Global, step: Step<'_>) -> Result<bool, Refusal> {
 // The same of a document that shares its records with a clone, which stays what it was.
 fn is_made_beside_clone(alloc: Global, step: Step<'_>) -> Result<bool, Refusal> {
     let clone = document(alloc)?;
-    is_made_and_clone_kept(alloc, &clone, step)
-}
-
-fn is_made_and_clone_kept(
-    alloc: Global,
-    clone: &Document,
-    step: Step<'_>,
-) -> Result<bool, Refusal> {
-    Ok(is_made_of_clone(alloc, clone, step)? && look_same(clone, step.before))
+    let is_made = is_made_of_clone(alloc, &clone, step)?;
+    Ok(is_made && look_same(&clone, step.before))
 }
 
 fn is_made_of_clone(alloc: Global, document: &Document, step: Step<'_>) -> Result<bool, Refusal> {
@@ -239,22 +223,13 @@ fn is_made_in_place(alloc: Global, number: u32, before: &Document) -> Result<boo
     is_made_of_each(alloc, &edit, before)
 }
 
-fn check_edits_in_place(rt: &impl Abort, alloc: Global, before: &Document) -> Result<(), Refusal> {
-    for number in 0..EDITS {
-        let is_made = is_made_in_place(alloc, number, before)?;
-        holds(rt, "made in place", &number, is_made);
-    }
-    Ok(())
-}
-
-fn check_all_edits_in_place(rt: &impl Abort, alloc: Global) -> Result<(), Refusal> {
-    let before = document(alloc)?;
-    check_edits_in_place(rt, alloc, &before)
-}
-
 #[test]
 fn changes_in_place_with_little_memory(rt: HostRuntime) -> Result<(), Fail> {
-    check_all_edits_in_place(&rt, rt.alloc())?;
+    let before = document(rt.alloc())?;
+    for number in 0..EDITS {
+        let is_made = is_made_in_place(rt.alloc(), number, &before)?;
+        holds(&rt, "made in place", &number, is_made);
+    }
     Ok(())
 }
 
@@ -284,32 +259,17 @@ fn why_refused(
     Ok(document.decide(alloc, &edit).err())
 }
 
-fn check_refusal(
-    rt: &impl Abort,
-    alloc: Global,
-    document: &Document,
-    number: u32,
-    expected: Refusal,
-) -> Result<(), OutOfMemory> {
-    let found = why_refused(alloc, document, number)?;
-    equal(rt, "refusal", &number, &found, &Some(expected));
-    Ok(())
-}
-
-fn check_refusals(rt: &impl Abort, alloc: Global, document: &Document) -> Result<(), OutOfMemory> {
-    check_refusal(rt, alloc, document, 0, Refusal::NotAContainer)?;
-    check_refusal(rt, alloc, document, 1, Refusal::IndexTaken)?;
-    check_refusal(rt, alloc, document, 2, Refusal::WrongKind)
-}
-
-fn check_all_refusals(rt: &impl Abort, alloc: Global) -> Result<(), Refusal> {
-    let document = document(alloc)?;
-    Ok(check_refusals(rt, alloc, &document)?)
-}
-
 #[test]
 fn refusals_with_little_memory(rt: HostRuntime) -> Result<(), Fail> {
-    check_all_refusals(&rt, rt.alloc())?;
+    let document = document(rt.alloc())?;
+    for (number, refusal) in [
+        (0, Refusal::NotAContainer),
+        (1, Refusal::IndexTaken),
+        (2, Refusal::WrongKind),
+    ] {
+        let found = why_refused(rt.alloc(), &document, number)?;
+        holds(&rt, "refused", &refusal, found == Some(refusal));
+    }
     Ok(())
 }
 

@@ -1,11 +1,12 @@
 //! Every refusal of every edit, and each pair of refusals that can meet in one edit, in its order.
 
-use crate::asserts::{equal, holds};
+use crate::asserts::holds;
+use crate::histories::edited_by;
 use canvas_doc::{Document, Edit, Parent, Record, Refusal, Spot};
 use canvas_key::{Key, fresh};
 use canvas_plane::Pose;
 use canvas_samples::{
-    RED, create, edited, frame, last_index_below_a1, moved, polygon, record, rectangle, restored,
+    RED, create, frame, last_index_below_a1, moved, polygon, record, rectangle, restored,
 };
 use canvas_shape::Kind;
 use std::alloc::Global;
@@ -138,8 +139,8 @@ fn document(rt: &impl Abort, alloc: Global, is_full: bool, next: u32) -> Documen
     restored(alloc, records(rt, alloc, is_full), next).expect(rt, "a document")
 }
 
-// Asserts why an edit is refused, if it is.
-fn check(
+/// Asserts why an edit is refused, if it is.
+pub(crate) fn check(
     rt: &impl Abort,
     alloc: Global,
     document: &Document,
@@ -148,7 +149,7 @@ fn check(
     expected: Option<Refusal>,
 ) {
     let found = document.decide(alloc, &edit).err();
-    equal(rt, "refusal", case, &found, &expected);
+    holds(rt, "refusal", &(case, found, expected), found == expected);
 }
 
 /// What is wrong with the values of a new shape.
@@ -233,7 +234,14 @@ fn check_new_shapes(
 }
 
 // New shapes under every sort of parent in a document, of which `spent` is refused after the parent.
-fn check_creations(rt: &impl Abort, alloc: Global, document: &Document, spent: Option<Refusal>) {
+fn check_creations(
+    rt: &impl Abort,
+    alloc: Global,
+    is_full: bool,
+    next: u32,
+    spent: Option<Refusal>,
+) {
+    let document = document(rt, alloc, is_full, next);
     for (parent, hung) in [
         (GROUP, None),
         (MISSING, Some(Refusal::NoSuchParent)),
@@ -241,47 +249,43 @@ fn check_creations(rt: &impl Abort, alloc: Global, document: &Document, spent: O
         (DEEP_LEAF, Some(Refusal::NotAContainer)),
         (LOWEST, Some(Refusal::TooDeep)),
     ] {
-        check_new_shapes(rt, alloc, document, Parent::Shape(parent), hung.or(spent));
+        let first = hung.or(spent);
+        check_new_shapes(rt, alloc, &document, Parent::Shape(parent), first);
     }
 }
 
 #[test]
 fn refusals_of_create(rt: HostRuntime) {
     let alloc = rt.alloc();
-    for (is_full, next, spent) in [
-        (false, 20_000, None),
-        (true, 20_000, Some(Refusal::TooMany)),
-        (false, 4_294_967_295, Some(Refusal::IdsSpent)),
-        (true, 4_294_967_295, Some(Refusal::TooMany)),
-    ] {
-        let document = document(&rt, alloc, is_full, next);
-        check_creations(&rt, alloc, &document, spent);
-    }
+    let last = 4_294_967_295;
+    check_creations(&rt, alloc, false, 20_000, None);
+    check_creations(&rt, alloc, true, 20_000, Some(Refusal::TooMany));
+    check_creations(&rt, alloc, false, last, Some(Refusal::IdsSpent));
+    check_creations(&rt, alloc, true, last, Some(Refusal::TooMany));
 }
 
-fn new_group() -> Edit {
+/// A new group on the page.
+pub(crate) fn new_group() -> Edit {
     create(Kind::Group, Parent::Page, Spot::Front)
 }
 
 // A document whose last id went to a new group.
 fn spent(rt: &impl Abort, alloc: Global) -> Document {
     let last = restored(alloc, Vec::new(alloc), 4_294_967_294).expect(rt, "a document");
-    edited(alloc, &last, &new_group()).expect(rt, "accepted")
-}
-
-fn check_spent(rt: &impl Abort, alloc: Global, spent: &Document) {
-    equal(rt, "next id", &"spent", &spent.next_id(), &4_294_967_295);
-    let last = 4_294_967_294;
-    holds(rt, "there", &last, spent.get(last).is_some());
-    let expected = Some(Refusal::IdsSpent);
-    check(rt, alloc, spent, new_group(), &"spent", expected);
+    edited_by(alloc, &last, new_group()).expect(rt, "accepted")
 }
 
 #[test]
 fn ids_are_spent_last_of_all(rt: HostRuntime) {
     let alloc = rt.alloc();
     let spent = spent(&rt, alloc);
-    check_spent(&rt, alloc, &spent);
+    let next = spent.next_id();
+    holds(&rt, "next id", &next, next == 4_294_967_295);
+    let last = 4_294_967_294;
+    holds(&rt, "there", &last, spent.get(last).is_some());
+    let expected = Some(Refusal::IdsSpent);
+    check(&rt, alloc, &spent, new_group(), &"spent", expected);
+    drop(spent);
 }
 
 // Moves of a shape under a parent to every kind of spot, of which `first` is refused before.
@@ -317,7 +321,7 @@ fn check_all_moves(rt: &impl Abort, alloc: Global, document: &Document, rows: &[
 fn refusals_of_move(rt: HostRuntime) {
     let alloc = rt.alloc();
     let document = document(&rt, alloc, false, NEXT);
-    let rows = [
+    let rows: &[MoveRow] = &[
         (POLYGON, GROUP, 2, None),
         (TALL, GROUP, 2, None),
         (POLYGON, AT_DEPTH_31, DEEP_LEAF, None),
@@ -337,7 +341,8 @@ fn refusals_of_move(rt: HostRuntime) {
         (TALL, AT_DEPTH_31, DEEP_LEAF, Some(Refusal::TooDeep)),
         (POLYGON, LOWEST, 2, Some(Refusal::TooDeep)),
     ];
-    check_all_moves(&rt, alloc, &document, &rows);
+    check_all_moves(&rt, alloc, &document, rows);
+    drop(document);
 }
 
 fn check_height(
@@ -362,6 +367,7 @@ fn heights_below_a_parent(rt: HostRuntime) {
     check_height(&rt, alloc, &document, AT_DEPTH_29, None);
     let expected = Some(Refusal::TooDeep);
     check_height(&rt, alloc, &document, AT_DEPTH_30, expected);
+    drop(document);
 }
 
 // Poses of a shape, of which `missing` is refused before.
@@ -385,15 +391,14 @@ fn refusals_of_pose(rt: HostRuntime) {
     check_poses(&rt, alloc, &document, LEAF, None);
     let expected = Some(Refusal::NoSuchShape);
     check_poses(&rt, alloc, &document, MISSING, expected);
+    drop(document);
 }
 
+// A shape, what is wrong with its new kind, and what is refused.
+type KindRow = (u32, Flaw, Option<Refusal>);
+
 // New kinds of shapes.
-fn check_kinds(
-    rt: &impl Abort,
-    alloc: Global,
-    document: &Document,
-    rows: &[(u32, Flaw, Option<Refusal>)],
-) {
+fn check_kinds(rt: &impl Abort, alloc: Global, document: &Document, rows: &[KindRow]) {
     for (id, flaw, expected) in rows {
         let kind = kind_with(rt, alloc, *flaw);
         let edit = Edit::Reshape { id: *id, kind };
@@ -404,7 +409,7 @@ fn check_kinds(
 #[test]
 fn refusals_of_reshape(rt: HostRuntime) {
     let alloc = rt.alloc();
-    let rows = [
+    let rows: &[KindRow] = &[
         (GROUP, Flaw::None, None),
         (LEAF, Flaw::None, Some(Refusal::WrongKind)),
         (LEAF, Flaw::Side, Some(Refusal::BadSize)),
@@ -416,7 +421,8 @@ fn refusals_of_reshape(rt: HostRuntime) {
         (MISSING, Flaw::Vertices, Some(Refusal::NoSuchShape)),
     ];
     let document = document(&rt, alloc, false, NEXT);
-    check_kinds(&rt, alloc, &document, &rows);
+    check_kinds(&rt, alloc, &document, rows);
+    drop(document);
 }
 
 // Shows and deletes a shape.
@@ -445,22 +451,20 @@ fn check_respace(
     check(rt, alloc, document, edit, &parent, expected);
 }
 
-fn check_others(rt: &impl Abort, alloc: Global, document: &Document) {
-    check_show_and_delete(rt, alloc, document, LEAF, None);
-    let no_shape = Some(Refusal::NoSuchShape);
-    check_show_and_delete(rt, alloc, document, MISSING, no_shape);
-    check_respace(rt, alloc, document, Parent::Page, None);
-    check_respace(rt, alloc, document, Parent::Shape(TALL), None);
-    let no_parent = Some(Refusal::NoSuchParent);
-    check_respace(rt, alloc, document, Parent::Shape(MISSING), no_parent);
-    let no_container = Some(Refusal::NotAContainer);
-    check_respace(rt, alloc, document, Parent::Shape(LEAF), no_container);
-}
-
 #[test]
 fn refusals_of_the_others(rt: HostRuntime) {
-    let document = document(&rt, rt.alloc(), false, NEXT);
-    check_others(&rt, rt.alloc(), &document);
+    let alloc = rt.alloc();
+    let document = document(&rt, alloc, false, NEXT);
+    check_show_and_delete(&rt, alloc, &document, LEAF, None);
+    let no_shape = Some(Refusal::NoSuchShape);
+    check_show_and_delete(&rt, alloc, &document, MISSING, no_shape);
+    check_respace(&rt, alloc, &document, Parent::Page, None);
+    check_respace(&rt, alloc, &document, Parent::Shape(TALL), None);
+    let no_parent = Some(Refusal::NoSuchParent);
+    check_respace(&rt, alloc, &document, Parent::Shape(MISSING), no_parent);
+    let no_container = Some(Refusal::NotAContainer);
+    check_respace(&rt, alloc, &document, Parent::Shape(LEAF), no_container);
+    drop(document);
 }
 
 // An edit of the polygon to what it is, by its number.
@@ -487,7 +491,7 @@ fn edit_to_the_same(rt: &impl Abort, alloc: Global, number: u32) -> Edit {
 // The document after such an edit.
 fn after_same(rt: &impl Abort, alloc: Global, document: &Document, number: u32) -> Document {
     let edit = edit_to_the_same(rt, alloc, number);
-    edited(alloc, document, &edit).expect(rt, "accepted")
+    edited_by(alloc, document, edit).expect(rt, "accepted")
 }
 
 fn has_same_polygon(document: &Document, other: &Document) -> bool {
@@ -507,7 +511,9 @@ fn check_same_after(rt: &impl Abort, alloc: Global, document: &Document, number:
 #[test]
 fn edits_to_what_is_there(rt: HostRuntime) {
     let document = document(&rt, rt.alloc(), false, NEXT);
-    for number in 0..4u32 {
-        check_same_after(&rt, rt.alloc(), &document, number);
-    }
+    check_same_after(&rt, rt.alloc(), &document, 0);
+    check_same_after(&rt, rt.alloc(), &document, 1);
+    check_same_after(&rt, rt.alloc(), &document, 2);
+    check_same_after(&rt, rt.alloc(), &document, 3);
+    drop(document);
 }
