@@ -4,7 +4,13 @@ use canvas_doc::{Document, Edit, Refusal};
 use canvas_samples::{BLUE, GREEN, RED, WHITE, edited, index_of};
 use canvas_shape::Colour;
 use std::alloc::Global;
+use std::fmt::Debug;
 use std::process::Abort;
+
+// Ends the test with these words and the case unless it is so.
+fn holds(rt: &impl Abort, what: &str, case: &impl Debug, is_so: bool) {
+    assert!(rt; is_so, "{what}: {case:?}");
+}
 
 // The colour of a letter of a picture.
 fn colour_of(letter: u8) -> Colour {
@@ -26,7 +32,7 @@ pub(crate) fn assert_looks_like(rt: &impl Abort, document: &Document, corner: i3
             y = y.saturating_add(1);
         } else {
             let is_so = document.colour_at(x, y) == colour_of(*letter);
-            assert!(rt; is_so, "{rows}: {x}, {y}");
+            holds(rt, rows, &(x, y), is_so);
             x = x.saturating_add(1);
         }
     }
@@ -34,17 +40,18 @@ pub(crate) fn assert_looks_like(rt: &impl Abort, document: &Document, corner: i3
 
 /// Asserts what the index of a shape is.
 pub(crate) fn assert_index(rt: &impl Abort, document: &Document, id: u32, index: &[u8]) {
-    assert!(rt; index_of(document, id) == index, "shape {id}");
+    holds(rt, "index", &id, index_of(document, id) == index);
 }
 
 /// Asserts which id the next shape gets.
 pub(crate) fn assert_next_id(rt: &impl Abort, document: &Document, wanted: u32) {
-    assert_eq!(rt; document.next_id(), wanted);
+    let next = document.next_id();
+    holds(rt, "next id", &(next, wanted), next == wanted);
 }
 
 /// Asserts that two documents have the same record of a shape.
 pub(crate) fn assert_same(rt: &impl Abort, document: &Document, other: &Document, id: u32) {
-    assert!(rt; document.get(id) == other.get(id), "shape {id}");
+    holds(rt, "same", &id, document.get(id) == other.get(id));
 }
 
 /// Asserts why an edit is refused.
@@ -56,11 +63,8 @@ pub(crate) fn assert_refused(
     wanted: Refusal,
 ) {
     let found = document.decide(alloc, &edit).err();
-    assert_is(rt, found, wanted);
-}
-
-fn assert_is(rt: &impl Abort, found: Option<Refusal>, wanted: Refusal) {
-    assert!(rt; found == Some(wanted), "{found:?} is not {wanted:?}");
+    drop(edit);
+    holds(rt, "refusal", &(found, wanted), found == Some(wanted));
 }
 
 /// Asserts that an edit leaves a shape as it was.
@@ -72,5 +76,7 @@ pub(crate) fn assert_leaves(
     id: u32,
 ) {
     let after = edited(alloc, document, &edit).expect(rt, "an edit");
+    drop(edit);
     assert_same(rt, &after, document, id);
+    drop(after);
 }

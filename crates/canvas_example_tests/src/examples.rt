@@ -15,7 +15,10 @@ use std::process::Abort;
 
 // The document after an edit.
 fn after(rt: &impl Abort, alloc: Global, document: Document, edit: Edit) -> Document {
-    edited(alloc, &document, &edit).expect(rt, "an edit")
+    let after = edited(alloc, &document, &edit).expect(rt, "an edit");
+    drop(edit);
+    drop(document);
+    after
 }
 
 // The document with a new shape in front of its siblings.
@@ -76,6 +79,7 @@ fn a_rectangle_comes_from_the_back_to_the_front(rt: HostRuntime) {
     let turned = after(&rt, alloc, both, to_front(2, Parent::Page));
     assert_index(&rt, &turned, 2, b"a1");
     assert_looks_like(&rt, &turned, -1, "..../.bb./....");
+    drop(turned);
 }
 
 fn turned_frame(rt: &impl Abort, alloc: Global) -> Document {
@@ -101,6 +105,7 @@ fn a_turned_frame_clips_its_child(rt: HostRuntime) {
     let document = with_rectangle(&rt, alloc, turned, (5, 5, GREEN), Parent::Shape(1));
     let rows = "....../.g..../.g..../....../....../......";
     assert_looks_like(&rt, &document, -1, rows);
+    drop(document);
 }
 
 // The document with a frame of this size in front of its siblings.
@@ -124,6 +129,7 @@ fn frames_clip_and_hide(rt: HostRuntime) {
     let (id, hidden) = (1, true);
     let hidden = after(&rt, alloc, shown, Edit::Show { id, hidden });
     assert_looks_like(&rt, &hidden, 0, "....../....../......");
+    drop(hidden);
 }
 
 #[test]
@@ -134,6 +140,7 @@ fn a_filled_frame_stands_behind_its_children(rt: HostRuntime) {
     let frame = page_with(&rt, alloc, filled);
     let document = with_rectangle(&rt, alloc, frame, (2, 5, RED), Parent::Shape(1));
     assert_looks_like(&rt, &document, 0, "rrb./rrb./....");
+    drop(document);
 }
 
 #[test]
@@ -144,6 +151,7 @@ fn cycles_are_refused(rt: HostRuntime) {
     let three = with_frame(&rt, alloc, two, (2, 2), Parent::Shape(2));
     let round = to_front(1, Parent::Shape(3));
     assert_refused(&rt, alloc, &three, round, Refusal::Cycle);
+    drop(three);
 }
 
 // Groups 1 to 32, each of which holds the next, and a leaf 33 on the page.
@@ -165,6 +173,7 @@ fn depths_are_refused(rt: HostRuntime) {
     assert_refused(&rt, alloc, &document, there, Refusal::TooDeep);
     let lower = after(&rt, alloc, document, to_front(33, Parent::Shape(31)));
     assert_looks_like(&rt, &lower, 0, "r");
+    drop(lower);
 }
 
 fn group(spot: Spot) -> Edit {
@@ -189,6 +198,7 @@ fn spots_name_siblings(rt: HostRuntime) {
     assert_refused(&rt, alloc, &document, stranger, Refusal::SpotNotSibling);
     let over_itself = moved_to(2, Parent::Page, Spot::Over(2));
     assert_refused(&rt, alloc, &document, over_itself, Refusal::SpotNotSibling);
+    drop(document);
 }
 
 #[test]
@@ -198,6 +208,7 @@ fn a_shape_keeps_its_own_index(rt: HostRuntime) {
     let index = Key::read(b"a1").expect(&rt, "a key");
     let own_place = moved_to(2, Parent::Page, Spot::At(index));
     assert_leaves(&rt, alloc, &document, own_place, 2);
+    drop(document);
 }
 
 #[test]
@@ -205,6 +216,7 @@ fn spent_ids_are_refused(rt: HostRuntime) {
     let alloc = rt.alloc();
     let spent = restored(alloc, Vec::new(alloc), 4_294_967_295).expect(&rt, "a document");
     assert_refused(&rt, alloc, &spent, group(Spot::Front), Refusal::IdsSpent);
+    drop(spent);
 }
 
 // A rectangle on the page.
@@ -240,6 +252,7 @@ fn respaced_children_keep_their_order(rt: HostRuntime) {
     assert_index(&rt, &spaced, 3, b"a1");
     assert_index(&rt, &spaced, 1, b"a2");
     assert_looks_like(&rt, &spaced, 0, "rgb.");
+    drop(spaced);
 }
 
 // The crowded page with a group 6 in front.
@@ -252,6 +265,7 @@ fn a_group_without_children_is_respaced(rt: HostRuntime) {
     let alloc = rt.alloc();
     let with_group = crowded_page_and_group(&rt, alloc);
     assert_leaves(&rt, alloc, &with_group, respace(Parent::Shape(6)), 6);
+    drop(with_group);
 }
 
 fn triangle(rt: &impl Abort, alloc: Global) -> Document {
@@ -268,6 +282,7 @@ fn assert_clone_is_triangle(rt: &impl Abort, alloc: Global, document: &Document)
     let clone = document.try_clone(alloc).expect(rt, "memory");
     assert_is_triangle(rt, &clone);
     assert_same(rt, document, &clone, 1);
+    drop(clone);
 }
 
 #[test]
@@ -276,6 +291,7 @@ fn a_triangle_is_cloned(rt: HostRuntime) {
     let document = triangle(&rt, alloc);
     assert_clone_is_triangle(&rt, alloc, &document);
     assert_is_triangle(&rt, &document);
+    drop(document);
 }
 
 // Three rectangles on the page, each in front of the one before it.
@@ -298,6 +314,7 @@ fn an_index_over_a_sibling(rt: HostRuntime) {
     let over_second = moved_to(1, Parent::Page, Spot::Over(2));
     let first_over_second = after(&rt, alloc, third_over_first, over_second);
     assert_index(&rt, &first_over_second, 1, b"a2");
+    drop(first_over_second);
 }
 
 // In one row 9 + 9 > 16 keeps the corner out, in the next 1 + 9 <= 16 takes the side in.
@@ -308,4 +325,5 @@ fn ellipse_lacks_its_corners_alone(rt: HostRuntime) {
     let ellipse = Kind::Ellipse { w, h, fill };
     let document = page_with(&rt, alloc, ellipse);
     assert_looks_like(&rt, &document, 0, "wrrw/rrrr/rrrr/wrrw");
+    drop(document);
 }
