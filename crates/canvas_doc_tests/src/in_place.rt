@@ -27,7 +27,9 @@ fn push_clone(rt: &impl Abort, alloc: Global, kept: &mut Vec<Document>, document
 }
 
 fn make_next(rt: &impl Abort, alloc: Global, document: &mut Document, made: u32) {
-    make(alloc, document, &edit_after(made)).expect(rt, "accepted");
+    let edit = edit_after(made);
+    make(alloc, document, &edit).expect(rt, "accepted");
+    drop(edit);
     check_records(rt, alloc, document, made.saturating_add(1));
 }
 
@@ -42,6 +44,8 @@ fn history(rt: &impl Abort, alloc: Global, keeps: bool) {
         make_next(rt, alloc, &mut document, made);
         check_all_records(rt, alloc, &kept);
     }
+    drop(kept);
+    drop(document);
 }
 
 #[test]
@@ -62,6 +66,7 @@ impl Twice {
     fn edit(&mut self, rt: &impl Abort, alloc: Global, edit: Edit) {
         let is_made = make(alloc, &mut self.document, &edit).is_ok();
         let is_made_anew = self.edit_anew(alloc, &edit);
+        drop(edit);
         holds(rt, "made", &is_made, is_made == is_made_anew);
     }
 
@@ -110,6 +115,7 @@ fn versions(rt: &impl Abort, alloc: Global) -> Vec<Version> {
     for number in 0..8u32 {
         both.go_on(rt, alloc, &mut dice, &mut versions, number);
     }
+    drop(both);
     versions
 }
 
@@ -117,4 +123,5 @@ fn versions(rt: &impl Abort, alloc: Global) -> Vec<Version> {
 fn changes_in_place_leave_versions_what_they_were(rt: HostRuntime) {
     let versions = versions(&rt, rt.alloc());
     check_versions(&rt, rt.alloc(), &versions);
+    drop(versions);
 }

@@ -31,7 +31,9 @@ fn square(alloc: Global) -> Result<Kind, OutOfMemory> {
 
 fn after_first_edit(alloc: Global, document: &Document, number: u32) -> Result<Document, Refusal> {
     let edit = first_edit(alloc, number)?;
-    edited(alloc, document, &edit)
+    let after = edited(alloc, document, &edit);
+    drop(edit);
+    after
 }
 
 // A group with a triangle and a rectangle in it.
@@ -105,7 +107,9 @@ fn is_made_again(
     first: &Result<Document, Refusal>,
 ) -> Result<bool, Refusal> {
     let again = edited(alloc, document, edit);
-    are_right(first, &again)
+    let is_right = are_right(first, &again);
+    drop(again);
+    is_right
 }
 
 // Whether only want of memory kept an edit from being made, and the edit is made afterwards.
@@ -116,7 +120,10 @@ fn is_made_once_there_is_memory(
 ) -> Result<bool, Refusal> {
     let edit = edit(alloc, number)?;
     let first = edited(alloc, document, &edit);
-    is_made_again(alloc, document, &edit, &first)
+    let is_made = is_made_again(alloc, document, &edit, &first);
+    drop(first);
+    drop(edit);
+    is_made
 }
 
 // Makes each edit of a document, which stays the same as its copy.
@@ -140,7 +147,9 @@ fn check_edits_beside_copy(
     document: &Document,
 ) -> Result<(), Refusal> {
     let copy = document.try_clone(alloc)?;
-    check_edits(rt, alloc, document, &copy)
+    let checked = check_edits(rt, alloc, document, &copy);
+    drop(copy);
+    checked
 }
 
 #[test]
@@ -188,7 +197,9 @@ fn is_made_in_place_once_there_is_memory(
 // The same of a document of its own, which shares its records with none.
 fn is_made_alone(alloc: Global, step: Step<'_>) -> Result<bool, Refusal> {
     let mut own = document(alloc)?;
-    is_made_in_place_once_there_is_memory(alloc, &mut own, step)
+    let is_made = is_made_in_place_once_there_is_memory(alloc, &mut own, step);
+    drop(own);
+    is_made
 }
 
 // The same of a document that shares its records with a clone, which stays what it was.
@@ -200,7 +211,9 @@ fn is_made_beside_clone(alloc: Global, step: Step<'_>) -> Result<bool, Refusal> 
 
 fn is_made_of_clone(alloc: Global, document: &Document, step: Step<'_>) -> Result<bool, Refusal> {
     let mut own = document.try_clone(alloc)?;
-    is_made_in_place_once_there_is_memory(alloc, &mut own, step)
+    let is_made = is_made_in_place_once_there_is_memory(alloc, &mut own, step);
+    drop(own);
+    is_made
 }
 
 // The same of both with one edit of a document that is like them.
@@ -211,7 +224,9 @@ fn is_made_of_each(alloc: Global, edit: &Edit, before: &Document) -> Result<bool
         before,
         after: &after,
     };
-    is_made_both_ways(alloc, step)
+    let is_made = is_made_both_ways(alloc, step);
+    drop(after);
+    is_made
 }
 
 fn is_made_both_ways(alloc: Global, step: Step<'_>) -> Result<bool, Refusal> {
@@ -220,7 +235,9 @@ fn is_made_both_ways(alloc: Global, step: Step<'_>) -> Result<bool, Refusal> {
 
 fn is_made_in_place(alloc: Global, number: u32, before: &Document) -> Result<bool, Refusal> {
     let edit = edit(alloc, number)?;
-    is_made_of_each(alloc, &edit, before)
+    let is_made = is_made_of_each(alloc, &edit, before);
+    drop(edit);
+    is_made
 }
 
 #[test]
@@ -256,7 +273,9 @@ fn why_refused(
     number: u32,
 ) -> Result<Option<Refusal>, OutOfMemory> {
     let edit = refused_edit(alloc, number)?;
-    Ok(document.decide(alloc, &edit).err())
+    let refusal = document.decide(alloc, &edit).err();
+    drop(edit);
+    Ok(refusal)
 }
 
 #[test]
@@ -306,13 +325,17 @@ fn is_restored_again(
     first: &Result<Document, TreeFault>,
 ) -> Result<bool, TreeFault> {
     let again = restored_pair(alloc);
-    restores_are_right(first, &again)
+    let is_right = restores_are_right(first, &again);
+    drop(again);
+    is_right
 }
 
 // Whether only want of memory kept the pair from being restored, and it is restored afterwards.
 fn is_restored_once_there_is_memory(alloc: Global) -> Result<bool, TreeFault> {
     let first = restored_pair(alloc);
-    is_restored_again(alloc, &first)
+    let is_restored = is_restored_again(alloc, &first);
+    drop(first);
+    is_restored
 }
 
 #[test]

@@ -149,6 +149,7 @@ pub(crate) fn check(
     expected: Option<Refusal>,
 ) {
     let found = document.decide(alloc, &edit).err();
+    drop(edit);
     holds(rt, "refusal", &(case, found, expected), found == expected);
 }
 
@@ -252,6 +253,7 @@ fn check_creations(
         let first = hung.or(spent);
         check_new_shapes(rt, alloc, &document, Parent::Shape(parent), first);
     }
+    drop(document);
 }
 
 #[test]
@@ -272,7 +274,9 @@ pub(crate) fn new_group() -> Edit {
 // A document whose last id went to a new group.
 fn spent(rt: &impl Abort, alloc: Global) -> Document {
     let last = restored(alloc, Vec::new(alloc), 4_294_967_294).expect(rt, "a document");
-    edited_by(alloc, &last, new_group()).expect(rt, "accepted")
+    let spent = edited_by(alloc, &last, new_group()).expect(rt, "accepted");
+    drop(last);
+    spent
 }
 
 #[test]
@@ -506,6 +510,7 @@ fn check_same_after(rt: &impl Abort, alloc: Global, document: &Document, number:
         &number,
         has_same_polygon(document, &after),
     );
+    drop(after);
 }
 
 #[test]

@@ -146,11 +146,11 @@ fn poses_outside_their_limits(rt: HostRuntime) {
 fn sides_outside_their_limits(rt: HostRuntime) {
     let alloc = rt.alloc();
     let widest = child(frame(65_536, 1));
-    check_second(&rt, alloc, widest, &"65,536 wide", None);
+    check_second(&rt, alloc, widest, &(65_536, 1), None);
     let without_width = child(frame(0, 1));
-    check_second(&rt, alloc, without_width, &"0 wide", bad_record(1));
+    check_second(&rt, alloc, without_width, &(0, 1), bad_record(1));
     let too_high = child(frame(1, 65_537));
-    check_second(&rt, alloc, too_high, &"65,537 high", bad_record(1));
+    check_second(&rt, alloc, too_high, &(1, 65_537), bad_record(1));
 }
 
 // A polygon with so many vertices.
@@ -166,11 +166,11 @@ fn polygon_of(rt: &impl Abort, alloc: Global, count: i64) -> Kind {
 fn vertices_outside_their_limits(rt: HostRuntime) {
     let alloc = rt.alloc();
     let fewest = child(polygon_of(&rt, alloc, 3));
-    check_second(&rt, alloc, fewest, &"3 vertices", None);
+    check_second(&rt, alloc, fewest, &3, None);
     let too_few = child(polygon_of(&rt, alloc, 2));
-    check_second(&rt, alloc, too_few, &"2 vertices", bad_record(1));
+    check_second(&rt, alloc, too_few, &2, bad_record(1));
     let too_many = child(polygon_of(&rt, alloc, 257));
-    check_second(&rt, alloc, too_many, &"257 vertices", bad_record(1));
+    check_second(&rt, alloc, too_many, &257, bad_record(1));
 }
 
 #[test]
@@ -292,6 +292,7 @@ fn check_ordered(rt: &impl Abort, alloc: Global, document: &Document) {
 fn check_copy(rt: &impl Abort, alloc: Global, document: &Document) {
     let copy = document.try_clone(alloc).expect(rt, "memory");
     check_ordered(rt, alloc, &copy);
+    drop(copy);
 }
 
 #[test]
@@ -328,7 +329,9 @@ fn as_many_as_may_be(rt: HostRuntime) {
 
 // The document after an edit.
 fn after(rt: &impl Abort, alloc: Global, document: Document, edit: Edit) -> Document {
-    edited_by(alloc, &document, edit).expect(rt, "accepted")
+    let after = edited_by(alloc, &document, edit).expect(rt, "accepted");
+    drop(document);
+    after
 }
 
 // The full page without its first group, and with a new one.
