@@ -112,8 +112,6 @@ pub(crate) fn check_records(rt: &impl Abort, alloc: Global, document: &Document,
     holds(rt, "found after", &made, finds_all(document, &wanted));
     let listed = all_of(rt, alloc, document);
     holds(rt, "listed after", &made, listed == wanted);
-    drop(listed);
-    drop(wanted);
 }
 
 /// Each of the documents has those that are there after as many edits as stand in front of it.
@@ -164,7 +162,6 @@ fn a_long_history_keeps_its_documents_apart(rt: HostRuntime) {
     }
     let count = documents.len();
     holds(&rt, "23 documents", &count, count == 23);
-    drop(documents);
 }
 
 // A shape of a crowd: eight groups, and rectangles of which every ninth lies on the page.
@@ -375,5 +372,4 @@ fn many_versions_stay_what_they_were(rt: HostRuntime) {
     let count = versions.len();
     holds(&rt, "65 versions", &count, count == 65);
     check_versions(&rt, alloc, &versions);
-    drop(versions);
 }

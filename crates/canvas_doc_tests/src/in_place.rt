@@ -13,8 +13,9 @@ use std::process::Abort;
 /// Makes an edit, in place where that can be.
 pub(crate) fn make(alloc: Global, document: &mut Document, edit: &Edit) -> Result<(), Refusal> {
     let change = document.decide(alloc, edit)?;
-    document.apply(alloc, &change)?;
-    Ok(())
+    let made = document.apply(alloc, &change);
+    drop(change);
+    Ok(made?)
 }
 
 fn clone_of(rt: &impl Abort, alloc: Global, document: &Document) -> Document {
@@ -123,5 +124,4 @@ fn versions(rt: &impl Abort, alloc: Global) -> Vec<Version> {
 fn changes_in_place_leave_versions_what_they_were(rt: HostRuntime) {
     let versions = versions(&rt, rt.alloc());
     check_versions(&rt, rt.alloc(), &versions);
-    drop(versions);
 }

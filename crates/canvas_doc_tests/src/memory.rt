@@ -155,7 +155,9 @@ fn check_edits_beside_copy(
 #[test]
 fn edits_with_little_memory(rt: HostRuntime) -> Result<(), Fail> {
     let document = document(rt.alloc())?;
-    check_edits_beside_copy(&rt, rt.alloc(), &document)?;
+    let checked = check_edits_beside_copy(&rt, rt.alloc(), &document);
+    drop(document);
+    checked?;
     Ok(())
 }
 
@@ -205,8 +207,10 @@ fn is_made_alone(alloc: Global, step: Step<'_>) -> Result<bool, Refusal> {
 // The same of a document that shares its records with a clone, which stays what it was.
 fn is_made_beside_clone(alloc: Global, step: Step<'_>) -> Result<bool, Refusal> {
     let clone = document(alloc)?;
-    let is_made = is_made_of_clone(alloc, &clone, step)?;
-    Ok(is_made && look_same(&clone, step.before))
+    let is_made = is_made_of_clone(alloc, &clone, step);
+    let is_kept = look_same(&clone, step.before);
+    drop(clone);
+    Ok(is_made? && is_kept)
 }
 
 fn is_made_of_clone(alloc: Global, document: &Document, step: Step<'_>) -> Result<bool, Refusal> {
