@@ -1,6 +1,7 @@
 //! Long histories: documents that share their records stay apart.
 
-use canvas_doc::{Document, Edit, Parent, Record, Spot};
+use crate::asserts::holds;
+use canvas_doc::{Document, Edit, Parent, Record, Refusal, Spot};
 use canvas_key::{Key, fresh};
 use canvas_plane::Pose;
 use canvas_samples::{BLUE, Dice, GREEN, RED, create, edited, moved, record, rectangle, restored};
@@ -95,26 +96,30 @@ fn records_after(rt: &impl Abort, alloc: Global, made: u32) -> Vec<Record> {
     records
 }
 
-// Whether a document has these records, as it lists them and as it finds them.
-fn are_its(document: &Document, listed: &[&Record], wanted: &[Record]) -> bool {
-    let mut same = document.count() == wanted.len();
-    for (own, other) in listed.iter().zip(wanted) {
-        same = same && *own == other && document.get(other.id) == Some(other);
+// Whether a document finds each of these records.
+fn finds_all(document: &Document, wanted: &[Record]) -> bool {
+    for shape in wanted {
+        if document.get(shape.id) != Some(shape) {
+            return false;
+        }
     }
-    same
+    document.count() == wanted.len()
 }
 
-/// Whether a document has the records that are there after so many edits.
-pub(crate) fn has_records(rt: &impl Abort, alloc: Global, document: &Document, made: u32) -> bool {
+/// Asserts that a document has the records that are there after so many edits, as it lists them and as it finds them.
+pub(crate) fn check_records(rt: &impl Abort, alloc: Global, document: &Document, made: u32) {
     let wanted = records_after(rt, alloc, made);
-    let listed = document.records_in_order(alloc).expect(rt, "memory");
-    are_its(document, &listed, &wanted)
+    holds(rt, "found after", &made, finds_all(document, &wanted));
+    let listed = all_of(rt, alloc, document);
+    holds(rt, "listed after", &made, listed == wanted);
 }
 
 /// Each of the documents has those that are there after as many edits as stand in front of it.
-pub(crate) fn all_have_records(rt: &impl Abort, alloc: Global, documents: &[Document]) {
-    for (document, made) in documents.iter().zip(0..23u32) {
-        assert!(rt; has_records(rt, alloc, document, made), "after {made}");
+pub(crate) fn check_all_records(rt: &impl Abort, alloc: Global, documents: &[Document]) {
+    let mut made: u32 = 0;
+    for document in documents {
+        check_records(rt, alloc, document, made);
+        made = made.saturating_add(1);
     }
 }
 
@@ -123,14 +128,25 @@ pub(crate) fn first_document(rt: &impl Abort, alloc: Global) -> Document {
     restored(alloc, records_after(rt, alloc, 0), 190).expect(rt, "a document")
 }
 
-fn next_document(rt: &impl Abort, alloc: Global, last: &Document, made: u32) -> Document {
-    edited(alloc, last, &edit_after(made)).expect(rt, "accepted")
+/// The document after an edit, or why it is refused.
+pub(crate) fn edited_by(
+    alloc: Global,
+    document: &Document,
+    edit: Edit,
+) -> Result<Document, Refusal> {
+    let after = edited(alloc, document, &edit);
+    drop(edit);
+    after
 }
 
-// The documents with the one after the next edit, or the first.
+fn next_document(rt: &impl Abort, alloc: Global, last: &Document, made: u32) -> Document {
+    edited_by(alloc, last, edit_after(made)).expect(rt, "accepted")
+}
+
+// The documents with the one after so many edits.
 fn push_next(rt: &impl Abort, alloc: Global, documents: &mut Vec<Document>, made: u32) {
     let next = match documents.last() {
-        Some(last) => next_document(rt, alloc, last, made),
+        Some(last) => next_document(rt, alloc, last, made.saturating_sub(1)),
         None => first_document(rt, alloc),
     };
     documents.push(next).expect(rt, "memory");
@@ -140,12 +156,12 @@ fn push_next(rt: &impl Abort, alloc: Global, documents: &mut Vec<Document>, made
 fn a_long_history_keeps_its_documents_apart(rt: HostRuntime) {
     let alloc = rt.alloc();
     let mut documents = Vec::new(alloc);
-    push_next(&rt, alloc, &mut documents, 0);
-    for made in 0..22u32 {
+    for made in 0..23u32 {
         push_next(&rt, alloc, &mut documents, made);
-        all_have_records(&rt, alloc, &documents);
+        check_all_records(&rt, alloc, &documents);
     }
-    assert_eq!(rt; documents.len(), 23);
+    let count = documents.len();
+    holds(&rt, "23 documents", &count, count == 23);
 }
 
 // A shape of a crowd: eight groups, and rectangles of which every ninth lies on the page.
@@ -224,9 +240,9 @@ fn whole_edit(number: u32, group: u32) -> Edit {
     }
 }
 
-/// The document after an edit, or what it was where the edit is refused.
-pub(crate) fn edited_if_accepted(alloc: Global, document: Document, edit: &Edit) -> Document {
-    edited(alloc, &document, edit).unwrap_or(document)
+// The document after an edit in turn, or what it was where the edit is refused.
+fn edited_in_turn(alloc: Global, dice: &mut Dice, document: Document, number: u32) -> Document {
+    edited_by(alloc, &document, edit_in_turn(dice, number)).unwrap_or(document)
 }
 
 // The document after some edits, those that are refused left out.
@@ -239,8 +255,8 @@ fn next_version(
 ) -> Document {
     let mut after = document.try_clone(alloc).expect(rt, "memory");
     for more in 0..3u32 {
-        let edit = edit_in_turn(dice, number.wrapping_mul(3).wrapping_add(more));
-        after = edited_if_accepted(alloc, after, &edit);
+        let number = number.wrapping_mul(3).wrapping_add(more);
+        after = edited_in_turn(alloc, dice, after, number);
     }
     after
 }
@@ -249,34 +265,36 @@ fn next_version(
 #[derive(PartialEq, Drop)]
 pub(crate) struct Told {
     records: Vec<Record>,
-    page: Vec<u32>,
+    page: Vec<Record>,
     colours: Vec<Colour>,
 }
 
 /// What a document is.
 pub(crate) fn tell(rt: &impl Abort, alloc: Global, document: &Document) -> Told {
     Told {
-        records: copied(rt, alloc, document),
+        records: all_of(rt, alloc, document),
         page: page_of(rt, alloc, document),
         colours: colours_of(rt, alloc, document),
     }
 }
 
-fn copied(rt: &impl Abort, alloc: Global, document: &Document) -> Vec<Record> {
+fn all_of(rt: &impl Abort, alloc: Global, document: &Document) -> Vec<Record> {
+    let listed = document.records_in_order(alloc).expect(rt, "memory");
+    copies(rt, alloc, &listed)
+}
+
+fn page_of(rt: &impl Abort, alloc: Global, document: &Document) -> Vec<Record> {
+    let children = document.children(alloc, Parent::Page).expect(rt, "memory");
+    copies(rt, alloc, &children)
+}
+
+fn copies(rt: &impl Abort, alloc: Global, shapes: &[&Record]) -> Vec<Record> {
     let mut records = Vec::new(alloc);
-    for shape in &document.records_in_order(alloc).expect(rt, "memory") {
+    for shape in shapes {
         let copy = shape.try_clone(alloc).expect(rt, "memory");
         records.push(copy).expect(rt, "memory");
     }
     records
-}
-
-fn page_of(rt: &impl Abort, alloc: Global, document: &Document) -> Vec<u32> {
-    let mut ids = Vec::new(alloc);
-    for shape in &document.children(alloc, Parent::Page).expect(rt, "memory") {
-        ids.push(shape.id).expect(rt, "memory");
-    }
-    ids
 }
 
 fn colours_of(rt: &impl Abort, alloc: Global, document: &Document) -> Vec<Colour> {
@@ -333,17 +351,25 @@ fn versions(rt: &impl Abort, alloc: Global, more: u32) -> Vec<Version> {
     versions
 }
 
-/// Whether a version still is what it was when it was kept.
-pub(crate) fn is_what_it_was(rt: &impl Abort, alloc: Global, (was, version): &Version) -> bool {
+fn is_what_it_was(rt: &impl Abort, alloc: Global, (was, version): &Version) -> bool {
     tell(rt, alloc, version) == *was
+}
+
+/// Asserts that each version still is what it was when it was kept.
+pub(crate) fn check_versions(rt: &impl Abort, alloc: Global, versions: &[Version]) {
+    let mut number: u32 = 0;
+    for version in versions {
+        let same = is_what_it_was(rt, alloc, version);
+        holds(rt, "what the version was", &number, same);
+        number = number.saturating_add(1);
+    }
 }
 
 #[test]
 fn many_versions_stay_what_they_were(rt: HostRuntime) {
     let alloc = rt.alloc();
     let versions = versions(&rt, alloc, 64);
-    assert_eq!(rt; versions.len(), 65);
-    for version in &versions {
-        assert!(rt; is_what_it_was(&rt, alloc, version));
-    }
+    let count = versions.len();
+    holds(&rt, "65 versions", &count, count == 65);
+    check_versions(&rt, alloc, &versions);
 }

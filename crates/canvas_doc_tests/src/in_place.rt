@@ -1,23 +1,37 @@
 //! Histories of documents that are changed in place, beside clones that are kept.
 
+use crate::asserts::holds;
 use crate::histories::{
-    Version, all_have_records, crowd_document, edit_after, edit_in_turn, edited_if_accepted,
-    first_document, has_records, is_what_it_was, push_version, tell,
+    Version, check_all_records, check_records, check_versions, crowd_document, edit_after,
+    edit_in_turn, first_document, push_version, tell,
 };
 use canvas_doc::{Document, Edit, Refusal};
-use canvas_samples::Dice;
+use canvas_samples::{Dice, edited};
 use std::alloc::Global;
 use std::process::Abort;
 
 /// Makes an edit, in place where that can be.
 pub(crate) fn make(alloc: Global, document: &mut Document, edit: &Edit) -> Result<(), Refusal> {
     let change = document.decide(alloc, edit)?;
-    document.apply(alloc, &change)?;
-    Ok(())
+    let made = document.apply(alloc, &change);
+    drop(change);
+    Ok(made?)
 }
 
 fn clone_of(rt: &impl Abort, alloc: Global, document: &Document) -> Document {
     document.try_clone(alloc).expect(rt, "memory")
+}
+
+fn push_clone(rt: &impl Abort, alloc: Global, kept: &mut Vec<Document>, document: &Document) {
+    let clone = clone_of(rt, alloc, document);
+    kept.push(clone).expect(rt, "memory");
+}
+
+fn make_next(rt: &impl Abort, alloc: Global, document: &mut Document, made: u32) {
+    let edit = edit_after(made);
+    make(alloc, document, &edit).expect(rt, "accepted");
+    drop(edit);
+    check_records(rt, alloc, document, made.saturating_add(1));
 }
 
 // Edits in turn, where a clone of each document before them is kept, or none.
@@ -26,14 +40,13 @@ fn history(rt: &impl Abort, alloc: Global, keeps: bool) {
     let mut kept = Vec::new(alloc);
     for made in 0..22u32 {
         if keeps {
-            let clone = clone_of(rt, alloc, &document);
-            kept.push(clone).expect(rt, "memory");
+            push_clone(rt, alloc, &mut kept, &document);
         }
-        make(alloc, &mut document, &edit_after(made)).expect(rt, "accepted");
-        let same = has_records(rt, alloc, &document, made.saturating_add(1));
-        assert!(rt; same, "after {made}");
-        all_have_records(rt, alloc, &kept);
+        make_next(rt, alloc, &mut document, made);
+        check_all_records(rt, alloc, &kept);
     }
+    drop(kept);
+    drop(document);
 }
 
 #[test]
@@ -49,50 +62,66 @@ struct Twice {
     anew: Document,
 }
 
-// Some edits of both, those that are refused left out.
-fn edited_twice(
-    rt: &impl Abort,
-    alloc: Global,
-    dice: &mut Dice,
-    both: Twice,
-    number: u32,
-) -> Twice {
-    let Twice {
-        mut document,
-        mut anew,
-    } = both;
-    for more in 0..20u32 {
-        let edit = edit_in_turn(dice, number.wrapping_mul(20).wrapping_add(more));
-        let is_made = make(alloc, &mut document, &edit).is_ok();
-        assert_eq!(rt; is_made, anew.decide(alloc, &edit).is_ok());
-        anew = edited_if_accepted(alloc, anew, &edit);
+impl Twice {
+    // Makes an edit of both, or of none where it is refused.
+    fn edit(&mut self, rt: &impl Abort, alloc: Global, edit: Edit) {
+        let is_made = make(alloc, &mut self.document, &edit).is_ok();
+        let is_made_anew = self.edit_anew(alloc, &edit);
+        drop(edit);
+        holds(rt, "made", &is_made, is_made == is_made_anew);
     }
-    Twice { document, anew }
+
+    // Whether the edit was made.
+    fn edit_anew(&mut self, alloc: Global, edit: &Edit) -> bool {
+        match edited(alloc, &self.anew, edit) {
+            Ok(after) => {
+                self.anew = after;
+                true
+            }
+            Err(_) => false,
+        }
+    }
+
+    // Keeps the document as a version, and makes some edits of both.
+    fn go_on(
+        &mut self,
+        rt: &impl Abort,
+        alloc: Global,
+        dice: &mut Dice,
+        versions: &mut Vec<Version>,
+        number: u32,
+    ) {
+        push_version(rt, alloc, versions, clone_of(rt, alloc, &self.document));
+        for more in 0..20u32 {
+            let edit = edit_in_turn(dice, number.wrapping_mul(20).wrapping_add(more));
+            self.edit(rt, alloc, edit);
+        }
+        let same = self.are_same(rt, alloc);
+        holds(rt, "the same after", &number, same);
+    }
+
+    fn are_same(&self, rt: &impl Abort, alloc: Global) -> bool {
+        tell(rt, alloc, &self.document) == tell(rt, alloc, &self.anew)
+    }
 }
 
-// Edits of both, between which eight versions are kept.
-fn versions(rt: &impl Abort, alloc: Global, both: Twice) -> Vec<Version> {
+// Eight versions, with edits between them.
+fn versions(rt: &impl Abort, alloc: Global) -> Vec<Version> {
     let mut dice = Dice::new(9);
     let mut versions = Vec::new(alloc);
-    let mut both = both;
+    let mut both = Twice {
+        document: crowd_document(rt, alloc),
+        anew: crowd_document(rt, alloc),
+    };
     for number in 0..8u32 {
-        let version = clone_of(rt, alloc, &both.document);
-        push_version(rt, alloc, &mut versions, version);
-        both = edited_twice(rt, alloc, &mut dice, both, number);
-        let told = tell(rt, alloc, &both.document);
-        assert!(rt; told == tell(rt, alloc, &both.anew), "after {number}");
+        both.go_on(rt, alloc, &mut dice, &mut versions, number);
     }
+    drop(both);
     versions
 }
 
 #[test]
 fn changes_in_place_leave_versions_what_they_were(rt: HostRuntime) {
-    let alloc = rt.alloc();
-    let both = Twice {
-        document: crowd_document(&rt, alloc),
-        anew: crowd_document(&rt, alloc),
-    };
-    for version in &versions(&rt, alloc, both) {
-        assert!(rt; is_what_it_was(&rt, alloc, version));
-    }
+    let versions = versions(&rt, rt.alloc());
+    check_versions(&rt, rt.alloc(), &versions);
 }

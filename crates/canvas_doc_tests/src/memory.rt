@@ -1,6 +1,7 @@
 //! Edits of which a growth may be refused: run with each allocation refused in turn, they answer want of
 //! memory or what they answer with ample memory, and leave the document as it was.
 
+use crate::asserts::holds;
 use crate::in_place::make;
 use canvas_code::OutOfMemory;
 use canvas_doc::{Document, Edit, Parent, Record, Refusal, Spot, TreeFault};
@@ -30,7 +31,9 @@ fn square(alloc: Global) -> Result<Kind, OutOfMemory> {
 
 fn after_first_edit(alloc: Global, document: &Document, number: u32) -> Result<Document, Refusal> {
     let edit = first_edit(alloc, number)?;
-    edited(alloc, document, &edit)
+    let after = edited(alloc, document, &edit);
+    drop(edit);
+    after
 }
 
 // A group with a triangle and a rectangle in it.
@@ -104,7 +107,9 @@ fn is_made_again(
     first: &Result<Document, Refusal>,
 ) -> Result<bool, Refusal> {
     let again = edited(alloc, document, edit);
-    are_right(first, &again)
+    let is_right = are_right(first, &again);
+    drop(again);
+    is_right
 }
 
 // Whether only want of memory kept an edit from being made, and the edit is made afterwards.
@@ -115,7 +120,10 @@ fn is_made_once_there_is_memory(
 ) -> Result<bool, Refusal> {
     let edit = edit(alloc, number)?;
     let first = edited(alloc, document, &edit);
-    is_made_again(alloc, document, &edit, &first)
+    let is_made = is_made_again(alloc, document, &edit, &first);
+    drop(first);
+    drop(edit);
+    is_made
 }
 
 // Makes each edit of a document, which stays the same as its copy.
@@ -127,8 +135,8 @@ fn check_edits(
 ) -> Result<(), Refusal> {
     for number in 0..EDITS {
         let is_made = is_made_once_there_is_memory(alloc, document, number)?;
-        assert!(rt; is_made, "edit {number}");
-        assert!(rt; are_same(document, copy), "edit {number}");
+        holds(rt, "made", &number, is_made);
+        holds(rt, "unchanged", &number, are_same(document, copy));
     }
     Ok(())
 }
@@ -139,13 +147,17 @@ fn check_edits_beside_copy(
     document: &Document,
 ) -> Result<(), Refusal> {
     let copy = document.try_clone(alloc)?;
-    check_edits(rt, alloc, document, &copy)
+    let checked = check_edits(rt, alloc, document, &copy);
+    drop(copy);
+    checked
 }
 
 #[test]
 fn edits_with_little_memory(rt: HostRuntime) -> Result<(), Fail> {
     let document = document(rt.alloc())?;
-    check_edits_beside_copy(&rt, rt.alloc(), &document)?;
+    let checked = check_edits_beside_copy(&rt, rt.alloc(), &document);
+    drop(document);
+    checked?;
     Ok(())
 }
 
@@ -187,19 +199,25 @@ fn is_made_in_place_once_there_is_memory(
 // The same of a document of its own, which shares its records with none.
 fn is_made_alone(alloc: Global, step: Step<'_>) -> Result<bool, Refusal> {
     let mut own = document(alloc)?;
-    is_made_in_place_once_there_is_memory(alloc, &mut own, step)
+    let is_made = is_made_in_place_once_there_is_memory(alloc, &mut own, step);
+    drop(own);
+    is_made
 }
 
 // The same of a document that shares its records with a clone, which stays what it was.
 fn is_made_beside_clone(alloc: Global, step: Step<'_>) -> Result<bool, Refusal> {
     let clone = document(alloc)?;
-    let is_made = is_made_of_clone(alloc, &clone, step)?;
-    Ok(is_made && look_same(&clone, step.before))
+    let is_made = is_made_of_clone(alloc, &clone, step);
+    let is_kept = look_same(&clone, step.before);
+    drop(clone);
+    Ok(is_made? && is_kept)
 }
 
 fn is_made_of_clone(alloc: Global, document: &Document, step: Step<'_>) -> Result<bool, Refusal> {
     let mut own = document.try_clone(alloc)?;
-    is_made_in_place_once_there_is_memory(alloc, &mut own, step)
+    let is_made = is_made_in_place_once_there_is_memory(alloc, &mut own, step);
+    drop(own);
+    is_made
 }
 
 // The same of both with one edit of a document that is like them.
@@ -210,12 +228,20 @@ fn is_made_of_each(alloc: Global, edit: &Edit, before: &Document) -> Result<bool
         before,
         after: &after,
     };
+    let is_made = is_made_both_ways(alloc, step);
+    drop(after);
+    is_made
+}
+
+fn is_made_both_ways(alloc: Global, step: Step<'_>) -> Result<bool, Refusal> {
     Ok(is_made_alone(alloc, step)? && is_made_beside_clone(alloc, step)?)
 }
 
 fn is_made_in_place(alloc: Global, number: u32, before: &Document) -> Result<bool, Refusal> {
     let edit = edit(alloc, number)?;
-    is_made_of_each(alloc, &edit, before)
+    let is_made = is_made_of_each(alloc, &edit, before);
+    drop(edit);
+    is_made
 }
 
 #[test]
@@ -223,7 +249,7 @@ fn changes_in_place_with_little_memory(rt: HostRuntime) -> Result<(), Fail> {
     let before = document(rt.alloc())?;
     for number in 0..EDITS {
         let is_made = is_made_in_place(rt.alloc(), number, &before)?;
-        assert!(rt; is_made, "edit {number}");
+        holds(&rt, "made in place", &number, is_made);
     }
     Ok(())
 }
@@ -251,7 +277,9 @@ fn why_refused(
     number: u32,
 ) -> Result<Option<Refusal>, OutOfMemory> {
     let edit = refused_edit(alloc, number)?;
-    Ok(document.decide(alloc, &edit).err())
+    let refusal = document.decide(alloc, &edit).err();
+    drop(edit);
+    Ok(refusal)
 }
 
 #[test]
@@ -263,7 +291,7 @@ fn refusals_with_little_memory(rt: HostRuntime) -> Result<(), Fail> {
         (2, Refusal::WrongKind),
     ] {
         let found = why_refused(rt.alloc(), &document, number)?;
-        assert!(rt; found == Some(refusal), "{refusal:?}");
+        holds(&rt, "refused", &refusal, found == Some(refusal));
     }
     Ok(())
 }
@@ -301,17 +329,22 @@ fn is_restored_again(
     first: &Result<Document, TreeFault>,
 ) -> Result<bool, TreeFault> {
     let again = restored_pair(alloc);
-    restores_are_right(first, &again)
+    let is_right = restores_are_right(first, &again);
+    drop(again);
+    is_right
 }
 
 // Whether only want of memory kept the pair from being restored, and it is restored afterwards.
 fn is_restored_once_there_is_memory(alloc: Global) -> Result<bool, TreeFault> {
     let first = restored_pair(alloc);
-    is_restored_again(alloc, &first)
+    let is_restored = is_restored_again(alloc, &first);
+    drop(first);
+    is_restored
 }
 
 #[test]
 fn restored_with_little_memory(rt: HostRuntime) -> Result<(), Fail> {
-    assert!(rt; is_restored_once_there_is_memory(rt.alloc())?);
+    let is_restored = is_restored_once_there_is_memory(rt.alloc())?;
+    holds(&rt, "restored", &"the pair", is_restored);
     Ok(())
 }

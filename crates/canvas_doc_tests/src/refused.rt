@@ -1,13 +1,16 @@
 //! Every refusal of every edit, and each pair of refusals that can meet in one edit, in its order.
 
+use crate::asserts::holds;
+use crate::histories::edited_by;
 use canvas_doc::{Document, Edit, Parent, Record, Refusal, Spot};
 use canvas_key::{Key, fresh};
 use canvas_plane::Pose;
 use canvas_samples::{
-    RED, create, edited, frame, last_index_below_a1, moved, polygon, record, rectangle, restored,
+    RED, create, frame, last_index_below_a1, moved, polygon, record, rectangle, restored,
 };
 use canvas_shape::Kind;
 use std::alloc::Global;
+use std::fmt::Debug;
 use std::process::Abort;
 
 // No record of the documents here has this id.
@@ -136,9 +139,18 @@ fn document(rt: &impl Abort, alloc: Global, is_full: bool, next: u32) -> Documen
     restored(alloc, records(rt, alloc, is_full), next).expect(rt, "a document")
 }
 
-// Why an edit is refused, if it is.
-fn why_refused(alloc: Global, document: &Document, edit: Edit) -> Option<Refusal> {
-    document.decide(alloc, &edit).err()
+/// Asserts why an edit is refused, if it is.
+pub(crate) fn check(
+    rt: &impl Abort,
+    alloc: Global,
+    document: &Document,
+    edit: Edit,
+    case: &impl Debug,
+    expected: Option<Refusal>,
+) {
+    let found = document.decide(alloc, &edit).err();
+    drop(edit);
+    holds(rt, "refusal", &(case, found, expected), found == expected);
 }
 
 /// What is wrong with the values of a new shape.
@@ -201,11 +213,7 @@ fn check_new_shapes_at_spots(
             parent,
             spot,
         };
-        let expected = first.or(placed);
-        assert!(rt;
-            why_refused(alloc, document, edit) == expected,
-            "{expected:?}"
-        );
+        check(rt, alloc, document, edit, &parent, first.or(placed));
     }
 }
 
@@ -227,7 +235,14 @@ fn check_new_shapes(
 }
 
 // New shapes under every sort of parent in a document, of which `spent` is refused after the parent.
-fn check_creations(rt: &impl Abort, alloc: Global, document: &Document, spent: Option<Refusal>) {
+fn check_creations(
+    rt: &impl Abort,
+    alloc: Global,
+    is_full: bool,
+    next: u32,
+    spent: Option<Refusal>,
+) {
+    let document = document(rt, alloc, is_full, next);
     for (parent, hung) in [
         (GROUP, None),
         (MISSING, Some(Refusal::NoSuchParent)),
@@ -235,41 +250,46 @@ fn check_creations(rt: &impl Abort, alloc: Global, document: &Document, spent: O
         (DEEP_LEAF, Some(Refusal::NotAContainer)),
         (LOWEST, Some(Refusal::TooDeep)),
     ] {
-        check_new_shapes(rt, alloc, document, Parent::Shape(parent), hung.or(spent));
+        let first = hung.or(spent);
+        check_new_shapes(rt, alloc, &document, Parent::Shape(parent), first);
     }
+    drop(document);
 }
 
 #[test]
 fn refusals_of_create(rt: HostRuntime) {
     let alloc = rt.alloc();
-    for (is_full, next, spent) in [
-        (false, 20_000, None),
-        (true, 20_000, Some(Refusal::TooMany)),
-        (false, 4_294_967_295, Some(Refusal::IdsSpent)),
-        (true, 4_294_967_295, Some(Refusal::TooMany)),
-    ] {
-        let document = document(&rt, alloc, is_full, next);
-        check_creations(&rt, alloc, &document, spent);
-    }
+    let last = 4_294_967_295;
+    check_creations(&rt, alloc, false, 20_000, None);
+    check_creations(&rt, alloc, true, 20_000, Some(Refusal::TooMany));
+    check_creations(&rt, alloc, false, last, Some(Refusal::IdsSpent));
+    check_creations(&rt, alloc, true, last, Some(Refusal::TooMany));
 }
 
-fn new_group() -> Edit {
+/// A new group on the page.
+pub(crate) fn new_group() -> Edit {
     create(Kind::Group, Parent::Page, Spot::Front)
 }
 
 // A document whose last id went to a new group.
 fn spent(rt: &impl Abort, alloc: Global) -> Document {
     let last = restored(alloc, Vec::new(alloc), 4_294_967_294).expect(rt, "a document");
-    edited(alloc, &last, &new_group()).expect(rt, "accepted")
+    let spent = edited_by(alloc, &last, new_group()).expect(rt, "accepted");
+    drop(last);
+    spent
 }
 
 #[test]
 fn ids_are_spent_last_of_all(rt: HostRuntime) {
     let alloc = rt.alloc();
     let spent = spent(&rt, alloc);
-    assert_eq!(rt; spent.next_id(), 4_294_967_295);
-    assert!(rt; spent.get(4_294_967_294).is_some());
-    assert!(rt; why_refused(alloc, &spent, new_group()) == Some(Refusal::IdsSpent));
+    let next = spent.next_id();
+    holds(&rt, "next id", &next, next == 4_294_967_295);
+    let last = 4_294_967_294;
+    holds(&rt, "there", &last, spent.get(last).is_some());
+    let expected = Some(Refusal::IdsSpent);
+    check(&rt, alloc, &spent, new_group(), &"spent", expected);
+    drop(spent);
 }
 
 // Moves of a shape under a parent to every kind of spot, of which `first` is refused before.
@@ -288,11 +308,16 @@ fn check_moves(
             parent: Parent::Shape(parent),
             spot,
         };
-        let expected = first.or(placed);
-        assert!(rt;
-            why_refused(alloc, document, edit) == expected,
-            "{id} under {parent}: {expected:?}"
-        );
+        check(rt, alloc, document, edit, &(id, parent), first.or(placed));
+    }
+}
+
+// A shape, the parent that it moves to, a child of it, and what is refused before the spot is looked at.
+type MoveRow = (u32, u32, u32, Option<Refusal>);
+
+fn check_all_moves(rt: &impl Abort, alloc: Global, document: &Document, rows: &[MoveRow]) {
+    for (id, parent, low, first) in rows {
+        check_moves(rt, alloc, document, *id, *parent, *low, *first);
     }
 }
 
@@ -300,7 +325,7 @@ fn check_moves(
 fn refusals_of_move(rt: HostRuntime) {
     let alloc = rt.alloc();
     let document = document(&rt, alloc, false, NEXT);
-    let rows = [
+    let rows: &[MoveRow] = &[
         (POLYGON, GROUP, 2, None),
         (TALL, GROUP, 2, None),
         (POLYGON, AT_DEPTH_31, DEEP_LEAF, None),
@@ -320,23 +345,46 @@ fn refusals_of_move(rt: HostRuntime) {
         (TALL, AT_DEPTH_31, DEEP_LEAF, Some(Refusal::TooDeep)),
         (POLYGON, LOWEST, 2, Some(Refusal::TooDeep)),
     ];
-    for (id, parent, low, first) in rows {
-        check_moves(&rt, alloc, &document, id, parent, low, first);
-    }
+    check_all_moves(&rt, alloc, &document, rows);
+    drop(document);
+}
+
+fn check_height(
+    rt: &impl Abort,
+    alloc: Global,
+    document: &Document,
+    parent: u32,
+    expected: Option<Refusal>,
+) {
+    let edit = Edit::Move {
+        id: TALL,
+        parent: Parent::Shape(parent),
+        spot: Spot::Front,
+    };
+    check(rt, alloc, document, edit, &parent, expected);
 }
 
 #[test]
 fn heights_below_a_parent(rt: HostRuntime) {
     let alloc = rt.alloc();
     let document = document(&rt, alloc, false, NEXT);
-    let rows = [(AT_DEPTH_29, None), (AT_DEPTH_30, Some(Refusal::TooDeep))];
-    for (parent, expected) in rows {
-        let edit = Edit::Move {
-            id: TALL,
-            parent: Parent::Shape(parent),
-            spot: Spot::Front,
-        };
-        assert!(rt; why_refused(alloc, &document, edit) == expected, "{parent}");
+    check_height(&rt, alloc, &document, AT_DEPTH_29, None);
+    let expected = Some(Refusal::TooDeep);
+    check_height(&rt, alloc, &document, AT_DEPTH_30, expected);
+    drop(document);
+}
+
+// Poses of a shape, of which `missing` is refused before.
+fn check_poses(
+    rt: &impl Abort,
+    alloc: Global,
+    document: &Document,
+    id: u32,
+    missing: Option<Refusal>,
+) {
+    for (pose, far) in poses() {
+        let edit = Edit::Pose { id, pose };
+        check(rt, alloc, document, edit, &id, missing.or(far));
     }
 }
 
@@ -344,22 +392,28 @@ fn heights_below_a_parent(rt: HostRuntime) {
 fn refusals_of_pose(rt: HostRuntime) {
     let alloc = rt.alloc();
     let document = document(&rt, alloc, false, NEXT);
-    for (id, missing) in [(LEAF, None), (MISSING, Some(Refusal::NoSuchShape))] {
-        for (pose, far) in poses() {
-            let edit = Edit::Pose { id, pose };
-            assert!(rt;
-                why_refused(alloc, &document, edit) == missing.or(far),
-                "{id}"
-            );
-        }
+    check_poses(&rt, alloc, &document, LEAF, None);
+    let expected = Some(Refusal::NoSuchShape);
+    check_poses(&rt, alloc, &document, MISSING, expected);
+    drop(document);
+}
+
+// A shape, what is wrong with its new kind, and what is refused.
+type KindRow = (u32, Flaw, Option<Refusal>);
+
+// New kinds of shapes.
+fn check_kinds(rt: &impl Abort, alloc: Global, document: &Document, rows: &[KindRow]) {
+    for (id, flaw, expected) in rows {
+        let kind = kind_with(rt, alloc, *flaw);
+        let edit = Edit::Reshape { id: *id, kind };
+        check(rt, alloc, document, edit, id, *expected);
     }
 }
 
 #[test]
 fn refusals_of_reshape(rt: HostRuntime) {
     let alloc = rt.alloc();
-    let document = document(&rt, alloc, false, NEXT);
-    let rows = [
+    let rows: &[KindRow] = &[
         (GROUP, Flaw::None, None),
         (LEAF, Flaw::None, Some(Refusal::WrongKind)),
         (LEAF, Flaw::Side, Some(Refusal::BadSize)),
@@ -370,39 +424,51 @@ fn refusals_of_reshape(rt: HostRuntime) {
         (MISSING, Flaw::Side, Some(Refusal::NoSuchShape)),
         (MISSING, Flaw::Vertices, Some(Refusal::NoSuchShape)),
     ];
-    for (id, flaw, expected) in rows {
-        let kind = kind_with(&rt, alloc, flaw);
-        let edit = Edit::Reshape { id, kind };
-        assert!(rt;
-            why_refused(alloc, &document, edit) == expected,
-            "{id}: {expected:?}"
-        );
-    }
+    let document = document(&rt, alloc, false, NEXT);
+    check_kinds(&rt, alloc, &document, rows);
+    drop(document);
+}
+
+// Shows and deletes a shape.
+fn check_show_and_delete(
+    rt: &impl Abort,
+    alloc: Global,
+    document: &Document,
+    id: u32,
+    expected: Option<Refusal>,
+) {
+    let show = Edit::Show { id, hidden: true };
+    check(rt, alloc, document, show, &("show", id), expected);
+    let delete = Edit::Delete { id };
+    check(rt, alloc, document, delete, &("delete", id), expected);
+}
+
+// New indexes for the children of a parent.
+fn check_respace(
+    rt: &impl Abort,
+    alloc: Global,
+    document: &Document,
+    parent: Parent,
+    expected: Option<Refusal>,
+) {
+    let edit = Edit::Respace { parent };
+    check(rt, alloc, document, edit, &parent, expected);
 }
 
 #[test]
 fn refusals_of_the_others(rt: HostRuntime) {
     let alloc = rt.alloc();
     let document = document(&rt, alloc, false, NEXT);
-    for (id, expected) in [(LEAF, None), (MISSING, Some(Refusal::NoSuchShape))] {
-        let show = Edit::Show { id, hidden: true };
-        assert!(rt; why_refused(alloc, &document, show) == expected, "{id}");
-        let delete = Edit::Delete { id };
-        assert!(rt; why_refused(alloc, &document, delete) == expected, "{id}");
-    }
-    let rows = [
-        (Parent::Page, None),
-        (Parent::Shape(TALL), None),
-        (Parent::Shape(MISSING), Some(Refusal::NoSuchParent)),
-        (Parent::Shape(LEAF), Some(Refusal::NotAContainer)),
-    ];
-    for (parent, expected) in rows {
-        let edit = Edit::Respace { parent };
-        assert!(rt;
-            why_refused(alloc, &document, edit) == expected,
-            "{expected:?}"
-        );
-    }
+    check_show_and_delete(&rt, alloc, &document, LEAF, None);
+    let no_shape = Some(Refusal::NoSuchShape);
+    check_show_and_delete(&rt, alloc, &document, MISSING, no_shape);
+    check_respace(&rt, alloc, &document, Parent::Page, None);
+    check_respace(&rt, alloc, &document, Parent::Shape(TALL), None);
+    let no_parent = Some(Refusal::NoSuchParent);
+    check_respace(&rt, alloc, &document, Parent::Shape(MISSING), no_parent);
+    let no_container = Some(Refusal::NotAContainer);
+    check_respace(&rt, alloc, &document, Parent::Shape(LEAF), no_container);
+    drop(document);
 }
 
 // An edit of the polygon to what it is, by its number.
@@ -429,22 +495,30 @@ fn edit_to_the_same(rt: &impl Abort, alloc: Global, number: u32) -> Edit {
 // The document after such an edit.
 fn after_same(rt: &impl Abort, alloc: Global, document: &Document, number: u32) -> Document {
     let edit = edit_to_the_same(rt, alloc, number);
-    edited(alloc, document, &edit).expect(rt, "accepted")
+    edited_by(alloc, document, edit).expect(rt, "accepted")
 }
 
 fn has_same_polygon(document: &Document, other: &Document) -> bool {
     document.get(POLYGON) == other.get(POLYGON) && document.count() == other.count()
 }
 
-fn is_the_same_after(rt: &impl Abort, alloc: Global, document: &Document, number: u32) -> bool {
-    has_same_polygon(document, &after_same(rt, alloc, document, number))
+fn check_same_after(rt: &impl Abort, alloc: Global, document: &Document, number: u32) {
+    let after = after_same(rt, alloc, document, number);
+    holds(
+        rt,
+        "same after",
+        &number,
+        has_same_polygon(document, &after),
+    );
+    drop(after);
 }
 
 #[test]
 fn edits_to_what_is_there(rt: HostRuntime) {
     let document = document(&rt, rt.alloc(), false, NEXT);
-    for number in 0..4u32 {
-        let same = is_the_same_after(&rt, rt.alloc(), &document, number);
-        assert!(rt; same, "edit {number}");
-    }
+    check_same_after(&rt, rt.alloc(), &document, 0);
+    check_same_after(&rt, rt.alloc(), &document, 1);
+    check_same_after(&rt, rt.alloc(), &document, 2);
+    check_same_after(&rt, rt.alloc(), &document, 3);
+    drop(document);
 }

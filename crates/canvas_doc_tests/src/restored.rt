@@ -1,13 +1,15 @@
 //! Lists of records that are documents, and the positions of the faults of others.
 
+use crate::asserts::holds;
+use crate::histories::edited_by;
+use crate::refused::{check as check_refusal, new_group};
 use canvas_doc::{Document, Edit, Parent, Record, Refusal, Spot, TreeFault};
 use canvas_key::fresh;
 use canvas_plane::Pose;
-use canvas_samples::{
-    RED, create, edited, frame, index_of, moved, polygon, record, rectangle, restored,
-};
+use canvas_samples::{RED, frame, index_of, moved, polygon, record, rectangle, restored};
 use canvas_shape::Kind;
 use std::alloc::Global;
+use std::fmt::Debug;
 use std::process::Abort;
 
 // An id, the id of a parent (0: the page), how many siblings' keys come before its index, and whether it is a leaf.
@@ -40,11 +42,6 @@ fn records(rt: &impl Abort, alloc: Global, rows: &[Row]) -> Vec<Record> {
     records
 }
 
-// What `restore` answers of a list that is no document.
-fn fault(rt: &impl Abort, alloc: Global, rows: &[Row], next: u32) -> Option<TreeFault> {
-    restored(alloc, records(rt, alloc, rows), next).err()
-}
-
 fn bad_record(position: usize) -> Option<TreeFault> {
     Some(TreeFault::BadRecord { position })
 }
@@ -73,73 +70,87 @@ fn row_of_groups(rt: &impl Abort, alloc: Global, count: u32, step: u32) -> Vec<R
     records
 }
 
-// Lists of rows with next id 9, and what `restore` finds of each.
-fn check_all(rt: &impl Abort, alloc: Global, cases: &[(&[Row], Option<TreeFault>)]) {
-    for (rows, expected) in cases {
-        assert_eq!(rt; fault(rt, alloc, rows, 9), *expected);
-    }
+// Asserts what `restore` finds of rows.
+fn check_next(
+    rt: &impl Abort,
+    alloc: Global,
+    rows: &[Row],
+    next: u32,
+    expected: Option<TreeFault>,
+) {
+    let found = restored(alloc, records(rt, alloc, rows), next).err();
+    holds(rt, "rows", &(rows, found, expected), found == expected);
+}
+
+// Asserts what `restore` finds of rows with next id 9.
+fn check(rt: &impl Abort, alloc: Global, rows: &[Row], expected: Option<TreeFault>) {
+    check_next(rt, alloc, rows, 9, expected);
 }
 
 #[test]
 fn ids_outside_their_range(rt: HostRuntime) {
     let alloc = rt.alloc();
-    let cases: [(&[Row], Option<TreeFault>); 5] = [
-        (&[], None),
-        (&[(1, 0, 0, GROUP), (8, 0, 1, GROUP)], None),
-        (&[(1, 0, 0, GROUP), (9, 0, 1, GROUP)], bad_record(1)),
-        (&[(1, 0, 0, GROUP), (0, 0, 1, LEAF)], bad_record(1)),
-        (
-            &[(1, 0, 0, GROUP), (12, 0, 1, LEAF), (0, 0, 2, LEAF)],
-            bad_record(1),
-        ),
-    ];
-    check_all(&rt, alloc, &cases);
+    check(&rt, alloc, &[], None);
+    check(&rt, alloc, &[(1, 0, 0, GROUP), (8, 0, 1, GROUP)], None);
+    let next = &[(1, 0, 0, GROUP), (9, 0, 1, GROUP)];
+    check(&rt, alloc, next, bad_record(1));
+    let zero = &[(1, 0, 0, GROUP), (0, 0, 1, LEAF)];
+    check(&rt, alloc, zero, bad_record(1));
+    let both = &[(1, 0, 0, GROUP), (12, 0, 1, LEAF), (0, 0, 2, LEAF)];
+    check(&rt, alloc, both, bad_record(1));
 }
 
-// What `restore` answers of a group and a second record in it.
-fn fault_of_second(rt: &impl Abort, alloc: Global, shape: Record) -> Option<TreeFault> {
+// Asserts what `restore` answers of a group and a second record in it.
+fn check_second(
+    rt: &impl Abort,
+    alloc: Global,
+    shape: Record,
+    case: &impl Debug,
+    expected: Option<TreeFault>,
+) {
     let mut list = records(rt, alloc, &[(1, 0, 0, GROUP)]);
     list.push(shape).expect(rt, "memory");
-    restored(alloc, list, 3).err()
+    let found = restored(alloc, list, 3).err();
+    holds(rt, "second", &(case, found, expected), found == expected);
 }
 
-fn fault_of_pose(rt: &impl Abort, alloc: Global, pose: Pose) -> Option<TreeFault> {
-    let mut shape = record_of(&(2, 1, 0, LEAF));
+fn child(kind: Kind) -> Record {
+    record(2, Parent::Shape(1), fresh(0), kind)
+}
+
+fn check_pose(rt: &impl Abort, alloc: Global, pose: Pose, expected: Option<TreeFault>) {
+    let mut shape = child(rectangle(2, 1, RED));
     shape.pose = pose;
-    fault_of_second(rt, alloc, shape)
-}
-
-fn fault_of_kind(rt: &impl Abort, alloc: Global, kind: Kind) -> Option<TreeFault> {
-    let shape = record(2, Parent::Shape(1), fresh(0), kind);
-    fault_of_second(rt, alloc, shape)
+    check_second(rt, alloc, shape, &pose, expected);
 }
 
 #[test]
 fn poses_outside_their_limits(rt: HostRuntime) {
     let alloc = rt.alloc();
-    let mut least = moved(-1_048_576, 1_048_576);
-    least.quarter = 3;
-    least.flip = true;
-    let far = moved(0, -1_048_577);
-    let mut turned = Pose::STILL;
-    turned.quarter = 4;
-    for (pose, expected) in [(least, None), (far, bad_record(1)), (turned, bad_record(1))] {
-        let found = fault_of_pose(&rt, alloc, pose);
-        assert_eq!(rt; found, expected, "{pose:?}");
-    }
+    let least = Pose {
+        dx: -1_048_576,
+        dy: 1_048_576,
+        quarter: 3,
+        flip: true,
+    };
+    check_pose(&rt, alloc, least, None);
+    check_pose(&rt, alloc, moved(0, -1_048_577), bad_record(1));
+    let turned = Pose {
+        quarter: 4,
+        ..Pose::STILL
+    };
+    check_pose(&rt, alloc, turned, bad_record(1));
 }
 
 #[test]
 fn sides_outside_their_limits(rt: HostRuntime) {
     let alloc = rt.alloc();
-    for (w, h, expected) in [
-        (65_536, 1, None),
-        (0, 1, bad_record(1)),
-        (1, 65_537, bad_record(1)),
-    ] {
-        let found = fault_of_kind(&rt, alloc, frame(w, h));
-        assert_eq!(rt; found, expected, "{w}, {h}");
-    }
+    let widest = child(frame(65_536, 1));
+    check_second(&rt, alloc, widest, &(65_536, 1), None);
+    let without_width = child(frame(0, 1));
+    check_second(&rt, alloc, without_width, &(0, 1), bad_record(1));
+    let too_high = child(frame(1, 65_537));
+    check_second(&rt, alloc, too_high, &(1, 65_537), bad_record(1));
 }
 
 // A polygon with so many vertices.
@@ -154,114 +165,91 @@ fn polygon_of(rt: &impl Abort, alloc: Global, count: i64) -> Kind {
 #[test]
 fn vertices_outside_their_limits(rt: HostRuntime) {
     let alloc = rt.alloc();
-    for (count, expected) in [(3, None), (2, bad_record(1)), (257, bad_record(1))] {
-        let kind = polygon_of(&rt, alloc, count);
-        let found = fault_of_kind(&rt, alloc, kind);
-        assert_eq!(rt; found, expected, "{count}");
-    }
+    let fewest = child(polygon_of(&rt, alloc, 3));
+    check_second(&rt, alloc, fewest, &3, None);
+    let too_few = child(polygon_of(&rt, alloc, 2));
+    check_second(&rt, alloc, too_few, &2, bad_record(1));
+    let too_many = child(polygon_of(&rt, alloc, 257));
+    check_second(&rt, alloc, too_many, &257, bad_record(1));
 }
 
 #[test]
 fn ids_that_stand_twice(rt: HostRuntime) {
     let alloc = rt.alloc();
-    let cases: [(&[Row], Option<TreeFault>); 3] = [
-        (
-            &[(1, 0, 0, GROUP), (2, 0, 1, GROUP), (1, 0, 2, GROUP)],
-            bad_tree(2),
-        ),
-        // The first record with the id is the parent.
-        (
-            &[(2, 1, 0, GROUP), (1, 0, 0, LEAF), (1, 0, 1, GROUP)],
-            bad_tree(0),
-        ),
-        (
-            &[(2, 1, 0, GROUP), (1, 0, 0, GROUP), (1, 0, 1, LEAF)],
-            bad_tree(2),
-        ),
-    ];
-    check_all(&rt, alloc, &cases);
+    let groups = &[(1, 0, 0, GROUP), (2, 0, 1, GROUP), (1, 0, 2, GROUP)];
+    check(&rt, alloc, groups, bad_tree(2));
+    // The first record with the id is the parent.
+    let leaf_first = &[(2, 1, 0, GROUP), (1, 0, 0, LEAF), (1, 0, 1, GROUP)];
+    check(&rt, alloc, leaf_first, bad_tree(0));
+    let group_first = &[(2, 1, 0, GROUP), (1, 0, 0, GROUP), (1, 0, 1, LEAF)];
+    check(&rt, alloc, group_first, bad_tree(2));
 }
 
 #[test]
 fn parents_and_paths(rt: HostRuntime) {
     let alloc = rt.alloc();
-    let cases: [(&[Row], Option<TreeFault>); 6] = [
-        // A parent that is not there, and one that is a leaf.
-        (&[(1, 0, 0, GROUP), (2, 5, 0, GROUP)], bad_tree(1)),
-        (&[(1, 0, 0, LEAF), (2, 1, 0, GROUP)], bad_tree(1)),
-        // A shape that is its own parent, and two that are each other's.
-        (&[(1, 0, 0, GROUP), (2, 2, 0, GROUP)], bad_tree(1)),
-        (&[(1, 2, 0, GROUP), (2, 1, 0, GROUP)], bad_tree(0)),
-        // A path that breaks off higher up.
-        (
-            &[(1, 0, 0, GROUP), (2, 3, 0, GROUP), (3, 5, 0, GROUP)],
-            bad_tree(1),
-        ),
-        // A leaf higher up does not stop the walk: the record below it is at fault.
-        (
-            &[(1, 2, 0, GROUP), (2, 3, 0, GROUP), (3, 0, 0, LEAF)],
-            bad_tree(1),
-        ),
-    ];
-    check_all(&rt, alloc, &cases);
+    // A parent that is not there, and one that is a leaf.
+    let missing = &[(1, 0, 0, GROUP), (2, 5, 0, GROUP)];
+    check(&rt, alloc, missing, bad_tree(1));
+    let leaf = &[(1, 0, 0, LEAF), (2, 1, 0, GROUP)];
+    check(&rt, alloc, leaf, bad_tree(1));
+    // A shape that is its own parent, and two that are each other's.
+    let own = &[(1, 0, 0, GROUP), (2, 2, 0, GROUP)];
+    check(&rt, alloc, own, bad_tree(1));
+    let mutual = &[(1, 2, 0, GROUP), (2, 1, 0, GROUP)];
+    check(&rt, alloc, mutual, bad_tree(0));
+    // A path that breaks off higher up.
+    let broken = &[(1, 0, 0, GROUP), (2, 3, 0, GROUP), (3, 5, 0, GROUP)];
+    check(&rt, alloc, broken, bad_tree(1));
+    // A leaf higher up does not stop the walk: the record below it is at fault.
+    let under_leaf = &[(1, 2, 0, GROUP), (2, 3, 0, GROUP), (3, 0, 0, LEAF)];
+    check(&rt, alloc, under_leaf, bad_tree(1));
 }
 
 #[test]
 fn places_and_two_faults(rt: HostRuntime) {
     let alloc = rt.alloc();
-    let cases: [(&[Row], Option<TreeFault>); 5] = [
-        // One index twice under one parent, and under two.
-        (
-            &[
-                (1, 0, 0, GROUP),
-                (2, 1, 7, LEAF),
-                (3, 1, 8, LEAF),
-                (4, 1, 7, LEAF),
-            ],
-            bad_tree(3),
-        ),
-        (&[(1, 0, 7, GROUP), (2, 1, 7, LEAF)], None),
-        (&[(1, 0, 7, GROUP), (2, 0, 7, GROUP)], bad_tree(1)),
-        // The limits of a record are judged before the tree.
-        (
-            &[(1, 5, 0, GROUP), (2, 0, 0, GROUP), (0, 0, 1, LEAF)],
-            bad_record(2),
-        ),
-        // Of several faults the least position.
-        (
-            &[(1, 0, 0, GROUP), (2, 0, 0, GROUP), (1, 5, 0, LEAF)],
-            bad_tree(1),
-        ),
+    // One index twice under one parent, and under two.
+    let twice = &[
+        (1, 0, 0, GROUP),
+        (2, 1, 7, LEAF),
+        (3, 1, 8, LEAF),
+        (4, 1, 7, LEAF),
     ];
-    check_all(&rt, alloc, &cases);
+    check(&rt, alloc, twice, bad_tree(3));
+    check(&rt, alloc, &[(1, 0, 7, GROUP), (2, 1, 7, LEAF)], None);
+    let on_page = &[(1, 0, 7, GROUP), (2, 0, 7, GROUP)];
+    check(&rt, alloc, on_page, bad_tree(1));
+    // The limits of a record are judged before the tree.
+    let limits = &[(1, 5, 0, GROUP), (2, 0, 0, GROUP), (0, 0, 1, LEAF)];
+    check(&rt, alloc, limits, bad_record(2));
+    // Of several faults the least position.
+    let several = &[(1, 0, 0, GROUP), (2, 0, 0, GROUP), (1, 5, 0, LEAF)];
+    check(&rt, alloc, several, bad_tree(1));
 }
 
-// What `restore` answers of a chain, from the page down or from below up.
-fn fault_of_chain(
+// Asserts what `restore` answers of a chain, from the page down or from below up.
+fn check_chain(
     rt: &impl Abort,
     alloc: Global,
     levels: u32,
     is_upward: bool,
-) -> Option<TreeFault> {
+    expected: Option<TreeFault>,
+) {
     let mut rows = chain(rt, alloc, levels);
     if is_upward {
         rows.reverse();
     }
-    fault(rt, alloc, &rows, 99)
+    check_next(rt, alloc, &rows, 99, expected);
 }
 
 #[test]
 fn depth(rt: HostRuntime) {
     let alloc = rt.alloc();
-    for (levels, is_upward, expected) in [
-        (32, false, None),
-        (32, true, None),
-        (33, false, bad_tree(32)),
-        (33, true, bad_tree(0)),
-    ] {
-        let found = fault_of_chain(&rt, alloc, levels, is_upward);
-        assert_eq!(rt; found, expected, "{levels} {is_upward}");
-    }
+    check_chain(&rt, alloc, 32, false, None);
+    check_chain(&rt, alloc, 32, true, None);
+    check_chain(&rt, alloc, 33, false, bad_tree(32));
+    check_chain(&rt, alloc, 33, true, bad_tree(0));
 }
 
 fn unordered(rt: &impl Abort, alloc: Global) -> Document {
@@ -275,26 +263,36 @@ fn unordered(rt: &impl Abort, alloc: Global) -> Document {
 }
 
 fn ids_of(rt: &impl Abort, alloc: Global, document: &Document) -> Vec<u32> {
+    let listed = document.records_in_order(alloc).expect(rt, "memory");
+    copied_ids(rt, alloc, &listed)
+}
+
+fn copied_ids(rt: &impl Abort, alloc: Global, listed: &[&Record]) -> Vec<u32> {
     let mut ids = Vec::new(alloc);
-    for shape in &document.records_in_order(alloc).expect(rt, "memory") {
+    for shape in listed {
         ids.push(shape.id).expect(rt, "memory");
     }
     ids
 }
 
+fn has_ids(rt: &impl Abort, alloc: Global, document: &Document) -> bool {
+    ids_of(rt, alloc, document).as_slice() == [2, 3, 5, 7].as_slice()
+}
+
 // Asserts that a document has the four records.
 fn check_ordered(rt: &impl Abort, alloc: Global, document: &Document) {
-    assert_eq!(rt; document.next_id(), 8);
-    let ids = ids_of(rt, alloc, document);
-    assert_eq!(rt; ids.as_slice(), [2, 3, 5, 7].as_slice());
-    let found = document.get(7).expect(rt, "the leaf");
-    assert!(rt; found.place.parent == Parent::Shape(5));
-    assert!(rt; document.colour_at(1, 0) == RED);
+    let next = document.next_id();
+    holds(rt, "next id 8", &next, next == 8);
+    let parent = document.get(7).expect(rt, "the leaf").place.parent;
+    holds(rt, "5 holds 7", &parent, parent == Parent::Shape(5));
+    holds(rt, "red at", &(1, 0), document.colour_at(1, 0) == RED);
+    holds(rt, "ids in", &"order", has_ids(rt, alloc, document));
 }
 
 fn check_copy(rt: &impl Abort, alloc: Global, document: &Document) {
     let copy = document.try_clone(alloc).expect(rt, "memory");
     check_ordered(rt, alloc, &copy);
+    drop(copy);
 }
 
 #[test]
@@ -303,20 +301,13 @@ fn any_order_is_restored_in_rising_id(rt: HostRuntime) {
     let document = unordered(&rt, alloc);
     check_copy(&rt, alloc, &document);
     check_ordered(&rt, alloc, &document);
+    drop(document);
 }
 
 // A document with as many groups on the page as may be.
 fn full_page(rt: &impl Abort, alloc: Global, step: u32) -> Document {
     let list = row_of_groups(rt, alloc, 16_384, step);
     restored(alloc, list, 16_385).expect(rt, "a document")
-}
-
-fn new_group() -> Edit {
-    create(Kind::Group, Parent::Page, Spot::Front)
-}
-
-fn refusal_of_new_group(alloc: Global, document: &Document) -> Option<Refusal> {
-    document.decide(alloc, &new_group()).err()
 }
 
 fn count_in_order(rt: &impl Abort, alloc: Global, document: &Document) -> usize {
@@ -327,29 +318,41 @@ fn count_in_order(rt: &impl Abort, alloc: Global, document: &Document) -> usize 
 fn as_many_as_may_be(rt: HostRuntime) {
     let alloc = rt.alloc();
     let full = full_page(&rt, alloc, 1);
-    assert_eq!(rt; full.count(), 16_384);
-    assert_eq!(rt; count_in_order(&rt, alloc, &full), 16_384);
-    assert!(rt; refusal_of_new_group(alloc, &full) == Some(Refusal::TooMany));
+    let count = full.count();
+    holds(&rt, "16,384 records", &count, count == 16_384);
+    let listed = count_in_order(&rt, alloc, &full);
+    holds(&rt, "16,384 listed", &listed, listed == 16_384);
+    let expected = Some(Refusal::TooMany);
+    check_refusal(&rt, alloc, &full, new_group(), &"full", expected);
+    drop(full);
 }
 
 // The document after an edit.
-fn after(rt: &impl Abort, alloc: Global, document: Document, edit: &Edit) -> Document {
-    edited(alloc, &document, edit).expect(rt, "accepted")
+fn after(rt: &impl Abort, alloc: Global, document: Document, edit: Edit) -> Document {
+    let after = edited_by(alloc, &document, edit).expect(rt, "accepted");
+    drop(document);
+    after
 }
 
 // The full page without its first group, and with a new one.
 fn full_page_again(rt: &impl Abort, alloc: Global) -> Document {
     let full = full_page(rt, alloc, 1);
-    let less = after(rt, alloc, full, &Edit::Delete { id: 1 });
-    after(rt, alloc, less, &new_group())
+    let less = after(rt, alloc, full, Edit::Delete { id: 1 });
+    after(rt, alloc, less, new_group())
 }
 
 #[test]
 fn room_for_one_after_a_deletion(rt: HostRuntime) {
     let again = full_page_again(&rt, rt.alloc());
-    assert_eq!(rt; again.count(), 16_384);
-    assert!(rt; again.get(16_385).is_some());
-    assert!(rt; again.get(1).is_none());
+    let count = again.count();
+    holds(&rt, "16,384 records", &count, count == 16_384);
+    holds(&rt, "there", &16_385, again.get(16_385).is_some());
+    holds(&rt, "gone", &1, again.get(1).is_none());
+    drop(again);
+}
+
+fn check_index(rt: &impl Abort, document: &Document, id: u32, index: &[u8]) {
+    holds(rt, "index", &id, index_of(document, id) == index);
 }
 
 #[test]
@@ -357,7 +360,8 @@ fn a_full_page_is_respaced(rt: HostRuntime) {
     let alloc = rt.alloc();
     let full = full_page(&rt, alloc, 3);
     let parent = Parent::Page;
-    let spaced = after(&rt, alloc, full, &Edit::Respace { parent });
-    assert!(rt; index_of(&spaced, 1) == b"a0".as_slice());
-    assert!(rt; index_of(&spaced, 16_384) == b"c3FF".as_slice());
+    let spaced = after(&rt, alloc, full, Edit::Respace { parent });
+    check_index(&rt, &spaced, 1, b"a0");
+    check_index(&rt, &spaced, 16_384, b"c3FF");
+    drop(spaced);
 }
