@@ -39,7 +39,8 @@ def bodies():
 
 
 def named_bodies(text):
-    """The wrong bodies that a page names, in the last column of tables with them: the crates of the section, and the name."""
+    """The wrong bodies that a page names, in the last column of tables with them: the name, and the crates that the row begins with, or
+    else those of the section."""
     crates, with_bodies = [], False
     for number, line in enumerate(text.splitlines(), start=1):
         if line.startswith("## "):
@@ -50,8 +51,9 @@ def named_bodies(text):
         elif cells[-1].startswith(("Wrong bodies", "Edits")):
             with_bodies = True
         elif with_bodies:
+            of_row = [it for it in code_words(cells[0]) if it in lines()]
             for name in code_words(cells[-1]):
-                yield number, crates, name
+                yield number, of_row or crates, name
 
 
 def faults_of_bodies():
