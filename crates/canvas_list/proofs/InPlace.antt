@@ -1,7 +1,7 @@
 -- A table after a change in place of one of its parts.
 use Rattle.std.proofs.Common.{◌≡◌, ◌∙◌, ℕ, ◌+◌, ◌-◌, ◌<◌, ◌≤◌, ◌^◌, Bool, true, false, List, ◌++◌, take, drop, set, refl, subst, sym, ap, arith, length, get_or}
 use Rattle.std.specs.List.{remove}
-use Rattle.std.proofs.lemmas.List.{append_assoc, drop-set-lt, get_or-set_same, length-append, take-set}
+use Rattle.std.proofs.lemmas.List.{append_assoc, drop-set-lt, get_or-set_same, length-append, set-get_or, take-set}
 use Rattle.std.proofs.lemmas.List.Edits.{length-insert, length-remove}
 use Rattle.std.proofs.lemmas.List.Elements.{All-set}
 use Rattle.std.proofs.Math.ListN.{length-set}
@@ -94,6 +94,14 @@ module _ {X : Type 0} (cs : List (List X)) (xs : List X) (n k s at : ℕ) (c : L
   table-less made new p e is some =
       let less : new ≡ remove c (at - s) = e ∙ ap (λ m. changed_if m Remove (at - s) c) is in
       subst (λ m. IsTable (set cs k new) m) (omega (arith, ap length less, length-remove c (at - s) (place-in Remove p), place-in Remove p, part-fewer Remove p)) (table-after made Remove new (length c) (length new) p e refl refl some)
+
+  pub less-is-some : IsChangedPart cs xs n k s at c Remove → 1 ≤ n
+  less-is-some p = omega (arith, place-in Remove p, part-fewer Remove p)
+
+  -- the part stayed, and so did the table
+  pub table-kept : (made : Bool) (change : ItemChange X) (new : List X) → IsChangedPart cs xs n k s at c change → new ≡ changed_if made change (at - s) c → made ≡ false → IsTable (set cs k new) n
+  table-kept made change new p e is =
+      subst (λ (l : List (List X)). IsTable l n) (sym (ap (λ d. set cs k d) (e ∙ ap (λ m. changed_if m change (at - s) c) is ∙ p.is) ∙ set-get_or cs k c)) p.table
 
   -- the part has one item more, and so has the table
   pub part-more : (made : Bool) (item : X) (new : List X) → IsChangedPart cs xs n k s at c (Insert item) → new ≡ changed_if made (Insert item) (at - s) c → made ≡ true → length new ≡ length c + 1

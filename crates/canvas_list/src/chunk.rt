@@ -176,10 +176,11 @@ impl<T: Share> Chunk<T> {
         let Some(items) = Arc::get_mut(&mut self.items) else {
             return false;
         };
+        if items.len() == 1 {
+            return false;
+        }
         let insert = ItemChange::Insert(item);
-        if items.len() == 1
-            || !target.change_both(place, insert, per_chunk, other, other_at, other_change)
-        {
+        if !target.change_both(place, insert, per_chunk, other, other_at, other_change) {
             return false;
         }
         items.remove(at);

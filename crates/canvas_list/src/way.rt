@@ -75,15 +75,16 @@ fn cut_at(is_one: bool, at: usize, len: usize) -> usize
 }
 
 impl<T: Share> Block<T> {
-    // The same of a block. Where memory is refused, it stays as it is.
-    fn make_way(&mut self, alloc: Global, at: usize, way: Way, per_chunk: usize)
-        requires { FitsChunk per_chunk }
+    // The same of a block. Where memory is refused or it has many chunks, it stays as it is.
+    fn make_way(&mut self, alloc: Global, at: usize, way: Way, sizes: PartSizes)
+        requires { FitsChunk sizes.per_chunk }
         ensures { self.new ≡ self.old }
     {
-        if !self.chunks().wants_way(at, way, per_chunk) {
+        let chunks = self.chunks();
+        if chunks.is_over(sizes.per_block) || !chunks.wants_way(at, way, sizes.per_chunk) {
             return;
         }
-        let Ok(chunks) = self.chunks().with_way(alloc, at, per_chunk) else {
+        let Ok(chunks) = chunks.with_way(alloc, at, sizes.per_chunk) else {
             return;
         };
         if let Ok(block) = Block::new(alloc, chunks) {
@@ -103,9 +104,6 @@ impl<T: Share> SharedList<T> {
         }
         let sizes = PartSizes::of(self.len());
         let spot = spot_of(&self.blocks, at);
-        let block = &mut self.blocks[spot.chunk];
-        if !block.chunks().is_over(sizes.per_block) {
-            block.make_way(alloc, at - spot.start, way, sizes.per_chunk);
-        }
+        self.blocks[spot.chunk].make_way(alloc, at - spot.start, way, sizes);
     }
 }

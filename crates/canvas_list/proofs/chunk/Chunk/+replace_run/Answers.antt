@@ -63,3 +63,54 @@ returns-clause-some_behind g t c =
           (all-behind (λ (chunk : List g.row.T.Denot). 0 < length chunk) c.args.behind.now w.in-Some-split_first_mut.others.now w.replace_run.new.behind w.in-Some-split_first_mut.next.now w.replace_run.new.self w.in-Some-split_first_mut.ensures.cases.0 w.replace_run.ensures.some w.replace_run.ensures.some_behind all))
       | else-len-room w ↦ (λ all. subst (λ (l : List (List g.row.T.Denot)). All (λ (chunk : List g.row.T.Denot). 0 < length chunk) l) (sym w.behind-is) all)
     ]
+
+pub invariant_of-self : goal.invariant_of-self
+invariant_of-self g t c = c.self.invariant
+
+pub returns-in_default-clause-items : goal.returns-in_default-clause-items
+returns-in_default-clause-items g t c = ap (λ (l : List g.row.T.Denot). l ++ joined c.args.behind.now) c.self.view_is
+
+pub returns-in_default-clause-some : goal.returns-in_default-clause-some
+returns-in_default-clause-some g t c = c.self.invariant.0.some
+
+pub invariant_of-self-in_default-split_off : goal.invariant_of-self-in_default-split_off
+invariant_of-self-in_default-split_off g t c =
+    subst (λ (v : Vec g.row.T.Denot Global). FitsChunk (length v.items) × (c.self.inside.noted.count ≡ length v.items) × All (g.T.Share.covers c.self.inside.summary) v.items) (sym c.in-Some.ensures.value) c.self.invariant
+
+pub returns-in_default-split_off-clause-items : goal.returns-in_default-split_off-clause-items
+returns-in_default-split_off-clause-items g t c = ap (λ (l : List g.row.T.Denot). l ++ joined c.args.behind.now) (ap (λ (v : Vec g.row.T.Denot Global). v.items) c.in-Some.ensures.value ∙ c.self.view_is)
+
+pub returns-in_default-split_off-clause-some : goal.returns-in_default-split_off-clause-some
+returns-in_default-split_off-clause-some g t c = subst (λ (v : Vec g.row.T.Denot Global). 0 < length v.items) (sym c.in-Some.ensures.value) c.self.invariant.0.some
+
+pub returns-in_default-split_off-clause-some_behind : goal.returns-in_default-split_off-clause-some_behind
+returns-in_default-split_off-clause-some_behind g t c = λ all. all
+
+pub invariant_of-self-in_default-split_first_mut : goal.invariant_of-self-in_default-split_first_mut
+invariant_of-self-in_default-split_first_mut g t c =
+    subst (λ (v : Vec g.row.T.Denot Global). FitsChunk (length v.items) × (c.self.inside.noted.count ≡ length v.items) × All (g.T.Share.covers c.self.inside.summary) v.items) (sym c.in-Some.ensures.value) c.self.invariant
+
+pub returns-in_default-split_first_mut-clause-items : goal.returns-in_default-split_first_mut-clause-items
+returns-in_default-split_first_mut-clause-items g t c = ap (λ (l : List g.row.T.Denot). l ++ joined c.args.behind.now) (ap (λ (v : Vec g.row.T.Denot Global). v.items) c.in-Some.ensures.value ∙ c.self.view_is)
+
+pub returns-in_default-split_first_mut-clause-some : goal.returns-in_default-split_first_mut-clause-some
+returns-in_default-split_first_mut-clause-some g t c = subst (λ (v : Vec g.row.T.Denot Global). 0 < length v.items) (sym c.in-Some.ensures.value) c.self.invariant.0.some
+
+pub returns-in_default-split_first_mut-clause-some_behind : goal.returns-in_default-split_first_mut-clause-some_behind
+returns-in_default-split_first_mut-clause-some_behind g t c = λ all. all
+
+pub invariant_of-self-then-not-replace_run : goal.invariant_of-self-then-not-replace_run
+invariant_of-self-then-not-replace_run g t c =
+    subst (λ (v : Vec g.row.T.Denot Global). FitsChunk (length v.items) × (c.self.inside.noted.count ≡ length v.items) × All (g.T.Share.covers c.self.inside.summary) v.items) (sym c.in-Some.ensures.value) c.self.invariant
+
+pub returns-then-not-replace_run-clause-items : goal.returns-then-not-replace_run-clause-items
+returns-then-not-replace_run-clause-items g t c =
+    let own : c.in-Some.own.now.items ≡ c.args.self.now = ap (λ (v : Vec g.row.T.Denot Global). v.items) c.in-Some.ensures.value ∙ c.self.view_is in
+    let behind : c.replace_run.new.self ++ joined c.replace_run.new.behind ≡ joined c.args.behind.now =
+    c.replace_run.ensures.items
+    ∙ ap (λ made. cond made (replaced_run 0 c.in-Ok.rest.items (c.in-Some-split_first_mut.next.now ++ joined c.in-Some-split_first_mut.others.now)) (c.in-Some-split_first_mut.next.now ++ joined c.in-Some-split_first_mut.others.now)) c.if-not-replace_run.true
+    ∙ sym (ap joined c.in-Some-split_first_mut.ensures.cases.0) in
+    ap (λ (l : List g.row.T.Denot). l ++ (c.replace_run.new.self ++ joined c.replace_run.new.behind)) own ∙ ap (λ (l : List g.row.T.Denot). c.args.self.now ++ l) behind
+
+pub returns-then-not-replace_run-clause-some : goal.returns-then-not-replace_run-clause-some
+returns-then-not-replace_run-clause-some g t c = subst (λ (v : Vec g.row.T.Denot Global). 0 < length v.items) (sym c.in-Some.ensures.value) c.self.invariant.0.some

@@ -121,3 +121,9 @@ returns-else-source-target-2-clause-items g c =
     (c.move_to-else-source-target-2.ensures.items ∙ ap (λ l. changed_if c.move_to-else-source-target-2.result Remove (c.args.from - c.spot_of-source.result.start) l) (sym c.index-back-0-else-source-target-2.is))
     (c.move_to-else-source-target-2.ensures.target ∙ ap (λ l. changed_if c.move_to-else-source-target-2.result (Insert c.args.item) (c.place_before-place.result - c.spot_of-target.result.start) l) (sym c.index-front-target.is))
     c.if-source-target.false
+
+pub overflow_sub-left : goal.overflow_sub-left
+overflow_sub-left g c = c.spot_of-source.ensures.from
+
+pub overflow_sub-there : goal.overflow_sub-there
+overflow_sub-there g c = c.spot_of-target.ensures.from

@@ -1,6 +1,6 @@
 use Rattle.std.proofs.Common.{arith}
 use Rattle.canvas_list.specs.declared.in_place.ItemChange.TheVariants.{Remove, Insert}
-use Rattle.canvas_list.proofs.InPlace.{changed-part, items-after, part-more, place-in, some-after, table-less, table-more}
+use Rattle.canvas_list.proofs.InPlace.{changed-part, items-after, less-is-some, part-more, place-in, some-after, table-kept, table-less, table-more}
 use Rattle.canvas_list.proofs.chunks.Chunks.move_to.Goals as goal
 
 pub move_to-made-requires-clause-at : goal.move_to-made-requires-clause-at
@@ -42,3 +42,19 @@ pub returns-then-made-clause-some_there : goal.returns-then-made-clause-some_the
 returns-then-made-clause-some_there g c =
     let p = changed-part c.target.inside.chunks.items c.deref-2.result.now c.args.target.now c.target.inside.count c.spot_of-goal.result.chunk c.spot_of-goal.result.start c.args.place c.index_mut.result.now (Insert c.args.item) c.target.invariant c.deref-2.ensures.value c.spot_of-goal.ensures c.target.view_is c.index_mut.ensures.value c.requires.place in
     some-after c.target.inside.chunks.items c.args.target.now c.target.inside.count c.spot_of-goal.result.chunk c.spot_of-goal.result.start c.args.place c.index_mut.result.now c.move_to-made.result (Insert c.args.item) c.move_to-made.new.target p (omega (arith, part-more c.target.inside.chunks.items c.args.target.now c.target.inside.count c.spot_of-goal.result.chunk c.spot_of-goal.result.start c.args.place c.index_mut.result.now c.move_to-made.result c.args.item c.move_to-made.new.target p c.move_to-made.ensures.target c.if-made.true))
+
+pub overflow_sub-self : goal.overflow_sub-self
+overflow_sub-self g c = less-is-some c.self.inside.chunks.items c.args.self.now c.self.inside.count c.spot_of-spot.result.chunk c.spot_of-spot.result.start c.args.from c.index_mut-chunk.result.now (changed-part c.self.inside.chunks.items c.deref.result.now c.args.self.now c.self.inside.count c.spot_of-spot.result.chunk c.spot_of-spot.result.start c.args.from c.index_mut-chunk.result.now Remove c.self.invariant c.deref.ensures.value c.spot_of-spot.ensures c.self.view_is c.index_mut-chunk.ensures.value c.requires.from)
+
+pub overflow_add-target : goal.overflow_add-target
+overflow_add-target g c = omega (arith, c.target.invariant.is_small)
+
+pub invariant_of-self-else-made : goal.invariant_of-self-else-made
+invariant_of-self-else-made g c =
+    let p = changed-part c.self.inside.chunks.items c.deref.result.now c.args.self.now c.self.inside.count c.spot_of-spot.result.chunk c.spot_of-spot.result.start c.args.from c.index_mut-chunk.result.now Remove c.self.invariant c.deref.ensures.value c.spot_of-spot.ensures c.self.view_is c.index_mut-chunk.ensures.value c.requires.from in
+    table-kept c.self.inside.chunks.items c.args.self.now c.self.inside.count c.spot_of-spot.result.chunk c.spot_of-spot.result.start c.args.from c.index_mut-chunk.result.now c.move_to-made.result Remove c.move_to-made.new.self p c.move_to-made.ensures.items c.if-made.false
+
+pub invariant_of-target-else-made : goal.invariant_of-target-else-made
+invariant_of-target-else-made g c =
+    let p = changed-part c.target.inside.chunks.items c.deref-2.result.now c.args.target.now c.target.inside.count c.spot_of-goal.result.chunk c.spot_of-goal.result.start c.args.place c.index_mut.result.now (Insert c.args.item) c.target.invariant c.deref-2.ensures.value c.spot_of-goal.ensures c.target.view_is c.index_mut.ensures.value c.requires.place in
+    table-kept c.target.inside.chunks.items c.args.target.now c.target.inside.count c.spot_of-goal.result.chunk c.spot_of-goal.result.start c.args.place c.index_mut.result.now c.move_to-made.result (Insert c.args.item) c.move_to-made.new.target p c.move_to-made.ensures.target c.if-made.false
