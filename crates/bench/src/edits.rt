@@ -8,85 +8,90 @@ use crate::fault::Fault;
 use crate::shapes::edited;
 use crate::times::{least_and_middle, now, since};
 use canvas_doc::{Document, Edit};
+use each::Sort;
 use layouts::Layout;
 use std::alloc::Global;
 use std::time::{Clock, Duration};
 
 /// How often each call is timed.
-const ROUNDS: u32 = 401;
+const ROUNDS: usize = 401;
 
 /// How many edits are made in turn for the time of a whole one, so that reading the clock adds little to it.
 const IN_TURN: u32 = 8;
 
+/// How often the restoring of a document is timed.
+const RESTORED: usize = 21;
+
 /// How many records a document has of which each layout is timed.
 const MANY: u32 = 4_096;
 
-/// How many records the other documents have that are made shape by shape, by which the growth of costs is seen.
-const SIZES: [u32; 4] = [10, 100, 1_000, 16_384];
+/// The documents: what their layout is called, the layout, and how many records they have. Those that are made shape by
+/// shape have other numbers too, by which the growth of costs is seen.
+const DOCUMENTS: [(&str, Layout, u32); 9] = [
+    ("grouped", Layout::Grouped, MANY),
+    ("triangles", Layout::Triangles, MANY),
+    ("flat", Layout::Flat, MANY),
+    ("grown", Layout::Grown, MANY),
+    ("deep", Layout::Deep, MANY),
+    ("grown", Layout::Grown, 10),
+    ("grown", Layout::Grown, 100),
+    ("grown", Layout::Grown, 1_000),
+    ("grown", Layout::Grown, 16_384),
+];
 
-/// How many records the documents have that are timed while they grow.
-const GROWN: [u32; 5] = [10, 100, 1_000, MANY, 16_384];
-
-/// Times each edit of each layout, and of larger and smaller documents, and how documents grow.
+/// Times each edit of each document, and how documents grow.
 pub fn time_all<R: Clock + Print>(rt: &R, alloc: Global) -> Result<(), Fault> {
     println!(rt;
         "layout, records, call: least of {ROUNDS} rounds until decided, made, and the new document dropped"
     )?;
-    for layout in Layout::ALL {
-        time_edits(rt, alloc, layout, MANY)?;
-        time_restoring(rt, alloc, layout)?;
+    for (name, layout, records) in DOCUMENTS {
+        time_edits(rt, alloc, name, layout, records)?;
+        if records == MANY {
+            time_restoring(rt, alloc, name, layout)?;
+        }
     }
-    for records in SIZES {
-        time_edits(rt, alloc, Layout::Grown, records)?;
-    }
-    for records in GROWN {
-        growth::time_growth(rt, alloc, records)?;
-    }
-    Ok(())
+    growth::time_all(rt, alloc)
 }
 
 /// Times each edit of a document of so many records, `Create` of one with a record less.
 fn time_edits<R: Clock + Print>(
     rt: &R,
     alloc: Global,
+    name: &str,
     layout: Layout,
     records: u32,
 ) -> Result<(), Fault> {
-    time_creation(rt, alloc, layout, records.saturating_sub(1))?;
-    time_others(rt, alloc, layout, records)
+    let room = layouts::document(alloc, layout, records.saturating_sub(1))?;
+    let creation = ("Create", Sort::Create);
+    time_sort(rt, alloc, &room, (name, layout, records), creation)?;
+    drop(room);
+    let full = layouts::document(alloc, layout, records)?;
+    time_others(rt, alloc, &full, (name, layout, records))
 }
 
-fn time_creation<R: Clock + Print>(
-    rt: &R,
-    alloc: Global,
-    layout: Layout,
-    records: u32,
-) -> Result<(), Fault> {
-    let room = layouts::document(alloc, layout, records)?;
-    let edit = each::create(alloc, layout)?;
-    time_edit(rt, alloc, (layout.name(), "Create"), &room, &edit)
-}
-
+/// Times each edit but `Create` of a document.
 fn time_others<R: Clock + Print>(
     rt: &R,
     alloc: Global,
-    layout: Layout,
-    records: u32,
+    document: &Document,
+    layout: (&str, Layout, u32),
 ) -> Result<(), Fault> {
-    let full = layouts::document(alloc, layout, records)?;
-    for other in each::Other::ALL {
-        let edit = other.edit(alloc, layout, records)?;
-        time_edit(rt, alloc, (layout.name(), other.name()), &full, &edit)?;
+    for sort in Sort::OTHERS {
+        time_sort(rt, alloc, document, layout, sort)?;
     }
     Ok(())
 }
 
-/// The least times until an edit was decided, and until it was made, and the times of whole ones.
-#[derive(Drop)]
-struct Times {
-    decided: Duration,
-    made: Duration,
-    whole: Vec<Duration>,
+/// Times one edit of a document.
+fn time_sort<R: Clock + Print>(
+    rt: &R,
+    alloc: Global,
+    document: &Document,
+    (layout_name, layout, records): (&str, Layout, u32),
+    (sort_name, sort): (&str, Sort),
+) -> Result<(), Fault> {
+    let edit = sort.edit(alloc, layout, records)?;
+    time_edit(rt, alloc, (layout_name, sort_name), document, &edit)
 }
 
 /// Times `decide`, and `with` behind it, and both with the drop of the document that they made.
@@ -97,48 +102,25 @@ fn time_edit<R: Clock + Print>(
     document: &Document,
     edit: &Edit,
 ) -> Result<(), Fault> {
-    let mut times = Times {
-        decided: Duration::MAX,
-        made: Duration::MAX,
-        whole: Vec::new(alloc),
-    };
-    for _ in 0..ROUNDS {
-        times.add_round(rt, alloc, document, edit)?;
-    }
-    times.print(rt, names, document.count())
-}
-
-impl Times {
-    fn add_round<R: Clock>(
-        &mut self,
-        rt: &R,
-        alloc: Global,
-        document: &Document,
-        edit: &Edit,
-    ) -> Result<(), Fault> {
+    let mut least = (u64::MAX, u64::MAX);
+    let mut times = [0; ROUNDS];
+    for time in &mut times {
         let (decided, made) = time_call(rt, alloc, document, edit)?;
-        self.decided = self.decided.min(decided);
-        self.made = self.made.min(made);
-        let start = now(rt)?;
-        edit_in_turn(alloc, document, edit)?;
-        self.whole.push(since(rt, start)? / IN_TURN)?;
-        Ok(())
+        least = (least.0.min(decided), least.1.min(made));
+        *time = time_in_turn(rt, alloc, document, edit)?;
     }
-
-    fn print<R: Print>(
-        &mut self,
-        rt: &R,
-        names: (&str, &str),
-        records: usize,
-    ) -> Result<(), Fault> {
-        let (decided, made) = (self.decided, self.made);
-        let (least, middle) = least_and_middle(&mut self.whole);
-        println!(rt;
-            "{:<9} {records:>6} {:<7} {decided:?} {made:?} {least:?}, middle {middle:?}",
-            names.0, names.1
-        )?;
-        Ok(())
-    }
+    let (whole, middle) = least_and_middle(&mut times);
+    println!(rt;
+        "{:<9} {:>6} {:<7} {:?} {:?} {:?}, middle {:?}",
+        names.0,
+        document.count(),
+        names.1,
+        Duration::from_nanos(least.0),
+        Duration::from_nanos(least.1),
+        Duration::from_nanos(whole),
+        Duration::from_nanos(middle)
+    )?;
+    Ok(())
 }
 
 /// The times until an edit is decided, and until it is made.
@@ -147,44 +129,56 @@ fn time_call<R: Clock>(
     alloc: Global,
     document: &Document,
     edit: &Edit,
-) -> Result<(Duration, Duration), Fault> {
-    let start = now(rt)?;
+) -> Result<(u64, u64), Fault> {
+    let start = now(rt);
     let change = document.decide(alloc, edit)?;
     let decided = since(rt, start);
     let after = document.with(alloc, &change)?;
     let made = since(rt, start);
     drop(after);
-    Ok((decided?, made?))
+    Ok((decided, made))
 }
 
-/// Decides an edit, makes it and drops the document that it made, some times in turn.
-fn edit_in_turn(alloc: Global, document: &Document, edit: &Edit) -> Result<(), Fault> {
+/// The mean time in which an edit is decided and made, and the document dropped that it made, some times in turn.
+fn time_in_turn<R: Clock>(
+    rt: &R,
+    alloc: Global,
+    document: &Document,
+    edit: &Edit,
+) -> Result<u64, Fault> {
+    let start = now(rt);
     for _ in 0..IN_TURN {
         drop(edited(alloc, document, edit)?);
     }
-    Ok(())
+    Ok(since(rt, start) / u64::from(IN_TURN))
 }
 
-fn time_restoring<R: Clock + Print>(rt: &R, alloc: Global, layout: Layout) -> Result<(), Fault> {
-    let mut times: Vec<Duration> = Vec::new(alloc);
-    for _ in 0..21u32 {
-        times.push(time_restoration(rt, alloc, layout)?)?;
+fn time_restoring<R: Clock + Print>(
+    rt: &R,
+    alloc: Global,
+    name: &str,
+    layout: Layout,
+) -> Result<(), Fault> {
+    let mut times = [0; RESTORED];
+    for time in &mut times {
+        *time = time_restoration(rt, alloc, layout)?;
     }
     let (least, middle) = least_and_middle(&mut times);
     println!(rt;
-        "{:<9} {MANY:>6} restore {least:?}, middle {middle:?}",
-        layout.name()
+        "{name:<9} {MANY:>6} restore {:?}, middle {:?}",
+        Duration::from_nanos(least),
+        Duration::from_nanos(middle)
     )?;
     Ok(())
 }
 
 /// The time in which a document becomes one of its records, which come in the reverse of their order.
-fn time_restoration<R: Clock>(rt: &R, alloc: Global, layout: Layout) -> Result<Duration, Fault> {
+fn time_restoration<R: Clock>(rt: &R, alloc: Global, layout: Layout) -> Result<u64, Fault> {
     let mut records = layouts::records(alloc, layout, MANY)?;
     records.reverse();
-    let start = now(rt)?;
+    let start = now(rt);
     let document = layouts::restored(alloc, records)?;
     let took = since(rt, start);
     drop(document);
-    took
+    Ok(took)
 }

@@ -2,6 +2,7 @@
 //! called and ends.
 #![tactic(auto)]
 
+mod drawings;
 mod edits;
 mod fault;
 mod painting;
@@ -35,40 +36,25 @@ enum Subject {
     Versions,
 }
 
-impl Subject {
-    /// All subjects.
-    const ALL: [Subject; 7] = [
-        Subject::Spans,
-        Subject::Edits,
-        Subject::Scenes,
-        Subject::Painting,
-        Subject::Saving,
-        Subject::Seats,
-        Subject::Versions,
-    ];
+/// The words for the subjects.
+const SUBJECTS: [(&str, Subject); 7] = [
+    ("spans", Subject::Spans),
+    ("edits", Subject::Edits),
+    ("scenes", Subject::Scenes),
+    ("painting", Subject::Painting),
+    ("saving", Subject::Saving),
+    ("seats", Subject::Seats),
+    ("versions", Subject::Versions),
+];
 
-    // The word for a subject.
-    fn name(&self) -> &'static str {
-        match self {
-            Subject::Spans => "spans",
-            Subject::Edits => "edits",
-            Subject::Scenes => "scenes",
-            Subject::Painting => "painting",
-            Subject::Saving => "saving",
-            Subject::Seats => "seats",
-            Subject::Versions => "versions",
+// The subject of a word.
+fn named(word: &str) -> Option<Subject> {
+    for (name, subject) in SUBJECTS {
+        if name == word {
+            return Some(subject);
         }
     }
-
-    // The subject of a word.
-    fn named(word: &str) -> Option<Subject> {
-        for subject in Subject::ALL {
-            if subject.name() == word {
-                return Some(subject);
-            }
-        }
-        None
-    }
+    None
 }
 
 fn main(rt: HostRuntime) -> Result<(), Fault> {
@@ -76,6 +62,7 @@ fn main(rt: HostRuntime) -> Result<(), Fault> {
         println!(rt; "usage: bench spans|edits|scenes|painting|saving|seats|versions")?;
         return Ok(());
     };
+    times::check_clock(&rt)?;
     match subject {
         Subject::Spans => spans::time_all(&rt),
         Subject::Edits => edits::time_all(&rt, rt.alloc()),
@@ -91,7 +78,7 @@ fn main(rt: HostRuntime) -> Result<(), Fault> {
 fn asked(rt: &HostRuntime) -> Result<Option<Subject>, Fault> {
     let mut words = env::args(rt)?.skip(1);
     Ok(match words.next() {
-        Some(word) => Subject::named(word.as_str()),
+        Some(word) => named(word.as_str()),
         None => None,
     })
 }

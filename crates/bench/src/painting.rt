@@ -1,16 +1,14 @@
 //! Times pictures by one strip and by workers.
 
-mod documents;
-
+use crate::drawings::{Part, drawn};
 use crate::fault::Fault;
-use crate::times::{now, since};
+use crate::times::{least_and_middle, now, since};
 use bumpalo::Bump;
 use canvas_doc::Document;
 use canvas_paint::{FreeGate, append_picture, paint, paint_strip};
 use canvas_plane::Window;
 use canvas_scene::{Item, Scene};
 use std::alloc::Global;
-use std::fmt;
 use std::thread::Threads;
 use std::time::Clock;
 
@@ -31,58 +29,99 @@ enum Way {
     UpTo(u32),
 }
 
-impl Way {
-    /// The ways of painting items. The others are told as parts of the first.
-    const ITEMS: [Way; 4] = [
-        Way::OneStrip,
-        Way::Workers(1),
-        Way::Workers(2),
-        Way::Workers(4),
-    ];
-
-    /// The ways of painting a document, in the same order.
-    const DOCUMENT: [Way; 4] = [Way::UpTo(1), Way::UpTo(2), Way::UpTo(4), Way::UpTo(16)];
+/// A way that is timed, and its times.
+#[derive(Drop)]
+struct Timed {
+    name: &'static str,
+    way: Way,
+    times: Vec<u64>,
 }
 
-impl fmt::Display for Way {
-    fn fmt<W: fmt::Write>(&self, f: &mut fmt::Formatter<W>) -> fmt::Result {
-        match self {
-            Way::OneStrip => f.write_str("one strip"),
-            Way::Workers(workers) => write!(f, "workers {workers}"),
-            Way::UpTo(workers) => write!(f, "picture by up to {workers}"),
+/// All ways. Those of a kind are told as parts of its first one.
+#[derive(Drop)]
+struct Ways {
+    items: [Timed; 4],
+    document: [Timed; 4],
+}
+
+impl Ways {
+    // The ways of painting items and a document, in the same order.
+    fn new(alloc: Global) -> Ways {
+        Ways {
+            items: [
+                untimed(alloc, "one strip", Way::OneStrip),
+                untimed(alloc, "workers 1", Way::Workers(1)),
+                untimed(alloc, "workers 2", Way::Workers(2)),
+                untimed(alloc, "workers 4", Way::Workers(4)),
+            ],
+            document: [
+                untimed(alloc, "picture by up to 1", Way::UpTo(1)),
+                untimed(alloc, "picture by up to 2", Way::UpTo(2)),
+                untimed(alloc, "picture by up to 4", Way::UpTo(4)),
+                untimed(alloc, "picture by up to 16", Way::UpTo(16)),
+            ],
         }
     }
 }
 
+fn untimed(alloc: Global, name: &'static str, way: Way) -> Timed {
+    let times = Vec::new(alloc);
+    Timed { name, way, times }
+}
+
+/// The documents: the seed of their numbers, how many parts they have, what these are called, and the parts.
+const DOCUMENTS: [(u64, u32, &str, Part); 10] = [
+    (
+        7,
+        10,
+        "rectangles of up to 250 pixels",
+        Part::Rectangle(250),
+    ),
+    (
+        7,
+        100,
+        "rectangles of up to 120 pixels",
+        Part::Rectangle(120),
+    ),
+    (
+        7,
+        1000,
+        "rectangles of up to 40 pixels",
+        Part::Rectangle(40),
+    ),
+    (
+        7,
+        4000,
+        "rectangles of up to 12 pixels",
+        Part::Rectangle(12),
+    ),
+    (9, 20, "ellipses of up to 120 pixels", Part::Ellipse(120)),
+    (9, 200, "ellipses of up to 120 pixels", Part::Ellipse(120)),
+    (11, 5, "polygons of 64 vertices", Part::Polygon(64)),
+    (11, 20, "polygons of 64 vertices", Part::Polygon(64)),
+    (11, 80, "polygons of 64 vertices", Part::Polygon(64)),
+    (
+        13,
+        80,
+        "polygons of 64 vertices, each in a frame of 8 by 8 pixels",
+        Part::Framed(64),
+    ),
+];
+
 /// Times pictures of documents of each kind of leaf.
 pub fn time_all<R: Clock + Print + Threads + Sync>(rt: &R, alloc: Global) -> Result<(), Fault> {
-    time_rectangles(rt, alloc)?;
-    time_ellipses(rt, alloc)?;
-    time_polygons(rt, alloc)?;
-    println!(rt; "80 polygons of 64 vertices, each in a frame of 8 by 8 pixels")?;
-    measure(rt, alloc, documents::framed(alloc, 80, 64)?)
+    let mut ways = Ways::new(alloc);
+    time_documents(rt, alloc, &mut ways)
 }
 
-fn time_rectangles<R: Clock + Print + Threads + Sync>(rt: &R, alloc: Global) -> Result<(), Fault> {
-    for (count, most) in [(10, 250), (100, 120), (1000, 40), (4000, 12)] {
-        println!(rt; "{count} rectangles of up to {most} pixels")?;
-        measure(rt, alloc, documents::rectangles(alloc, count, most)?)?;
-    }
-    Ok(())
-}
-
-fn time_ellipses<R: Clock + Print + Threads + Sync>(rt: &R, alloc: Global) -> Result<(), Fault> {
-    for (count, most) in [(20, 120), (200, 120)] {
-        println!(rt; "{count} ellipses of up to {most} pixels")?;
-        measure(rt, alloc, documents::ellipses(alloc, count, most)?)?;
-    }
-    Ok(())
-}
-
-fn time_polygons<R: Clock + Print + Threads + Sync>(rt: &R, alloc: Global) -> Result<(), Fault> {
-    for count in [5, 20, 80] {
-        println!(rt; "{count} polygons of 64 vertices")?;
-        measure(rt, alloc, documents::polygons(alloc, count, 64)?)?;
+fn time_documents<R: Clock + Print + Threads + Sync>(
+    rt: &R,
+    alloc: Global,
+    ways: &mut Ways,
+) -> Result<(), Fault> {
+    for (seed, count, name, part) in DOCUMENTS {
+        println!(rt; "{count} {name}")?;
+        measure(rt, alloc, ways, seed, part, count)?;
     }
     Ok(())
 }
@@ -99,10 +138,14 @@ struct Sight<'a> {
 fn measure<R: Clock + Print + Threads + Sync>(
     rt: &R,
     alloc: Global,
-    document: Document,
+    ways: &mut Ways,
+    seed: u64,
+    part: Part,
+    count: u32,
 ) -> Result<(), Fault> {
+    let drawing = drawn(alloc, seed, part, count)?;
     let bump = Bump::new(alloc);
-    measure_in(rt, alloc, &bump, &document)
+    measure_in(rt, alloc, &bump, ways, &drawing.document)
 }
 
 /// The same with an arena for the scene.
@@ -110,6 +153,7 @@ fn measure_in<R: Clock + Print + Threads + Sync>(
     rt: &R,
     alloc: Global,
     bump: &Bump,
+    ways: &mut Ways,
     document: &Document,
 ) -> Result<(), Fault> {
     let window = Window::tile(0, 0)?;
@@ -121,19 +165,8 @@ fn measure_in<R: Clock + Print + Threads + Sync>(
         window: &window,
         items,
     };
-    measure_ways(rt, alloc, sight, &Way::ITEMS)?;
-    measure_ways(rt, alloc, sight, &Way::DOCUMENT)
-}
-
-/// Prints what a picture costs in each of some ways.
-fn measure_ways<R: Clock + Print + Threads + Sync>(
-    rt: &R,
-    alloc: Global,
-    sight: Sight<'_>,
-    ways: &[Way],
-) -> Result<(), Fault> {
-    let mut timed = untimed(alloc, ways)?;
-    measure_rounds(rt, alloc, sight, &mut timed)
+    measure_rounds(rt, alloc, sight, &mut ways.items)?;
+    measure_rounds(rt, alloc, sight, &mut ways.document)
 }
 
 /// Measures each way in rounds, and prints what was measured.
@@ -141,21 +174,12 @@ fn measure_rounds<R: Clock + Print + Threads + Sync>(
     rt: &R,
     alloc: Global,
     sight: Sight<'_>,
-    timed: &mut [(Way, Vec<u64>)],
+    ways: &mut [Timed],
 ) -> Result<(), Fault> {
     for _ in 0..ROUNDS {
-        time_each(rt, alloc, sight, timed)?;
+        time_each(rt, alloc, sight, ways)?;
     }
-    report(rt, timed)
-}
-
-/// Each way, with no times yet.
-fn untimed(alloc: Global, ways: &[Way]) -> Result<Vec<(Way, Vec<u64>)>, Fault> {
-    let mut timed = Vec::new(alloc);
-    for way in ways {
-        timed.push((*way, Vec::new(alloc)))?;
-    }
-    Ok(timed)
+    report(rt, ways)
 }
 
 /// Times each way once.
@@ -163,26 +187,27 @@ fn time_each<R: Clock + Threads + Sync>(
     rt: &R,
     alloc: Global,
     sight: Sight<'_>,
-    timed: &mut [(Way, Vec<u64>)],
+    ways: &mut [Timed],
 ) -> Result<(), Fault> {
-    for (way, times) in timed {
-        times.push(time_way(rt, alloc, sight, *way)?)?;
+    for timed in ways {
+        let time = time_way(rt, alloc, sight, timed.way)?;
+        timed.times.push(time)?;
     }
     Ok(())
 }
 
-/// Prints the least and the middle of the times of each way, and what part they are of the first one's.
-fn report<R: Print>(rt: &R, timed: &mut [(Way, Vec<u64>)]) -> Result<(), Fault> {
+/// Prints the least and the middle of the times of each way, and what part they are of the first one's; forgets them.
+fn report<R: Print>(rt: &R, ways: &mut [Timed]) -> Result<(), Fault> {
     let mut first = None;
-    for (way, times) in timed {
-        times.sort_unstable();
-        let least = times.first().map_or(0, |time| *time);
-        let middle = times.get(times.len() / 2).map_or(0, |time| *time);
-        let (whole_middle, whole_least) = *first.get_or_insert((middle, least));
-        let of_middle = percent(middle, whole_middle);
-        let of_least = percent(least, whole_least);
+    for timed in ways {
+        let (least, middle) = least_and_middle(&mut timed.times);
+        timed.times.clear();
+        let (whole_least, whole_middle) = *first.get_or_insert((least, middle));
         println!(rt;
-            "    {way}: middle {middle} ns ({of_middle} %), least {least} ns ({of_least} %)"
+            "    {}: middle {middle} ns ({} %), least {least} ns ({} %)",
+            timed.name,
+            percent(middle, whole_middle),
+            percent(least, whole_least)
         )?;
     }
     Ok(())
@@ -193,7 +218,7 @@ fn percent(part: u64, whole: u64) -> u64 {
     part.saturating_mul(100) / whole.max(1)
 }
 
-/// The nanoseconds that a picture takes.
+/// The nanoseconds that a picture takes, with an arena for scenes.
 fn time_way<R: Clock + Threads + Sync>(
     rt: &R,
     alloc: Global,
@@ -201,25 +226,13 @@ fn time_way<R: Clock + Threads + Sync>(
     way: Way,
 ) -> Result<u64, Fault> {
     let mut bump = Bump::new(alloc);
-    time_way_in(rt, alloc, &mut bump, sight, way)
-}
-
-/// The same with an arena for scenes.
-fn time_way_in<R: Clock + Threads + Sync>(
-    rt: &R,
-    alloc: Global,
-    bump: &mut Bump,
-    sight: Sight<'_>,
-    way: Way,
-) -> Result<u64, Fault> {
-    let start = now(rt)?;
+    let start = now(rt);
     for _ in 0..TIMES {
-        paint_once(rt, alloc, bump, sight, way)?;
+        paint_once(rt, alloc, &bump, sight, way)?;
         // Nothing borrows the arena any more, so a reset can't fail.
         let _ = bump.reset();
     }
-    let each = since(rt, start)?.as_nanos() / u128::from(TIMES);
-    Ok(u64::try_from(each).unwrap_or(u64::MAX))
+    Ok(since(rt, start) / u64::from(TIMES))
 }
 
 /// Paints a picture, with an arena for the scene of a document.

@@ -5,7 +5,6 @@ use crate::times::{now, since};
 use canvas_doc::Document;
 use canvas_store::{export, import};
 use std::io::Read;
-use std::time::Duration;
 
 const ROUNDS: u32 = 20;
 
@@ -21,38 +20,42 @@ fn time_text(rt: &HostRuntime, text: &[u8]) -> Result<(), Fault> {
         println!(rt; "give a saved document on standard input")?;
         return Ok(());
     }
-    let mut opening = Duration::MAX;
-    let mut saving = Duration::MAX;
+    let mut least_opening = u64::MAX;
+    let mut least_saving = u64::MAX;
     for _ in 0..ROUNDS {
-        let (opened, saved) = time_round(rt, text)?;
-        opening = opening.min(opened);
-        saving = saving.min(saved);
+        let (opening, saving) = time_round(rt, text)?;
+        least_opening = least_opening.min(opening);
+        least_saving = least_saving.min(saving);
     }
     println!(rt;
         "opening {} us, saving {} us",
-        opening.as_micros(),
-        saving.as_micros()
+        least_opening / 1000,
+        least_saving / 1000
     )?;
     Ok(())
 }
 
 // The times of opening a text and of saving it again.
-fn time_round(rt: &HostRuntime, text: &[u8]) -> Result<(Duration, Duration), Fault> {
-    let start = now(rt)?;
+fn time_round(rt: &HostRuntime, text: &[u8]) -> Result<(u64, u64), Fault> {
+    let start = now(rt);
     let document = import(rt.alloc(), text)?;
     let opening = since(rt, start);
-    let saving = time_saving(rt, &document, text);
-    drop(document);
-    Ok((opening?, saving?))
+    time_saving(rt, &document, text, opening)
 }
 
-// The time of saving a document, whose text this must be.
-fn time_saving(rt: &HostRuntime, document: &Document, text: &[u8]) -> Result<Duration, Fault> {
-    let start = now(rt)?;
+// The time of opening a document, and that of saving it, whose text this must be.
+fn time_saving(
+    rt: &HostRuntime,
+    document: &Document,
+    text: &[u8],
+    opening: u64,
+) -> Result<(u64, u64), Fault> {
+    let start = now(rt);
     let saved = export(rt.alloc(), document)?;
     let saving = since(rt, start);
-    if saved.as_slice() != text {
-        return Err(Fault::NoDocument);
+    if saved.as_slice() == text {
+        Ok((opening, saving))
+    } else {
+        Err(Fault::NoDocument)
     }
-    saving
 }

@@ -5,12 +5,11 @@ ghost use Rattle.std.specs.Prelude.{◌≡◌};
 mod edits;
 mod looks;
 
+use crate::drawings::{Part, drawn};
 use crate::fault::Fault;
-use crate::shapes::with_shape;
-use canvas_doc::{Document, Parent};
+use crate::shapes::Drawing;
+use canvas_doc::Document;
 use canvas_line::{Line, Lines, Opened, Seat};
-use canvas_plane::Pose;
-use canvas_shape::{Colour, Kind};
 use std::alloc::Global;
 use std::marker::Brand;
 use std::sync::Wait;
@@ -24,13 +23,26 @@ enum Work {
     Edits,
     /// Looks that find nothing new, by one seat after another.
     LooksInTurn,
-    /// Such looks by each seat on a thread of its own.
-    Looks,
-    /// The same while the first seat edits.
-    LooksBesideEdits,
-    /// Edits by each seat on a thread of its own.
-    EditsAtOnce,
+    /// Such looks by each seat on a thread of its own, while so many of the first seats edit.
+    AtOnce(usize),
 }
+
+/// What is timed at lines of 100 records, with how many seats: looks in turn, looks at once, looks beside an editor, and
+/// edits at once.
+const WORKS: [(u32, Work); 12] = [
+    (1, Work::LooksInTurn),
+    (4, Work::LooksInTurn),
+    (16, Work::LooksInTurn),
+    (1, Work::AtOnce(0)),
+    (4, Work::AtOnce(0)),
+    (16, Work::AtOnce(0)),
+    (2, Work::AtOnce(1)),
+    (4, Work::AtOnce(1)),
+    (1, Work::AtOnce(1)),
+    (2, Work::AtOnce(2)),
+    (4, Work::AtOnce(4)),
+    (8, Work::AtOnce(8)),
+];
 
 /// Times each kind of work.
 pub fn time_all<R: Clock + Print + Threads + Wait + Sync>(
@@ -38,43 +50,24 @@ pub fn time_all<R: Clock + Print + Threads + Wait + Sync>(
     alloc: Global,
 ) -> Result<(), Fault> {
     for records in [100, 4096] {
-        edits::time_alone(rt, alloc, document(alloc, records)?)?;
+        time_alone(rt, alloc, records)?;
         time(rt, alloc, records, 1, Work::Edits)?;
     }
-    time_each(rt, alloc, &[1, 4, 16], Work::LooksInTurn)?;
-    time_each(rt, alloc, &[1, 4, 16], Work::Looks)?;
-    time_each(rt, alloc, &[2, 4], Work::LooksBesideEdits)?;
-    time_each(rt, alloc, &[1, 2, 4, 8], Work::EditsAtOnce)
-}
-
-/// Times one kind of work with each of some numbers of seats, at lines of 100 records.
-fn time_each<R: Clock + Print + Threads + Wait + Sync>(
-    rt: &R,
-    alloc: Global,
-    numbers: &[u32],
-    work: Work,
-) -> Result<(), Fault> {
-    for seats in numbers {
-        time(rt, alloc, 100, *seats, work)?;
+    for (seats, work) in WORKS {
+        time(rt, alloc, 100, seats, work)?;
     }
     Ok(())
 }
 
-/// A document of so many rectangles on the page.
-fn document(alloc: Global, records: u32) -> Result<Document, Fault> {
-    let mut document = Document::empty(alloc);
-    for _ in 0..records {
-        document = with_shape(alloc, document, rectangle(), Pose::STILL, Parent::Page)?;
-    }
-    Ok(document)
+/// Times edits of a document of so many records at no line.
+fn time_alone<R: Clock + Print>(rt: &R, alloc: Global, records: u32) -> Result<(), Fault> {
+    let mut drawing = document(alloc, records)?;
+    edits::time_alone(rt, &mut drawing)
 }
 
-fn rectangle() -> Kind {
-    Kind::Rect {
-        w: 2,
-        h: 2,
-        fill: Colour([255, 0, 0]),
-    }
+/// A document of so many squares on the page.
+fn document(alloc: Global, records: u32) -> Result<Drawing, Fault> {
+    drawn(alloc, 0, Part::Square(2), records)
 }
 
 /// Opens a line of so many records and times one kind of work there.
@@ -85,7 +78,7 @@ fn time<R: Clock + Print + Threads + Wait + Sync>(
     seats: u32,
     work: Work,
 ) -> Result<(), Fault> {
-    let document = document(alloc, records)?;
+    let Drawing { document, .. } = document(alloc, records)?;
     time_at::<Brand, R>(rt, alloc, Opened::new(), document, seats, work)
 }
 
@@ -107,18 +100,13 @@ fn time_at<B: Lines + Send + Sync, R: Clock + Print + Threads + Wait + Sync>(
 fn run<B: Lines + Send + Sync, R: Clock + Print + Threads + Wait + Sync>(
     rt: &R,
     alloc: Global,
-    seats: Vec<Seat<B>>,
+    mut seats: Vec<Seat<B>>,
     records: usize,
     work: Work,
 ) -> Result<(), Fault> {
     match work {
-        Work::Edits => edits::time_through_seats(rt, alloc, seats, records),
-        Work::LooksInTurn => looks::time_in_turn(rt, seats),
-        Work::Looks => looks::time_at_once(rt, alloc, seats, 0),
-        Work::LooksBesideEdits => looks::time_at_once(rt, alloc, seats, 1),
-        Work::EditsAtOnce => {
-            let all = seats.len();
-            looks::time_at_once(rt, alloc, seats, all)
-        }
+        Work::Edits => edits::time_by_seat(rt, alloc, &mut seats, records),
+        Work::LooksInTurn => looks::time_in_turn(rt, &mut seats),
+        Work::AtOnce(editors) => looks::time_at_once(rt, alloc, seats, editors),
     }
 }

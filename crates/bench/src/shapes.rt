@@ -1,31 +1,10 @@
-//! Shapes put into documents, and numbers that look random.
+//! Documents that are made edit by edit, of shapes that look random.
 
 use crate::fault::Fault;
 use canvas_doc::{Document, Edit, Parent, Spot};
-use canvas_plane::Pose;
-use canvas_shape::Kind;
+use canvas_plane::{Point, Pose};
+use canvas_shape::{Kind, Points};
 use std::alloc::Global;
-
-/// Numbers that look random, the same in each run.
-#[derive(Drop)]
-pub struct Dice(u64);
-
-impl Dice {
-    /// The numbers that begin with a seed.
-    pub fn new(seed: u64) -> Dice {
-        Dice(seed)
-    }
-
-    /// A number below n, or 0 where n is 0.
-    pub fn below(&mut self, n: u32) -> u32 {
-        self.0 = self
-            .0
-            .wrapping_mul(6_364_136_223_846_793_005)
-            .wrapping_add(1_442_695_040_888_963_407);
-        let high = (self.0 >> 40) as u32;
-        if n == 0 { 0 } else { high % n }
-    }
-}
 
 /// The document after an edit.
 pub fn edited(alloc: Global, document: &Document, edit: &Edit) -> Result<Document, Fault> {
@@ -33,20 +12,69 @@ pub fn edited(alloc: Global, document: &Document, edit: &Edit) -> Result<Documen
     Ok(document.with(alloc, &change)?)
 }
 
-/// The document with a shape in front of a parent's children.
-pub fn with_shape(
-    alloc: Global,
-    document: Document,
-    kind: Kind,
-    pose: Pose,
-    parent: Parent,
-) -> Result<Document, Fault> {
-    let edit = Edit::Create {
-        kind,
-        pose,
-        hidden: false,
-        parent,
-        spot: Spot::Front,
-    };
-    edited(alloc, &document, &edit)
+/// A document to which shapes are added, and numbers that look random, the same in each run.
+#[derive(Drop)]
+pub struct Drawing {
+    pub alloc: Global,
+    pub document: Document,
+    state: u64,
+}
+
+impl Drawing {
+    /// An empty document, and the numbers that begin with a seed.
+    pub fn new(alloc: Global, seed: u64) -> Drawing {
+        Drawing {
+            alloc,
+            document: Document::empty(alloc),
+            state: seed,
+        }
+    }
+
+    /// A document, and the numbers that begin with 0.
+    pub fn of(alloc: Global, document: Document) -> Drawing {
+        Drawing {
+            alloc,
+            document,
+            state: 0,
+        }
+    }
+
+    /// A number below n, or 0 where n is 0.
+    pub fn below(&mut self, n: u32) -> u32 {
+        self.state = self
+            .state
+            .wrapping_mul(6_364_136_223_846_793_005)
+            .wrapping_add(1_442_695_040_888_963_407);
+        let high = (self.state >> 40) as u32;
+        if n == 0 { 0 } else { high % n }
+    }
+
+    /// So many vertices anywhere in a rectangle of such sides at the origin.
+    pub fn vertices(&mut self, count: u32, w: u32, h: u32) -> Result<Points, Fault> {
+        let mut points = Points::new(self.alloc);
+        for _ in 0..count {
+            let x = i64::from(self.below(w));
+            let y = i64::from(self.below(h));
+            points.push(Point { x, y })?;
+        }
+        Ok(points)
+    }
+
+    /// The parent that the next shape is.
+    pub fn next_parent(&self) -> Parent {
+        Parent::Shape(self.document.next_id())
+    }
+
+    /// Adds a shape in front of a parent's children.
+    pub fn add(&mut self, kind: Kind, pose: Pose, parent: Parent) -> Result<(), Fault> {
+        let edit = Edit::Create {
+            kind,
+            pose,
+            hidden: false,
+            parent,
+            spot: Spot::Front,
+        };
+        self.document = edited(self.alloc, &self.document, &edit)?;
+        Ok(())
+    }
 }

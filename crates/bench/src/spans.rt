@@ -7,31 +7,27 @@ mod rows;
 mod vertices;
 
 use crate::fault::Fault;
-use crate::times::{now, since, warm_up};
-use canvas_plane::{Point, Pose};
+use crate::times::{least_and_middle, now, since, warm_up};
+use canvas_plane::Pose;
 use canvas_shape::Carried;
 use rows::{Memory, Way};
-use std::fmt;
-use vertices::{crossing, frayed, round, scattered, star};
+use vertices::{Outline, vertices};
 
 /// How often all rows of a leaf are timed together.
 const TURNS: u32 = 16;
 
 /// How many such times are taken.
-const SAMPLES: u32 = 401;
+const SAMPLES: usize = 401;
 
 /// Times the rows of leaves of each kind.
 pub fn time_all(rt: &HostRuntime) -> Result<(), Fault> {
-    warm_up(rt)?;
-    time_boxes(rt)?;
-    time_polygon(rt, "round", round(rt.alloc())?)?;
-    time_polygon(rt, "of 128 rays", star(rt.alloc())?)?;
-    time_polygon(rt, "of scattered vertices", scattered(rt.alloc())?)?;
-    time_polygon(rt, "of crossing edges", crossing(rt.alloc())?)?;
-    time_polygon(rt, "with frayed sides", frayed(rt.alloc())?)
+    warm_up(rt);
+    let mut memory = Memory::new(rt.alloc());
+    time_boxes(rt, &mut memory)?;
+    time_polygons(rt, &mut memory)
 }
 
-fn time_boxes(rt: &HostRuntime) -> Result<(), Fault> {
+fn time_boxes(rt: &HostRuntime, memory: &mut Memory) -> Result<(), Fault> {
     let pose = Pose {
         dx: 10,
         dy: 5,
@@ -39,72 +35,85 @@ fn time_boxes(rt: &HostRuntime) -> Result<(), Fault> {
         flip: false,
     };
     let rectangle = Carried::rect(&pose, 200, 240);
-    time(rt, "rectangle of 200 by 240", &rectangle, Way::RowByRow)?;
+    time(
+        rt,
+        memory,
+        "rectangle of 200 by 240",
+        &rectangle,
+        Way::RowByRow,
+    )?;
     let ellipse = Carried::ellipse(&pose, 200, 240);
-    time(rt, "ellipse of 200 by 240", &ellipse, Way::RowByRow)
+    time(rt, memory, "ellipse of 200 by 240", &ellipse, Way::RowByRow)
 }
 
-fn time_polygon(rt: &HostRuntime, name: &str, points: Vec<Point>) -> Result<(), Fault>
-    requires some { 0 < length points.items }
-    requires near { All (λ p. size_of p ≤ 2 ^ 27) points.items }
-{
-    time_both_ways(rt, name, &Carried::polygon(&points))
+fn time_polygons(rt: &HostRuntime, memory: &mut Memory) -> Result<(), Fault> {
+    time_polygon(rt, memory, "polygon round", Outline::Round)?;
+    time_polygon(rt, memory, "polygon of 128 rays", Outline::Rays)?;
+    time_polygon(
+        rt,
+        memory,
+        "polygon of scattered vertices",
+        Outline::Scattered,
+    )?;
+    time_polygon(rt, memory, "polygon of crossing edges", Outline::Crossing)?;
+    time_polygon(rt, memory, "polygon with frayed sides", Outline::Frayed)
 }
 
-fn time_both_ways(rt: &HostRuntime, name: &str, leaf: &Carried<'_>) -> Result<(), Fault> {
-    print!(rt; "polygon ")?;
-    time(rt, name, leaf, Way::RowByRow)?;
-    print!(rt; "polygon ")?;
-    time(rt, name, leaf, Way::Together)
+fn time_polygon(
+    rt: &HostRuntime,
+    memory: &mut Memory,
+    name: &str,
+    outline: Outline,
+) -> Result<(), Fault> {
+    let points = vertices(rt.alloc(), outline)?;
+    time_both_ways(rt, memory, name, &Carried::polygon(&points))
+}
+
+fn time_both_ways(
+    rt: &HostRuntime,
+    memory: &mut Memory,
+    name: &str,
+    leaf: &Carried<'_>,
+) -> Result<(), Fault> {
+    time(rt, memory, name, leaf, Way::RowByRow)?;
+    time(rt, memory, name, leaf, Way::Together)
 }
 
 // Prints the median and the least time of a leaf's rows.
-fn time(rt: &HostRuntime, name: &str, leaf: &Carried<'_>, way: Way) -> Result<(), Fault> {
-    let mut memory = Memory::new(rt.alloc());
-    let mut times = samples(rt, leaf, way, &mut memory)?;
-    times.sort_unstable();
-    let median = Micros(times.get(times.len() / 2).map_or(0, |time| *time));
-    let least = Micros(times.first().map_or(0, |time| *time));
+fn time(
+    rt: &HostRuntime,
+    memory: &mut Memory,
+    name: &str,
+    leaf: &Carried<'_>,
+    way: Way,
+) -> Result<(), Fault> {
+    let mut times = [0; SAMPLES];
+    for time in &mut times {
+        *time = sample(rt, memory, leaf, way)?;
+    }
+    let (least, median) = least_and_middle(&mut times);
     println!(rt;
-        "{name}, {way}: {median} microseconds, at least {least}; {} spans",
+        "{name}, {}: {}.{:02} microseconds, at least {}.{:02}; {} spans",
+        way.name(),
+        median / 1000,
+        median % 1000 / 10,
+        least / 1000,
+        least % 1000 / 10,
         memory.out.len()
     )?;
     Ok(())
 }
 
-// The nanoseconds of all rows, as often as they are taken.
-fn samples(
-    rt: &HostRuntime,
-    leaf: &Carried<'_>,
-    way: Way,
-    memory: &mut Memory,
-) -> Result<Vec<u128>, Fault> {
-    let mut times = Vec::new(rt.alloc());
-    for _ in 0..SAMPLES {
-        times.push(sample(rt, leaf, way, memory)?)?;
-    }
-    Ok(times)
-}
-
+// The nanoseconds of all rows of a leaf.
 fn sample(
     rt: &HostRuntime,
+    memory: &mut Memory,
     leaf: &Carried<'_>,
     way: Way,
-    memory: &mut Memory,
-) -> Result<u128, Fault> {
-    let start = now(rt)?;
+) -> Result<u64, Fault> {
+    let start = now(rt);
     for _ in 0..TURNS {
         memory.take_rows(leaf, way)?;
     }
-    Ok(since(rt, start)?.as_nanos() / u128::from(TURNS))
-}
-
-/// Nanoseconds that are shown as microseconds.
-#[derive(Clone, Copy)]
-struct Micros(u128);
-
-impl fmt::Display for Micros {
-    fn fmt<W: fmt::Write>(&self, f: &mut fmt::Formatter<W>) -> fmt::Result {
-        write!(f, "{}.{:02}", self.0 / 1000, self.0 % 1000 / 10)
-    }
+    Ok(since(rt, start) / u64::from(TURNS))
 }

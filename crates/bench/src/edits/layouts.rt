@@ -1,12 +1,16 @@
 //! Documents to be edited.
 
+use crate::drawings::{Part, drawn};
 use crate::fault::Fault;
-use crate::shapes::with_shape;
+use crate::shapes::Drawing;
 use canvas_doc::{Document, MOST_RECORDS, Parent, Place, Record};
 use canvas_key::fresh;
 use canvas_plane::{Point, Pose};
 use canvas_shape::{Colour, Kind, Points};
 use std::alloc::Global;
+
+/// What documents are made of that grow.
+pub const SQUARE: Part = Part::Square(5);
 
 /// How records hang together. In all but `Grown` ids begin at 2, as where the first shape was deleted, and indexes stand in no order of
 /// the ids, with a gap behind each, so that new indexes are other ones.
@@ -24,34 +28,12 @@ pub enum Layout {
     Deep,
 }
 
-impl Layout {
-    /// All layouts.
-    pub const ALL: [Layout; 5] = [
-        Layout::Grouped,
-        Layout::Triangles,
-        Layout::Flat,
-        Layout::Grown,
-        Layout::Deep,
-    ];
-
-    /// What the layout is called.
-    pub fn name(&self) -> &'static str {
-        match self {
-            Layout::Grouped => "grouped",
-            Layout::Triangles => "triangles",
-            Layout::Flat => "flat",
-            Layout::Grown => "grown",
-            Layout::Deep => "deep",
-        }
-    }
-}
-
 /// A triangle or a rectangle.
 pub fn leaf(alloc: Global, layout: Layout, side: u32) -> Result<Kind, Fault> {
     let fill = Colour([1, 2, 3]);
     match layout {
         Layout::Triangles => {
-            let points = triangle(alloc, side)?;
+            let points = triangle(alloc, i64::from(side))?;
             Ok(Kind::Polygon { points, fill })
         }
         _ => Ok(Kind::Rect {
@@ -62,12 +44,13 @@ pub fn leaf(alloc: Global, layout: Layout, side: u32) -> Result<Kind, Fault> {
     }
 }
 
-fn triangle(alloc: Global, side: u32) -> Result<Points, Fault> {
-    let mut points = Points::new(alloc);
-    for (x, y) in [(0, 0), (side as i64, 0), (0, side as i64)] {
-        points.push(Point { x, y })?;
-    }
-    Ok(points)
+fn triangle(alloc: Global, side: i64) -> Result<Points, Fault> {
+    let corners = vec![in alloc;
+        Point { x: 0, y: 0 },
+        Point { x: side, y: 0 },
+        Point { x: 0, y: side },
+    ]?;
+    Ok(Points::from_vec(corners))
 }
 
 // The parent of the record of an id, and whether it is a group.
@@ -75,22 +58,12 @@ fn hung(layout: Layout, id: u32) -> (Parent, bool) {
     let within = id % 64;
     match layout {
         Layout::Flat | Layout::Grown => (Parent::Page, false),
-        Layout::Deep => {
-            let up = id.saturating_sub(1).min(32);
-            let parent = if id == 2 {
-                Parent::Page
-            } else {
-                Parent::Shape(up)
-            };
-            (parent, id <= 32)
-        }
+        Layout::Deep if id == 2 => (Parent::Page, true),
+        Layout::Deep => (Parent::Shape(id.saturating_sub(1).min(32)), id <= 32),
+        _ if within == 2 => (Parent::Page, true),
         _ => {
-            if within == 2 {
-                (Parent::Page, true)
-            } else {
-                let first = id.saturating_sub(within.wrapping_sub(2) % 64);
-                (Parent::Shape(first), false)
-            }
+            let first = id.saturating_sub(within.wrapping_sub(2) % 64);
+            (Parent::Shape(first), false)
         }
     }
 }
@@ -127,24 +100,12 @@ fn record(alloc: Global, layout: Layout, id: u32) -> Result<Record, Fault> {
 /// The document of the first records of a layout.
 pub fn document(alloc: Global, layout: Layout, count: u32) -> Result<Document, Fault> {
     match layout {
-        Layout::Grown => grown(alloc, count),
+        Layout::Grown => {
+            let Drawing { document, .. } = drawn(alloc, 0, SQUARE, count)?;
+            Ok(document)
+        }
         _ => restored(alloc, records(alloc, layout, count)?),
     }
-}
-
-// A document of so many rectangles, made by as many edits.
-fn grown(alloc: Global, count: u32) -> Result<Document, Fault> {
-    grown_from(alloc, Document::empty(alloc), count)
-}
-
-/// The document with so many more rectangles, each put in front by an edit.
-pub fn grown_from(alloc: Global, document: Document, more: u32) -> Result<Document, Fault> {
-    let mut document = document;
-    for _ in 0..more {
-        let kind = leaf(alloc, Layout::Grown, 5)?;
-        document = with_shape(alloc, document, kind, Pose::STILL, Parent::Page)?;
-    }
-    Ok(document)
 }
 
 /// The document of records, where there are not too many.

@@ -1,13 +1,13 @@
 //! Looks by many seats, in turn and at once, and edits at once.
 
 use crate::fault::Fault;
-use crate::seats::edits::pose_edit;
+use crate::seats::edits::{Editor, pose_edit};
 use crate::times::{now, since};
 use canvas_line::{Lines, Seat};
 use std::alloc::Global;
 use std::sync::Wait;
 use std::thread::{self, Threads};
-use std::time::{Clock, Duration};
+use std::time::Clock;
 
 /// How many looks each seat takes.
 const LOOKS: u32 = 1_000_000;
@@ -25,30 +25,25 @@ struct Job<B: Lines> {
     is_editor: bool,
 }
 
-/// How many calls a thread made, and how long they took.
+/// How many calls a thread made, where none failed, and how long they took.
 #[derive(Drop)]
 struct Done {
-    calls: u32,
-    took: Duration,
+    calls: Result<u32, Fault>,
+    took: u64,
 }
 
 /// Times looks by one seat after another, on one thread.
 pub fn time_in_turn<B: Lines, R: Clock + Print>(
     rt: &R,
-    mut seats: Vec<Seat<B>>,
+    seats: &mut [Seat<B>],
 ) -> Result<(), Fault> {
-    let round = time_rounds(rt, &mut seats)?;
-    println!(rt; "{:>2} seats in turn: {round} ns a round", seats.len())?;
-    Ok(())
-}
-
-/// The nanoseconds of a look by each seat.
-fn time_rounds<B: Lines, R: Clock>(rt: &R, seats: &mut [Seat<B>]) -> Result<u128, Fault> {
-    let start = now(rt)?;
+    let start = now(rt);
     for _ in 0..ROUNDS {
         look_by_each(seats)?;
     }
-    Ok(since(rt, start)?.as_nanos() / u128::from(ROUNDS))
+    let round = since(rt, start) / u64::from(ROUNDS);
+    println!(rt; "{:>2} seats in turn: {round} ns a round", seats.len())?;
+    Ok(())
 }
 
 fn look_by_each<B: Lines>(seats: &mut [Seat<B>]) -> Result<(), Fault> {
@@ -84,53 +79,36 @@ fn jobs<B: Lines>(
     Ok(jobs)
 }
 
-fn print_done<R: Print>(rt: &R, done: &[Option<Done>]) -> Result<(), Fault> {
-    for done in done {
-        let Some(Done { calls, took }) = done else {
-            return Err(Fault::Line);
-        };
-        let each = took.as_nanos() / u128::from((*calls).max(1));
+fn print_done<R: Print>(rt: &R, done: &[Done]) -> Result<(), Fault> {
+    for Done { calls, took } in done {
+        let calls = (*calls)?;
+        let each = *took / u64::from(calls.max(1));
         println!(rt; "  {calls} calls of {each} ns")?;
     }
     Ok(())
 }
 
-// A thread's calls; none where the clock or a call failed.
-fn work<B: Lines, R: Clock + Wait>(rt: &R, job: Job<B>) -> Option<Done> {
+// A thread's calls.
+fn work<B: Lines, R: Clock + Wait>(rt: &R, job: Job<B>) -> Done {
     let Job {
         mut seat,
         is_editor,
     } = job;
-    timed_calls(rt, &mut seat, is_editor).ok()
-}
-
-fn timed_calls<B: Lines, R: Clock + Wait>(
-    rt: &R,
-    seat: &mut Seat<B>,
-    is_editor: bool,
-) -> Result<Done, Fault> {
-    let start = now(rt)?;
+    let start = now(rt);
     let calls = if is_editor {
-        make_edits(rt, seat)?
+        make_edits(rt, &mut seat)
     } else {
-        take_looks(seat)?
+        take_looks(&mut seat)
     };
-    let took = since(rt, start)?;
-    Ok(Done { calls, took })
+    let took = since(rt, start);
+    Done { calls, took }
 }
 
 fn make_edits<B: Lines, R: Wait>(rt: &R, seat: &mut Seat<B>) -> Result<u32, Fault> {
     for round in 0..EDITS {
-        make_edit(rt, seat, round)?;
+        seat.make(rt, &pose_edit(100, round))?;
     }
     Ok(EDITS)
-}
-
-fn make_edit<B: Lines, R: Wait>(rt: &R, seat: &mut Seat<B>, round: u32) -> Result<(), Fault> {
-    match seat.edit(rt, &pose_edit(100, round)) {
-        Ok(_) => Ok(()),
-        Err(_) => Err(Fault::Line),
-    }
 }
 
 fn take_looks<B: Lines>(seat: &mut Seat<B>) -> Result<u32, Fault> {

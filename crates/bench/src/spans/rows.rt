@@ -4,7 +4,6 @@ use crate::fault::Fault;
 use canvas_plane::Window;
 use canvas_shape::{Carried, Cuts, EdgeFlags, Span, Vertices};
 use std::alloc::Global;
-use std::fmt;
 
 /// How many rows and columns the window has.
 const SIDE: u32 = 256;
@@ -17,12 +16,13 @@ pub enum Way {
     Together,
 }
 
-impl fmt::Display for Way {
-    fn fmt<W: fmt::Write>(&self, f: &mut fmt::Formatter<W>) -> fmt::Result {
-        f.write_str(match self {
+impl Way {
+    /// What the way is called.
+    pub fn name(&self) -> &'static str {
+        match self {
             Way::RowByRow => "row by row",
             Way::Together => "rows together",
-        })
+        }
     }
 }
 

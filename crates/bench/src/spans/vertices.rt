@@ -13,63 +13,47 @@ const COUNT: u32 = 256;
 /// How far they lie from the middle at most.
 const RADIUS: u32 = 120;
 
-/// Vertices on a circle, one after another.
-pub fn round(alloc: Global) -> Result<Vec<Point>, Fault>
-    ensures { IfOk result (λ points. (0 < length points.items) × All (λ p. size_of p ≤ 2 ^ 27) points.items) }
-{
-    let mut points = Vec::new(alloc);
-    for k in 0..COUNT {
-        points.push(ring(k, RADIUS))?;
-    }
-    Ok(points)
+/// How the vertices of a polygon lie.
+#[derive(Clone, Copy)]
+pub enum Outline {
+    /// On a circle, one after another.
+    Round,
+    /// On a circle and on one of half its size in turn.
+    Rays,
+    /// Anywhere, the same in each run.
+    Scattered,
+    /// Anywhere in a square of 256 by 256, the same in each run, so that most edges cross many others.
+    Crossing,
+    /// Down one side and up the other, a step of two rows each, where neither side is quite straight.
+    Frayed,
 }
 
-/// Vertices on a circle and on one of half its size in turn.
-pub fn star(alloc: Global) -> Result<Vec<Point>, Fault>
-    ensures { IfOk result (λ points. (0 < length points.items) × All (λ p. size_of p ≤ 2 ^ 27) points.items) }
-{
-    let mut points = Vec::new(alloc);
-    for k in 0..COUNT {
-        points.push(ring(k, if k % 2 == 0 { RADIUS } else { RADIUS / 2 }))?;
-    }
-    Ok(points)
-}
-
-/// Vertices that lie anywhere, the same in each run.
-pub fn scattered(alloc: Global) -> Result<Vec<Point>, Fault>
+/// The vertices of an outline.
+pub fn vertices(alloc: Global, outline: Outline) -> Result<Vec<Point>, Fault>
     ensures { IfOk result (λ points. (0 < length points.items) × All (λ p. size_of p ≤ 2 ^ 27) points.items) }
 {
     let mut points = Vec::new(alloc);
     let mut state: u64 = 1;
-    for _ in 0..COUNT {
-        let x = mixed(state);
-        let y = mixed(x);
-        state = y;
-        points.push(at(high_bits(x) % 240, high_bits(y) % 240))?;
+    for k in 0..COUNT {
+        let drawn = mixed(state);
+        state = mixed(drawn);
+        points.push(vertex(outline, k, drawn, state))?;
     }
     Ok(points)
 }
 
-/// Vertices anywhere in a square of 256 by 256, the same in each run, so that most edges cross many others.
-pub fn crossing(alloc: Global) -> Result<Vec<Point>, Fault>
-    ensures { IfOk result (λ points. (0 < length points.items) × All (λ p. size_of p ≤ 2 ^ 27) points.items) }
+// One of the vertices of an outline, with two numbers that look random.
+fn vertex(outline: Outline, k: u32, first: u64, second: u64) -> Point
+    requires { k < 256 }
+    ensures { size_of result ≤ 2 ^ 27 }
 {
-    let mut points = Vec::new(alloc);
-    for k in 0..COUNT {
-        points.push(at(hashed(k, 5), hashed(k, 11)))?;
+    match outline {
+        Outline::Round => ring(k, RADIUS),
+        Outline::Rays => ring(k, if k % 2 == 0 { RADIUS } else { RADIUS / 2 }),
+        Outline::Scattered => at(high_bits(first) % 240, high_bits(second) % 240),
+        Outline::Crossing => at(hashed(k, 5), hashed(k, 11)),
+        Outline::Frayed => side(k),
     }
-    Ok(points)
-}
-
-/// Vertices down one side and up the other, a step of two rows each, of which neither side is quite straight.
-pub fn frayed(alloc: Global) -> Result<Vec<Point>, Fault>
-    ensures { IfOk result (λ points. (0 < length points.items) × All (λ p. size_of p ≤ 2 ^ 27) points.items) }
-{
-    let mut points = Vec::new(alloc);
-    for k in 0..COUNT {
-        points.push(side(k))?;
-    }
-    Ok(points)
 }
 
 fn side(k: u32) -> Point

@@ -1,6 +1,6 @@
 use Rattle.std.proofs.Common.{◌≤◌, ◌^◌, All, length}
 use Rattle.canvas_plane.specs.Motion.{size_of}
-use Rattle.bench.proofs.spans.vertices.star.Given as goal
+use Rattle.bench.proofs.spans.vertices.vertices.Given as goal
 
 abbrev pub invariant-loop-k : goal.invariant-loop-k
 invariant-loop-k l = record {
