@@ -1,5 +1,6 @@
 //! The table of codes and names.
 
+use crate::asserts::{holds, holds_at};
 use canvas_code::name_of;
 
 // Each code with its name, written by hand and not taken from the sources.
@@ -65,8 +66,9 @@ fn listed(code: u16) -> &'static str {
 
 #[test]
 fn every_code_has_its_name_and_no_other_number_has_one(rt: HostRuntime) {
-    for code in 0..1_000 {
-        assert!(rt; name_of(code) == listed(code), "{code}");
+    for code in 0..1_000u16 {
+        let is_named = name_of(code) == listed(code);
+        holds_at(&rt, "code", usize::from(code), is_named);
     }
-    assert!(rt; name_of(65_535).is_empty());
+    holds(&rt, "the last code", name_of(65_535).is_empty());
 }

@@ -1,12 +1,13 @@
 //! Worked keys between keys, texts that are keys, fresh keys, and random insertions.
 
-ghost use Rattle.std.specs.Prelude.{◌≡◌, ◌<◌, ◌↔◌, IsTrue};
+ghost use Rattle.std.specs.Prelude.{◌≡◌, ◌<◌, ◌≤◌, ◌↔◌, IsTrue, vec_len};
 
+use crate::asserts::{equal, holds, holds_at};
 use crate::key_rows::{
     FRESH, READ, carries, ends, heads, long_texts, midpoints, prefixes, whole_parts,
 };
 use canvas_key::{Key, KeyFault, between, first_fresh, fresh};
-use std::test::Fail;
+use std::process::Abort;
 
 // The key between two texts, of which one that is no key is left out. Ends that are not in order get a
 // refusal that `between` never gives.
@@ -46,38 +47,44 @@ fn is_same(a: &Key, b: &Key) -> bool
     a == b
 }
 
+// Each row has two ends, and the key between them or the fault.
+fn assert_between(rt: &impl Abort, rows: &[[&[u8]; 3]]) {
+    for row in rows {
+        let [low, high, want] = *row;
+        let is_right = is_answer(&between_texts(low, high), want);
+        holds_at(rt, "above a text of bytes:", low.len(), is_right);
+    }
+}
+
 #[test]
 fn keys_between(rt: HostRuntime) {
-    for rows in [
-        whole_parts(),
-        carries(),
-        heads(),
-        midpoints(),
-        prefixes(),
-        ends(),
-        long_texts(),
-    ] {
-        for [low, high, want] in rows {
-            let answer = between_texts(low, high);
-            assert!(rt; is_answer(&answer, want), "{}", low.len());
-        }
-    }
+    assert_between(&rt, whole_parts());
+    assert_between(&rt, carries());
+    assert_between(&rt, heads());
+    assert_between(&rt, midpoints());
+    assert_between(&rt, prefixes());
+    assert_between(&rt, ends());
+    assert_between(&rt, long_texts());
 }
 
 #[test]
 fn texts_read(rt: HostRuntime) {
     for (row, [text, fault]) in READ.iter().enumerate() {
         let want = if fault.is_empty() { text } else { fault };
-        assert!(rt; is_answer(&Key::read(text), want), "row {row}");
+        holds_at(&rt, "row", row, is_answer(&Key::read(text), want));
     }
+}
+
+// Whether a fresh key and its copy have a text.
+fn is_fresh(n: u32, want: &[u8]) -> bool {
+    let key = fresh(n);
+    key.bytes() == want && key.copy() == key
 }
 
 #[test]
 fn fresh_keys(rt: HostRuntime) {
     for (n, want) in &FRESH {
-        let key = fresh(*n);
-        assert!(rt; key.bytes() == *want, "{n}");
-        assert!(rt; key.copy() == key, "{n}");
+        holds_at(&rt, "fresh key", *n as usize, is_fresh(*n, want));
     }
 }
 
@@ -92,16 +99,20 @@ fn is_made_fresh(text: &[u8], n: u32, want: &[u8]) -> bool {
     }
 }
 
+fn assert_made_fresh(rt: &impl Abort, text: &[u8], n: u32, want: &[u8]) {
+    assert!(rt; is_made_fresh(text, n, want), "{n} over {}", text.len());
+}
+
 // Over keys of 2 to 128 bytes, and over the fresh key before it.
 #[test]
 fn keys_made_fresh(rt: HostRuntime) {
     let mut last = first_fresh();
-    assert!(rt; last.bytes() == &b"a0"[..]);
+    holds(&rt, "the first", last.bytes() == &b"a0"[..]);
     for (n, want) in FRESH.iter().rev() {
         last.make_fresh(*n);
-        assert!(rt; last.bytes() == *want, "{n}");
+        holds_at(&rt, "fresh key", *n as usize, last.bytes() == *want);
         for [text, _fault] in &READ {
-            assert!(rt; is_made_fresh(text, *n, want), "{n} over {}", text.len());
+            assert_made_fresh(&rt, text, *n, want);
         }
     }
 }
@@ -134,9 +145,9 @@ fn insertions(side: Side) -> Option<u32> {
 
 #[test]
 fn until_there_is_no_room(rt: HostRuntime) {
-    assert!(rt; insertions(Side::Below) == Some(756));
-    assert!(rt; insertions(Side::Above) == Some(630));
-    assert!(rt; insertions(Side::InTurn) == Some(756));
+    equal(&rt, "below", &insertions(Side::Below), &Some(756));
+    equal(&rt, "above", &insertions(Side::Above), &Some(630));
+    equal(&rt, "in turn", &insertions(Side::InTurn), &Some(756));
 }
 
 // Numbers in no order that a reader would guess, by a linear congruence.
@@ -163,35 +174,61 @@ fn key_at<'a>(keys: &'a [Key], order: &[usize], place: usize) -> Option<&'a Key>
     keys.get(*order.get(place)?)
 }
 
-#[test]
-fn random_insertions(rt: HostRuntime) -> Result<(), Fail> {
-    let mut keys = Vec::new(rt.alloc());
-    let mut order = Vec::new(rt.alloc());
-    for n in 0..1_000 {
-        order.push(keys.len())?;
-        keys.push(fresh(n))?;
+// Puts a key between two that are side by side, or at an end.
+fn insert_some(rt: &impl Abort, keys: &mut Vec<Key>, order: &mut Vec<usize>, place: usize)
+    requires { place ≤ vec_len order.old }
+{
+    let low = match place {
+        0 => None,
+        _ => key_at(keys, order, place - 1),
+    };
+    let Ok(key) = between_ends(low, key_at(keys, order, place)) else {
+        assert!(rt; false, "no key at {place}");
+        return;
+    };
+    order.insert(place, keys.len()).expect(rt, "memory");
+    keys.push(key).expect(rt, "memory");
+}
+
+// Whether two keys are there, and one is before the other.
+fn are_in_order(keys: &[Key], low: usize, high: usize) -> bool {
+    match (keys.get(low), keys.get(high)) {
+        (Some(low), Some(high)) => low.is_before(high) && low < high && !is_same(low, high),
+        _ => false,
     }
+}
+
+fn assert_order(rt: &impl Abort, keys: &[Key], order: &[usize]) {
+    for pair in order.windows(2) {
+        holds_at(
+            rt,
+            "above key",
+            pair[0],
+            are_in_order(keys, pair[0], pair[1]),
+        );
+    }
+}
+
+fn push_fresh(rt: &impl Abort, keys: &mut Vec<Key>, order: &mut Vec<usize>) {
+    for n in 0..1_000 {
+        order.push(keys.len()).expect(rt, "memory");
+        keys.push(fresh(n)).expect(rt, "memory");
+    }
+}
+
+fn insert_at_random(rt: &impl Abort, keys: &mut Vec<Key>, order: &mut Vec<usize>) {
     let mut numbers = Numbers { state: 1 };
     for _ in 0..100_000 {
         let place = numbers.below(order.len() + 1);
-        let low = place
-            .checked_sub(1)
-            .and_then(|before| key_at(&keys, &order, before));
-        match between_ends(low, key_at(&keys, &order, place)) {
-            Ok(key) => {
-                order.insert(place, keys.len())?;
-                keys.push(key)?;
-            }
-            Err(_) => assert!(rt; false, "no key at {place}"),
-        }
+        insert_some(rt, keys, order, place);
     }
-    for pair in order.windows(2) {
-        match (keys.get(pair[0]), keys.get(pair[1])) {
-            (Some(low), Some(high)) => assert!(rt;
-                low.is_before(high) && low < high && !is_same(low, high)
-            ),
-            _ => assert!(rt; false),
-        }
-    }
-    Ok(())
+}
+
+#[test]
+fn random_insertions(rt: HostRuntime) {
+    let mut keys = Vec::new(rt.alloc());
+    let mut order = Vec::new(rt.alloc());
+    push_fresh(&rt, &mut keys, &mut order);
+    insert_at_random(&rt, &mut keys, &mut order);
+    assert_order(&rt, &keys, &order);
 }

@@ -1,6 +1,30 @@
 //! Worked poses, windows and boxes.
 
+use crate::asserts::{equal, holds, holds_at};
 use canvas_plane::{PageBox, Point, Pose, PoseFault, Window, WindowFault};
+use std::process::Abort;
+
+fn at(x: i64, y: i64) -> Point {
+    Point { x, y }
+}
+
+fn pose(dx: i64, dy: i64, quarter: u8, flip: bool) -> Pose {
+    Pose {
+        dx,
+        dy,
+        quarter,
+        flip,
+    }
+}
+
+fn page_box(left: i64, top: i64, right: i64, bottom: i64) -> PageBox {
+    PageBox {
+        left,
+        top,
+        right,
+        bottom,
+    }
+}
 
 #[test]
 fn poses_follow_one_another(rt: HostRuntime) {
@@ -16,28 +40,13 @@ fn poses_follow_one_another(rt: HostRuntime) {
         quarter: 0,
         flip: true,
     };
+    let point = Point { x: 1, y: 0 };
     let both = a.then(&b);
-    assert_eq!(rt; a.apply(Point { x: 1, y: 0 }), Point { x: 3, y: 1 });
-    assert_eq!(rt;
-        both,
-        Pose {
-            dx: -3,
-            dy: 0,
-            quarter: 3,
-            flip: true
-        }
-    );
-    assert_eq!(rt;
-        a.inverse(),
-        Pose {
-            dx: 0,
-            dy: 3,
-            quarter: 3,
-            flip: false
-        }
-    );
-    assert_eq!(rt; both.reach(), 3);
-    assert_eq!(rt; both.apply(Point { x: 1, y: 0 }), Point { x: -3, y: 1 });
+    equal(&rt, "turned point", &a.apply(point), &at(3, 1));
+    equal(&rt, "both", &both, &pose(-3, 0, 3, true));
+    equal(&rt, "inverse", &a.inverse(), &pose(0, 3, 3, false));
+    equal(&rt, "reach", &both.reach(), &3);
+    equal(&rt, "point of both", &both.apply(point), &at(-3, 1));
 }
 
 #[test]
@@ -48,225 +57,173 @@ fn flips_come_before_turns(rt: HostRuntime) {
         quarter: 1,
         flip: true,
     };
-    assert_eq!(rt; turned.apply(Point { x: 1, y: 0 }), Point { x: 0, y: -1 });
-    assert_eq!(rt; turned.inverse(), turned);
+    let point = Point { x: 1, y: 0 };
+    equal(&rt, "point", &turned.apply(point), &at(0, -1));
+    equal(&rt, "inverse", &turned.inverse(), &turned);
+}
+
+fn assert_bad_pose(rt: &impl Abort, what: &str, made: Result<Pose, PoseFault>) {
+    equal(rt, what, &made.err(), &Some(PoseFault::BadPose));
 }
 
 #[test]
 fn poses_have_limits(rt: HostRuntime) {
-    assert!(rt; Pose::new(1_048_576, -1_048_576, 3, true).is_ok());
-    assert_eq!(rt;
-        Pose::new(1_048_577, 0, 0, false).err(),
-        Some(PoseFault::BadPose)
-    );
-    assert_eq!(rt;
-        Pose::new(0, -1_048_577, 0, false).err(),
-        Some(PoseFault::BadPose)
-    );
-    assert_eq!(rt; Pose::new(0, 0, 4, false).err(), Some(PoseFault::BadPose));
-    assert_eq!(rt; Pose::STILL.check(), Ok(()));
-    assert_eq!(rt; PoseFault::BadPose.code(), 9);
+    let farthest = Pose::new(1_048_576, -1_048_576, 3, true);
+    holds(&rt, "farthest", farthest.is_ok());
+    assert_bad_pose(&rt, "right", Pose::new(1_048_577, 0, 0, false));
+    assert_bad_pose(&rt, "up", Pose::new(0, -1_048_577, 0, false));
+    assert_bad_pose(&rt, "quarter", Pose::new(0, 0, 4, false));
+    equal(&rt, "still", &Pose::STILL.check(), &Ok(()));
+    equal(&rt, "code", &PoseFault::BadPose.code(), &9);
+}
+
+fn assert_made(rt: &impl Abort, what: &str, made: Result<Window, WindowFault>) {
+    holds(rt, what, made.is_ok());
+}
+
+fn assert_fault(
+    rt: &impl Abort,
+    what: &str,
+    made: Result<Window, WindowFault>,
+    fault: WindowFault,
+) {
+    equal(rt, what, &made.err(), &Some(fault));
 }
 
 #[test]
 fn windows_have_limits(rt: HostRuntime) {
-    assert!(rt; Window::tile(8191, 0).is_ok());
-    assert!(rt; Window::tile(-8192, 0).is_ok());
-    assert_eq!(rt; Window::tile(8192, 0).err(), Some(WindowFault::BadWindow));
-    assert_eq!(rt; Window::tile(-8193, 0).err(), Some(WindowFault::BadWindow));
-    assert_eq!(rt;
-        Window::tile(i32::MAX, i32::MIN).err(),
-        Some(WindowFault::BadWindow)
-    );
-    assert!(rt; Window::new(0, 0, 257, 1).is_err());
-    assert!(rt; Window::new(0, 0, 1, 0).is_err());
-    assert!(rt; Window::new(2_097_151, -2_097_152, 1, 256).is_ok());
-    assert!(rt; Window::new(2_097_151, 0, 2, 1).is_err());
-    assert_eq!(rt; WindowFault::BadWindow.code(), 30);
+    let bad = WindowFault::BadWindow;
+    assert_made(&rt, "last column", Window::tile(8191, 0));
+    assert_made(&rt, "first column", Window::tile(-8192, 0));
+    assert_fault(&rt, "right", Window::tile(8192, 0), bad);
+    assert_fault(&rt, "left", Window::tile(-8193, 0), bad);
+    assert_fault(&rt, "far", Window::tile(i32::MAX, i32::MIN), bad);
+    holds(&rt, "wide", Window::new(0, 0, 257, 1).is_err());
+    holds(&rt, "flat", Window::new(0, 0, 1, 0).is_err());
+    assert_made(&rt, "edge", Window::new(2_097_151, -2_097_152, 1, 256));
+    holds(&rt, "over", Window::new(2_097_151, 0, 2, 1).is_err());
+    equal(&rt, "code", &bad.code(), &30);
 }
 
 #[test]
 fn windows_have_their_place(rt: HostRuntime) {
-    let Ok(tile) = Window::tile(-1, 2) else {
-        assert!(rt; false, "the tile is refused");
-        return;
-    };
-    assert_eq!(rt;
-        (tile.x(), tile.y(), tile.w(), tile.h()),
-        (-256, 512, 256, 256)
-    );
-    assert_eq!(rt;
-        tile.covered(),
-        PageBox {
-            left: -256,
-            top: 512,
-            right: 0,
-            bottom: 768
-        }
-    );
+    let tile = Window::tile(-1, 2).expect(&rt, "a tile");
+    let sides = (tile.x(), tile.y(), tile.w(), tile.h());
+    holds(&rt, "sides", sides == (-256, 512, 256, 256));
+    equal(&rt, "box", &tile.covered(), &page_box(-256, 512, 0, 768));
 }
 
 #[test]
 fn windows_of_levels_have_limits(rt: HostRuntime) {
-    assert!(rt; Window::tile_at(6, 127, 0).is_ok());
-    assert!(rt; Window::tile_at(6, -128, 0).is_ok());
-    assert_eq!(rt;
-        Window::tile_at(6, 128, 0).err(),
-        Some(WindowFault::BadWindow)
+    let bad = WindowFault::BadLevel;
+    assert_made(&rt, "last column", Window::tile_at(6, 127, 0));
+    assert_made(&rt, "first column", Window::tile_at(6, -128, 0));
+    assert_fault(
+        &rt,
+        "right",
+        Window::tile_at(6, 128, 0),
+        WindowFault::BadWindow,
     );
-    assert_eq!(rt;
-        Window::tile_at(7, 128, 0).err(),
-        Some(WindowFault::BadLevel)
+    assert_fault(&rt, "level 7", Window::tile_at(7, 128, 0), bad);
+    assert_fault(&rt, "level 255", Window::at_level(255, 0, 0, 0, 0), bad);
+    assert_made(
+        &rt,
+        "edge",
+        Window::at_level(1, 1_048_575, -1_048_576, 1, 256),
     );
-    assert_eq!(rt;
-        Window::at_level(255, 0, 0, 0, 0).err(),
-        Some(WindowFault::BadLevel)
+    holds(
+        &rt,
+        "over",
+        Window::at_level(1, 1_048_575, 0, 2, 1).is_err(),
     );
-    assert!(rt; Window::at_level(1, 1_048_575, -1_048_576, 1, 256).is_ok());
-    assert!(rt; Window::at_level(1, 1_048_575, 0, 2, 1).is_err());
-    assert!(rt; Window::at_level(1, 0, -1_048_577, 1, 1).is_err());
-    assert_eq!(rt; WindowFault::BadLevel.code(), 34);
-    assert_eq!(rt; WindowFault::BadLevel.name(), "BadLevel");
+    holds(
+        &rt,
+        "above",
+        Window::at_level(1, 0, -1_048_577, 1, 1).is_err(),
+    );
+    equal(&rt, "code", &bad.code(), &34);
+    holds(&rt, "name", bad.name() == "BadLevel");
 }
 
 #[test]
 fn windows_of_levels_cover_a_box(rt: HostRuntime) {
-    let Ok(window) = Window::at_level(3, -1, 2, 2, 5) else {
-        assert!(rt; false, "the window is refused");
-        return;
-    };
-    assert_eq!(rt;
-        (
-            window.level(),
-            window.x(),
-            window.y(),
-            window.w(),
-            window.h()
-        ),
-        (3, -1, 2, 2, 5)
-    );
-    assert_eq!(rt;
-        window.covered(),
-        PageBox {
-            left: -8,
-            top: 16,
-            right: 8,
-            bottom: 56
-        }
-    );
-    assert_eq!(rt; (window.row_shown(0), window.row_shown(4)), (16, 48));
+    let window = Window::at_level(3, -1, 2, 2, 5).expect(&rt, "a window");
+    equal(&rt, "level", &window.level(), &3);
+    let sides = (window.x(), window.y(), window.w(), window.h());
+    holds(&rt, "sides", sides == (-1, 2, 2, 5));
+    equal(&rt, "box", &window.covered(), &page_box(-8, 16, 8, 56));
+    equal(&rt, "first row", &window.row_shown(0), &16);
+    equal(&rt, "last row", &window.row_shown(4), &48);
+}
+
+fn assert_columns(rt: &impl Abort, window: &Window, what: &str, edge: i64, count: usize) {
+    equal(rt, what, &window.columns_before(edge), &count);
+}
+
+fn assert_rows(rt: &impl Abort, window: &Window, what: &str, edge: i64, count: usize) {
+    equal(rt, what, &window.rows_before(edge), &count);
 }
 
 #[test]
 fn windows_count_places_before_an_edge(rt: HostRuntime) {
-    let Ok(window) = Window::at_level(3, -1, 2, 2, 5) else {
-        assert!(rt; false, "the window is refused");
-        return;
-    };
-    let edges = [i64::MIN, -8, -7, 0, 1, 8, i64::MAX];
-    let columns = [0, 0, 1, 1, 2, 2, 2];
-    for (edge, count) in edges.iter().zip(columns.iter()) {
-        assert_eq!(rt; window.columns_before(*edge), *count);
-    }
-    assert_eq!(rt; window.rows_before(16), 0);
-    assert_eq!(rt; window.rows_before(17), 1);
-    assert_eq!(rt; window.rows_before(48), 4);
-    assert_eq!(rt; window.rows_before(49), 5);
+    let window = Window::at_level(3, -1, 2, 2, 5).expect(&rt, "a window");
+    assert_columns(&rt, &window, "all before", i64::MIN, 0);
+    assert_columns(&rt, &window, "before -8", -8, 0);
+    assert_columns(&rt, &window, "before -7", -7, 1);
+    assert_columns(&rt, &window, "before 0", 0, 1);
+    assert_columns(&rt, &window, "before 1", 1, 2);
+    assert_columns(&rt, &window, "before 8", 8, 2);
+    assert_columns(&rt, &window, "before all", i64::MAX, 2);
+    assert_rows(&rt, &window, "rows before 16", 16, 0);
+    assert_rows(&rt, &window, "rows before 17", 17, 1);
+    assert_rows(&rt, &window, "rows before 48", 48, 4);
+    assert_rows(&rt, &window, "rows before 49", 49, 5);
 }
 
 #[test]
 fn boxes_meet_and_join(rt: HostRuntime) {
-    let a = PageBox {
-        left: 0,
-        top: 0,
-        right: 4,
-        bottom: 2,
-    };
-    let b = PageBox {
-        left: 3,
-        top: -1,
-        right: 9,
-        bottom: 1,
-    };
-    let empty = PageBox {
-        left: 100,
-        top: 7,
-        right: 100,
-        bottom: 90,
-    };
-    assert_eq!(rt;
-        a.meet(&b),
-        PageBox {
-            left: 3,
-            top: 0,
-            right: 4,
-            bottom: 1
-        }
-    );
-    assert_eq!(rt;
-        a.hull(&b),
-        PageBox {
-            left: 0,
-            top: -1,
-            right: 9,
-            bottom: 2
-        }
-    );
-    assert_eq!(rt; a.hull(&empty), a);
-    assert_eq!(rt; empty.hull(&b), b);
-    assert_eq!(rt; empty.hull(&empty), PageBox::EMPTY);
-    assert!(rt; empty.is_empty());
-    assert!(rt; a.holds(0, 0));
-    assert!(rt; !a.holds(4, 0));
-    assert!(rt; !a.holds(0, 2));
+    let a = page_box(0, 0, 4, 2);
+    let b = page_box(3, -1, 9, 1);
+    let empty = page_box(100, 7, 100, 90);
+    equal(&rt, "meet", &a.meet(&b), &page_box(3, 0, 4, 1));
+    equal(&rt, "hull", &a.hull(&b), &page_box(0, -1, 9, 2));
+    equal(&rt, "with none", &a.hull(&empty), &a);
+    equal(&rt, "of none", &empty.hull(&b), &b);
+    equal(&rt, "two of none", &empty.hull(&empty), &PageBox::EMPTY);
+    holds(&rt, "empty", empty.is_empty());
+    holds(&rt, "its corner", a.holds(0, 0));
+    holds(&rt, "behind", !a.holds(4, 0));
+    holds(&rt, "below", !a.holds(0, 2));
 }
 
-// Turned and flipped, which no reach heeds.
-fn moved(dx: i64, dy: i64) -> Pose {
-    Pose {
-        dx,
-        dy,
-        quarter: 3,
-        flip: true,
-    }
+// A pose turned and flipped, which no reach heeds.
+fn assert_reach(rt: &impl Abort, what: &str, dx: i64, dy: i64, reach: u64) {
+    equal(rt, what, &pose(dx, dy, 3, true).reach(), &reach);
 }
 
 #[test]
 fn reach_is_the_greater_size(rt: HostRuntime) {
-    for (dx, dy, reach) in [
-        (0, 0, 0),
-        (3, 2, 3),
-        (2, 3, 3),
-        (-3, 2, 3),
-        (2, -3, 3),
-        (-3, -3, 3),
-        (i64::MIN, 0, 9_223_372_036_854_775_808),
-        (0, i64::MAX, 9_223_372_036_854_775_807),
-    ] {
-        assert_eq!(rt; moved(dx, dy).reach(), reach, "{dx} {dy}");
-    }
+    assert_reach(&rt, "0 0", 0, 0, 0);
+    assert_reach(&rt, "3 2", 3, 2, 3);
+    assert_reach(&rt, "2 3", 2, 3, 3);
+    assert_reach(&rt, "-3 2", -3, 2, 3);
+    assert_reach(&rt, "2 -3", 2, -3, 3);
+    assert_reach(&rt, "-3 -3", -3, -3, 3);
+    assert_reach(&rt, "least", i64::MIN, 0, 9_223_372_036_854_775_808);
+    assert_reach(&rt, "most", 0, i64::MAX, 9_223_372_036_854_775_807);
 }
 
 #[test]
 fn boxes_hold_their_left_and_top_edges(rt: HostRuntime) {
-    let a = PageBox {
-        left: -1,
-        top: 2,
-        right: 1,
-        bottom: 4,
-    };
-    for (x, y, held) in [
-        (-1, 2, true),
-        (0, 2, true),
-        (-1, 3, true),
-        (0, 3, true),
-        (-2, 2, false),
-        (1, 2, false),
-        (-1, 1, false),
-        (-1, 4, false),
-        (1, 4, false),
-    ] {
-        assert_eq!(rt; a.holds(x, y), held, "{x} {y}");
-    }
-    assert!(rt; !PageBox::EMPTY.holds(0, 0));
+    let a = page_box(-1, 2, 1, 4);
+    holds(&rt, "-1 2", a.holds(-1, 2));
+    holds(&rt, "0 2", a.holds(0, 2));
+    holds(&rt, "-1 3", a.holds(-1, 3));
+    holds(&rt, "0 3", a.holds(0, 3));
+    holds(&rt, "-2 2", !a.holds(-2, 2));
+    holds(&rt, "1 2", !a.holds(1, 2));
+    holds(&rt, "-1 1", !a.holds(-1, 1));
+    holds(&rt, "-1 4", !a.holds(-1, 4));
+    holds(&rt, "1 4", !a.holds(1, 4));
+    holds(&rt, "empty", !PageBox::EMPTY.holds(0, 0));
 }

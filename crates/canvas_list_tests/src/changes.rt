@@ -1,10 +1,11 @@
 //! Some thousands of changes, each beside the same change of a plain list.
 
-ghost use Rattle.std.specs.Prelude.{◌<◌, ◌≤◌, ◌+◌, ◌^◌, length, vec_len};
+ghost use Rattle.std.specs.Prelude.{◌≡◌, ◌<◌, ◌≤◌, ◌+◌, ◌^◌, length, vec_len};
 
+use crate::asserts::holds_at;
 use crate::dice::Dice;
 use crate::in_place::clone_of;
-use crate::numbers::{Numbers, has, shared_number};
+use crate::numbers::{NumberItem, Numbers, has, shared_number};
 use crate::reader::reads_about;
 use canvas_list::SharedList;
 use std::alloc::Global;
@@ -23,6 +24,11 @@ pub(crate) struct Both {
 }
 
 impl Both {
+    /// Ends the test with these words and a number unless both have the same numbers, however the list is read.
+    pub(crate) fn check(&self, rt: &impl Abort, what: &str, number: u32) {
+        holds_at(rt, what, number, has(&self.list, &self.plain));
+    }
+
     fn insert(&mut self, rt: &impl Abort, alloc: Global, at: usize, value: u32)
         requires list { at ≤ length self.old.list }
         requires plain { at ≤ vec_len self.old.plain }
@@ -44,7 +50,7 @@ impl Both {
         self.plain[at] = value;
     }
 
-    fn remove(&mut self, rt: &impl Abort, alloc: Global, at: usize)
+    pub(crate) fn remove(&mut self, rt: &impl Abort, alloc: Global, at: usize)
         requires list { at < length self.old.list }
         requires plain { at < vec_len self.old.plain }
     {
@@ -71,11 +77,7 @@ impl Both {
         requires plain { end ≤ vec_len self.old.plain }
         requires few { length self.old.list + length values.now < 2 ^ 32 }
     {
-        let mut items = Vec::new(alloc);
-        for value in values {
-            let item = shared_number(alloc, *value).expect(rt, "memory");
-            items.push(item).expect(rt, "memory");
-        }
+        let items = shared_numbers(rt, alloc, values);
         let list = self.list.with_spliced(alloc, first, end, items);
         self.list = list.expect(rt, "memory");
         let tail = self.plain.split_off(end).expect(rt, "memory");
@@ -83,6 +85,17 @@ impl Both {
         self.plain.extend_from_slice(values).expect(rt, "memory");
         self.plain.extend_from_slice(&tail).expect(rt, "memory");
     }
+}
+
+fn shared_numbers(rt: &impl Abort, alloc: Global, values: &[u32]) -> Vec<NumberItem>
+    ensures { vec_len result ≡ length values.now }
+{
+    let mut items = Vec::new(alloc);
+    for value in values {
+        let item = shared_number(alloc, *value).expect(rt, "memory");
+        items.push(item).expect(rt, "memory");
+    }
+    items
 }
 
 // A change at a place that the dice pick; `grows` of 16 times an insertion.
@@ -132,52 +145,71 @@ fn empty(alloc: Global) -> Both {
     }
 }
 
+// Some thousands of changes, of which the numbers are compared now and then.
+fn changes_in_turn(rt: &impl Abort, alloc: Global, dice: &mut Dice, both: &mut Both) {
+    for round in 0..7_500u32 {
+        let grows = if round < 3_000 { 11 } else { 4 };
+        change(rt, alloc, dice, both, round, grows);
+        if round % 97 == 0 || both.list.len() < 40 {
+            both.check(rt, "after", round);
+        }
+    }
+}
+
 #[test]
 fn changes_beside_a_plain_list(rt: HostRuntime) {
     let alloc = rt.alloc();
     let mut dice = Dice { state: 12_345 };
     let mut both = empty(alloc);
     fill(&rt, alloc, &mut both, 1_500);
-    assert!(rt; has(&both.list, &both.plain), "after the first numbers");
-    for round in 0..7_500u32 {
-        let grows = if round < 3_000 { 11 } else { 4 };
-        change(&rt, alloc, &mut dice, &mut both, round, grows);
-        if round % 97 == 0 || both.list.len() < 40 {
-            assert!(rt; has(&both.list, &both.plain), "after {round}");
+    both.check(&rt, "after the first", 1_500);
+    changes_in_turn(&rt, alloc, &mut dice, &mut both);
+    both.check(&rt, "after all", 7_500);
+    let is_read = reads_about(&both.list, &both.plain, &mut dice);
+    holds_at(&rt, "read after all", 7_500, is_read);
+}
+
+fn insert_in_front(rt: &impl Abort, alloc: Global, both: &mut Both) {
+    for value in 0..3_000u32 {
+        if both.list.len() < MOST {
+            both.insert(rt, alloc, 0, value);
+        }
+        if value % 127 == 0 {
+            both.check(rt, "after", value);
         }
     }
-    assert!(rt; has(&both.list, &both.plain));
-    assert!(rt; reads_about(&both.list, &both.plain, &mut dice));
 }
 
 #[test]
 fn items_come_in_front_of_one_another(rt: HostRuntime) {
-    let alloc = rt.alloc();
-    let mut both = empty(alloc);
-    for value in 0..3_000u32 {
-        if both.list.len() < MOST {
-            both.insert(&rt, alloc, 0, value);
-        }
-        if value % 127 == 0 {
-            assert!(rt; has(&both.list, &both.plain), "after {value}");
-        }
+    let mut both = empty(rt.alloc());
+    insert_in_front(&rt, rt.alloc(), &mut both);
+    both.check(&rt, "after all", 3_000);
+}
+
+// A clone from before each of some changes.
+fn kept_before_changes(rt: &impl Abort, alloc: Global, both: &mut Both) -> Vec<Both> {
+    let mut dice = Dice { state: 54_321 };
+    let mut kept = Vec::new(alloc);
+    for round in 0..400u32 {
+        kept.push(clone_of(rt, alloc, both)).expect(rt, "memory");
+        change(rt, alloc, &mut dice, both, round, 5);
     }
-    assert!(rt; has(&both.list, &both.plain));
+    kept
+}
+
+fn check_all(rt: &impl Abort, kept: &[Both]) {
+    let mut round: u32 = 0;
+    for clone in kept {
+        clone.check(rt, "before change", round);
+        round = round.saturating_add(1);
+    }
 }
 
 #[test]
 fn a_change_leaves_the_list_before_it(rt: HostRuntime) {
-    let alloc = rt.alloc();
-    let mut dice = Dice { state: 54_321 };
-    let mut both = empty(alloc);
-    fill(&rt, alloc, &mut both, 700);
-    let mut kept = Vec::new(alloc);
-    for round in 0..400u32 {
-        let clone = clone_of(&rt, alloc, &both);
-        kept.push(clone).expect(&rt, "memory");
-        change(&rt, alloc, &mut dice, &mut both, round, 5);
-    }
-    for clone in &kept {
-        assert!(rt; has(&clone.list, &clone.plain));
-    }
+    let mut both = empty(rt.alloc());
+    fill(&rt, rt.alloc(), &mut both, 700);
+    let kept = kept_before_changes(&rt, rt.alloc(), &mut both);
+    check_all(&rt, &kept);
 }

@@ -1,17 +1,19 @@
 //! Changes in place, each beside the same change of a plain list.
 
 ghost use Rattle.std.specs.Prelude.{◌≤◌};
+ghost use Rattle.canvas_list.specs.Changed.{IsPositionOf};
 
+use crate::asserts::holds;
 use crate::changes::Both;
 use crate::dice::Dice;
-use crate::numbers::{evens, has, plain_evens};
-use crate::picks::{MOST, again, made_anew, plain_after, some_change};
-use canvas_list::{ItemChange, SharedList};
+use crate::numbers::{Numbers, evens, has, plain_evens};
+use crate::picks::{MOST, Pick, again, made_anew, plain_after, some_change};
+use canvas_list::SharedList;
 use std::alloc::Global;
 use std::process::Abort;
 
 /// How many changes were made in place, and how many were not.
-#[derive(Drop)]
+#[derive(Clone, Copy)]
 pub(crate) struct Count {
     pub(crate) in_place: u32,
     pub(crate) others: u32,
@@ -31,6 +33,11 @@ impl Count {
         } else {
             self.others = self.others.saturating_add(1);
         }
+    }
+
+    /// Whether there were more than so many of both.
+    pub(crate) fn exceeds(&self, in_place: u32, others: u32) -> bool {
+        self.in_place > in_place && self.others > others
     }
 }
 
@@ -53,6 +60,18 @@ pub(crate) fn clone_of(rt: &impl Abort, alloc: Global, both: &Both) -> Both {
     }
 }
 
+// Makes a change in place where that can be, and else makes the list anew.
+fn make(rt: &impl Abort, alloc: Global, list: &mut Numbers, pick: Pick) -> bool
+    requires { IsPositionOf pick.change pick.at list.old }
+{
+    let same = again(rt, &pick.change);
+    let is_in_place = list.change(pick.at, pick.change);
+    if !is_in_place {
+        *list = made_anew(rt, alloc, list, pick.at, same);
+    }
+    is_in_place
+}
+
 /// A change at some place, in place where that can be. Counts it if it is a replacement.
 pub(crate) fn change(
     rt: &impl Abort,
@@ -67,12 +86,8 @@ pub(crate) fn change(
     }
     let pick = some_change(rt, alloc, dice, &both.list, grows);
     both.plain = plain_after(rt, &both.plain, &pick);
-    let is_replacement = matches!(pick.change, ItemChange::Replace(_));
-    let same = again(rt, &pick.change);
-    let is_in_place = both.list.change(pick.at, pick.change);
-    if !is_in_place {
-        both.list = made_anew(rt, alloc, &both.list, pick.at, same);
-    }
+    let is_replacement = pick.is_replacement();
+    let is_in_place = make(rt, alloc, &mut both.list, pick);
     if is_replacement {
         replaced.add(is_in_place);
     }
@@ -92,6 +107,29 @@ fn changes(
     }
 }
 
+fn assert_same(rt: &impl Abort, count: u32, turn: u32, both: &Both) {
+    assert!(rt; has(&both.list, &both.plain), "{count}, {turn}");
+}
+
+// Changes with no clone, and then beside one that is kept.
+fn turn_of(
+    rt: &impl Abort,
+    alloc: Global,
+    dice: &mut Dice,
+    both: &mut Both,
+    (count, turn): (u32, u32),
+    alone: &mut Count,
+    beside: &mut Count,
+) {
+    let grows = if turn % 6 < 3 { 9 } else { 3 };
+    changes(rt, alloc, dice, both, grows, alone);
+    assert_same(rt, count, turn, both);
+    let clone = clone_of(rt, alloc, both);
+    changes(rt, alloc, dice, both, grows, beside);
+    assert_same(rt, count, turn, both);
+    assert_same(rt, count, turn, &clone);
+}
+
 // Changes of a list of so many numbers, in turns without a clone and beside one that is kept.
 fn changes_from(
     rt: &impl Abort,
@@ -105,13 +143,8 @@ fn changes_from(
 {
     let mut both = first_evens(rt, alloc, count);
     for turn in 0..12u32 {
-        let grows = if turn % 6 < 3 { 9 } else { 3 };
-        changes(rt, alloc, dice, &mut both, grows, alone);
-        assert!(rt; has(&both.list, &both.plain), "{count}, {turn}");
-        let clone = clone_of(rt, alloc, &both);
-        changes(rt, alloc, dice, &mut both, grows, beside);
-        assert!(rt; has(&both.list, &both.plain), "{count}, {turn}");
-        assert!(rt; has(&clone.list, &clone.plain), "{count}, {turn}");
+        let place = (count, turn);
+        turn_of(rt, alloc, dice, &mut both, place, alone, beside);
     }
 }
 
@@ -124,6 +157,6 @@ fn changes_in_place_beside_a_plain_list(rt: HostRuntime) {
     for count in [0u32, 1, 7, 90, 96, 383, 700, 1_500, 3_000, 6_100] {
         changes_from(&rt, alloc, &mut dice, count, &mut alone, &mut beside);
     }
-    assert!(rt; alone.in_place > 1_000 && alone.others < 100);
-    assert!(rt; beside.in_place > 100 && beside.others > 100);
+    holds(&rt, "alone", alone.in_place > 1_000 && alone.others < 100);
+    holds(&rt, "beside a clone", beside.exceeds(100, 100));
 }

@@ -4,7 +4,10 @@
 ghost use Rattle.std.specs.Prelude.{◌≡◌, ◌<◌, ◌≤◌, length};
 ghost use Rattle.std.specs.List.Sorted.{IsNonDecreasingBy, IsPartitionPoint};
 
-use crate::numbers::{Numbers, evens, has, plain_evens};
+use crate::asserts::holds_at;
+use crate::changes::Both;
+use crate::in_place::clone_of;
+use crate::numbers::{Numbers, evens, plain_evens};
 use canvas_list::{FoundRange, Hint, SharedList};
 use std::alloc::Global;
 use std::process::Abort;
@@ -17,25 +20,21 @@ fn place_of(list: &Numbers, least: u32) -> usize
     list.partition_point(|number| number.value().value < least)
 }
 
+fn hint_of(major: u32) -> Hint {
+    Hint { major, minor: 0 }
+}
+
 // The same, begun where a hint points to.
 fn place_near(list: &Numbers, hint: u32, least: u32) -> usize
     requires { IsNonDecreasingBy (λ number. number.value) list.now }
     ensures { IsPartitionPoint (λ number. number.value < least) (λ number. least ≤ number.value) list.now result }
 {
-    let hint = Hint {
-        major: hint,
-        minor: 0,
-    };
-    list.partition_point_near(hint, |number| number.value().value < least)
+    list.partition_point_near(hint_of(hint), |number| number.value().value < least)
 }
 
 // The number that stands there.
 fn number_near(list: &Numbers, hint: u32, least: u32) -> Option<u32> {
-    let hint = Hint {
-        major: hint,
-        minor: 0,
-    };
-    let found = list.found_near(hint, |number| number.value().value < least);
+    let found = list.found_near(hint_of(hint), |number| number.value().value < least);
     Some(found.item?.value().value)
 }
 
@@ -48,16 +47,15 @@ fn number_at(list: &Numbers, place: usize) -> Option<u32> {
 fn finds_range(list: &Numbers, least: u32, end: u32, hints: [u32; 2]) -> bool
     requires { IsNonDecreasingBy (λ number. number.value) list.now }
 {
-    let hint = |major| Hint { major, minor: 0 };
     let [from, to] = hints;
     let FoundRange {
         start,
         end: behind,
         mut reader,
     } = list.range_near(
-        hint(from),
+        hint_of(from),
         |number| number.value().value < least,
-        hint(to),
+        hint_of(to),
         |number| number.value().value < end,
     );
     if start != place_of(list, least) || behind != place_of(list, end) {
@@ -70,20 +68,17 @@ fn finds_range(list: &Numbers, least: u32, end: u32, hints: [u32; 2]) -> bool
 fn finds(list: &Numbers, value: u32, place: usize) -> bool
     requires { IsNonDecreasingBy (λ number. number.value) list.now }
 {
-    place_of(list, value) == place
-        && place_near(list, value, value) == place
-        && place_near(list, value / 2, value) == place
-        && place_near(list, u32::MAX, value) == place
-        && number_near(list, value, value) == number_at(list, place)
-        && number_near(list, value / 2, value) == number_at(list, place)
-        && finds_range(
-            list,
-            value,
-            value.saturating_add(3),
-            [value, value.saturating_add(3)],
-        )
-        && finds_range(list, value / 2, value, [value / 2, value])
-        && finds_range(list, value / 2, value, [value, value / 2])
+    let (half, next) = (value / 2, value.saturating_add(3));
+    let mut found = place_of(list, value) == place;
+    found &= place_near(list, value, value) == place;
+    found &= place_near(list, half, value) == place;
+    found &= place_near(list, u32::MAX, value) == place;
+    found &= number_near(list, value, value) == number_at(list, place);
+    found &= number_near(list, half, value) == number_at(list, place);
+    found &= finds_range(list, value, next, [value, next]);
+    found &= finds_range(list, half, value, [half, value]);
+    found &= finds_range(list, half, value, [value, half]);
+    found
 }
 
 // Whether each number stands where it should, and each odd one before the next even one.
@@ -100,20 +95,23 @@ fn finds_all(list: &Numbers, count: u32) -> bool
     true
 }
 
-// Whether the list is right while all of it is taken away from its middle.
-fn goes_away(rt: &impl Abort, alloc: Global, list: &Numbers, mut plain: Vec<u32>) -> bool {
-    let mut rest = list.try_clone(alloc).expect(rt, "memory");
-    let mut is_right = true;
-    for _ in 0..list.len() {
-        let at = plain.len() / 2;
-        if at >= rest.len() || at >= plain.len() {
-            break;
+// Takes the number in the middle away, and compares the rest now and then.
+fn take_middle(rt: &impl Abort, alloc: Global, rest: &mut Both, count: u32) {
+    let at = rest.plain.len() / 2;
+    if at < rest.list.len() && at < rest.plain.len() {
+        rest.remove(rt, alloc, at);
+        if rest.list.len() % 50 == 0 {
+            rest.check(rt, "going: items", count);
         }
-        rest = rest.without(alloc, at).expect(rt, "memory");
-        plain.remove(at);
-        is_right = is_right && (rest.len() % 50 != 0 || has(&rest, &plain));
     }
-    is_right && rest.is_empty()
+}
+
+// Asserts that a list is right while all of it is taken away from its middle.
+fn check_going(rt: &impl Abort, alloc: Global, mut rest: Both, count: u32) {
+    for _ in 0..count {
+        take_middle(rt, alloc, &mut rest, count);
+    }
+    holds_at(rt, "nothing left of", count, rest.list.is_empty());
 }
 
 // Asserts that a list of so many numbers is right, made at once and taken away.
@@ -121,11 +119,13 @@ fn check_made(rt: &impl Abort, alloc: Global, count: u32)
     requires { count ≤ 100000 }
 {
     let items = evens(alloc, count).expect(rt, "memory");
-    let list = SharedList::from_vec(alloc, items).expect(rt, "memory");
-    let plain = plain_evens(alloc, count).expect(rt, "memory");
-    assert!(rt; has(&list, &plain), "{count} items");
-    assert!(rt; finds_all(&list, count), "{count} items");
-    assert!(rt; goes_away(rt, alloc, &list, plain), "{count} items");
+    let both = Both {
+        list: SharedList::from_vec(alloc, items).expect(rt, "memory"),
+        plain: plain_evens(alloc, count).expect(rt, "memory"),
+    };
+    both.check(rt, "items:", count);
+    holds_at(rt, "found items:", count, finds_all(&both.list, count));
+    check_going(rt, alloc, clone_of(rt, alloc, &both), count);
 }
 
 #[test]

@@ -3,10 +3,12 @@
 
 ghost use Rattle.std.specs.Prelude.{◌<◌, ◌≡◌, length};
 
+use crate::asserts::holds_at;
 use crate::numbers::{NumberItem, Numbers, evens, has, plain_evens, shared_number};
 use canvas_code::OutOfMemory;
 use canvas_list::SharedList;
 use std::alloc::Global;
+use std::process::Abort;
 use std::test::Fail;
 
 const COUNT: u32 = 600;
@@ -34,18 +36,41 @@ fn changed(
     }
 }
 
+// Asserts that a change gives so many items, if there is memory for it.
+fn check_changed(
+    rt: &impl Abort,
+    alloc: Global,
+    list: &Numbers,
+    item: NumberItem,
+    sort: u32,
+    len: usize,
+)
+    requires { length list.now ≡ 600 }
+{
+    if let Ok(after) = changed(alloc, list, item, sort) {
+        holds_at(rt, "items after sort", sort, after.len() == len);
+    }
+}
+
+// Asserts that each sort of change gives so many items or wants memory, and leaves the list.
+fn check_changes(rt: &impl Abort, alloc: Global, list: &Numbers) -> Result<(), OutOfMemory>
+    requires { length list.now ≡ 600 }
+{
+    let plain = plain_evens(alloc, COUNT)?;
+    let mut sort: u32 = 0;
+    for len in [600usize, 601, 601, 599, 200, 600, 600, 600, 600, 600] {
+        let item = shared_number(alloc, 7)?;
+        check_changed(rt, alloc, list, item, sort, len);
+        holds_at(rt, "list after sort", sort, has(list, &plain));
+        sort = sort.saturating_add(1);
+    }
+    Ok(())
+}
+
 #[test]
 fn changes_with_little_memory(rt: HostRuntime) -> Result<(), Fail> {
     let alloc = rt.alloc();
     let list = SharedList::from_vec(alloc, evens(alloc, COUNT)?)?;
-    let plain = plain_evens(alloc, COUNT)?;
-    assert!(rt; list.len() == 600);
-    for (sort, len) in (0u32..).zip([600usize, 601, 601, 599, 200, 600, 600, 600, 600, 600]) {
-        let item = shared_number(alloc, 7)?;
-        if let Ok(after) = changed(alloc, &list, item, sort) {
-            assert_eq!(rt; after.len(), len, "sort {sort}");
-        }
-        assert!(rt; has(&list, &plain), "sort {sort}");
-    }
+    check_changes(&rt, alloc, &list)?;
     Ok(())
 }

@@ -2,12 +2,13 @@
 
 ghost use Rattle.std.specs.Prelude.{◌<◌, ◌≤◌};
 
+use crate::asserts::{equal, holds};
 use crate::changes::Both;
 use crate::dice::Dice;
 use crate::in_place::{Count, clone_of, first_evens};
-use crate::numbers::{has, shared_number};
+use crate::numbers::shared_number;
 use crate::picks::{plain_after, some_replacement};
-use crate::together::have;
+use crate::together::check_both;
 use std::alloc::Global;
 use std::process::Abort;
 
@@ -76,7 +77,7 @@ fn moves_in_turn(
 ) {
     for round in 0..60u32 {
         count.add(move_both(rt, alloc, dice, first, second, round));
-        assert!(rt; have(first, second), "move {round}");
+        check_both(rt, "move", round, first, second);
     }
 }
 
@@ -96,7 +97,7 @@ fn moves_of(
     moves_in_turn(rt, alloc, dice, &mut first, &mut second, alone);
     let clone = clone_of(rt, alloc, &second);
     moves_in_turn(rt, alloc, dice, &mut first, &mut second, beside);
-    assert!(rt; has(&clone.list, &clone.plain));
+    clone.check(rt, "clone beside", count);
 }
 
 // A list that shares its blocks with a clone changes no chunk that the clone has.
@@ -106,8 +107,8 @@ fn moves_beside(rt: &impl Abort, alloc: Global, dice: &mut Dice) {
     let mut second = first_evens(rt, alloc, 400);
     let clone = clone_of(rt, alloc, &first);
     moves_in_turn(rt, alloc, dice, &mut first, &mut second, &mut count);
-    assert_eq!(rt; count.in_place, 0);
-    assert!(rt; has(&clone.list, &clone.plain));
+    equal(rt, "moves beside a clone", &count.in_place, &0);
+    clone.check(rt, "clone of", 3_000);
 }
 
 #[test]
@@ -119,7 +120,7 @@ fn moves_are_made_in_place_or_not_at_all(rt: HostRuntime) {
     for count in [0u32, 1, 2, 7, 40, 300, 1_500, 3_000] {
         moves_of(&rt, alloc, &mut dice, count, &mut alone, &mut beside);
     }
-    assert!(rt; alone.in_place > 150 && alone.others > 150);
-    assert_eq!(rt; beside.in_place, 0);
+    holds(&rt, "alone", alone.exceeds(150, 150));
+    equal(&rt, "beside a clone", &beside.in_place, &0);
     moves_beside(&rt, alloc, &mut dice);
 }

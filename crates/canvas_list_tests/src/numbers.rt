@@ -55,6 +55,10 @@ pub(crate) struct Span {
 }
 
 impl Span {
+    pub(crate) fn of(least: u32, greatest: u32) -> Span {
+        Span { least, greatest }
+    }
+
     pub(crate) fn has(&self, value: u32) -> bool {
         self.least <= value && value <= self.greatest
     }
@@ -143,43 +147,42 @@ pub(crate) fn has(list: &Numbers, plain: &[u32]) -> bool {
     let third = list.len() / 3;
     let end = list.len() - third;
     let middle = plain.get(third..end).unwrap_or(&[]);
-    list.len() == plain.len()
-        && list.is_empty() == plain.is_empty()
-        && reads(list, plain)
-        && reads_on(list, plain)
-        && meets(list, plain)
-        && gives(list.iter(), plain)
-        && gives_back(list.iter(), plain)
-        && gives(list.iter_from(third), plain.get(third..).unwrap_or(&[]))
-        && gives_back(list.iter_before(third), plain.get(..third).unwrap_or(&[]))
-        && gives(list.iter_range(third, end), middle)
-        && gives_back(list.iter_range(third, end), middle)
+    let mut same = list.len() == plain.len();
+    same &= list.is_empty() == plain.is_empty();
+    same &= reads(list, plain);
+    same &= reads_on(list, plain);
+    same &= meets(list, plain);
+    same &= gives(list.iter(), plain);
+    same &= gives_back(list.iter(), plain);
+    same &= gives(list.iter_from(third), plain.get(third..).unwrap_or(&[]));
+    same &= gives_back(list.iter_before(third), plain.get(..third).unwrap_or(&[]));
+    same &= gives(list.iter_range(third, end), middle);
+    same &= gives_back(list.iter_range(third, end), middle);
+    same
 }
 
 fn reads(list: &Numbers, plain: &[u32]) -> bool {
     let mut same = list.get(plain.len()).is_none();
     for (at, value) in plain.iter().enumerate() {
-        same = same && at < list.len() && list.at(at).value().value == *value;
+        same &= at < list.len() && list.at(at).value().value == *value;
     }
     same
 }
 
 fn gives(items: Items<'_, NumberItem>, plain: &[u32]) -> bool {
     let mut wanted = plain.iter();
+    let mut same = true;
     for item in items {
-        if wanted.next() != Some(&item.value().value) {
-            return false;
-        }
+        same &= wanted.next() == Some(&item.value().value);
     }
-    wanted.next().is_none()
+    same && wanted.next().is_none()
 }
 
 fn gives_back(items: Items<'_, NumberItem>, plain: &[u32]) -> bool {
     let mut wanted = plain.iter().rev();
+    let mut same = true;
     for item in items.rev() {
-        if wanted.next() != Some(&item.value().value) {
-            return false;
-        }
+        same &= wanted.next() == Some(&item.value().value);
     }
-    wanted.next().is_none()
+    same && wanted.next().is_none()
 }

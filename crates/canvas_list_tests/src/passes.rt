@@ -2,6 +2,7 @@
 
 ghost use Rattle.std.specs.Prelude.{◌≡◌};
 
+use crate::asserts::equal;
 use crate::numbers::{Number, Span};
 use canvas_code::OutOfMemory;
 use canvas_list::{Hint, Share, Shared, SharedList, ShortHint};
@@ -108,26 +109,37 @@ fn first_watched(rt: &impl Abort, alloc: Global) -> SharedList<Watched> {
 
 const COUNT: u32 = 3_000;
 
+// Asserts that a walk which seeks one number gives it and few others.
+fn assert_few(rt: &impl Abort, list: &SharedList<Watched>, value: u32) {
+    let given = count_given(list, &Note::sought(value, value));
+    assert!(rt; 0 < given && given < 200, "{given} for {value}");
+}
+
 #[test]
 fn walks_pass_over_parts(rt: HostRuntime) {
     let list = first_watched(&rt, rt.alloc());
-    assert_eq!(rt; count_given(&list, &Note::sought(0, COUNT)), 3_000);
-    assert_eq!(rt; count_given(&list, &Note::sought(COUNT, COUNT)), 0);
+    let all = count_given(&list, &Note::sought(0, COUNT));
+    equal(&rt, "all", &all, &3_000);
+    let none = count_given(&list, &Note::sought(COUNT, COUNT));
+    equal(&rt, "none", &none, &0);
     for value in [0, 1, 1_234, 2_000, COUNT - 1] {
-        let given = count_given(&list, &Note::sought(value, value));
-        assert!(rt; 0 < given && given < 200, "{given} for {value}");
+        assert_few(&rt, &list, value);
     }
+}
+
+// The first numbers, each shared.
+fn first_shared(rt: &impl Abort, alloc: Global) -> SharedList<Shared<Number>> {
+    let mut items = Vec::new(alloc);
+    for value in 0..COUNT {
+        let item = Shared::new(alloc, Number { value }).expect(rt, "memory");
+        items.push(item).expect(rt, "memory");
+    }
+    SharedList::from_vec(alloc, items).expect(rt, "memory")
 }
 
 #[test]
 fn walks_give_all_shared_values(rt: HostRuntime) {
-    let alloc = rt.alloc();
-    let mut items = Vec::new(alloc);
-    for value in 0..COUNT {
-        let item = Shared::new(alloc, Number { value }).expect(&rt, "memory");
-        items.push(item).expect(&rt, "memory");
-    }
-    let list = SharedList::from_vec(alloc, items).expect(&rt, "memory");
-    let list = list.try_clone(alloc).expect(&rt, "memory");
-    assert_eq!(rt; count_given(&list, &()), 3_000);
+    let list = first_shared(&rt, rt.alloc());
+    let clone = list.try_clone(rt.alloc()).expect(&rt, "memory");
+    equal(&rt, "all", &count_given(&clone, &()), &3_000);
 }

@@ -21,6 +21,12 @@ pub(crate) struct Pick {
     pub(crate) change: NumberChange,
 }
 
+impl Pick {
+    pub(crate) fn is_replacement(&self) -> bool {
+        matches!(self.change, ItemChange::Replace(_))
+    }
+}
+
 fn some_number(rt: &impl Abort, alloc: Global, dice: &mut Dice) -> NumberItem {
     shared_number(alloc, dice.below(1_000_000_000) as u32).expect(rt, "memory")
 }
@@ -101,16 +107,20 @@ pub(crate) fn made_anew(
 /// A plain list after a change, if it has the place of the change.
 pub(crate) fn plain_after(rt: &impl Abort, plain: &Vec<u32>, pick: &Pick) -> Vec<u32> {
     let mut after = plain.clone().expect(rt, "memory");
+    change_plain(rt, &mut after, pick);
+    after
+}
+
+fn change_plain(rt: &impl Abort, plain: &mut Vec<u32>, pick: &Pick) {
     let at = pick.at;
     match &pick.change {
-        ItemChange::Replace(item) if at < after.len() => after[at] = item.value().value,
-        ItemChange::Remove if at < after.len() => {
-            after.remove(at);
+        ItemChange::Replace(item) if at < plain.len() => plain[at] = item.value().value,
+        ItemChange::Remove if at < plain.len() => {
+            plain.remove(at);
         }
-        ItemChange::Insert(item) if at <= after.len() => {
-            after.insert(at, item.value().value).expect(rt, "memory");
+        ItemChange::Insert(item) if at <= plain.len() => {
+            plain.insert(at, item.value().value).expect(rt, "memory");
         }
         _ => {}
     }
-    after
 }

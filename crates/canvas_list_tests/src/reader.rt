@@ -39,9 +39,8 @@ pub(crate) fn meets(list: &Numbers, plain: &[u32]) -> bool {
     let third = len / 3;
     let mut same = true;
     for span in some_spans(plain) {
-        same = same
-            && meets_between(list, plain, 0, len, &span)
-            && meets_between(list, plain, third, len - third, &span);
+        same &= meets_between(list, plain, 0, len, &span);
+        same &= meets_between(list, plain, third, len - third, &span);
     }
     same
 }
@@ -51,12 +50,11 @@ fn some_spans(plain: &[u32]) -> [Span; 4] {
     let third = plain.len() / 3;
     let one = plain.get(third).copied().unwrap_or(0);
     let other = plain.get(2 * third).copied().unwrap_or(0);
-    let of = |least, greatest| Span { least, greatest };
     [
-        of(1, 0),
-        of(one, one),
-        of(one.min(other), one.max(other)),
-        of(0, u32::MAX),
+        Span::of(1, 0),
+        Span::of(one, one),
+        Span::of(one.min(other), one.max(other)),
+        Span::of(0, u32::MAX),
     ]
 }
 
@@ -71,7 +69,7 @@ fn meets_between(list: &Numbers, plain: &[u32], from: usize, end: usize, sought:
     let mut same = true;
     for at in from..end {
         let is_next = at == next;
-        same = same && sought.has(plain[at]) == is_next;
+        same &= sought.has(plain[at]) == is_next;
         if is_next {
             next = reader.next_meeting(at + 1, end, sought);
         }

@@ -1,16 +1,43 @@
 //! Runs of numbers replaced in place, each beside the same change of a plain list.
 
-ghost use Rattle.std.specs.Prelude.{◌≤◌};
+ghost use Rattle.std.specs.Prelude.{◌≡◌, ◌<◌, ◌≤◌, ◌+◌, length, true, vec_len};
 
+use crate::asserts::{equal, holds};
 use crate::changes::Both;
 use crate::dice::Dice;
 use crate::in_place::{Count, clone_of, first_evens};
-use crate::numbers::{has, shared_number};
+use crate::numbers::{NumberItem, Numbers, shared_number};
 use std::alloc::Global;
 use std::process::Abort;
 
 // How many numbers a run has at most: those of a few chunks.
 const MOST_REPLACED: usize = 40;
+
+// Puts other numbers in the place of some of a plain list, from a position on, and gives the same for a list.
+fn other_numbers(
+    rt: &impl Abort,
+    alloc: Global,
+    dice: &mut Dice,
+    plain: &mut Vec<u32>,
+    at: usize,
+) -> Vec<NumberItem> {
+    let mut items = Vec::new(alloc);
+    let count = 1 + dice.below(MOST_REPLACED);
+    for number in plain.iter_mut().skip(at).take(count) {
+        *number = dice.below(1_000_000_000) as u32;
+        let item = shared_number(alloc, *number).expect(rt, "memory");
+        items.push(item).expect(rt, "memory");
+    }
+    items
+}
+
+// Whether there are so many numbers from a position on, at least one.
+fn has_run(list: &Numbers, at: usize, items: &Vec<NumberItem>) -> bool
+    ensures some { result ≡ true → 0 < vec_len items.now }
+    ensures place { result ≡ true → at + vec_len items.now ≤ length list.now }
+{
+    !items.is_empty() && at < list.len() && items.len() <= list.len() - at
+}
 
 // Puts other numbers in the place of some that stand side by side, from a position on: all of them, or none.
 fn replace_run(
@@ -21,17 +48,8 @@ fn replace_run(
     at: usize,
 ) -> bool {
     let mut plain = both.plain.clone().expect(rt, "memory");
-    let mut items = Vec::new(alloc);
-    for number in plain
-        .iter_mut()
-        .skip(at)
-        .take(1 + dice.below(MOST_REPLACED))
-    {
-        *number = dice.below(1_000_000_000) as u32;
-        let item = shared_number(alloc, *number).expect(rt, "memory");
-        items.push(item).expect(rt, "memory");
-    }
-    assert!(rt; !items.is_empty() && at < both.list.len() && items.len() <= both.list.len() - at);
+    let items = other_numbers(rt, alloc, dice, &mut plain, at);
+    assert!(rt; has_run(&both.list, at, &items), "a run");
     let made = both.list.replace_run(at, items);
     if made {
         both.plain = plain;
@@ -53,7 +71,7 @@ fn runs_in_turn(
             let at = dice.below(len);
             count.add(replace_run(rt, alloc, dice, both, at));
         }
-        assert!(rt; has(&both.list, &both.plain), "run {round}");
+        both.check(rt, "run", round);
     }
 }
 
@@ -72,7 +90,7 @@ fn runs_of(
     runs_in_turn(rt, alloc, dice, &mut both, alone);
     let clone = clone_of(rt, alloc, &both);
     runs_in_turn(rt, alloc, dice, &mut both, beside);
-    assert!(rt; has(&clone.list, &clone.plain));
+    clone.check(rt, "clone of", count);
 }
 
 #[test]
@@ -84,6 +102,6 @@ fn runs_are_replaced_in_place_or_not_at_all(rt: HostRuntime) {
     for count in [0u32, 1, 2, 7, 40, 300, 1_500, 3_000, 7_000] {
         runs_of(&rt, alloc, &mut dice, count, &mut alone, &mut beside);
     }
-    assert!(rt; alone.in_place > 300 && alone.others > 10);
-    assert_eq!(rt; beside.in_place, 0);
+    holds(&rt, "alone", alone.exceeds(300, 10));
+    equal(&rt, "beside a clone", &beside.in_place, &0);
 }

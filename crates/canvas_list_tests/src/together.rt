@@ -3,21 +3,27 @@
 ghost use Rattle.std.specs.Prelude.{◌≤◌};
 ghost use Rattle.canvas_list.specs.Changed.{IsPositionOf};
 
+use crate::asserts::{holds, holds_at};
 use crate::changes::Both;
 use crate::dice::Dice;
 use crate::in_place::{Count, change, clone_of, first_evens};
-use crate::numbers::has;
 use crate::picks::{MOST, Pick, plain_after, some_change, some_replacement};
 use crate::reader::reads_on;
 use std::alloc::Global;
 use std::process::Abort;
 
 // Whether lists have the numbers of their plain ones, as a reader reads them.
-pub(crate) fn have(first: &Both, second: &Both) -> bool {
-    first.list.len() == first.plain.len()
-        && second.list.len() == second.plain.len()
-        && reads_on(&first.list, &first.plain)
-        && reads_on(&second.list, &second.plain)
+fn have(first: &Both, second: &Both) -> bool {
+    let mut same = first.list.len() == first.plain.len();
+    same &= second.list.len() == second.plain.len();
+    same &= reads_on(&first.list, &first.plain);
+    same &= reads_on(&second.list, &second.plain);
+    same
+}
+
+/// Ends the test with these words and a number unless lists have the numbers of their plain ones.
+pub(crate) fn check_both(rt: &impl Abort, what: &str, number: u32, first: &Both, second: &Both) {
+    holds_at(rt, what, number, have(first, second));
 }
 
 // Changes both lists in place, or neither.
@@ -66,8 +72,8 @@ fn replacements(
     let can_be = is_alone && first.list.len() > 0 && second.list.len() > 0;
     for round in 0..8u32 {
         let made = replace_both(rt, alloc, dice, first, second);
-        assert_eq!(rt; made, can_be, "replacement {round}");
-        assert!(rt; have(first, second), "replacement {round}");
+        holds_at(rt, "is made: replacement", round, made == can_be);
+        check_both(rt, "replacement", round, first, second);
     }
 }
 
@@ -100,8 +106,34 @@ fn changes_in_turn(
 ) {
     for round in 0..40u32 {
         change_in_turn(rt, alloc, dice, first, second, count);
-        assert!(rt; have(first, second), "change {round}");
+        check_both(rt, "change", round, first, second);
     }
+}
+
+// A list of no numbers, or a clone of one of two.
+fn some_clone(rt: &impl Abort, alloc: Global, first: &Both, second: &Both, turn: u32) -> Both {
+    match turn % 3 {
+        0 => first_evens(rt, alloc, 0),
+        1 => clone_of(rt, alloc, first),
+        _ => clone_of(rt, alloc, second),
+    }
+}
+
+fn turn_of(
+    rt: &impl Abort,
+    alloc: Global,
+    dice: &mut Dice,
+    first: &mut Both,
+    second: &mut Both,
+    turn: u32,
+    count: &mut Count,
+) {
+    let clone = some_clone(rt, alloc, first, second, turn);
+    replacements(rt, alloc, dice, first, second, turn % 3 == 0);
+    changes_in_turn(rt, alloc, dice, first, second, count);
+    first.check(rt, "first: turn", turn);
+    second.check(rt, "second: turn", turn);
+    clone.check(rt, "clone: turn", turn);
 }
 
 // Changes of two lists, in turns with no clone, with one of the first and with one of the second. The
@@ -119,20 +151,12 @@ fn changes_from(
     let mut first = first_evens(rt, alloc, count);
     let mut second = first_evens(rt, alloc, 400);
     for turn in 0..9u32 {
-        let clone = match turn % 3 {
-            0 => first_evens(rt, alloc, 0),
-            1 => clone_of(rt, alloc, &first),
-            _ => clone_of(rt, alloc, &second),
-        };
-        replacements(rt, alloc, dice, &mut first, &mut second, turn % 3 == 0);
-        if turn % 3 == 0 {
-            changes_in_turn(rt, alloc, dice, &mut first, &mut second, alone);
+        let count = if turn % 3 == 0 {
+            &mut *alone
         } else {
-            changes_in_turn(rt, alloc, dice, &mut first, &mut second, beside);
-        }
-        assert!(rt; has(&first.list, &first.plain), "turn {turn}");
-        assert!(rt; has(&second.list, &second.plain), "turn {turn}");
-        assert!(rt; has(&clone.list, &clone.plain), "turn {turn}");
+            &mut *beside
+        };
+        turn_of(rt, alloc, dice, &mut first, &mut second, turn, count);
     }
 }
 
@@ -145,6 +169,6 @@ fn two_lists_change_at_once_or_stay(rt: HostRuntime) {
     for count in [0u32, 1, 7, 300, 1_500, 3_000] {
         changes_from(&rt, alloc, &mut dice, count, &mut alone, &mut beside);
     }
-    assert!(rt; alone.in_place > 200 && alone.others > 100);
-    assert!(rt; beside.in_place > 200 && beside.others > 100);
+    holds(&rt, "alone", alone.exceeds(200, 100));
+    holds(&rt, "beside a clone", beside.exceeds(200, 100));
 }

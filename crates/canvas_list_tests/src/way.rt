@@ -1,7 +1,8 @@
 //! Changes in place that are refused for want of way, and made once there is some.
 
-ghost use Rattle.std.specs.Prelude.{◌≤◌};
+ghost use Rattle.std.specs.Prelude.{◌≡◌, ◌<◌, ◌≤◌, length, true, vec_len};
 
+use crate::asserts::holds;
 use crate::changes::Both;
 use crate::in_place::first_evens;
 use crate::numbers::{has, shared_number};
@@ -10,11 +11,27 @@ use canvas_list::{ItemChange, Way};
 use std::alloc::Global;
 use std::process::Abort;
 
+// Whether a number may come to a position.
+fn has_place(both: &Both, at: usize) -> bool
+    ensures list { result ≡ true → at ≤ length both.now.list }
+    ensures few { result ≡ true → length both.now.list < MOST }
+    ensures plain { result ≡ true → at ≤ vec_len both.now.plain }
+{
+    at <= both.list.len() && both.list.len() < MOST && at <= both.plain.len()
+}
+
+// Whether there is a number at a position.
+fn has_number(both: &Both, at: usize) -> bool
+    ensures list { result ≡ true → at < length both.now.list }
+    ensures plain { result ≡ true → at < vec_len both.now.plain }
+{
+    at < both.list.len() && at < both.plain.len()
+}
+
 // Puts a number before the one at a position, in place, if that can be.
 fn insert(rt: &impl Abort, alloc: Global, both: &mut Both, at: usize) -> bool {
+    assert!(rt; has_place(both, at), "no place {at}");
     let item = shared_number(alloc, 7).expect(rt, "memory");
-    assert!(rt; at <= both.list.len() && both.list.len() < MOST);
-    assert!(rt; at <= both.plain.len());
     let made = both.list.change(at, ItemChange::Insert(item));
     if made {
         both.plain.insert(at, 7).expect(rt, "memory");
@@ -24,7 +41,7 @@ fn insert(rt: &impl Abort, alloc: Global, both: &mut Both, at: usize) -> bool {
 
 // Takes the number at a position away, in place, if that can be.
 fn remove(rt: &impl Abort, both: &mut Both, at: usize) -> bool {
-    assert!(rt; at < both.list.len() && at < both.plain.len());
+    assert!(rt; has_number(both, at), "no number at {at}");
     let made = both.list.change(at, ItemChange::Remove);
     if made {
         both.plain.remove(at);
@@ -35,14 +52,14 @@ fn remove(rt: &impl Abort, both: &mut Both, at: usize) -> bool {
 // Makes way at a position, which leaves the numbers.
 fn make_way(rt: &impl Abort, alloc: Global, both: &mut Both, at: usize, way: Way) {
     both.list.make_way(alloc, at, way);
-    assert!(rt; has(&both.list, &both.plain));
+    holds(rt, "what way leaves", has(&both.list, &both.plain));
 }
 
 // In a list that is made at once most chunks are full: a number comes to such a place once there is way.
 fn way_in(rt: &impl Abort, alloc: Global, both: &mut Both, at: usize) {
-    assert!(rt; !insert(rt, alloc, both, at));
+    holds(rt, "no way in", !insert(rt, alloc, both, at));
     make_way(rt, alloc, both, at, Way::In);
-    assert!(rt; insert(rt, alloc, both, at));
+    holds(rt, "way in", insert(rt, alloc, both, at));
 }
 
 // Numbers are taken away at one place, where chunks become short. Answers how many were only once there was way.
@@ -68,7 +85,7 @@ fn ways_of(rt: &impl Abort, alloc: Global, count: u32) -> u32
     way_in(rt, alloc, &mut both, middle);
     way_in(rt, alloc, &mut both, 0);
     let helped = way_out(rt, alloc, &mut both, middle);
-    assert!(rt; has(&both.list, &both.plain));
+    both.check(rt, "items:", count);
     helped
 }
 
@@ -78,5 +95,5 @@ fn a_refused_change_is_made_once_there_is_way(rt: HostRuntime) {
     for count in [100u32, 300, 1_500, 3_000, 7_000] {
         helped = helped.saturating_add(ways_of(&rt, rt.alloc(), count));
     }
-    assert!(rt; helped > 2);
+    holds(&rt, "helped", helped > 2);
 }

@@ -1,19 +1,23 @@
 //! Spans and clones for which memory may be refused: run with each allocation refused in turn, they answer want of
 //! memory and leave what was there, or answer what they answer with ample memory.
 
+use crate::asserts::{holds, holds_at};
 use crate::random_leaves::polygon;
 use canvas_code::OutOfMemory;
 use canvas_plane::Point;
 use canvas_shape::{Carried, Colour, Kind, Points, Span};
 use std::alloc::Global;
+use std::process::Abort;
 use std::test::Fail;
+
+static TRIANGLE: [Point; 3] = [
+    Point { x: 0, y: 0 },
+    Point { x: 4, y: 0 },
+    Point { x: 0, y: 4 },
+];
 
 fn span(from: i32, to: i32) -> Span {
     Span { from, to }
-}
-
-fn at(x: i64, y: i64) -> Point {
-    Point { x, y }
 }
 
 // Whether the spans of a row are appended, at once or, where memory was wanted, to what was there before.
@@ -25,35 +29,50 @@ fn is_appended(alloc: Global, leaf: &Carried<'_>, y: i32, out: &mut Vec<Span>) -
     }
 }
 
-#[test]
-fn spans_with_little_memory(rt: HostRuntime) -> Result<(), Fail> {
-    let points = [at(0, 0), at(4, 0), at(0, 4)];
-    let leaf = polygon(&points).ok_or("far")?;
-    let mut out = Vec::new(rt.alloc());
-    out.push(span(7, 7))?;
+fn assert_appended(rt: &impl Abort, alloc: Global, out: &mut Vec<Span>) {
+    let leaf = polygon(&TRIANGLE).expect(rt, "near vertices");
     for y in 0..4 {
-        assert!(rt; is_appended(rt.alloc(), &leaf, y, &mut out));
+        holds_at(rt, "row", y as i64, is_appended(alloc, &leaf, y, out));
     }
     let wanted = [span(7, 7), span(0, 3), span(0, 2), span(0, 1)];
-    assert!(rt; out.as_slice() == wanted.as_slice());
+    holds(rt, "all spans", out.as_slice() == wanted.as_slice());
+}
+
+#[test]
+fn spans_with_little_memory(rt: HostRuntime) -> Result<(), Fail> {
+    let mut out = Vec::new(rt.alloc());
+    out.push(span(7, 7))?;
+    assert_appended(&rt, rt.alloc(), &mut out);
     Ok(())
+}
+
+fn triangle(alloc: Global) -> Result<Kind, OutOfMemory> {
+    let mut points = Points::new(alloc);
+    for point in &TRIANGLE {
+        points.push(*point)?;
+    }
+    Ok(Kind::Polygon {
+        points,
+        fill: Colour([1, 2, 3]),
+    })
+}
+
+// Whether a clone is equal.
+fn is_cloned(alloc: Global, kind: &Kind) -> Result<bool, OutOfMemory> {
+    Ok(kind.try_clone(alloc)? == *kind)
+}
+
+fn assert_cloned(rt: &impl Abort, alloc: Global, kind: &Kind) {
+    let first = is_cloned(alloc, kind);
+    let again = is_cloned(alloc, kind);
+    holds(rt, "a clone", first.is_ok() || again.is_ok());
+    holds(rt, "the first", first.unwrap_or(true));
+    holds(rt, "the second", again.unwrap_or(true));
 }
 
 #[test]
 fn clones_with_little_memory(rt: HostRuntime) -> Result<(), Fail> {
-    let mut points = Points::new(rt.alloc());
-    for point in [at(0, 0), at(4, 0), at(0, 4)] {
-        points.push(point)?;
-    }
-    let kind = Kind::Polygon {
-        points,
-        fill: Colour([1, 2, 3]),
-    };
-    let first = kind.try_clone(rt.alloc());
-    let again = kind.try_clone(rt.alloc());
-    assert!(rt; first.is_ok() || again.is_ok());
-    for copy in [first, again] {
-        assert!(rt; copy.is_err() || copy.is_ok_and(|copy| copy == kind));
-    }
+    let kind = triangle(rt.alloc())?;
+    assert_cloned(&rt, rt.alloc(), &kind);
     Ok(())
 }

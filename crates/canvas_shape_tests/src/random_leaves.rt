@@ -3,6 +3,7 @@
 ghost use Rattle.std.specs.Prelude.{◌≡◌, ◌<◌, ◌≤◌, ◌≤ℤ◌, ◌<ℤ◌, ◌+ℤ◌, ◌^◌, All, length, nat_le, pos, true};
 ghost use Rattle.canvas_plane.specs.Motion.{size_of};
 
+use crate::asserts::holds_at;
 use canvas_plane::{PageBox, Point, Pose, Window};
 use canvas_shape::{Carried, Colour, EdgeFlags, Kind, Points, Span};
 use std::alloc::Global;
@@ -99,36 +100,51 @@ fn is_near(point: &Point) -> bool
     point.x.unsigned_abs().max(point.y.unsigned_abs()) <= 1 << 27
 }
 
-fn has(out: &[Span], x: i32) -> bool {
-    out.iter().skip(1).any(|span| span.from <= x && x < span.to)
+fn has(spans: &[Span], x: i32) -> bool {
+    let mut has = false;
+    for span in spans {
+        has |= span.from <= x && x < span.to;
+    }
+    has
 }
 
-// Whether the spans behind the first rise, lie apart and are not empty.
-fn are_rising(out: &[Span]) -> bool {
-    let mut end = None;
-    for span in out.iter().skip(1) {
-        if span.to <= span.from || end.is_some_and(|end: i32| span.from < end) {
-            return false;
-        }
-        end = Some(span.to);
+// Whether spans rise, lie apart and are not empty.
+fn are_rising(spans: &[Span]) -> bool {
+    let mut rising = true;
+    let mut end = i32::MIN;
+    for span in spans {
+        rising &= end <= span.from && span.from < span.to;
+        end = span.to;
     }
-    true
+    rising
 }
+
+// Whether the first of some spans is one that was there, and those behind it are the pixels of a row that the leaf holds
+// one by one.
+fn are_held(out: &[Span], leaf: &Carried<'_>, y: i32, left: i32, right: i32) -> bool
+    requires { left ≤ℤ right }
+{
+    let Some((first, spans)) = out.split_first() else {
+        return false;
+    };
+    let mut same = *first == THERE && are_rising(spans);
+    for x in left..right {
+        same &= has(spans, x) == leaf.holds(x, y);
+    }
+    same
+}
+
+const THERE: Span = Span { from: 7, to: 7 };
 
 // Whether the spans of a row are the pixels that the leaf holds one by one, behind what was there.
 fn agrees(rt: &impl Abort, alloc: Global, leaf: &Carried<'_>, y: i32, left: i32, right: i32) -> bool
     requires { left ≤ℤ right }
 {
-    let there = Span { from: 7, to: 7 };
     let mut out = Vec::new(alloc);
-    out.push(there).expect(rt, "memory");
+    out.push(THERE).expect(rt, "memory");
     let spans = leaf.row_spans(alloc, y, left, right, &mut out);
     spans.expect(rt, "spans");
-    let mut same = out.first() == Some(&there) && are_rising(&out);
-    for x in left..right {
-        same = same && has(&out, x) == leaf.holds(x, y);
-    }
-    same
+    are_held(&out, leaf, y, left, right)
 }
 
 // The number as a coordinate of a pixel, or the nearest one.
@@ -136,12 +152,18 @@ fn pixel(at: i64) -> i32 {
     at.clamp(-2_147_483_648, 2_147_483_647) as i32
 }
 
-// Rows near the edges of a leaf, and columns near its sides.
-fn rows_agree(rt: &impl Abort, alloc: Global, dice: &mut Dice, leaf: &Carried<'_>) -> bool {
+// Asserts that rows near the edges of the k-th leaf agree, in columns near its sides.
+fn assert_rows(
+    rt: &impl Abort,
+    alloc: Global,
+    dice: &mut Dice,
+    what: &str,
+    k: i64,
+    leaf: &Carried<'_>,
+) {
     let shape = leaf.page_box();
-    let mut same = true;
-    for k in 0..6 {
-        let y = match k {
+    for row in 0..6 {
+        let y = match row {
             0 => shape.top,
             1 => shape.bottom.saturating_sub(1),
             2 => shape.bottom,
@@ -156,49 +178,45 @@ fn rows_agree(rt: &impl Abort, alloc: Global, dice: &mut Dice, leaf: &Carried<'_
         let left = pixel(left);
         let right = left.saturating_add(40);
         if left <= right {
-            same = same && agrees(rt, alloc, leaf, pixel(y), left, right);
+            let agrees = agrees(rt, alloc, leaf, pixel(y), left, right);
+            holds_at(rt, what, k, agrees);
         }
     }
-    same
 }
 
 #[test]
 fn boxes_agree_with_their_pixels(rt: HostRuntime) {
     let mut dice = Dice { state: 1 };
-    for k in 0..2000u32 {
+    for k in 0..2000 {
         let pose = dice.pose(1 << 26);
         let w = dice.side();
         let h = dice.side();
         if pose.quarter <= 3 && pose.reach() <= 1 << 26 {
             let flat = Carried::rect(&pose, w, h);
             let round = Carried::ellipse(&pose, w, h);
-            assert!(rt;
-                rows_agree(&rt, rt.alloc(), &mut dice, &flat),
-                "rectangle {k}"
-            );
-            assert!(rt;
-                rows_agree(&rt, rt.alloc(), &mut dice, &round),
-                "ellipse {k}"
-            );
+            assert_rows(&rt, rt.alloc(), &mut dice, "rectangle", k, &flat);
+            assert_rows(&rt, rt.alloc(), &mut dice, "ellipse", k, &round);
         }
     }
+}
+
+// Up to twelve points of at most this size.
+fn some_points(rt: &impl Abort, alloc: Global, dice: &mut Dice, size: u32) -> Vec<Point> {
+    let mut points = Vec::new(alloc);
+    for _ in 0..dice.below(12) + 1 {
+        points.push(dice.point(size)).expect(rt, "memory");
+    }
+    points
 }
 
 #[test]
 fn polygons_agree_with_their_pixels(rt: HostRuntime) {
     let mut dice = Dice { state: 2 };
-    for k in 0..1500u32 {
+    for k in 0..1500 {
         let size = if k % 3 == 0 { 1 << 27 } else { 12 };
-        let count = dice.below(12) + 1;
-        let mut points = Vec::new(rt.alloc());
-        for _ in 0..count {
-            points.push(dice.point(size)).expect(&rt, "memory");
-        }
+        let points = some_points(&rt, rt.alloc(), &mut dice, size);
         let leaf = polygon(&points).expect(&rt, "near vertices");
-        assert!(rt;
-            rows_agree(&rt, rt.alloc(), &mut dice, &leaf),
-            "polygon {k}"
-        );
+        assert_rows(&rt, rt.alloc(), &mut dice, "polygon", k, &leaf);
     }
 }
 
@@ -240,14 +258,14 @@ fn some_edge(dice: &mut Dice, apart: i64, low: i64, high: i64) -> i32
 }
 
 // A window of some level near a leaf.
-fn some_window(dice: &mut Dice, shape: &PageBox) -> Option<Window> {
+fn some_window(rt: &impl Abort, dice: &mut Dice, shape: &PageBox) -> Window {
     let level = dice.below(7) as u8;
     let apart = 1i64 << u32::from(level);
     let x = some_edge(dice, apart, shape.left, shape.right);
     let y = some_edge(dice, apart, shape.top, shape.bottom);
     let w = some_width(dice).max(1);
     let h = some_width(dice).max(5);
-    Window::at_level(level, x, y, w, h).ok()
+    Window::at_level(level, x, y, w, h).expect(rt, "a window")
 }
 
 // The page pixel that a window's column or row shows, so far from the edge `first`.
@@ -264,14 +282,38 @@ fn first_column(at: i64) -> i32
 }
 
 // Whether a bit of a row's words stands.
-fn is_set(words: &[u64; 4], i: u32) -> bool {
-    words
-        .get(i as usize / 64)
-        .is_some_and(|word| word >> (i % 64) & 1 == 1)
+fn is_set(words: &[u64; 4], i: u32) -> bool
+    requires { i < 256 }
+{
+    words[i as usize / 64] >> (i % 64) & 1 == 1
 }
 
-// Whether the held columns of a window's row, and their spans from the pixel `left` on, are the page pixels that the leaf holds
-// one by one, and nothing else.
+// Whether the columns of a window's row that `held` and, from the pixel `left` on, the spans behind the first have are the
+// page pixels that the leaf holds one by one, and nothing else.
+fn columns_agree(
+    held: &[u64; 4],
+    out: &[Span],
+    leaf: &Carried<'_>,
+    window: &Window,
+    y: i32,
+    left: i32,
+) -> bool
+    requires { (left +ℤ pos 256) ≤ℤ pos 2147483647 }
+{
+    let Some((first, spans)) = out.split_first() else {
+        return false;
+    };
+    let mut same = *first == THERE && are_rising(spans);
+    for i in 0..256u32 {
+        let is_there = i < window.w();
+        let is_held = is_there && leaf.holds(shown(window, window.x(), i), y);
+        same &= is_set(held, i) == is_held;
+        same &= !is_there || has(spans, left.saturating_add(i as i32)) == is_held;
+    }
+    same
+}
+
+// Whether the held columns of a window's row and their spans from the pixel `left` on agree with the leaf.
 fn row_agrees(
     rt: &impl Abort,
     alloc: Global,
@@ -283,22 +325,12 @@ fn row_agrees(
 ) -> bool
     requires { (left +ℤ pos 256) ≤ℤ pos 2147483647 }
 {
-    let there = Span { from: 7, to: 7 };
     let mut out = Vec::new(alloc);
-    out.push(there).expect(rt, "memory");
-    let width = window.w();
-    flags
-        .append_spans(left, width, &mut out)
-        .expect(rt, "spans");
-    let held = flags.held();
+    out.push(THERE).expect(rt, "memory");
+    let appended = flags.append_spans(left, window.w(), &mut out);
+    appended.expect(rt, "spans");
     let y = shown(window, window.y(), row);
-    let mut same = out.first() == Some(&there) && are_rising(&out);
-    for i in 0..256u32 {
-        let is_held = i < width && leaf.holds(shown(window, window.x(), i), y);
-        same = same && is_set(&held, i) == is_held;
-        same = same && (i >= width || has(&out, left.saturating_add(i as i32)) == is_held);
-    }
-    same
+    columns_agree(&flags.held(), &out, leaf, window, y, left)
 }
 
 // Whether the flagged rows of a polygon in a window hold its pixels.
@@ -306,9 +338,7 @@ fn flags_agree(rt: &impl Abort, alloc: Global, dice: &mut Dice, leaf: &Carried<'
     let Carried::Polygon(vertices) = leaf else {
         return false;
     };
-    let Some(window) = some_window(dice, &vertices.bounds) else {
-        return false;
-    };
+    let window = some_window(rt, dice, &vertices.bounds);
     let mut rows = [EdgeFlags { words: [5; 4] }; 5];
     let first = dice.below(256) as u32 % window.h();
     if first + 5 > window.h() {
@@ -317,9 +347,10 @@ fn flags_agree(rt: &impl Abort, alloc: Global, dice: &mut Dice, leaf: &Carried<'
     vertices.flag_rows(&window, first as usize, &mut rows);
     let left = first_column(dice.wild(i32::MAX as u32));
     let mut same = true;
-    for (k, row) in rows.iter().enumerate() {
-        let at = first.saturating_add(k as u32);
-        same = same && row_agrees(rt, alloc, row, leaf, &window, at, left);
+    let mut at = first;
+    for row in &rows {
+        same &= row_agrees(rt, alloc, row, leaf, &window, at, left);
+        at = at.saturating_add(1);
     }
     same
 }
@@ -327,18 +358,12 @@ fn flags_agree(rt: &impl Abort, alloc: Global, dice: &mut Dice, leaf: &Carried<'
 #[test]
 fn flagged_rows_agree_with_their_pixels(rt: HostRuntime) {
     let mut dice = Dice { state: 5 };
-    for k in 0..400u32 {
+    for k in 0..400 {
         let size = if k % 3 == 0 { 1 << 27 } else { 120 };
-        let count = dice.below(12) + 1;
-        let mut points = Vec::new(rt.alloc());
-        for _ in 0..count {
-            points.push(dice.point(size)).expect(&rt, "memory");
-        }
+        let points = some_points(&rt, rt.alloc(), &mut dice, size);
         let leaf = polygon(&points).expect(&rt, "near vertices");
-        assert!(rt;
-            flags_agree(&rt, rt.alloc(), &mut dice, &leaf),
-            "polygon {k}"
-        );
+        let agree = flags_agree(&rt, rt.alloc(), &mut dice, &leaf);
+        holds_at(&rt, "polygon", k, agree);
     }
 }
 
@@ -349,52 +374,52 @@ fn side_of(a: Point, b: Point, p: Point) -> Ordering {
     across.cmp(&down)
 }
 
-// Whether each pixel of two triangles on both sides of an edge, carried by a pose, is in exactly one of them, and
-// each other pixel near them in none.
-fn share_an_edge(pose: &Pose, a: Point, b: Point, c: Point, d: Point) -> Option<bool> {
-    let [a, b, c, d] = [
-        carried(pose, a)?,
-        carried(pose, b)?,
-        carried(pose, c)?,
-        carried(pose, d)?,
-    ];
-    let (first, second, whole) = ([a, b, c], [b, a, d], [a, d, b, c]);
-    let first = polygon(&first)?;
-    let second = polygon(&second)?;
-    let whole = polygon(&whole)?;
+// Whether each pixel near them is in exactly one of two leaves if it is in the whole, and else in none.
+fn make_up(first: &Carried<'_>, second: &Carried<'_>, whole: &Carried<'_>) -> bool {
     let mut once = true;
     for y in -20..20 {
         for x in -20..20 {
-            let is_first = first.holds(x, y);
-            let is_second = second.holds(x, y);
-            let is_either = is_first || is_second;
-            once = once && !(is_first && is_second) && is_either == whole.holds(x, y);
+            let held = first.holds(x, y) as u8 + second.holds(x, y) as u8;
+            once &= held == whole.holds(x, y) as u8;
         }
     }
-    Some(once)
+    once
 }
 
-fn carried(pose: &Pose, point: Point) -> Option<Point> {
-    if pose.quarter <= 3 && pose.reach() <= 1 << 26 && is_near(&point) {
-        Some(pose.apply(point))
-    } else {
-        None
-    }
+// Whether each pixel of two triangles on both sides of an edge, carried by a pose, is in exactly one of them, and
+// each other pixel near them in none.
+fn share_an_edge(rt: &impl Abort, pose: &Pose, [a, b, c, d]: [Point; 4]) -> bool {
+    let a = carried(rt, pose, a);
+    let b = carried(rt, pose, b);
+    let c = carried(rt, pose, c);
+    let d = carried(rt, pose, d);
+    let (first, second, whole) = ([a, b, c], [b, a, d], [a, d, b, c]);
+    let first = polygon(&first).expect(rt, "a triangle");
+    let second = polygon(&second).expect(rt, "a triangle");
+    let whole = polygon(&whole).expect(rt, "a polygon");
+    make_up(&first, &second, &whole)
+}
+
+fn carried(rt: &impl Abort, pose: &Pose, point: Point) -> Point {
+    assert!(rt;
+        pose.quarter <= 3 && pose.reach() <= 1 << 26 && is_near(&point),
+        "too far"
+    );
+    pose.apply(point)
 }
 
 #[test]
 fn triangles_share_an_edge_in_every_pose(rt: HostRuntime) {
     let mut dice = Dice { state: 3 };
-    for pair in 0..900u32 {
+    for pair in 0..900 {
         let [a, b, c, d] = [dice.point(8), dice.point(8), dice.point(8), dice.point(8)];
         if side_of(a, b, c) != Ordering::Equal && side_of(a, b, c) == side_of(a, b, d).reverse() {
-            assert!(rt; share_an_edge_in_every_pose(a, b, c, d), "pair {pair}");
+            assert_edge_in_every_pose(&rt, pair, [a, b, c, d]);
         }
     }
 }
 
-fn share_an_edge_in_every_pose(a: Point, b: Point, c: Point, d: Point) -> bool {
-    let mut once = true;
+fn assert_edge_in_every_pose(rt: &impl Abort, pair: i64, points: [Point; 4]) {
     for quarter in 0..4u8 {
         for flip in [false, true] {
             let pose = Pose {
@@ -403,53 +428,61 @@ fn share_an_edge_in_every_pose(a: Point, b: Point, c: Point, d: Point) -> bool {
                 quarter,
                 flip,
             };
-            once = once && share_an_edge(&pose, a, b, c, d) == Some(true);
+            holds_at(rt, "pair", pair, share_an_edge(rt, &pose, points));
         }
     }
-    once
 }
 
 #[test]
 fn kinds_hold_what_their_leaves_hold(rt: HostRuntime) {
     let mut dice = Dice { state: 4 };
-    for k in 0..300u32 {
-        let mut points = Points::new(rt.alloc());
-        for _ in 0..dice.below(6) + 3 {
-            points.push(dice.point(9)).expect(&rt, "memory");
-        }
-        let kind = Kind::Polygon {
-            points,
-            fill: Colour([0, 0, 0]),
-        };
+    for k in 0..300 {
+        let points = few_points(&rt, rt.alloc(), &mut dice);
         let pose = dice.pose(5);
-        assert_eq!(rt;
-            holds_as_leaf(&rt, rt.alloc(), &kind, &pose),
-            Some(true),
-            "kind {k}"
-        );
+        assert_held_as_leaf(&rt, rt.alloc(), k, points, &pose);
     }
 }
 
-// Whether a polygon holds what its carried vertices hold.
-fn holds_as_leaf(rt: &impl Abort, alloc: Global, kind: &Kind, pose: &Pose) -> Option<bool> {
-    let Kind::Polygon { points, .. } = kind else {
-        return None;
-    };
+// Three to eight points near the origin.
+fn few_points(rt: &impl Abort, alloc: Global, dice: &mut Dice) -> Points {
+    let mut points = Points::new(alloc);
+    for _ in 0..dice.below(6) + 3 {
+        points.push(dice.point(9)).expect(rt, "memory");
+    }
+    points
+}
+
+// Points carried by a pose.
+fn all_carried(rt: &impl Abort, alloc: Global, points: &Points, pose: &Pose) -> Vec<Point> {
     let mut vertices = Vec::new(alloc);
     for point in points.as_slice() {
-        if let Some(point) = carried(pose, *point) {
-            vertices.push(point).expect(rt, "memory");
-        }
+        let vertex = carried(rt, pose, *point);
+        vertices.push(vertex).expect(rt, "memory");
     }
+    vertices
+}
+
+// Asserts that a polygon holds what its carried vertices hold.
+fn assert_held_as_leaf(rt: &impl Abort, alloc: Global, k: i64, points: Points, pose: &Pose) {
+    let vertices = all_carried(rt, alloc, &points, pose);
+    let kind = Kind::Polygon {
+        points,
+        fill: Colour([0, 0, 0]),
+    };
+    holds_at(rt, "kind", k, holds_as_leaf(rt, &kind, pose, &vertices));
+}
+
+// Whether a kind holds what a leaf of these vertices holds.
+fn holds_as_leaf(rt: &impl Abort, kind: &Kind, pose: &Pose, vertices: &[Point]) -> bool {
+    let leaf = polygon(vertices).expect(rt, "near vertices");
     if kind.check().is_err() || pose.quarter > 3 || pose.reach() > 1 << 26 {
-        return None;
+        return false;
     }
-    let leaf = polygon(&vertices)?;
     let mut same = true;
     for y in -20..20 {
         for x in -20..20 {
-            same = same && kind.holds(pose, x, y) == leaf.holds(x, y);
+            same &= kind.holds(pose, x, y) == leaf.holds(x, y);
         }
     }
-    Some(same)
+    same
 }

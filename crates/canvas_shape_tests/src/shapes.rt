@@ -1,25 +1,46 @@
 //! Worked rows of leaves, colours, and the limits of kinds.
 
+use crate::asserts::{holds, holds_at};
 use crate::random_leaves::polygon;
 use canvas_plane::{Point, Pose, Window};
 use canvas_shape::{Carried, Colour, EdgeFlags, Kind, KindFault, Points, Span};
 use std::alloc::Global;
 use std::process::Abort;
 
+// Spans, each from its first column up to the one behind its last.
+type Spans = &'static [(i32, i32)];
+
 // Whether the spans of a row from 0 to 4 are these, behind one that was there.
-fn has_row(rt: &impl Abort, alloc: Global, leaf: &Carried<'_>, y: i32, want: &[Span]) -> bool {
-    let there = span(7, 7);
+fn has_row(rt: &impl Abort, alloc: Global, leaf: &Carried<'_>, y: i32, want: Spans) -> bool {
+    let there = Span { from: 7, to: 7 };
     let mut out = Vec::new(alloc);
     out.push(there).expect(rt, "memory");
     leaf.row_spans(alloc, y, 0, 4, &mut out).expect(rt, "spans");
     let mut all = Vec::new(alloc);
     all.push(there).expect(rt, "memory");
-    all.extend_from_slice(want).expect(rt, "memory");
+    for (from, to) in want {
+        let span = Span {
+            from: *from,
+            to: *to,
+        };
+        all.push(span).expect(rt, "memory");
+    }
     out == all
 }
 
-fn span(from: i32, to: i32) -> Span {
-    Span { from, to }
+// Asserts that a leaf's rows from a first one on have these spans.
+fn assert_rows(rt: &impl Abort, alloc: Global, leaf: &Carried<'_>, first: i32, rows: &[Spans]) {
+    let mut y = first;
+    for row in rows {
+        holds_at(rt, "row", y as i64, has_row(rt, alloc, leaf, y, row));
+        y = y.saturating_add(1);
+    }
+}
+
+// The same for a polygon, from row 0 on.
+fn assert_polygon(rt: &impl Abort, alloc: Global, points: &[Point], rows: &[Spans]) {
+    let leaf = polygon(points).expect(rt, "near vertices");
+    assert_rows(rt, alloc, &leaf, 0, rows);
 }
 
 fn at(x: i64, y: i64) -> Point {
@@ -29,12 +50,8 @@ fn at(x: i64, y: i64) -> Point {
 #[test]
 fn ellipse_lacks_its_corners(rt: HostRuntime) {
     let leaf = Carried::ellipse(&Pose::STILL, 4, 4);
-    assert!(rt; has_row(&rt, rt.alloc(), &leaf, -1, &[]));
-    assert!(rt; has_row(&rt, rt.alloc(), &leaf, 0, &[span(1, 3)]));
-    assert!(rt; has_row(&rt, rt.alloc(), &leaf, 1, &[span(0, 4)]));
-    assert!(rt; has_row(&rt, rt.alloc(), &leaf, 2, &[span(0, 4)]));
-    assert!(rt; has_row(&rt, rt.alloc(), &leaf, 3, &[span(1, 3)]));
-    assert!(rt; has_row(&rt, rt.alloc(), &leaf, 4, &[]));
+    let rows: [Spans; 6] = [&[], &[(1, 3)], &[(0, 4)], &[(0, 4)], &[(1, 3)], &[]];
+    assert_rows(&rt, rt.alloc(), &leaf, -1, &rows);
 }
 
 #[test]
@@ -46,11 +63,9 @@ fn turned_ellipse(rt: HostRuntime) {
         flip: false,
     };
     let leaf = Carried::ellipse(&pose, 8, 2);
-    assert!(rt; has_row(&rt, rt.alloc(), &leaf, 0, &[]));
-    for y in 1..7 {
-        assert!(rt; has_row(&rt, rt.alloc(), &leaf, y, &[span(0, 2)]));
-    }
-    assert!(rt; has_row(&rt, rt.alloc(), &leaf, 7, &[]));
+    let row: Spans = &[(0, 2)];
+    let rows: [Spans; 8] = [&[], row, row, row, row, row, row, &[]];
+    assert_rows(&rt, rt.alloc(), &leaf, 0, &rows);
 }
 
 #[test]
@@ -62,36 +77,27 @@ fn rectangle_is_half_open(rt: HostRuntime) {
         flip: false,
     };
     let leaf = Carried::rect(&pose, 2, 1);
-    assert!(rt; has_row(&rt, rt.alloc(), &leaf, 0, &[]));
-    assert!(rt; has_row(&rt, rt.alloc(), &leaf, 1, &[span(1, 3)]));
-    assert!(rt; has_row(&rt, rt.alloc(), &leaf, 2, &[]));
-    assert_eq!(rt; leaf.page_box().right, 3);
+    let rows: [Spans; 3] = [&[], &[(1, 3)], &[]];
+    assert_rows(&rt, rt.alloc(), &leaf, 0, &rows);
+    holds(&rt, "right edge", leaf.page_box().right == 3);
 }
 
 #[test]
 fn triangles_share_a_square(rt: HostRuntime) {
     let lower = [at(0, 0), at(4, 0), at(0, 4)];
-    let leaf = polygon(&lower).expect(&rt, "a polygon");
-    assert!(rt; has_row(&rt, rt.alloc(), &leaf, 0, &[span(0, 3)]));
-    assert!(rt; has_row(&rt, rt.alloc(), &leaf, 1, &[span(0, 2)]));
-    assert!(rt; has_row(&rt, rt.alloc(), &leaf, 2, &[span(0, 1)]));
-    assert!(rt; has_row(&rt, rt.alloc(), &leaf, 3, &[]));
+    let rows: [Spans; 4] = [&[(0, 3)], &[(0, 2)], &[(0, 1)], &[]];
+    assert_polygon(&rt, rt.alloc(), &lower, &rows);
     let upper = [at(4, 0), at(4, 4), at(0, 4)];
-    let other = polygon(&upper).expect(&rt, "a polygon");
-    assert!(rt; has_row(&rt, rt.alloc(), &other, 0, &[span(3, 4)]));
-    assert!(rt; has_row(&rt, rt.alloc(), &other, 1, &[span(2, 4)]));
-    assert!(rt; has_row(&rt, rt.alloc(), &other, 2, &[span(1, 4)]));
-    assert!(rt; has_row(&rt, rt.alloc(), &other, 3, &[span(0, 4)]));
+    let rows: [Spans; 4] = [&[(3, 4)], &[(2, 4)], &[(1, 4)], &[(0, 4)]];
+    assert_polygon(&rt, rt.alloc(), &upper, &rows);
 }
 
 #[test]
 fn crossed_polygon(rt: HostRuntime) {
     let points = [at(0, 0), at(4, 4), at(4, 0), at(0, 4)];
-    let leaf = polygon(&points).expect(&rt, "a polygon");
-    assert!(rt; has_row(&rt, rt.alloc(), &leaf, 0, &[span(3, 4)]));
-    assert!(rt; has_row(&rt, rt.alloc(), &leaf, 1, &[span(0, 1), span(2, 4)]));
-    assert!(rt; has_row(&rt, rt.alloc(), &leaf, 2, &[span(0, 1), span(2, 4)]));
-    assert!(rt; has_row(&rt, rt.alloc(), &leaf, 3, &[span(3, 4)]));
+    let sides: Spans = &[(0, 1), (2, 4)];
+    let rows: [Spans; 4] = [&[(3, 4)], sides, sides, &[(3, 4)]];
+    assert_polygon(&rt, rt.alloc(), &points, &rows);
 }
 
 // Whether the first row of a window holds these columns of a polygon, from the first to the last.
@@ -104,35 +110,48 @@ fn shows(points: &[Point], window: &Window, want: u64) -> bool {
     rows[0].held() == [want, 0, 0, 0]
 }
 
-// A window of one row.
-fn row_of(rt: &impl Abort, level: u8, x: i32, y: i32, w: u32) -> Window {
-    Window::at_level(level, x, y, w, 1).expect(rt, "a window")
+// Asserts that windows of one row, each of a level, from an x and y on and so wide, hold these columns of a polygon.
+fn assert_shows(rt: &impl Abort, points: &[Point], windows: &[(u8, i32, i32, u32, u32)]) {
+    for (level, x, y, w, want) in windows {
+        let window = Window::at_level(*level, *x, *y, *w, 1).expect(rt, "a window");
+        let is_shown = shows(points, &window, u64::from(*want));
+        holds_at(rt, "the columns", i64::from(*want), is_shown);
+    }
 }
 
 #[test]
 fn shown_pixels_are_the_corners_of_blocks(rt: HostRuntime) {
     let square = [at(0, 0), at(10, 0), at(10, 10), at(0, 10)];
-    assert!(rt; shows(&square, &row_of(&rt, 3, 0, 0, 3), 0b011));
-    assert!(rt; shows(&square, &row_of(&rt, 3, -1, 0, 2), 0b10));
-    assert!(rt; shows(&square, &row_of(&rt, 3, 0, 1, 3), 0b011));
-    assert!(rt; shows(&square, &row_of(&rt, 3, 0, 2, 3), 0));
+    let windows = [
+        (3, 0, 0, 3, 0b011),
+        (3, -1, 0, 2, 0b10),
+        (3, 0, 1, 3, 0b011),
+        (3, 0, 2, 3, 0),
+    ];
+    assert_shows(&rt, &square, &windows);
     let dot = [at(1, 0), at(2, 0), at(2, 1), at(1, 1)];
-    assert!(rt; shows(&dot, &row_of(&rt, 1, 0, 0, 2), 0));
-    assert!(rt; shows(&dot, &row_of(&rt, 0, 0, 0, 2), 0b10));
+    assert_shows(&rt, &dot, &[(1, 0, 0, 2, 0), (0, 0, 0, 2, 0b10)]);
     let crossed = [at(0, 0), at(40, 40), at(40, 0), at(0, 40)];
-    assert!(rt; shows(&crossed, &row_of(&rt, 3, 0, 1, 5), 0b10001));
-    assert!(rt; shows(&crossed, &row_of(&rt, 3, 0, 2, 5), 0b11011));
+    assert_shows(
+        &rt,
+        &crossed,
+        &[(3, 0, 1, 5, 0b10001), (3, 0, 2, 5, 0b11011)],
+    );
+}
+
+fn assert_colour(rt: &impl Abort, text: &str, wanted: Option<Colour>) {
+    holds(rt, text, Colour::read(text) == wanted);
 }
 
 #[test]
 fn colours_are_six_digits(rt: HostRuntime) {
-    assert_eq!(rt; Colour::read("ff8000"), Some(Colour([255, 128, 0])));
-    assert_eq!(rt; Colour::read("fF80aB"), Some(Colour([255, 128, 171])));
-    assert_eq!(rt; Colour::read("ff800"), None);
-    assert_eq!(rt; Colour::read("ff80000"), None);
-    assert_eq!(rt; Colour::read("ff80g0"), None);
-    assert_eq!(rt; Colour::read(""), None);
-    assert!(rt; Colour([255, 128, 10]).text() == *b"ff800a");
+    assert_colour(&rt, "ff8000", Some(Colour([255, 128, 0])));
+    assert_colour(&rt, "fF80aB", Some(Colour([255, 128, 171])));
+    assert_colour(&rt, "ff800", None);
+    assert_colour(&rt, "ff80000", None);
+    assert_colour(&rt, "ff80g0", None);
+    assert_colour(&rt, "", None);
+    holds(&rt, "text", Colour([255, 128, 10]).text() == *b"ff800a");
 }
 
 fn triangle(rt: &impl Abort, alloc: Global, far: i64) -> Kind {
@@ -146,72 +165,58 @@ fn triangle(rt: &impl Abort, alloc: Global, far: i64) -> Kind {
     }
 }
 
+fn assert_cloned(rt: &impl Abort, alloc: Global, kind: Kind) {
+    let copy = kind.try_clone(alloc).expect(rt, "memory");
+    holds(rt, "its clone", copy == kind);
+}
+
+fn assert_unequal(rt: &impl Abort, kind: Kind, other: Kind) {
+    holds(rt, "another kind", kind != other);
+}
+
 #[test]
 fn clones_are_equal(rt: HostRuntime) {
-    let kind = triangle(&rt, rt.alloc(), 4);
-    let copy = kind.try_clone(rt.alloc()).expect(&rt, "memory");
-    assert!(rt; copy == kind);
-    let other = triangle(&rt, rt.alloc(), 5);
-    assert!(rt; other != kind);
-    let frame = Kind::Frame {
-        w: 2,
-        h: 1,
-        fill: None,
-    };
-    let same = frame.try_clone(rt.alloc()).expect(&rt, "memory");
-    assert!(rt; same == frame);
-    assert!(rt; frame != kind);
+    let alloc = rt.alloc();
+    assert_cloned(&rt, alloc, triangle(&rt, alloc, 4));
+    assert_cloned(&rt, alloc, frame(2, 1));
+    assert_unequal(&rt, triangle(&rt, alloc, 5), triangle(&rt, alloc, 4));
+    assert_unequal(&rt, frame(2, 1), triangle(&rt, alloc, 4));
+}
+
+// Asserts that a check of a kind answers this.
+fn assert_checked(rt: &impl Abort, what: &str, kind: Kind, wanted: Result<(), KindFault>) {
+    holds(rt, what, kind.check() == wanted);
+}
+
+fn rect(w: u32, h: u32) -> Kind {
+    let fill = Colour([0, 0, 0]);
+    Kind::Rect { w, h, fill }
+}
+
+fn ellipse(w: u32, h: u32) -> Kind {
+    let fill = Colour([0, 0, 0]);
+    Kind::Ellipse { w, h, fill }
+}
+
+fn frame(w: u32, h: u32) -> Kind {
+    Kind::Frame { w, h, fill: None }
 }
 
 #[test]
 fn kinds_have_limits(rt: HostRuntime) {
-    let fill = Colour([0, 0, 0]);
-    assert_eq!(rt; Kind::Group.check(), Ok(()));
-    assert_eq!(rt;
-        Kind::Rect {
-            w: 65_536,
-            h: 1,
-            fill
-        }
-        .check(),
-        Ok(())
-    );
-    assert_eq!(rt;
-        Kind::Rect {
-            w: 65_537,
-            h: 1,
-            fill
-        }
-        .check(),
-        Err(KindFault::BadSize)
-    );
-    assert_eq!(rt;
-        Kind::Ellipse { w: 1, h: 0, fill }.check(),
-        Err(KindFault::BadSize)
-    );
-    assert_eq!(rt;
-        Kind::Frame {
-            w: 0,
-            h: 1,
-            fill: None
-        }
-        .check(),
-        Err(KindFault::BadSize)
-    );
-    assert_eq!(rt; triangle(&rt, rt.alloc(), 1_048_576).check(), Ok(()));
-    assert_eq!(rt;
-        triangle(&rt, rt.alloc(), 1_048_577).check(),
-        Err(KindFault::BadPolygon)
-    );
-    assert_eq!(rt;
-        vertices(&rt, rt.alloc(), 2).check(),
-        Err(KindFault::BadPolygon)
-    );
-    assert_eq!(rt; vertices(&rt, rt.alloc(), 256).check(), Ok(()));
-    assert_eq!(rt;
-        vertices(&rt, rt.alloc(), 257).check(),
-        Err(KindFault::BadPolygon)
-    );
+    let alloc = rt.alloc();
+    let bad_size = Err(KindFault::BadSize);
+    assert_checked(&rt, "group", Kind::Group, Ok(()));
+    assert_checked(&rt, "widest", rect(65_536, 1), Ok(()));
+    assert_checked(&rt, "wider", rect(65_537, 1), bad_size);
+    assert_checked(&rt, "ellipse", ellipse(1, 0), bad_size);
+    assert_checked(&rt, "frame", frame(0, 1), bad_size);
+    let bad_polygon = Err(KindFault::BadPolygon);
+    assert_checked(&rt, "farthest", triangle(&rt, alloc, 1_048_576), Ok(()));
+    assert_checked(&rt, "farther", triangle(&rt, alloc, 1_048_577), bad_polygon);
+    assert_checked(&rt, "two", vertices(&rt, alloc, 2), bad_polygon);
+    assert_checked(&rt, "most", vertices(&rt, alloc, 256), Ok(()));
+    assert_checked(&rt, "more", vertices(&rt, alloc, 257), bad_polygon);
 }
 
 // A polygon of so many vertices.
@@ -226,58 +231,36 @@ fn vertices(rt: &impl Abort, alloc: Global, count: i64) -> Kind {
     }
 }
 
-// Whether a kind, carried by a pose, holds the pixels of the letters `x` in five rows of four pixels from (0, 0) on, and
-// no others of these.
-fn holds_exactly(kind: &Kind, page: &Pose, rows: [&str; 5]) -> bool {
+// Whether a kind, carried by a pose, holds these pixels of five rows of four from (0, 0) on, the first in the highest bit.
+fn holds_exactly(kind: &Kind, page: &Pose, want: u32) -> bool {
     if kind.check().is_err() || page.quarter > 3 || page.reach() > 1 << 26 {
         return false;
     }
-    let mut same = true;
-    for y in 0..5u32 {
-        for x in 0..4u32 {
-            let is_held = rows
-                .get(y as usize)
-                .is_some_and(|row| row.as_bytes().get(x as usize) == Some(&b'x'));
-            same = same && kind.holds(page, x as i32, y as i32) == is_held;
-        }
+    let mut held = 0;
+    for at in 0..20 {
+        held = held << 1 | u32::from(kind.holds(page, at % 4, at / 4));
     }
-    same
+    held == want
 }
 
-// A quarter turn, and then 3 to the right and 1 down: (x, y) goes to (3 - y, x + 1).
-#[test]
-fn each_kind_holds_its_pixels(rt: HostRuntime) {
-    let fill = Colour([0, 0, 0]);
+// Asserts that a kind holds these pixels after a quarter turn, and then 3 to the right and 1 down: (x, y) goes to
+// (3 - y, x + 1).
+fn assert_held(rt: &impl Abort, what: &str, kind: Kind, want: u32) {
     let page = Pose {
         dx: 3,
         dy: 1,
         quarter: 1,
         flip: false,
     };
-    let rows = [
-        (Kind::Group, ["....", "....", "....", "....", "...."]),
-        (
-            Kind::Frame {
-                w: 2,
-                h: 1,
-                fill: None,
-            },
-            ["....", "..x.", "..x.", "....", "...."],
-        ),
-        (
-            Kind::Rect { w: 1, h: 3, fill },
-            ["....", "xxx.", "....", "....", "...."],
-        ),
-        (
-            Kind::Ellipse { w: 4, h: 4, fill },
-            ["....", "xx..", "xxx.", "xxx.", "xx.."],
-        ),
-        (
-            triangle(&rt, rt.alloc(), 4),
-            ["....", "xxx.", "xxx.", ".xx.", "..x."],
-        ),
-    ];
-    for (kind, held) in &rows {
-        assert!(rt; holds_exactly(kind, &page, *held), "{kind:?}");
-    }
+    holds(rt, what, holds_exactly(&kind, &page, want));
+}
+
+#[test]
+fn each_kind_holds_its_pixels(rt: HostRuntime) {
+    assert_held(&rt, "group", Kind::Group, 0);
+    assert_held(&rt, "frame", frame(2, 1), 0b0000_0010_0010_0000_0000);
+    assert_held(&rt, "rect", rect(1, 3), 0b0000_1110_0000_0000_0000);
+    assert_held(&rt, "ellipse", ellipse(4, 4), 0b0000_1100_1110_1110_1100);
+    let polygon = triangle(&rt, rt.alloc(), 4);
+    assert_held(&rt, "polygon", polygon, 0b0000_1110_1110_0110_0010);
 }
