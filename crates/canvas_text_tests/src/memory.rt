@@ -1,6 +1,7 @@
 //! Saved documents and requests for which memory may be refused: run with each allocation refused in turn, each call
 //! answers want of memory or what it answers with ample memory.
 
+use crate::asserts::holds;
 use canvas_code::OutOfMemory;
 use canvas_doc::{Document, Edit};
 use canvas_plane::Point;
@@ -78,9 +79,11 @@ fn saved_with_little_memory(rt: HostRuntime) -> Result<(), Fail> {
     let alloc = rt.alloc();
     let document = import(alloc, TWO)?;
     let first = is_saved(alloc, &document, TWO);
-    assert!(rt; are_right(first, is_saved(alloc, &document, TWO)));
+    let again = is_saved(alloc, &document, TWO);
+    holds(&rt, "saved", are_right(first, again));
     let first = are_in_order(alloc, &document);
-    assert!(rt; are_right(first, are_in_order(alloc, &document)));
+    let again = are_in_order(alloc, &document);
+    holds(&rt, "in order", are_right(first, again));
     Ok(())
 }
 
@@ -88,26 +91,31 @@ fn saved_with_little_memory(rt: HostRuntime) -> Result<(), Fail> {
 fn opened_with_little_memory(rt: HostRuntime) -> Result<(), Fail> {
     let alloc = rt.alloc();
     let first = opens(alloc, TWO);
-    assert!(rt; are_right(first, opens(alloc, TWO)));
+    holds(&rt, "opened", are_right(first, opens(alloc, TWO)));
     let first = opens(alloc, OLDER_TWO);
-    assert!(rt; are_right(first, opens(alloc, OLDER_TWO)));
+    holds(&rt, "the older", are_right(first, opens(alloc, OLDER_TWO)));
     let first = is_refused(alloc, NO_KEY);
-    assert!(rt; are_right(first, is_refused(alloc, NO_KEY)));
+    holds(&rt, "refused", are_right(first, is_refused(alloc, NO_KEY)));
     Ok(())
+}
+
+fn triangle(alloc: Global) -> Result<Kind, OutOfMemory> {
+    let mut points = Points::new(alloc);
+    for (x, y) in [(0, 0), (4, 0), (0, 4)] {
+        points.push(Point { x, y })?;
+    }
+    Ok(Kind::Polygon {
+        points,
+        fill: Colour([1, 2, 3]),
+    })
 }
 
 #[test]
 fn read_with_little_memory(rt: HostRuntime) -> Result<(), Fail> {
     let alloc = rt.alloc();
-    let mut points = Points::new(alloc);
-    for (x, y) in [(0, 0), (4, 0), (0, 4)] {
-        points.push(Point { x, y })?;
-    }
-    let kind = Kind::Polygon {
-        points,
-        fill: Colour([1, 2, 3]),
-    };
+    let kind = triangle(alloc)?;
     let first = is_read(alloc, TRIANGLE, &kind);
-    assert!(rt; are_right(first, is_read(alloc, TRIANGLE, &kind)));
+    let again = is_read(alloc, TRIANGLE, &kind);
+    holds(&rt, "read", are_right(first, again));
     Ok(())
 }

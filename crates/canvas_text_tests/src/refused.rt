@@ -1,4 +1,5 @@
 //! Each cause for which a saved text is refused, with its position.
+use crate::asserts::reads;
 use crate::texts::{
     FIRST, GROUP, POSE, assert_told, document, number, place, push_element, record, record_with,
     told,
@@ -10,83 +11,74 @@ use std::process::Abort;
 fn assert_records(rt: &impl Abort, alloc: Global, format: u32, records: &str, wanted: &str) {
     let text = document(rt, alloc, format, 9, records);
     let found = told(rt, alloc, text.as_bytes());
-    assert_eq!(rt; found.as_str(), wanted, "at {records}");
+    reads(rt, records, found.as_str(), wanted);
 }
+
+static NO_JSON: [(&str, &str); 5] = [
+    ("", "50"),
+    ("{", "50"),
+    (r#"{"format":2,"next":1,"shapes":[]}x"#, "50"),
+    (r#"{"format":1,"next":1e999,"shapes":[]}"#, "50"),
+    (r#"{"format":2,"next":1,"shapes":[],}"#, "50"),
+];
 
 #[test]
 fn no_json(rt: HostRuntime) {
-    let alloc = rt.alloc();
-    assert_told(
-        &rt,
-        alloc,
-        &[
-            ("", "50"),
-            ("{", "50"),
-            (r#"{"format":2,"next":1,"shapes":[]}x"#, "50"),
-            (r#"{"format":1,"next":1e999,"shapes":[]}"#, "50"),
-            (r#"{"format":2,"next":1,"shapes":[],}"#, "50"),
-        ],
-    );
-    let bad = told(&rt, alloc, b"\"\xff\"");
-    assert_eq!(rt; bad.as_str(), "50");
+    assert_told(&rt, rt.alloc(), &NO_JSON);
+    let bad = told(&rt, rt.alloc(), b"\"\xff\"");
+    reads(&rt, "no text", bad.as_str(), "50");
 }
+
+static NO_OBJECT_OF_THREE_MEMBERS: [(&str, &str); 10] = [
+    ("7", "60"),
+    ("[]", "60"),
+    ("{}", "60"),
+    ("null", "60"),
+    (r#"{"next":1,"shapes":[]}"#, "60"),
+    (r#"{"format":1,"shapes":[]}"#, "60"),
+    (r#"{"format":2,"shapes":[]}"#, "60"),
+    (r#"{"format":2,"next":1}"#, "60"),
+    (r#"{"format":1,"name":1,"next":1,"shapes":[]}"#, "60"),
+    (r#"{"format":2,"name":1,"next":1,"shapes":[]}"#, "60"),
+];
 
 #[test]
 fn no_object_of_three_members(rt: HostRuntime) {
-    assert_told(
-        &rt,
-        rt.alloc(),
-        &[
-            ("7", "60"),
-            ("[]", "60"),
-            ("{}", "60"),
-            ("null", "60"),
-            (r#"{"next":1,"shapes":[]}"#, "60"),
-            (r#"{"format":1,"shapes":[]}"#, "60"),
-            (r#"{"format":2,"shapes":[]}"#, "60"),
-            (r#"{"format":2,"next":1}"#, "60"),
-            (r#"{"format":1,"name":1,"next":1,"shapes":[]}"#, "60"),
-            (r#"{"format":2,"name":1,"next":1,"shapes":[]}"#, "60"),
-        ],
-    );
+    assert_told(&rt, rt.alloc(), &NO_OBJECT_OF_THREE_MEMBERS);
 }
+
+static NO_FORMAT: [(&str, &str); 8] = [
+    (r#"{"format":0,"next":1,"shapes":[]}"#, "60"),
+    (r#"{"format":3,"next":1,"shapes":[]}"#, "60"),
+    (r#"{"format":-1,"next":1,"shapes":[]}"#, "60"),
+    (r#"{"format":4294967297,"next":1,"shapes":[]}"#, "60"),
+    (r#"{"format":1.0,"next":1,"shapes":[]}"#, "60"),
+    (r#"{"format":2.0,"next":1,"shapes":[]}"#, "60"),
+    (r#"{"format":"2","next":1,"shapes":[]}"#, "60"),
+    (r#"{"format":null,"next":1,"shapes":[]}"#, "60"),
+];
 
 #[test]
 fn no_format(rt: HostRuntime) {
-    assert_told(
-        &rt,
-        rt.alloc(),
-        &[
-            (r#"{"format":0,"next":1,"shapes":[]}"#, "60"),
-            (r#"{"format":3,"next":1,"shapes":[]}"#, "60"),
-            (r#"{"format":-1,"next":1,"shapes":[]}"#, "60"),
-            (r#"{"format":4294967297,"next":1,"shapes":[]}"#, "60"),
-            (r#"{"format":1.0,"next":1,"shapes":[]}"#, "60"),
-            (r#"{"format":2.0,"next":1,"shapes":[]}"#, "60"),
-            (r#"{"format":"2","next":1,"shapes":[]}"#, "60"),
-            (r#"{"format":null,"next":1,"shapes":[]}"#, "60"),
-        ],
-    );
+    assert_told(&rt, rt.alloc(), &NO_FORMAT);
 }
+
+static NO_NEXT_ID_OR_LIST: [(&str, &str); 9] = [
+    (r#"{"format":1,"next":0,"shapes":[]}"#, "60"),
+    (r#"{"format":2,"next":0,"shapes":[]}"#, "60"),
+    (r#"{"format":2,"next":-1,"shapes":[]}"#, "60"),
+    (r#"{"format":2,"next":1.5,"shapes":[]}"#, "60"),
+    (r#"{"format":2,"next":4294967296,"shapes":[]}"#, "60"),
+    (r#"{"format":2,"next":null,"shapes":[]}"#, "60"),
+    (r#"{"format":1,"next":1,"shapes":{}}"#, "60"),
+    (r#"{"format":2,"next":1,"shapes":null}"#, "60"),
+    // Before the elements are read.
+    (r#"{"format":2,"next":0,"shapes":[7]}"#, "60"),
+];
 
 #[test]
 fn no_next_id_or_list(rt: HostRuntime) {
-    assert_told(
-        &rt,
-        rt.alloc(),
-        &[
-            (r#"{"format":1,"next":0,"shapes":[]}"#, "60"),
-            (r#"{"format":2,"next":0,"shapes":[]}"#, "60"),
-            (r#"{"format":2,"next":-1,"shapes":[]}"#, "60"),
-            (r#"{"format":2,"next":1.5,"shapes":[]}"#, "60"),
-            (r#"{"format":2,"next":4294967296,"shapes":[]}"#, "60"),
-            (r#"{"format":2,"next":null,"shapes":[]}"#, "60"),
-            (r#"{"format":1,"next":1,"shapes":{}}"#, "60"),
-            (r#"{"format":2,"next":1,"shapes":null}"#, "60"),
-            // Before the elements are read.
-            (r#"{"format":2,"next":0,"shapes":[7]}"#, "60"),
-        ],
-    );
+    assert_told(&rt, rt.alloc(), &NO_NEXT_ID_OR_LIST);
 }
 
 // A record of each format with these members before its place, this index and this parent is told so.
@@ -105,28 +97,31 @@ fn assert_members(
     }
 }
 
+// Members, an index, a parent, and what the record is told as.
+static NO_RECORD: [[&str; 4]; 12] = [
+    [r#""id":1"#, r#""a0""#, "null", "61 at 0"],
+    [r#""hidden":0,"id":1"#, r#""a0""#, "null", "61 at 0"],
+    [
+        r#""hidden":false,"id":1,"name":"x""#,
+        r#""a0""#,
+        "null",
+        "61 at 0",
+    ],
+    [r#""hidden":false,"id":0"#, r#""a0""#, "null", "61 at 0"],
+    [r#""hidden":false,"id":9"#, r#""a0""#, "null", "61 at 0"],
+    [r#""hidden":false,"id":1.0"#, r#""a0""#, "null", "61 at 0"],
+    [FIRST, r#""""#, "null", "61 at 0"],
+    [FIRST, r#""a00""#, "null", "61 at 0"],
+    [FIRST, "7", "null", "61 at 0"],
+    [FIRST, r#""a0""#, "-1", "61 at 0"],
+    [FIRST, r#""a0""#, "4294967296", "61 at 0"],
+    [FIRST, r#""a0""#, "4294967295", "62 at 0"],
+];
+
 #[test]
 fn no_record(rt: HostRuntime) {
-    let one = r#""hidden":false,"id":1"#;
-    for (members, index, parent, wanted) in [
-        (r#""id":1"#, r#""a0""#, "null", "61 at 0"),
-        (r#""hidden":0,"id":1"#, r#""a0""#, "null", "61 at 0"),
-        (
-            r#""hidden":false,"id":1,"name":"x""#,
-            r#""a0""#,
-            "null",
-            "61 at 0",
-        ),
-        (r#""hidden":false,"id":0"#, r#""a0""#, "null", "61 at 0"),
-        (r#""hidden":false,"id":9"#, r#""a0""#, "null", "61 at 0"),
-        (r#""hidden":false,"id":1.0"#, r#""a0""#, "null", "61 at 0"),
-        (one, r#""""#, "null", "61 at 0"),
-        (one, r#""a00""#, "null", "61 at 0"),
-        (one, "7", "null", "61 at 0"),
-        (one, r#""a0""#, "-1", "61 at 0"),
-        (one, r#""a0""#, "4294967296", "61 at 0"),
-        (one, r#""a0""#, "4294967295", "62 at 0"),
-    ] {
+    for row in &NO_RECORD {
+        let [members, index, parent, wanted] = *row;
         assert_members(&rt, rt.alloc(), members, index, parent, wanted);
     }
 }
@@ -153,25 +148,28 @@ fn no_element_of_its_own_format(rt: HostRuntime) {
     }
 }
 
+static NO_PLACE: [(u32, &str); 12] = [
+    (1, r#""index":"a0""#),
+    (1, r#""parent":null"#),
+    (
+        1,
+        r#""index":"a0","parent":null,"place":{"index":"a0","parent":null}"#,
+    ),
+    (2, r#""index":"a00""#),
+    (2, r#""place":null"#),
+    (2, r#""place":["a0",null]"#),
+    (2, r#""place":{}"#),
+    (2, r#""place":{"index":"a0"}"#),
+    (2, r#""place":{"parent":null}"#),
+    (2, r#""place":{"index":"a0","name":1,"parent":null}"#),
+    (2, r#""index":"a0","place":{"index":"a0","parent":null}"#),
+    (2, r#""parent":null,"place":{"index":"a0","parent":null}"#),
+];
+
 #[test]
 fn no_place(rt: HostRuntime) {
-    for (format, members) in [
-        (1, r#""index":"a0""#),
-        (1, r#""parent":null"#),
-        (
-            1,
-            r#""index":"a0","parent":null,"place":{"index":"a0","parent":null}"#,
-        ),
-        (2, r#""index":"a00""#),
-        (2, r#""place":null"#),
-        (2, r#""place":["a0",null]"#),
-        (2, r#""place":{}"#),
-        (2, r#""place":{"index":"a0"}"#),
-        (2, r#""place":{"parent":null}"#),
-        (2, r#""place":{"index":"a0","name":1,"parent":null}"#),
-        (2, r#""index":"a0","place":{"index":"a0","parent":null}"#),
-        (2, r#""parent":null,"place":{"index":"a0","parent":null}"#),
-    ] {
+    for row in &NO_PLACE {
+        let (format, members) = *row;
         assert_no_place(&rt, rt.alloc(), format, members);
     }
 }
@@ -185,22 +183,24 @@ fn assert_no_pose(rt: &impl Abort, alloc: Global, pose: &str) {
     }
 }
 
+static NO_POSE: [&str; 11] = [
+    "null",
+    "{}",
+    r#"{"dx":0,"dy":0,"flip":false}"#,
+    r#"{"dx":0,"dy":0,"flip":0,"quarter":0}"#,
+    r#"{"dx":0,"dy":0,"flip":false,"quarter":0,"scale":1}"#,
+    r#"{"dx":0,"dy":0,"flip":false,"quarter":4}"#,
+    r#"{"dx":0,"dy":0,"flip":false,"quarter":256}"#,
+    r#"{"dx":1048577,"dy":0,"flip":false,"quarter":0}"#,
+    r#"{"dx":0,"dy":-1048577,"flip":false,"quarter":0}"#,
+    r#"{"dx":0,"dy":2147483648,"flip":false,"quarter":0}"#,
+    r#"{"dx":1e3,"dy":0,"flip":false,"quarter":0}"#,
+];
+
 #[test]
 fn no_pose(rt: HostRuntime) {
-    for pose in [
-        "null",
-        "{}",
-        r#"{"dx":0,"dy":0,"flip":false}"#,
-        r#"{"dx":0,"dy":0,"flip":0,"quarter":0}"#,
-        r#"{"dx":0,"dy":0,"flip":false,"quarter":0,"scale":1}"#,
-        r#"{"dx":0,"dy":0,"flip":false,"quarter":4}"#,
-        r#"{"dx":0,"dy":0,"flip":false,"quarter":256}"#,
-        r#"{"dx":1048577,"dy":0,"flip":false,"quarter":0}"#,
-        r#"{"dx":0,"dy":-1048577,"flip":false,"quarter":0}"#,
-        r#"{"dx":0,"dy":2147483648,"flip":false,"quarter":0}"#,
-        r#"{"dx":1e3,"dy":0,"flip":false,"quarter":0}"#,
-    ] {
-        assert_no_pose(&rt, rt.alloc(), pose);
+    for row in &NO_POSE {
+        assert_no_pose(&rt, rt.alloc(), row);
     }
 }
 
@@ -212,41 +212,45 @@ fn assert_no_shape(rt: &impl Abort, alloc: Global, shape: &str) {
     }
 }
 
+static NO_SHAPE_WITH_SIDES: [&str; 14] = [
+    "null",
+    "{}",
+    r#"{"kind":"star"}"#,
+    r#"{"kind":7}"#,
+    r#"{"fill":null,"kind":"group"}"#,
+    r#"{"h":1,"kind":"frame","w":1}"#,
+    r#"{"fill":"red","h":1,"kind":"frame","w":1}"#,
+    r#"{"fill":null,"h":1,"kind":"rect","w":1}"#,
+    r#"{"fill":"00000","h":1,"kind":"rect","w":1}"#,
+    r#"{"fill":"000000","h":0,"kind":"rect","w":1}"#,
+    r#"{"fill":"000000","h":1,"kind":"rect","w":65537}"#,
+    r#"{"fill":"000000","h":-1,"kind":"rect","w":1}"#,
+    r#"{"fill":"000000","kind":"ellipse","w":1}"#,
+    r#"{"fill":"000000","h":1,"kind":"ellipse","points":[],"w":1}"#,
+];
+
 #[test]
 fn no_shape_with_sides(rt: HostRuntime) {
-    for shape in [
-        "null",
-        "{}",
-        r#"{"kind":"star"}"#,
-        r#"{"kind":7}"#,
-        r#"{"fill":null,"kind":"group"}"#,
-        r#"{"h":1,"kind":"frame","w":1}"#,
-        r#"{"fill":"red","h":1,"kind":"frame","w":1}"#,
-        r#"{"fill":null,"h":1,"kind":"rect","w":1}"#,
-        r#"{"fill":"00000","h":1,"kind":"rect","w":1}"#,
-        r#"{"fill":"000000","h":0,"kind":"rect","w":1}"#,
-        r#"{"fill":"000000","h":1,"kind":"rect","w":65537}"#,
-        r#"{"fill":"000000","h":-1,"kind":"rect","w":1}"#,
-        r#"{"fill":"000000","kind":"ellipse","w":1}"#,
-        r#"{"fill":"000000","h":1,"kind":"ellipse","points":[],"w":1}"#,
-    ] {
-        assert_no_shape(&rt, rt.alloc(), shape);
+    for row in &NO_SHAPE_WITH_SIDES {
+        assert_no_shape(&rt, rt.alloc(), row);
     }
 }
 
+static NO_POLYGON: [&str; 8] = [
+    r#"{"fill":"000000","kind":"polygon"}"#,
+    r#"{"fill":"000000","kind":"polygon","points":[[0,0],[1,1]]}"#,
+    r#"{"fill":"000000","kind":"polygon","points":[[0,0],[1,1],[1048577,0]]}"#,
+    r#"{"fill":"000000","kind":"polygon","points":[[0,0],[1,1],[1]]}"#,
+    r#"{"fill":"000000","kind":"polygon","points":[[0,0],[1,1],[1,2,3]]}"#,
+    r#"{"fill":"000000","kind":"polygon","points":[[0,0],[1,1],7]}"#,
+    r#"{"fill":"000000","kind":"polygon","points":{}}"#,
+    r#"{"fill":"000000","h":1,"kind":"polygon","points":[[0,0],[1,1],[0,1]]}"#,
+];
+
 #[test]
 fn no_polygon(rt: HostRuntime) {
-    for shape in [
-        r#"{"fill":"000000","kind":"polygon"}"#,
-        r#"{"fill":"000000","kind":"polygon","points":[[0,0],[1,1]]}"#,
-        r#"{"fill":"000000","kind":"polygon","points":[[0,0],[1,1],[1048577,0]]}"#,
-        r#"{"fill":"000000","kind":"polygon","points":[[0,0],[1,1],[1]]}"#,
-        r#"{"fill":"000000","kind":"polygon","points":[[0,0],[1,1],[1,2,3]]}"#,
-        r#"{"fill":"000000","kind":"polygon","points":[[0,0],[1,1],7]}"#,
-        r#"{"fill":"000000","kind":"polygon","points":{}}"#,
-        r#"{"fill":"000000","h":1,"kind":"polygon","points":[[0,0],[1,1],[0,1]]}"#,
-    ] {
-        assert_no_shape(&rt, rt.alloc(), shape);
+    for row in &NO_POLYGON {
+        assert_no_shape(&rt, rt.alloc(), row);
     }
 }
 

@@ -1,4 +1,5 @@
 //! Saved texts of both formats, and what they are told as.
+use crate::asserts::reads;
 use canvas_doc::Document;
 use canvas_store::{StoreFault, export, import};
 use std::alloc::Global;
@@ -41,7 +42,7 @@ pub(crate) fn assert_told(rt: &impl Abort, alloc: Global, rows: &[(&str, &str)])
     for row in rows {
         let (text, wanted) = *row;
         let found = told(rt, alloc, text.as_bytes());
-        assert_eq!(rt; found.as_str(), wanted, "at {text}");
+        reads(rt, text, found.as_str(), wanted);
     }
 }
 
@@ -49,7 +50,7 @@ pub(crate) fn assert_told(rt: &impl Abort, alloc: Global, rows: &[(&str, &str)])
 pub(crate) fn assert_same(rt: &impl Abort, alloc: Global, texts: &[&str]) {
     for text in texts {
         let found = told(rt, alloc, text.as_bytes());
-        assert_eq!(rt; found.as_str(), *text);
+        reads(rt, text, found.as_str(), text);
     }
 }
 
