@@ -1,6 +1,7 @@
 //! Edits, pictures and refusals of a board.
 
-use canvas_board::{Alone, Board, BoardFault};
+use crate::asserts::{equal, holds_at};
+use canvas_board::{Alone, Board, BoardFault, Dot, Edited};
 use canvas_doc::{Document, Edit, Parent, Refusal, Spot};
 use canvas_plane::{Pose, Window};
 use canvas_shape::{Colour, Kind};
@@ -30,82 +31,104 @@ fn window(rt: &impl Abort, w: u32, h: u32) -> Window {
     Window::new(0, 0, w, h).expect(rt, "a window")
 }
 
-#[test]
-fn limits_of_a_board(rt: HostRuntime) {
-    let alloc = rt.alloc();
-    for limit in [0, 1_000_001, u64::MAX] {
-        let fault = Alone::new(alloc, Document::empty(alloc), limit).err();
-        assert!(rt; fault == Some(BoardFault::BadSetting));
-    }
-    assert_eq!(rt; BoardFault::BadSetting.code(), 32);
-    for limit in [1, 1_000_000] {
-        drop(board(&rt, alloc, limit));
-    }
+// Asserts what a board answers to an edit.
+fn check_edit<H: Wait + Abort>(
+    rt: &H,
+    board: &mut Alone,
+    edit: Edit,
+    wanted: Result<Edited, BoardFault>,
+) {
+    equal(rt, "an edit", &board.edit(rt, &edit), &wanted);
 }
 
-#[test]
-fn an_empty_document_is_white(rt: HostRuntime) {
-    let alloc = rt.alloc();
-    let picture = board(&rt, alloc, 1)
-        .picture(&rt, &window(&rt, 2, 1), 1)
-        .expect(&rt, "a picture");
-    assert_eq!(rt; picture.version, 0);
-    assert!(rt; picture.bytes.as_slice() == b"P6\n2 1\n255\n\xff\xff\xff\xff\xff\xff".as_slice());
+// The answer to an edit that was accepted as such a version, and made such a shape.
+fn accepted(number: u64, id: u32) -> Result<Edited, BoardFault> {
+    let id = Some(id);
+    Ok(Edited { number, id })
 }
 
-#[test]
-fn a_red_rectangle(rt: HostRuntime) {
-    let alloc = rt.alloc();
-    let mut board = board(&rt, alloc, 10);
-    let edited = board.edit(&rt, &rectangle(RED)).expect(&rt, "an edit");
-    assert_eq!(rt; edited.number, 1);
-    assert!(rt; edited.id == Some(1));
-    let window = window(&rt, 3, 1);
-    let want = b"P6\n3 1\n255\n\xff\x00\x00\xff\x00\x00\xff\xff\xff".as_slice();
-    assert!(rt; is_painted(&rt, &mut board, &window, 1, want));
-    let dot = board.point(1, 0).expect(&rt, "a colour");
-    assert!(rt; dot.colour == RED);
-    assert_eq!(rt; dot.version, 1);
-    let saved = board.saved().expect(&rt, "a saved document");
-    assert_eq!(rt; saved.version, 1);
-    assert_eq!(rt; saved.text.len(), 193);
+// Asserts that a pixel of the page's first row is red in such a version.
+fn check_red(rt: &impl Abort, board: &mut Alone, x: i32, version: u64) {
+    let wanted = Dot {
+        version,
+        colour: RED,
+    };
+    equal(rt, "a colour", &board.point(x, 0), &Ok(wanted));
 }
 
-// Whether these bytes are painted of version 1, by so many workers.
-fn is_painted<H: Abort + Threads + Wait + Sync>(
+// Asserts that so many workers paint these bytes of such a version.
+fn check_picture<H: Abort + Threads + Wait + Sync>(
     rt: &H,
     board: &mut Alone,
     window: &Window,
     workers: u32,
+    version: u64,
     want: &[u8],
-) -> bool {
+) {
     let picture = board.picture(rt, window, workers).expect(rt, "a picture");
-    picture.version == 1 && picture.bytes.as_slice() == want
+    equal(rt, "its version", &picture.version, &version);
+    let is_painted = picture.bytes.as_slice() == want;
+    holds_at(rt, "its bytes by workers", workers, is_painted);
+}
+
+// Asserts that no board takes such a limit.
+fn check_no_board(rt: &impl Abort, alloc: Global, limit: u64) {
+    let fault = Alone::new(alloc, Document::empty(alloc), limit).err();
+    equal(rt, "a limit", &fault, &Some(BoardFault::BadSetting));
+}
+
+#[test]
+fn limits_of_a_board(rt: HostRuntime) {
+    let alloc = rt.alloc();
+    check_no_board(&rt, alloc, 0);
+    check_no_board(&rt, alloc, 1_000_001);
+    check_no_board(&rt, alloc, u64::MAX);
+    equal(&rt, "its number", &BoardFault::BadSetting.code(), &32);
+    drop(board(&rt, alloc, 1));
+    drop(board(&rt, alloc, 1_000_000));
+}
+
+#[test]
+fn an_empty_document_is_white(rt: HostRuntime) {
+    let mut board = board(&rt, rt.alloc(), 1);
+    let want = b"P6\n2 1\n255\n\xff\xff\xff\xff\xff\xff";
+    check_picture(&rt, &mut board, &window(&rt, 2, 1), 1, 0, want);
+}
+
+#[test]
+fn a_red_rectangle(rt: HostRuntime) {
+    let mut board = board(&rt, rt.alloc(), 10);
+    check_edit(&rt, &mut board, rectangle(RED), accepted(1, 1));
+    let want = b"P6\n3 1\n255\n\xff\x00\x00\xff\x00\x00\xff\xff\xff";
+    check_picture(&rt, &mut board, &window(&rt, 3, 1), 1, 1, want);
+    check_red(&rt, &mut board, 1, 1);
+    let saved = saved_size(&rt, &mut board);
+    equal(&rt, "version and bytes saved", &saved, &(1, 193));
+}
+
+// The version of a saved document, and of how many bytes it is.
+fn saved_size(rt: &impl Abort, board: &mut Alone) -> (u64, usize) {
+    let saved = board.saved().expect(rt, "a saved document");
+    (saved.version, saved.text.len())
 }
 
 #[test]
 fn versions_are_spent_first(rt: HostRuntime) {
-    let alloc = rt.alloc();
-    let mut board = board(&rt, alloc, 2);
-    let missing = Edit::Delete { id: 9 };
-    assert!(rt; board.edit(&rt, &missing) == Err(BoardFault::Refused(Refusal::NoSuchShape)));
-    assert!(rt; board.edit(&rt, &rectangle(RED)).is_ok());
-    assert!(rt;
-        board
-            .edit(
-                &rt,
-                &Edit::Move {
-                    id: 1,
-                    parent: Parent::Shape(1),
-                    spot: Spot::Front
-                }
-            )
-            .is_err()
-    );
-    assert!(rt; board.edit(&rt, &rectangle(RED)).is_ok());
-    assert!(rt; board.edit(&rt, &missing) == Err(BoardFault::VersionsSpent));
-    let dot = board.point(0, 0).expect(&rt, "a colour");
-    assert_eq!(rt; dot.version, 2);
+    let mut board = board(&rt, rt.alloc(), 2);
+    let no_shape = Err(BoardFault::Refused(Refusal::NoSuchShape));
+    check_edit(&rt, &mut board, Edit::Delete { id: 9 }, no_shape);
+    check_edit(&rt, &mut board, rectangle(RED), accepted(1, 1));
+    let below_itself = Edit::Move {
+        id: 1,
+        parent: Parent::Shape(1),
+        spot: Spot::Front,
+    };
+    let no_container = Err(BoardFault::Refused(Refusal::NotAContainer));
+    check_edit(&rt, &mut board, below_itself, no_container);
+    check_edit(&rt, &mut board, rectangle(RED), accepted(2, 2));
+    let spent = Err(BoardFault::VersionsSpent);
+    check_edit(&rt, &mut board, Edit::Delete { id: 9 }, spent);
+    check_red(&rt, &mut board, 0, 2);
 }
 
 // The picture of 256 by 2 pixels whose first two are red.
@@ -119,21 +142,32 @@ fn red_corner(rt: &impl Abort, alloc: Global) -> Vec<u8> {
     bytes
 }
 
+// Asserts that no picture is painted by so many workers.
+fn check_no_picture<H: Abort + Threads + Wait + Sync>(
+    rt: &H,
+    board: &mut Alone,
+    window: &Window,
+    workers: u32,
+) {
+    let fault = board.picture(rt, window, workers).err();
+    equal(rt, "workers", &fault, &Some(BoardFault::BadWorkers));
+}
+
 #[test]
 fn numbers_of_workers(rt: HostRuntime) {
     let alloc = rt.alloc();
     let mut board = board(&rt, alloc, 1);
-    assert!(rt; board.edit(&rt, &rectangle(RED)).is_ok());
+    check_edit(&rt, &mut board, rectangle(RED), accepted(1, 1));
     let window = window(&rt, 256, 2);
-    for workers in [0, 17, u32::MAX] {
-        let fault = board.picture(&rt, &window, workers).err();
-        assert!(rt; fault == Some(BoardFault::BadWorkers));
-    }
+    check_no_picture(&rt, &mut board, &window, 0);
+    check_no_picture(&rt, &mut board, &window, 17);
+    check_no_picture(&rt, &mut board, &window, u32::MAX);
     let fault = BoardFault::BadWorkers;
-    assert_eq!(rt; (fault.code(), fault.name()), (31, "BadWorkers"));
+    let told = (fault.code(), fault.name());
+    equal(&rt, "the refusal", &told, &(31, "BadWorkers"));
     let want = red_corner(&rt, alloc);
-    assert_eq!(rt; want.len(), 1_549);
-    for workers in [1, 3, 16] {
-        assert!(rt; is_painted(&rt, &mut board, &window, workers, &want));
-    }
+    equal(&rt, "bytes", &want.len(), &1_549);
+    check_picture(&rt, &mut board, &window, 1, 1, &want);
+    check_picture(&rt, &mut board, &window, 3, 1, &want);
+    check_picture(&rt, &mut board, &window, 16, 1, &want);
 }

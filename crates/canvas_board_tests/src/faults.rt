@@ -1,5 +1,6 @@
 //! The number, the name and the text of each refusal, but for those of lines and of servers.
 
+use crate::asserts::holds;
 use canvas_board::BoardFault;
 use canvas_code::OutOfMemory;
 use canvas_doc::{Refusal, TreeFault};
@@ -24,11 +25,8 @@ fn assert_told<T: Display>(
     wanted: (u16, &str),
 ) {
     let text = format!(in alloc; "{fault}").expect(rt, "memory");
-    assert!(rt;
-        found == wanted && text.as_str() == wanted.1,
-        "{}",
-        wanted.1
-    );
+    let name = wanted.1;
+    holds(rt, name, found == wanted && text.as_str() == name);
 }
 
 #[test]
