@@ -3,7 +3,7 @@ use Rattle.std.proofs.Common.{◌≡◌, ◌∙◌, ℕ, Bool, true, false, cond
 use Rattle.std.specs.List.{Contains, insert, remove, slice_get}
 use Rattle.std.proofs.Math.ListN.{length-set}
 use Rattle.std.proofs.lemmas.List.{get_or_default, get_or-set_same}
-use Rattle.std.proofs.lemmas.List.Edits.{insert_end}
+use Rattle.std.proofs.lemmas.List.Edits.{insert_end, length-insert}
 use Rattle.std.proofs.lemmas.List.Elements.{Contains-push}
 use Rattle.canvas_list.specs.declared.in_place.ItemChange.{ItemChange}
 use Rattle.canvas_list.specs.declared.in_place.ItemChange.TheVariants.{Replace, Remove, Insert}
@@ -197,3 +197,7 @@ deleted-leaf id at d now r same well standing leaf = deleted-childless id at d n
 
 pub deleted-one : (id at : ℕ) (d now : Contents) (order : List Record) (low high : ℕ) → d ≡ now → IsWellFormed d → IsInPlaceOrder order d.records → StandsAt d.records id at → AreChildrenWithin (Shape id) order low high → high ≤ low → effect_of (Delete id) now ≡ record { records = remove now.records at; next = now.next }
 deleted-one id at d now order low high same well o there within none = deleted-childless id at d now same well there (childless-from_range id order d.records low high o within none)
+
+-- a position where a record was put in is one of the list
+pub within-after : (made order : List Record) (k : ℕ) (r : Record) → made ≡ insert order k r → k ≤ length order → k < length made
+within-after made order k r e bound = omega (arith, ap length e, length-insert order k r bound)
