@@ -201,3 +201,7 @@ deleted-one id at d now order low high same well o there within none = deleted-c
 -- a position where a record was put in is one of the list
 pub within-after : (made order : List Record) (k : ℕ) (r : Record) → made ≡ insert order k r → k ≤ length order → k < length made
 within-after made order k r e bound = omega (arith, ap length e, length-insert order k r bound)
+
+-- no more than so many stand between two positions of an order
+pub few-within : (order rs : List Record) (low high : ℕ) → length order ≡ length rs → length rs ≤ most_records → high ≤ length order → high ≤ low + most_records
+few-within order rs low high long few bound = omega arith

@@ -1,4 +1,4 @@
-use Rattle.std.proofs.Common.{◌≡◌, ◌∙◌, ◌+◌, ◌++◌, ◌∷◌, [], ℕ, List, true, ap, refl, sym, subst}
+use Rattle.std.proofs.Common.{◌≡◌, ◌∙◌, ◌+◌, ◌<◌, ◌^◌, ◌++◌, ◌∷◌, [], ℕ, List, true, ap, arith, refl, sym, subst}
 use Rattle.std.specs.List.{insert}
 use Rattle.std.proofs.lemmas.List.Edits.{insert_end}
 use Rattle.std.proofs.lemmas.List.Elements.{All-contains, Contains-push}
@@ -145,3 +145,6 @@ with_inserted-requires-2-clause-within c = c.position_in-at.ensures.bound
 pub returns : goal.returns
 returns c =
     added-is (record { records = c.self.inside.records; next = c.self.inside.next }) c.args.self.now c.self.view_is c.in_ok-records.records true refl c.args.shape c.len-last.result c.len-last.ensures.len (c.in_ok-records.ensures ∙ ap (insert c.self.inside.records c.len-last.result) c.in_ok-new.ensures)
+
+pub overflow_add-result : goal.overflow_add-result
+overflow_add-result c = omega (arith, subst (λ (d : Contents). d.next + 1 < 2 ^ 32) (sym c.self.view_is) c.requires.next_below)
