@@ -5,24 +5,17 @@ use Rattle.canvas_doc.specs.declared.placed_shapes.PlacedShape.{PlacedShape}
 use Rattle.canvas_doc.specs.declared.records.Record.{Record}
 use Rattle.canvas_doc.specs.Children.{children}
 use Rattle.canvas_doc.specs.Contents.{Contents}
-use Rattle.canvas_doc.specs.Placements.{Placements, placements_of}
+use Rattle.canvas_doc.specs.Placements.{Placements}
 use Rattle.canvas_doc.specs.PlaceOrder.{IsKeptInOrder}
 use Rattle.canvas_doc.specs.Tree.{IsInLimits}
-use Rattle.canvas_doc.proofs.InSight.{AreInSight, StandsThere, children-in_sight, none-seen, one-seen, part-all, stands-there}
+use Rattle.canvas_doc.proofs.InSight.{AreInSight, StandsThere, children-in_sight, none-seen, one-seen, part-all, read-below, read-upto, stands-there}
 use Rattle.canvas_doc.proofs.PassedOver.{sight-kept}
-use Rattle.canvas_doc.proofs.Placements.{long, shape_of}
+use Rattle.canvas_doc.proofs.Placements.{shape_of}
 use Rattle.canvas_doc.proofs.Sorting.{all-by_reference, all-children, record_of}
 use Rattle.canvas_doc.proofs.Document.children_meeting.Goals as goal
 
--- a position of the order is one of the list that a reader reads
-of-reader : (reader : List PlacedShape) (order : Placements) (n : ℕ) → placements_of reader ≡ order → n ≤ length order.shapes → n ≤ length reader
-of-reader reader order n is bound = omega (arith, long reader order is)
-
 less : (a b : ℕ) → a < b → a ≤ b
 less a b h = omega arith
-
-after : (a b n : ℕ) → a < b → b ≤ n → a < n
-after a b n h k = omega arith
 
 closer : (at next end : ℕ) → at < end → end ≤ next → end - next < end - at
 closer at next end h k = omega arith
@@ -135,12 +128,10 @@ pub next_meeting-at-requires-clause-order : goal.next_meeting-at-requires-clause
 next_meeting-at-requires-clause-order g c = less c.walk.at c.children_of-start.result.end c.walk-test.true
 
 pub next_meeting-at-requires-clause-within : goal.next_meeting-at-requires-clause-within
-next_meeting-at-requires-clause-within g c =
-    subst (λ (l : List PlacedShape). c.children_of-start.result.end ≤ length l) (sym c.walk.invariant.reader) (of-reader c.children_of-start.result.reader c.self.inside.order c.children_of-start.result.end c.children_of-start.ensures.reader c.children_of-start.ensures.children.bound)
+next_meeting-at-requires-clause-within g c = read-upto c.children_of-start.result.reader c.walk.reader c.self.inside.order c.children_of-start.ensures.reader c.walk.invariant.reader c.children_of-start.result.end c.children_of-start.ensures.children.bound
 
 pub at-requires : goal.at-requires
-at-requires g c =
-    subst (λ (l : List PlacedShape). c.next_meeting-at.result < length l) (sym (c.next_meeting-at.ensures.same ∙ c.walk.invariant.reader)) (after c.next_meeting-at.result c.children_of-start.result.end (length c.children_of-start.result.reader) c.if-at-end.true (of-reader c.children_of-start.result.reader c.self.inside.order c.children_of-start.result.end c.children_of-start.ensures.reader c.children_of-start.ensures.children.bound))
+at-requires g c = read-below c.children_of-start.result.reader c.next_meeting-at.new.self c.self.inside.order c.children_of-start.ensures.reader (c.next_meeting-at.ensures.same ∙ c.walk.invariant.reader) c.next_meeting-at.result c.children_of-start.result.end c.if-at-end.true c.children_of-start.ensures.children.bound
 
 pub walk-smaller : goal.walk-smaller
 walk-smaller g c = closer c.walk.at c.next_meeting-at.result c.children_of-start.result.end c.walk-test.true c.if-at-end.false
