@@ -1,17 +1,18 @@
 -- A document's lists after a change in place.
-use Rattle.std.proofs.Common.{◌≡◌, ◌∙◌, ℕ, Bool, true, false, cond, Some, ◌<◌, List, [], ◌∷◌, ◌++◌, refl, sym, ap, subst, arith, length, get_or, set, ◌≤◌, filter, not}
+use Rattle.std.proofs.Common.{◌≡◌, ◌∙◌, ℕ, Bool, true, false, cond, Some, ◌+◌, ◌^◌, ◌<◌, List, [], ◌∷◌, ◌++◌, refl, sym, ap, subst, arith, length, get_or, set, ◌≤◌, filter, not}
 use Rattle.std.specs.List.{Contains, insert, remove, slice_get}
 use Rattle.std.proofs.Math.ListN.{length-set}
 use Rattle.std.proofs.lemmas.List.{get_or_default, get_or-set_same}
-use Rattle.std.proofs.lemmas.List.Edits.{insert_end}
+use Rattle.std.proofs.lemmas.List.Edits.{insert_end, length-insert}
 use Rattle.std.proofs.lemmas.List.Elements.{Contains-push}
+use Rattle.canvas_list.specs.declared.in_place.ItemChange.{ItemChange}
 use Rattle.canvas_list.specs.declared.in_place.ItemChange.TheVariants.{Replace, Remove, Insert}
 use Rattle.canvas_list.specs.Changed.{changed_if}
 use Rattle.canvas_doc.specs.declared.bounds.Bounds.{Bounds}
 use Rattle.canvas_doc.specs.declared.records.Record.{Record}
 use Rattle.canvas_doc.specs.declared.records.Place.{Place}
-use Rattle.canvas_doc.specs.Bounds.{HaveOneShape, IsHeldAbove}
-use Rattle.canvas_doc.specs.Contents.{is_container, AreRising, Contents, IsStanding, IsWellFormed, StandsAt}
+use Rattle.canvas_doc.specs.Bounds.{AreBounds, HaveOneShape, IsHeldAbove}
+use Rattle.canvas_doc.specs.Contents.{is_container, most_records, AreRising, Contents, IsStanding, IsWellFormed, StandsAt}
 use Rattle.canvas_doc.specs.declared.edits.Change.{Change}
 use Rattle.canvas_doc.specs.declared.edits.Change.TheVariants.{Delete}
 use Rattle.canvas_doc.specs.declared.records.Parent.TheVariants.{Shape}
@@ -123,6 +124,11 @@ module _ (d : Contents) (order : List Record) (bounds : List Bounds) (kept : IsK
       kept-is now (remove order k) made (remove bounds k) boxes f g
       (taken-kept d order bounds kept now (subst (λ (l : List Record). IsWellFormed (record { records = l; next = d.next })) (sym e) well) r at k within here p e)
 
+  -- a change that was not made
+  pub unmade-kept : (b : Bool) → b ≡ false → (other shape : ItemChange Record) (box : ItemChange Bounds) (at k : ℕ) → rs ≡ changed_if b other at d.records → made ≡ changed_if b shape k order → boxes ≡ changed_if b box k bounds → IsKeptInOrder (record { records = rs; next = d.next }) made boxes
+  unmade-kept false h other shape box at k e f g = stays e f g
+  unmade-kept true h other shape box at k e f g = cc
+
   pub added-if : (b : Bool) → b ≡ true → (n : ℕ) (s : Record) (box : Bounds) (last k : ℕ) → last ≡ length d.records → rs ≡ changed_if b (Insert s) last d.records → made ≡ changed_if b (Insert s) k order → boxes ≡ changed_if b (Insert box) k bounds → IsWellFormed (record { records = d.records ++ s ∷ []; next = n })
       → IsPlaceOf s.place order k → Suits order bounds s box → IsHeldAbove order bounds s box → IsKeptInOrder (record { records = rs; next = n }) made boxes
   added-if false h n s box last k end e f g well p suits above = cc
@@ -148,6 +154,36 @@ module _ (d : Contents) (order : List Record) (bounds : List Bounds) (kept : IsK
       kept-is now (insert (remove order k) to s) made (insert (remove bounds k) to box) boxes f g
       (moved-kept d order bounds kept now (subst (λ (l : List Record). IsWellFormed (record { records = l; next = d.next })) (sym e) well) r s box at k to within here shape p q e held above)
 
+-- the same records by place, with bounds that were made wider
+pub widened-kept : (d : Contents) (order : List Record) (bounds : List Bounds) → IsKeptInOrder d order bounds → (made : List Record) (boxes : List Bounds) → made ≡ order → AreBounds made boxes → IsKeptInOrder d made boxes
+widened-kept d order bounds kept made boxes e bounded =
+    record {
+      well_formed = kept.well_formed;
+      in_order = subst (λ (l : List Record). IsInPlaceOrder l d.records) (sym e) kept.in_order;
+      bounded = bounded;
+    }
+
+-- ---- contents after a change that was made, or not
+
+module _ (inside now : Contents) (same : inside ≡ now) (rs : List Record) where
+  pub added-is : (b : Bool) → b ≡ true → (s : Record) (last : ℕ) → last ≡ length inside.records → rs ≡ changed_if b (Insert s) last inside.records → record { records = rs; next = inside.next + 1 } ≡ cond b (record { records = now.records ++ s ∷ []; next = now.next + 1 }) now
+  added-is true h s last end e =
+      ap (λ (l : List Record). record { records = l; next = inside.next + 1 }) (e ∙ ap (λ m. insert inside.records m s) end ∙ insert_end inside.records s)
+      ∙ ap (λ (d : Contents). record { records = d.records ++ s ∷ []; next = d.next + 1 }) same
+  added-is false h s last end e = cc
+
+  pub unmade-is : (after : Contents) (b : Bool) → b ≡ false → (change : ItemChange Record) (at : ℕ) → rs ≡ changed_if b change at inside.records → record { records = rs; next = inside.next } ≡ cond b after now
+  unmade-is after false h change at e = ap (λ (l : List Record). record { records = l; next = inside.next }) e ∙ same
+  unmade-is after true h change at e = cc
+
+-- ---- room for one more record
+
+pub room-within : (order rs : List Record) (at : ℕ) → length order ≡ length rs → length rs ≤ most_records → at ≤ length order → (at ≤ length order) × (length order + 1 < 2 ^ 32)
+room-within order rs at long few bound = (bound, omega arith)
+
+pub room-behind : (rs : List Record) (last : ℕ) → length rs ≤ most_records → last ≡ length rs → (last ≤ length rs) × (length rs + 1 < 2 ^ 32)
+room-behind rs last few end = (omega arith, omega arith)
+
 -- ---- a shape below which nothing lies
 
 -- without it one record is gone
@@ -161,3 +197,11 @@ deleted-leaf id at d now r same well standing leaf = deleted-childless id at d n
 
 pub deleted-one : (id at : ℕ) (d now : Contents) (order : List Record) (low high : ℕ) → d ≡ now → IsWellFormed d → IsInPlaceOrder order d.records → StandsAt d.records id at → AreChildrenWithin (Shape id) order low high → high ≤ low → effect_of (Delete id) now ≡ record { records = remove now.records at; next = now.next }
 deleted-one id at d now order low high same well o there within none = deleted-childless id at d now same well there (childless-from_range id order d.records low high o within none)
+
+-- a position where a record was put in is one of the list
+pub within-after : (made order : List Record) (k : ℕ) (r : Record) → made ≡ insert order k r → k ≤ length order → k < length made
+within-after made order k r e bound = omega (arith, ap length e, length-insert order k r bound)
+
+-- no more than so many stand between two positions of an order
+pub few-within : (order rs : List Record) (low high : ℕ) → length order ≡ length rs → length rs ≤ most_records → high ≤ length order → high ≤ low + most_records
+few-within order rs low high long few bound = omega arith

@@ -21,7 +21,7 @@ use Rattle.canvas_doc.specs.PlaceOrder.{AreChildrenWithin, IsInPlaceOrder, IsKep
 use Rattle.canvas_doc.specs.Tree.{IsInLimits}
 use Rattle.canvas_doc.proofs.ChildrenInOrder.{all-in_order, children-are, one-more}
 use Rattle.canvas_doc.proofs.Culled.{answers-pass, answers-push, apart-none, StandIn}
-use Rattle.canvas_doc.proofs.Placements.{bounds-at, long-bounds, shape-at}
+use Rattle.canvas_doc.proofs.Placements.{bounds-at, long, long-bounds, shape-at}
 
 -- ---- parts of lists
 
@@ -136,3 +136,12 @@ pixel-held sides x y e =
     ap (λ (s : PageBox). is_in s x y) e
     ∙ ap (λ b. b && (int_le y y && int_lt y (y +ℤ pos 1))) (side-has x)
     ∙ side-has y
+
+-- ---- positions of an order, in what a reader of it reads
+
+module _ (reader read : List PlacedShape) (p : Placements) (all : placements_of reader ≡ p) (same : read ≡ reader) where
+  pub read-upto : (n : ℕ) → n ≤ length p.shapes → n ≤ length read
+  read-upto n bound = omega (arith, ap length same, long reader p all)
+
+  pub read-below : (at n : ℕ) → at < n → n ≤ length p.shapes → at < length read
+  read-below at n before bound = omega (arith, ap length same, long reader p all)

@@ -8,11 +8,20 @@ use Rattle.canvas_doc.specs.Contents.{Contents}
 use Rattle.canvas_doc.specs.Placements.{Placements}
 use Rattle.canvas_doc.specs.PlaceOrder.{IsKeptInOrder}
 use Rattle.canvas_doc.specs.Tree.{IsInLimits}
-use Rattle.canvas_doc.proofs.InSight.{AreInSight, StandsThere, children-in_sight, none-seen, one-seen, part-all, stands-there}
+use Rattle.canvas_doc.proofs.InSight.{AreInSight, StandsThere, children-in_sight, none-seen, one-seen, part-all, read-below, read-upto, stands-there}
 use Rattle.canvas_doc.proofs.PassedOver.{sight-kept}
 use Rattle.canvas_doc.proofs.Placements.{shape_of}
 use Rattle.canvas_doc.proofs.Sorting.{all-by_reference, all-children, record_of}
 use Rattle.canvas_doc.proofs.Document.children_meeting.Goals as goal
+
+less : (a b : ℕ) → a < b → a ≤ b
+less a b h = omega arith
+
+closer : (at next end : ℕ) → at < end → end ≤ next → end - next < end - at
+closer at next end h k = omega arith
+
+nearer : (at next end : ℕ) → at ≤ next → next < end → end - (next + 1) < end - at
+nearer at next end h k = omega arith
 
 pub walk-init : goal.walk-init
 walk-init g c =
@@ -105,3 +114,27 @@ returns-clause-limits g c =
     (subst (λ (l : List Record). AreInSight c.args.self.now.records c.args.out.now c.args.clip.now (map record_of c.walk.seen.items) (take (c.walk.at - c.children_of-start.result.start) (drop c.children_of-start.result.start l))) (ap (λ (p : Placements). p.shapes) c.children_of-start.ensures.reader) c.walk.invariant.seen) in
     let limits : All IsInLimits rs = subst (λ (d : Contents). All IsInLimits d.records) c.self.view_is c.self.invariant.well_formed.limits in
     all-by_reference IsInLimits c.walk.seen.items (part-all IsInLimits (map record_of c.walk.seen.items) (children c.args.parent rs) (all-children IsInLimits c.args.parent rs limits) seen.part)
+
+pub children_of-start-requires : goal.children_of-start-requires
+children_of-start-requires g c = c.self.invariant.in_order.rising
+
+pub of_clip-area-requires-clause-quarter : goal.of_clip-area-requires-clause-quarter
+of_clip-area-requires-clause-quarter g c = c.requires.quarter
+
+pub of_clip-area-requires-clause-reach : goal.of_clip-area-requires-clause-reach
+of_clip-area-requires-clause-reach g c = c.requires.reach
+
+pub next_meeting-at-requires-clause-order : goal.next_meeting-at-requires-clause-order
+next_meeting-at-requires-clause-order g c = less c.walk.at c.children_of-start.result.end c.walk-test.true
+
+pub next_meeting-at-requires-clause-within : goal.next_meeting-at-requires-clause-within
+next_meeting-at-requires-clause-within g c = read-upto c.children_of-start.result.reader c.walk.reader c.self.inside.order c.children_of-start.ensures.reader c.walk.invariant.reader c.children_of-start.result.end c.children_of-start.ensures.children.bound
+
+pub at-requires : goal.at-requires
+at-requires g c = read-below c.children_of-start.result.reader c.next_meeting-at.new.self c.self.inside.order c.children_of-start.ensures.reader (c.next_meeting-at.ensures.same ∙ c.walk.invariant.reader) c.next_meeting-at.result c.children_of-start.result.end c.if-at-end.true c.children_of-start.ensures.children.bound
+
+pub walk-smaller : goal.walk-smaller
+walk-smaller g c = closer c.walk.at c.next_meeting-at.result c.children_of-start.result.end c.walk-test.true c.if-at-end.false
+
+pub walk-smaller-then-at-end : goal.walk-smaller-then-at-end
+walk-smaller-then-at-end g c = nearer c.walk.at c.next_meeting-at.result c.children_of-start.result.end c.next_meeting-at.ensures.from c.if-at-end.true

@@ -7,6 +7,7 @@ use Rattle.canvas_doc.specs.Contents.{Contents}
 use Rattle.canvas_doc.specs.PlaceOrder.{IsInPlaceOrder}
 use Rattle.canvas_doc.specs.declared.bounds.Bounds.{Bounds}
 use Rattle.canvas_doc.specs.Bounds.{AreBoundsBut, HaveOneShape}
+use Rattle.canvas_doc.proofs.InPlace.{within-after}
 use Rattle.canvas_doc.proofs.Rebounded as rebounded
 use Rattle.canvas_doc.proofs.Reordered.{IsMoved, leads-up, moved-from, moved-in_order, read-at, seen-at}
 use Rattle.std.proofs.lemmas.List.{get_or-set_same}
@@ -123,3 +124,21 @@ returns-clause-order c =
 
 pub returns-clause-bounds : goal.returns-clause-bounds
 returns-clause-bounds c = c.raised.ensures.bounds
+
+pub at-requires : goal.at-requires
+at-requires c = subst (λ (d : Contents). c.args.at < length d.records) (sym c.self.view_is) c.requires.there
+
+pub position_in-from-requires : goal.position_in-from-requires
+position_in-from-requires c = c.self.invariant.in_order.rising
+
+pub position_without-to-requires-clause-rising : goal.position_without-to-requires-clause-rising
+position_without-to-requires-clause-rising c = c.self.invariant.in_order.rising
+
+pub raised-requires-clause-rising : goal.raised-requires-clause-rising
+raised-requires-clause-rising c = c.requires.well_formed.rising
+
+pub raised-requires-clause-limits : goal.raised-requires-clause-limits
+raised-requires-clause-limits c = c.requires.well_formed.limits
+
+pub raised-requires-clause-at : goal.raised-requires-clause-at
+raised-requires-clause-at c = within-after _ _ _ _ c.in_ok-order.ensures.shapes c.position_without-to.ensures.bound

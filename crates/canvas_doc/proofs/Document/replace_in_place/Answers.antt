@@ -7,7 +7,7 @@ use Rattle.canvas_doc.specs.Bounds.{IsHeldAbove}
 use Rattle.canvas_doc.specs.Contents.{Contents}
 use Rattle.canvas_doc.specs.PlaceOrder.{IsPlaceOf}
 use Rattle.canvas_doc.specs.Tree.{IsInLimits}
-use Rattle.canvas_doc.proofs.InPlace.{one-if, one-limits, one-place, one-well, replaced-at, replaced-if}
+use Rattle.canvas_doc.proofs.InPlace.{one-if, one-limits, one-place, one-well, replaced-at, replaced-if, widened-kept}
 use Rattle.canvas_doc.proofs.Rebounded.{Suits}
 use Rattle.canvas_doc.proofs.Document.replace_in_place.Goals as goal
 
@@ -47,3 +47,58 @@ returns c =
     one-if c.args.change.now (record { records = c.self.inside.records; next = c.self.inside.next }) c.args.self.now c.in-Some.found.at c.in-Some.found.shape.now c.in-Some.found.shape.now c.in-Ok.new
     c.self.view_is c.requires.one c.in-Some.ensures.there c.in-Some.ensures.is refl c.in-Ok.ensures c.change_both.result c.change_both.new.records
     c.change_both.ensures.other
+
+pub changed_record-requires : goal.changed_record-requires
+changed_record-requires c = c.self.invariant.well_formed.rising
+
+pub returns-in_default : goal.returns-in_default
+returns-in_default c = refl
+
+pub returns-in_default-changed_by : goal.returns-in_default-changed_by
+returns-in_default-changed_by c = refl
+
+pub position_in-from-requires : goal.position_in-from-requires
+position_in-from-requires c = c.self.invariant.in_order.rising
+
+pub bounds_for-bounds-requires-clause-rising : goal.bounds_for-bounds-requires-clause-rising
+bounds_for-bounds-requires-clause-rising c = c.self.invariant.in_order.rising
+
+pub is_held_above-requires-clause-in_order : goal.is_held_above-requires-clause-in_order
+is_held_above-requires-clause-in_order c = c.self.invariant.in_order
+
+pub is_held_above-requires-clause-rising : goal.is_held_above-requires-clause-rising
+is_held_above-requires-clause-rising c = c.self.invariant.well_formed.rising
+
+pub is_held_above-requires-clause-limits : goal.is_held_above-requires-clause-limits
+is_held_above-requires-clause-limits c = c.self.invariant.well_formed.limits
+
+pub is_held_above-requires-clause-long : goal.is_held_above-requires-clause-long
+is_held_above-requires-clause-long c = c.self.invariant.bounded.long
+
+pub widen_above-requires-clause-in_order : goal.widen_above-requires-clause-in_order
+widen_above-requires-clause-in_order c = c.self.invariant.in_order
+
+pub widen_above-requires-clause-rising : goal.widen_above-requires-clause-rising
+widen_above-requires-clause-rising c = c.self.invariant.well_formed.rising
+
+pub widen_above-requires-clause-limits : goal.widen_above-requires-clause-limits
+widen_above-requires-clause-limits c = c.self.invariant.well_formed.limits
+
+pub widen_above-requires-clause-grounded : goal.widen_above-requires-clause-grounded
+widen_above-requires-clause-grounded c = c.self.invariant.well_formed.grounded
+
+pub widen_above-requires-clause-bounded : goal.widen_above-requires-clause-bounded
+widen_above-requires-clause-bounded c = c.self.invariant.bounded
+
+pub invariant_of-self : goal.invariant_of-self
+invariant_of-self c =
+    widened-kept (record { records = c.self.inside.records; next = c.self.inside.next }) c.self.inside.order.shapes c.self.inside.order.bounds c.self.invariant c.widen_above.new.order.shapes c.widen_above.new.order.bounds c.widen_above.ensures.shapes c.widen_above.ensures.bounds
+
+pub returns-then-not-is_held_above : goal.returns-then-not-is_held_above
+returns-then-not-is_held_above c = c.self.view_is
+
+pub returns-in_default-shared : goal.returns-in_default-shared
+returns-in_default-shared c = refl
+
+pub change_both-requires-clause-other : goal.change_both-requires-clause-other
+change_both-requires-clause-other c = c.in-Some.ensures.there.there

@@ -105,3 +105,18 @@ returns-clause-order c =
 
 pub returns-clause-bounds : goal.returns-clause-bounds
 returns-clause-bounds c = c.raised.ensures.bounds
+
+pub at-requires : goal.at-requires
+at-requires c = subst (λ (d : Contents). c.args.at < length d.records) (sym c.self.view_is) c.requires.there
+
+pub position_in-from-requires : goal.position_in-from-requires
+position_in-from-requires c = c.self.invariant.in_order.rising
+
+pub bounds_for-own-requires-clause-rising : goal.bounds_for-own-requires-clause-rising
+bounds_for-own-requires-clause-rising c = c.self.invariant.in_order.rising
+
+pub raised-requires-clause-rising : goal.raised-requires-clause-rising
+raised-requires-clause-rising c = c.requires.well_formed.rising
+
+pub raised-requires-clause-limits : goal.raised-requires-clause-limits
+raised-requires-clause-limits c = c.requires.well_formed.limits

@@ -1,13 +1,14 @@
-use Rattle.std.proofs.Common.{◌≡◌, ◌≤◌, ◌∙◌, ◌+◌, ◌++◌, ◌∷◌, [], ℕ, List, ap, arith, sym, length, subst}
+use Rattle.std.proofs.Common.{◌≡◌, ◌∙◌, ◌+◌, ◌<◌, ◌^◌, ◌++◌, ◌∷◌, [], ℕ, List, true, ap, arith, refl, sym, subst}
 use Rattle.std.specs.List.{insert}
-use Rattle.std.proofs.lemmas.List.Edits.{insert_end, length-insert}
+use Rattle.std.proofs.lemmas.List.Edits.{insert_end}
 use Rattle.std.proofs.lemmas.List.Elements.{All-contains, Contains-push}
 use Rattle.canvas_doc.specs.declared.bounds.Bounds.{Bounds}
 use Rattle.canvas_doc.specs.declared.records.Record.{Record}
-use Rattle.canvas_doc.specs.Contents.{Contents, IsWellFormed, most_records}
+use Rattle.canvas_doc.specs.Contents.{Contents, IsWellFormed}
 use Rattle.canvas_doc.specs.PlaceOrder.{IsInPlaceOrder}
 use Rattle.canvas_doc.specs.Bounds.{AreBoundsBut}
 use Rattle.canvas_doc.specs.Tree.{HavePlaces, IsInLimits}
+use Rattle.canvas_doc.proofs.InPlace.{added-is, room-behind, room-within, within-after}
 use Rattle.canvas_doc.proofs.Rebounded as rebounded
 use Rattle.canvas_doc.proofs.Rebounded.{Suits}
 use Rattle.canvas_doc.proofs.Reordered.{added, added-differs, leads-up}
@@ -17,11 +18,7 @@ pub bounds_for-own-requires-clause-limits : goal.bounds_for-own-requires-clause-
 bounds_for-own-requires-clause-limits c = All-contains IsInLimits (c.args.self.now.records ++ c.args.shape ∷ []) c.args.shape c.requires.limits (Contains-push c.args.self.now.records c.args.shape)
 
 pub with_inserted-requires-2-clause-few : goal.with_inserted-requires-2-clause-few
-with_inserted-requires-2-clause-few c =
-    let long : length c.self.inside.order.shapes ≡ length c.self.inside.records = c.self.invariant.in_order.long in
-    let few : length c.self.inside.records ≤ most_records = c.self.invariant.well_formed.few in
-    let bounds : length c.self.inside.order.bounds ≡ length c.self.inside.order.shapes = c.self.invariant.bounded.long in
-    omega arith
+with_inserted-requires-2-clause-few c = (room-within c.self.inside.order.shapes c.self.inside.records c.position_in-at.result c.self.invariant.in_order.long c.self.invariant.well_formed.few c.position_in-at.ensures.bound).1
 
 pub raised-requires-clause-in_order : goal.raised-requires-clause-in_order
 raised-requires-clause-in_order c =
@@ -71,9 +68,7 @@ raised-requires-clause-limits c =
     well.limits
 
 pub raised-requires-clause-at : goal.raised-requires-clause-at
-raised-requires-clause-at c =
-    let bound : c.position_in-at.result ≤ length c.self.inside.order.shapes = c.position_in-at.ensures.bound in
-    omega (arith, ap length c.in_ok-more.ensures.shapes, length-insert c.self.inside.order.shapes c.position_in-at.result c.in_ok-shape.shape bound)
+raised-requires-clause-at c = within-after c.in_ok-more.more.shapes c.self.inside.order.shapes c.position_in-at.result c.in_ok-shape.shape c.in_ok-more.ensures.shapes c.position_in-at.ensures.bound
 
 pub raised-requires-clause-but : goal.raised-requires-clause-but
 raised-requires-clause-but c =
@@ -131,3 +126,25 @@ invariant_of-result c =
       in_order = subst (λ (l : List Record). IsInPlaceOrder l c.in_ok-records.records) (sym c.in_ok-order.ensures.shapes) placed;
       bounded = c.in_ok-order.ensures.bounds;
     }
+
+pub position_in-at-requires : goal.position_in-at-requires
+position_in-at-requires c = c.self.invariant.in_order.rising
+
+pub bounds_for-own-requires-clause-rising : goal.bounds_for-own-requires-clause-rising
+bounds_for-own-requires-clause-rising c = c.self.invariant.in_order.rising
+
+pub with_inserted-requires-clause-within : goal.with_inserted-requires-clause-within
+with_inserted-requires-clause-within c = (room-behind c.self.inside.records c.len-last.result c.self.invariant.well_formed.few c.len-last.ensures.len).0
+
+pub with_inserted-requires-clause-few : goal.with_inserted-requires-clause-few
+with_inserted-requires-clause-few c = (room-behind c.self.inside.records c.len-last.result c.self.invariant.well_formed.few c.len-last.ensures.len).1
+
+pub with_inserted-requires-2-clause-within : goal.with_inserted-requires-2-clause-within
+with_inserted-requires-2-clause-within c = c.position_in-at.ensures.bound
+
+pub returns : goal.returns
+returns c =
+    added-is (record { records = c.self.inside.records; next = c.self.inside.next }) c.args.self.now c.self.view_is c.in_ok-records.records true refl c.args.shape c.len-last.result c.len-last.ensures.len (c.in_ok-records.ensures ∙ ap (insert c.self.inside.records c.len-last.result) c.in_ok-new.ensures)
+
+pub overflow_add-result : goal.overflow_add-result
+overflow_add-result c = omega (arith, subst (λ (d : Contents). d.next + 1 < 2 ^ 32) (sym c.self.view_is) c.requires.next_below)

@@ -1,4 +1,4 @@
-use Rattle.std.proofs.Common.{◌≡◌, ℕ, List, Option, ◌∙◌, refl, sym, ap, subst, arith, true, false, ◌+◌, ◌-◌, ◌<◌, get_or, length, drop, map, rules, take}
+use Rattle.std.proofs.Common.{◌≡◌, ℕ, List, Option, ◌∙◌, refl, sym, ap, subst, arith, true, false, ◌+◌, ◌-◌, ◌<◌, ◌≤◌, get_or, length, drop, map, rules, take}
 use Rattle.std.specs.Option.{is_some}
 use Rattle.std.proofs.lemmas.Option.{get_or_from_slice_get, slice_get_within}
 use Rattle.canvas_plane.specs.Motion.{carry}
@@ -11,11 +11,20 @@ use Rattle.canvas_doc.specs.Picture.{answer_of, first_answer}
 use Rattle.canvas_doc.specs.PlaceOrder.{IsKeptInOrder}
 use Rattle.canvas_doc.specs.Tree.{IsInLimits}
 use Rattle.canvas_doc.proofs.ChildrenInOrder.{all-in_order, children-are, first-and-rest}
-use Rattle.canvas_doc.proofs.InSight.{pixel-held, stands-there}
+use Rattle.canvas_doc.proofs.InSight.{pixel-held, read-below, read-upto, stands-there}
 use Rattle.canvas_doc.proofs.PassedOver.{answer-kept}
 use Rattle.canvas_doc.proofs.Placements.{shape_of, shapes-are}
 use Rattle.canvas_doc.proofs.Walk.{answer-by, answer-children, answer-none, first-answer, silent-rest}
 use Rattle.canvas_doc.proofs.colour.+walk.Goals as goal
+
+up-to : (r n m : ℕ) → r + n ≤ m → r ≤ m
+up-to r n m h = omega arith
+
+next-to : (a b : ℕ) → a < b → a + 1 ≤ b
+next-to a b h = omega arith
+
+closer : (slot next end : ℕ) → slot < end → slot + 1 ≤ next → end - next < end - slot
+closer slot next end h k = omega arith
 
 pub answer_among-returns-then-levels-eq0 : goal.answer_among-returns-then-levels-eq0
 answer_among-returns-then-levels-eq0 t c = answer-none c.args.levels c.args.document.now.records c.args.parent (carry c.args.out.now) c.args.at.x c.args.at.y (omega arith)
@@ -133,3 +142,30 @@ answer_among-returns t c =
     ∙ answers
     ∙ ap (first_answer f) (c.children_of-start.ensures.children.are ∙ children-are c.args.parent order rs c.document.invariant.well_formed.places c.document.invariant.in_order ∙ ap (λ (d : Contents). children c.args.parent d.records) c.document.view_is)
     ∙ sym (answer-children c.args.levels c.args.document.now.records c.args.parent (carry c.args.out.now) c.args.at.x c.args.at.y (omega arith))
+
+pub answer_among-children_of-start-requires : goal.answer_among-children_of-start-requires
+answer_among-children_of-start-requires t c = c.document.invariant.in_order.rising
+
+pub answer_among-of_clip-area-requires-clause-quarter : goal.answer_among-of_clip-area-requires-clause-quarter
+answer_among-of_clip-area-requires-clause-quarter t c = c.requires.quarter
+
+pub answer_among-of_clip-area-requires-clause-reach : goal.answer_among-of_clip-area-requires-clause-reach
+answer_among-of_clip-area-requires-clause-reach t c = up-to _ _ _ c.requires.reach
+
+pub answer_among-next_meeting-slot-requires-clause-order : goal.answer_among-next_meeting-slot-requires-clause-order
+answer_among-next_meeting-slot-requires-clause-order t c = c.children_of-start.ensures.children.from
+
+pub answer_among-next_meeting-slot-requires-clause-within : goal.answer_among-next_meeting-slot-requires-clause-within
+answer_among-next_meeting-slot-requires-clause-within t c = read-upto c.children_of-start.result.reader c.children_of-start.result.reader c.document.inside.order c.children_of-start.ensures.reader refl c.children_of-start.result.end c.children_of-start.ensures.children.bound
+
+pub answer_among-at-requires : goal.answer_among-at-requires
+answer_among-at-requires t c = read-below c.children_of-start.result.reader c.siblings.reader c.document.inside.order c.children_of-start.ensures.reader (c.siblings.invariant.reader ∙ c.next_meeting-slot.ensures.same) c.siblings.slot c.children_of-start.result.end c.siblings-test.true c.children_of-start.ensures.children.bound
+
+pub answer_among-next_meeting-slot-requires-in-siblings-clause-order : goal.answer_among-next_meeting-slot-requires-in-siblings-clause-order
+answer_among-next_meeting-slot-requires-in-siblings-clause-order t c = next-to c.siblings.slot c.children_of-start.result.end c.siblings-test.true
+
+pub answer_among-next_meeting-slot-requires-in-siblings-clause-within : goal.answer_among-next_meeting-slot-requires-in-siblings-clause-within
+answer_among-next_meeting-slot-requires-in-siblings-clause-within t c = read-upto c.children_of-start.result.reader c.at.new.self c.document.inside.order c.children_of-start.ensures.reader (c.at.ensures.same ∙ c.siblings.invariant.reader ∙ c.next_meeting-slot.ensures.same) c.children_of-start.result.end c.children_of-start.ensures.children.bound
+
+pub answer_among-siblings-smaller : goal.answer_among-siblings-smaller
+answer_among-siblings-smaller t c = closer c.siblings.slot c.next_meeting-slot-in-siblings.result c.children_of-start.result.end c.siblings-test.true c.next_meeting-slot-in-siblings.ensures.from

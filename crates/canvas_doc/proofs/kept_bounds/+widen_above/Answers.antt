@@ -1,9 +1,10 @@
-use Rattle.std.proofs.Common.{◌≡◌, ◌∙◌, ◌<◌, List, Some, ap, length, subst, sym}
+use Rattle.std.proofs.Common.{◌≡◌, ◌∙◌, ◌<◌, List, Some, ap, length, refl, subst, sym}
 use Rattle.std.specs.List.{slice_get}
 use Rattle.std.proofs.lemmas.Option.{slice_get_within}
 use Rattle.canvas_doc.specs.declared.records.Record.{Record}
 use Rattle.canvas_doc.specs.Bounds.{AreBounds}
 use Rattle.canvas_doc.specs.Placements.{Placements}
+use Rattle.canvas_doc.specs.PlaceOrder.{IsInPlaceOrder}
 use Rattle.canvas_doc.proofs.Neighbours.{found-contained}
 use Rattle.canvas_doc.proofs.Rebounded.{no-own_child}
 use Rattle.canvas_doc.proofs.Widened.{group-at, group-limits}
@@ -58,3 +59,66 @@ returns-then-contains-clause-bounds t c =
     (group-limits c.args.order.now.shapes c.args.records.now c.requires.in_order c.requires.rising c.args.parent c.in-Some.group.now c.requires.limits c.in-Some.ensures).quarter
     (no-own_child c.args.records.now c.in-Some.group.now c.requires.rising c.requires.grounded (found-contained c.in-Some.group.now.id c.args.records.now c.in-Some.group.now c.in-Some.ensures.there))
     (c.is_held_above-2.ensures c.if-is_held_above.true)
+
+pub shown_group-requires : goal.shown_group-requires
+shown_group-requires t c = c.requires.rising
+
+pub position_in-up-requires : goal.position_in-up-requires
+position_in-up-requires t c = c.requires.in_order.rising
+
+pub is_held_above-requires-clause-in_order : goal.is_held_above-requires-clause-in_order
+is_held_above-requires-clause-in_order t c = c.requires.in_order
+
+pub is_held_above-requires-clause-rising : goal.is_held_above-requires-clause-rising
+is_held_above-requires-clause-rising t c = c.requires.rising
+
+pub is_held_above-requires-clause-limits : goal.is_held_above-requires-clause-limits
+is_held_above-requires-clause-limits t c = c.requires.limits
+
+pub is_held_above-requires-clause-long : goal.is_held_above-requires-clause-long
+is_held_above-requires-clause-long t c = c.requires.bounded.long
+
+pub returns-in_default-clause-shapes : goal.returns-in_default-clause-shapes
+returns-in_default-clause-shapes t c = refl
+
+pub returns-in_default-clause-bounds : goal.returns-in_default-clause-bounds
+returns-in_default-clause-bounds t c = c.requires.bounded
+
+pub returns-then-steps-eq0-clause-shapes : goal.returns-then-steps-eq0-clause-shapes
+returns-then-steps-eq0-clause-shapes t c = refl
+
+pub returns-then-steps-eq0-clause-bounds : goal.returns-then-steps-eq0-clause-bounds
+returns-then-steps-eq0-clause-bounds t c = c.requires.bounded
+
+pub is_held_above-requires-2-clause-in_order : goal.is_held_above-requires-2-clause-in_order
+is_held_above-requires-2-clause-in_order t c =
+    let same : c.if-not-is_held_above.order.shapes ≡ c.args.order.now.shapes =
+    elim c.if-not-is_held_above.branch [
+      | then-not-is_held_above w ↦ ap (λ (p : Placements). p.shapes) w.order-is ∙ w.widen_above.ensures.shapes
+      | else-not-is_held_above w ↦ ap (λ (p : Placements). p.shapes) w.order-is
+    ] in
+    subst (λ (l : List Record). IsInPlaceOrder l c.args.records.now) (sym same) c.requires.in_order
+
+pub is_held_above-requires-2-clause-rising : goal.is_held_above-requires-2-clause-rising
+is_held_above-requires-2-clause-rising t c = c.requires.rising
+
+pub is_held_above-requires-2-clause-limits : goal.is_held_above-requires-2-clause-limits
+is_held_above-requires-2-clause-limits t c = c.requires.limits
+
+pub is_held_above-requires-2-clause-long : goal.is_held_above-requires-2-clause-long
+is_held_above-requires-2-clause-long t c =
+    let kept : AreBounds c.if-not-is_held_above.order.shapes c.if-not-is_held_above.order.bounds =
+    elim c.if-not-is_held_above.branch [
+      | then-not-is_held_above w ↦ subst (λ (p : Placements). AreBounds p.shapes p.bounds) (sym w.order-is) w.widen_above.ensures.bounds
+      | else-not-is_held_above w ↦ subst (λ (p : Placements). AreBounds p.shapes p.bounds) (sym w.order-is) c.requires.bounded
+    ] in
+    kept.long
+
+pub returns-then-contains-clause-shapes : goal.returns-then-contains-clause-shapes
+returns-then-contains-clause-shapes t c =
+    let same : c.if-not-is_held_above.order.shapes ≡ c.args.order.now.shapes =
+    elim c.if-not-is_held_above.branch [
+      | then-not-is_held_above w ↦ ap (λ (p : Placements). p.shapes) w.order-is ∙ w.widen_above.ensures.shapes
+      | else-not-is_held_above w ↦ ap (λ (p : Placements). p.shapes) w.order-is
+    ] in
+    c.change_bounds.ensures.shapes ∙ same

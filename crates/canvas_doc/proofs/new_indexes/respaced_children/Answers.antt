@@ -1,4 +1,4 @@
-use Rattle.std.proofs.Common.{◌≡◌, ◌<◌, ◌≤◌, ◌+◌, ◌-◌, ◌∙◌, ◌++◌, ◌∷◌, [], ℕ, List, true, ap, arith, drop, filter, get_or, length, map, subst, sym, take}
+use Rattle.std.proofs.Common.{◌≡◌, ◌<◌, ◌≤◌, ◌+◌, ◌-◌, ◌∙◌, ◌++◌, ◌∷◌, [], ℕ, List, true, ap, arith, drop, filter, get_or, length, map, refl, subst, sym, take}
 use Rattle.std.proofs.lemmas.List.{get_or-drop, get_or-take, length-drop, length-take-le, map-append}
 use Rattle.canvas_doc.specs.declared.bounds.Bounds.{Bounds}
 use Rattle.canvas_doc.specs.declared.placed_shapes.PlacedShape.{PlacedShape}
@@ -8,6 +8,7 @@ use Rattle.canvas_doc.specs.Children.{is_child}
 use Rattle.canvas_doc.specs.Effect.{rank_of, respaced}
 use Rattle.canvas_doc.specs.Placements.{placements_of}
 use Rattle.canvas_doc.proofs.ChildrenInOrder.{one-more}
+use Rattle.canvas_doc.proofs.InSight.{read-below}
 use Rattle.canvas_doc.proofs.Placements.{bounds-at, bounds_of, long-bounds, shape-at, shape_of}
 use Rattle.canvas_doc.proofs.Spaced.{all-passing, rank-at, respaced-child}
 use Rattle.canvas_doc.proofs.new_indexes.respaced_children.Goals as goal
@@ -71,3 +72,6 @@ pub returns-clause-bounds : goal.returns-clause-bounds
 returns-clause-bounds c =
     let whole : c.loop-at.at - c.args.start ≡ c.args.end - c.args.start = (let from : c.args.start ≤ c.args.end = c.requires.children.from in let e = c.loop-at.auto.at-end from in omega arith) in
     c.loop-at.invariant.bounds ∙ ap (λ n. take n (drop c.args.start c.args.order.now.bounds)) whole
+
+pub at-placed-requires : goal.at-placed-requires
+at-placed-requires c = read-below c.loop-at.all c.loop-at.all c.args.order.now c.loop-at.invariant.all refl c.loop-at.at c.args.end c.loop-at-test.true c.requires.children.bound

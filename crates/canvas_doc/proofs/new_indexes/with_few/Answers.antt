@@ -9,6 +9,10 @@ use Rattle.canvas_doc.proofs.Respacing.{none-put, nothing-put, one-put}
 use Rattle.canvas_doc.proofs.new_indexes.with_few.Goals as goal
 use Rattle.canvas_doc.proofs.new_indexes.with_few.Goals.{in-Some-position_of+in_ok-put, in_default-position_of}
 
+-- a position of the records is one of a list that came of them
+within-map : (rs all : List Record) (f : Record → Record) (at : ℕ) → all ≡ map f rs → at < length rs → at < length all
+within-map rs all f at e within = omega (arith, ap length e, length-map rs f)
+
 pub returns-in_default : goal.returns-in_default
 returns-in_default c =
     let rs : List Record = c.args.records.now in
@@ -38,3 +42,12 @@ loop-other-preserved c =
           ∙ one-put rs others (j + 1) w.in-Some-position_of.at o c.requires.rising c.requires.once within is (subst (λ (x : Record). StandsAt rs x.id w.in-Some-position_of.at) c.value.ensures w.in-Some-position_of.ensures)
       | in_default-position_of w ↦ w.all-is ∙ c.loop-other.invariant ∙ none-put rs others (j + 1) o c.requires.once within is (subst (λ (x : Record). record_of x.id rs ≡ None) c.value.ensures w.in_default-position_of.ensures)
     ]
+
+pub with_one-requires : goal.with_one-requires
+with_one-requires c = c.requires.rising
+
+pub position_of-requires : goal.position_of-requires
+position_of-requires c = c.requires.rising
+
+pub put-requires : goal.put-requires
+put-requires c = within-map c.args.records.now c.loop-other.all _ c.in-Some-position_of.at c.loop-other.invariant c.in-Some-position_of.ensures.0

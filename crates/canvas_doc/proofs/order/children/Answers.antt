@@ -1,7 +1,8 @@
-use Rattle.std.proofs.Common.{◌≡◌, ◌∙◌, ◌-◌, Bor, List, arith, drop, map, take, ap}
+use Rattle.std.proofs.Common.{◌≡◌, ◌∙◌, ◌-◌, Bor, List, arith, drop, map, refl, take, ap}
 use Rattle.canvas_doc.specs.declared.records.Record.{Record}
 use Rattle.canvas_doc.specs.Placements.{placements_of}
 use Rattle.canvas_doc.proofs.ChildrenInOrder.{one-more-listed}
+use Rattle.canvas_doc.proofs.InSight.{read-below}
 use Rattle.canvas_doc.proofs.Placements.{shape-at}
 use Rattle.canvas_doc.proofs.Sorting.{record_of}
 use Rattle.canvas_doc.proofs.order.children.Goals as goal
@@ -31,3 +32,9 @@ returns g c =
     let within = c.children_of-start.ensures.children in
     let all : c.loop-at.at ≡ c.children_of-start.result.end = omega (arith, within.from) in
     c.loop-at.invariant.list ∙ ap (λ n. take (n - start) (drop start c.args.order.now.shapes)) all ∙ within.are
+
+pub children_of-start-requires : goal.children_of-start-requires
+children_of-start-requires g c = c.requires
+
+pub at-requires : goal.at-requires
+at-requires g c = read-below c.loop-at.reader c.loop-at.reader c.args.order.now c.loop-at.invariant.reader refl c.loop-at.at c.children_of-start.result.end c.loop-at-test.true c.children_of-start.ensures.children.bound

@@ -2,7 +2,7 @@ use Rattle.std.proofs.Common.{◌≡◌, ◌∙◌, ap, cond, get_or, set, subst
 use Rattle.canvas_list.specs.declared.in_place.ItemChange.TheVariants.{Replace}
 use Rattle.canvas_doc.specs.declared.bounds.Bounds.{Bounds}
 use Rattle.canvas_doc.specs.declared.records.Record.{Record}
-use Rattle.canvas_doc.proofs.Placements.{bounds-changed, shapes-changed}
+use Rattle.canvas_doc.proofs.Placements.{bounds-changed, place-changed, shapes-changed}
 use Rattle.canvas_doc.proofs.WidenedAbove.{stays-if}
 use Rattle.canvas_doc.proofs.placed_shapes.PlacedShapes.change_bounds.Goals as goal
 
@@ -16,3 +16,9 @@ pub returns-clause-bounds : goal.returns-clause-bounds
 returns-clause-bounds c =
     bounds-changed c.self.inside.list c.change.new.self c.args.self.now c.args.at (Replace c.new-placed.result) c.change.result c.self.view_is c.change.ensures
     ∙ ap (λ (b : Bounds). cond c.change.result (set c.args.self.now.bounds c.args.at b) c.args.self.now.bounds) c.new-placed.ensures.bounds
+
+pub at-requires : goal.at-requires
+at-requires c = c.requires
+
+pub change-requires : goal.change-requires
+change-requires c = place-changed c.self.inside.list c.args.self.now c.args.at (Replace c.new-placed.result) c.self.view_is c.requires
