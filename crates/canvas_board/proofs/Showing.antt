@@ -23,7 +23,7 @@ use Rattle.canvas_board.specs.declared.answers.Picture.{Picture}
 use Rattle.canvas_board.specs.declared.kept.WindowKey.{WindowKey}
 use Rattle.canvas_board.specs.Kept.{key_of, AreRight, BringsIn, IsCopyOf, IsRight, IsStillRight, ShowsAt, TellsOfKept}
 use Rattle.canvas_board.specs.Raster.{file_of}
-use Rattle.canvas_board.specs.Shared.{known_after}
+use Rattle.canvas_board.specs.Shared.{board_at, known_after, shared_board}
 use Rattle.canvas_board.proofs.Spared.{DamageKeeps, file-key, still-shows}
 
 -- the seat's front goes on, and nothing else changes
@@ -35,6 +35,10 @@ goes-nowhere s t is = subst (λ (x : Sight). GoesOnTo s x) (sym is) (prefix_self
 
 pub goes-by-look : (s t : Sight) (v : Version) → Looks s t v → GoesOnTo s t
 goes-by-look s t v l = (l.0.0, l.0.2)
+
+-- what the board shows of the old front stays
+pub board-stays : (s t : Sight) (known : ℕ) → GoesOnTo s t → known ≤ length s.front → board_at t known ≡ board_at s known
+board-stays s t known goes within = ap (λ (x : Sight). board_at x known) goes.1 ∙ ap (shared_board s.opening s.limit) (take_more_same known s.front t.front goes.0 within)
 
 goes-by-edit : (s t : Sight) (edit : Edit) (edited : Edited) → EditAccepted s edit t edited → GoesOnTo s t
 goes-by-edit s t edit edited a =

@@ -1,5 +1,5 @@
 -- Each step keeps the rule.
-use Rattle.std.proofs.Common.{◌≡◌, ◌≢◌, ℕ, List, [], ◌∷◌, ◌++◌, fold, set, refl, sym, subst, ⊎_elim}
+use Rattle.std.proofs.Common.{◌≡◌, ◌≢◌, ℕ, zero, suc, List, [], ◌∷◌, ◌++◌, fold, set, refl, sym, subst, ⊎_elim}
 use mathlib.Core.Option.{some}
 use lib.ListN.{get_elem?}
 use Rattle.crossbeam_utils.specs.Register.{Admits, TurnsAt, Forks, Merges}
@@ -15,6 +15,14 @@ fold_last s (y ∷ xs) x = fold_last y xs x
 
 pub admits : Admits Keeps newcomer
 admits x views k seat v at = ⊎_elim (k seat v) (λ (e : newcomer ≡ v). subst (λ (z : View). AllOf z.known x.facts) e tt) (at_snoc views newcomer v seat at)
+
+none_kept : (x : Shown) → Keeps x []
+none_kept x zero v e = absurd (cc)
+none_kept x (suc n) v e = absurd (cc)
+
+-- a newcomer alone keeps the rule
+pub starts : (x : Shown) → Keeps x (newcomer ∷ [])
+starts x = admits x [] (none_kept x)
 
 -- a value with the same facts is published, or seen
 pub turns : (seat : ℕ) (v : View) (x y : Shown) → y.facts ≡ x.facts → TurnsAt Keeps seat v x y Seen

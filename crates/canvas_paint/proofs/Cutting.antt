@@ -1,13 +1,14 @@
 -- Items cut to a window, and the words of their rows.
-use Rattle.std.proofs.Common.{◌≡◌, ℕ, zero, suc, ◌+◌, ◌-◌, ◌*◌, ◌^◌, ◌<◌, ◌≤◌, max, min, List, [], ◌∷◌, ◌++◌, ℤ, Bool, true, false, ◌&&◌, cond, Option, Some, None, refl, sym, ap, ◌∙◌, arith, length, take, get_or, pos, ◌-ℤ◌, nat_le, nat_lt, ◌/◌, ◌%◌, slice_index, set, get_or-set_same, get_or-set_other, ◌≢◌, ⊎_elim}
-use Rattle.std.specs.Prelude.{int_le, int_lt}
+use Rattle.std.proofs.Common.{◌≡◌, ℕ, zero, suc, ◌+◌, ◌-◌, ◌*◌, ◌^◌, ◌<◌, ◌≤◌, max, min, List, [], ◌∷◌, ◌++◌, ℤ, Bool, true, false, ◌&&◌, cond, Option, Some, None, refl, sym, ap, ◌∙◌, arith, length, take, get_or, pos, ◌-ℤ◌, FitsSigned, w64, nat_le, nat_lt, ◌/◌, ◌%◌, slice_index, set, get_or-set_same, get_or-set_other, ◌≢◌, ⊎_elim}
+use Rattle.std.specs.Prelude.{int_le, int_lt, unsigned_abs}
 use Rattle.canvas_plane.specs.Sides.{scale_of}
 use Rattle.canvas_plane.proofs.Levels.{along}
 use Rattle.std.proofs.lemmas.List.{take_more}
 use Rattle.std.proofs.lemmas.Bool.{cases_eq}
 use Rattle.std.proofs.lemmas.Bool.Decides.{nat_tests}
 use Rattle.std.proofs.Math.Nat.{div-mul-le_self, mod-eq_of_lt}
-use Rattle.std.proofs.lemmas.Int.{ints}
+use Rattle.std.proofs.lemmas.Int.{fits_signed_from_abs, ints, to_z-of_z}
+use mir.Val.{of_z, to_z}
 use Rattle.canvas_plane.specs.Page.{is_in}
 use Rattle.canvas_plane.specs.declared.Point.{Point}
 use Rattle.canvas_shape.specs.Spans.{is_from_to}
@@ -34,6 +35,10 @@ pub part-none : (from to base i start end : ℕ) → start ≡ min (from - base)
 part-none from to base i start end s e le lt =
     let out : is_within from (base + i) to ≡ false = grind (arith, nat_tests) in
     has-zero i ∙ sym out
+
+-- the difference of two rows of the page fits
+pub fits-apart : (at from : ℤ) → FitsSigned w64 at → FitsSigned w64 from → unsigned_abs at ≤ 4294967296 → unsigned_abs from ≤ 2147483648 → FitsSigned w64 (to_z w64 (of_z w64 at) -ℤ to_z w64 (of_z w64 from))
+fits-apart at from a f h k = simp to_z-of_z (fits_signed_from_abs w64 (at -ℤ from) (omega (arith, ints)))
 
 -- the columns between the ends of an ellipse's row
 pub ellipse-between : (w : Window) (sides : PageBox) (k j from to : ℕ) (y s t : ℤ) → nat_le from k ≡ int_le s (column_shown w k) → nat_lt k to ≡ int_lt (column_shown w k) t → ((z : ℤ) → is_from_to s z t ≡ is_in_ellipse sides z y) → y ≡ row_shown w j → is_within from k to ≡ is_in_ellipse sides (column_shown w k) (row_shown w j)

@@ -1,5 +1,5 @@
 -- A window painted from a scene is the document's picture, and strips in order are the whole of it.
-use Rattle.std.proofs.Common.{◌≡◌, ℕ, ◌+◌, ◌<◌, ◌≤◌, ◌++◌, ◌∙◌, List, ℤ, ◌+ℤ◌, ◌*ℤ◌, ◌≤ℤ◌, ◌<ℤ◌, ◌*◌, pos, ◌&&◌, true, ap, append-nil, arith, length, refl, sym, take, Result, Ok, Err}
+use Rattle.std.proofs.Common.{◌≡◌, ℕ, ◌+◌, ◌<◌, ◌≤◌, ◌++◌, ◌∙◌, List, [], ℤ, ◌+ℤ◌, ◌*ℤ◌, ◌≤ℤ◌, ◌<ℤ◌, ◌*◌, pos, ◌&&◌, true, ap, append_assoc, append-nil, arith, length, refl, sym, take, Result, Ok, Err}
 use Rattle.std.proofs.lemmas.List.{take_at}
 use Rattle.std.proofs.Math.Nat.{mul-div_cancel_left, mul-le-mul_right}
 use Rattle.std.specs.Result.{OnOk}
@@ -63,8 +63,16 @@ strips-begin items w n start =
     sym (ap (λ m. start ++ rows_of (last_colour items) w 0 m) none ∙ append-nil start)
 
 -- what is only appended to keeps its beginning
-pub begins-same : (start rest whole : List ℕ) → whole ≡ start ++ rest → take (length start) whole ≡ start
+pub begins-same : {X : Type 0} (start rest whole : List X) → whole ≡ start ++ rest → take (length start) whole ≡ start
 begins-same start rest whole e = ap (take (length start)) e ∙ take_at start rest (length start) refl
+
+-- the same with more after it
+pub begins-more : {X : Type 0} (start rest more middle whole : List X) → middle ≡ start ++ rest → whole ≡ middle ++ more → take (length start) whole ≡ start
+begins-more start rest more middle whole e f = begins-same start (rest ++ more) whole (f ∙ ap (λ l. l ++ more) e ∙ append_assoc start rest more)
+
+-- and with nothing after it
+pub begins-itself : {X : Type 0} (start : List X) → take (length start) start ≡ start
+begins-itself start = begins-same start [] start (sym (append-nil start))
 
 -- after n strips there are all rows
 pub strips-whole : (items : List Item) (w : Window) (k n : ℕ) (start whole : List ℕ) → 0 < n → k ≡ n → whole ≡ start ++ rows_of (last_colour items) w 0 (strip_start w.h k n) → whole ≡ start ++ rows_of (last_colour items) w 0 w.h

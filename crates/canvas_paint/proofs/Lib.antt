@@ -6,5 +6,6 @@ pub mod Columns
 pub mod Banding
 pub mod Cutting
 pub mod Fraying
+pub mod Filling
 pub mod Joined
 pub mod RowWords

@@ -48,3 +48,11 @@ returns-in-Err-done-clause-view g c f k =
 pub returns-in-Err-clause-view : goal.returns-in-Err-clause-view
 returns-in-Err-clause-view g c f k =
     knows_same (seat_view c.args.writer.desk.place) (seat_view c.append.new.self.desk.place) f (ap (λ d. seat_view d.place) c.append.ensures.desk) k
+
+pub returns-in-Ok-done-clause-value : goal.returns-in-Ok-done-clause-value
+returns-in-Ok-done-clause-value g c =
+    let q = c.append.new.self in
+    let p = c.publish_as-writer.result.0 in
+    let old = drop c.args.writer.behind c.args.writer.log.items in
+    let values = subst (λ r. MatchResult r (λ _. (p.desk.shown.value ≡ fold (λ (s x : Shown). x) q.desk.shown.value (drop q.behind q.log.items)) × (drop p.behind p.log.items ≡ [])) (λ _. (p.desk.shown.value ≡ q.desk.shown.value) × (drop p.behind p.log.items ≡ drop q.behind q.log.items))) c.in-Ok-done.is c.publish_as-writer.ensures.values in
+    values.0 ∙ (ap (λ xs. fold (λ (s x : Shown). x) q.desk.shown.value xs) c.in-Ok.ensures.pending ∙ fold_last q.desk.shown.value old c.args.next)

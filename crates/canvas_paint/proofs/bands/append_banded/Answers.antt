@@ -4,7 +4,7 @@ use Rattle.canvas_scene.specs.Items.{last_colour}
 use Rattle.canvas_scene.specs.Pictures.{bytes_at}
 use Rattle.canvas_paint.specs.Blocks.{shown}
 use Rattle.canvas_paint.proofs.Columns.{strip-bytes}
-use Rattle.canvas_paint.proofs.Joined.{ok-then}
+use Rattle.canvas_paint.proofs.Joined.{begins-itself, ok-then}
 use Rattle.canvas_paint.proofs.bands.append_banded.Goals as goal
 
 pub returns-clause-ok : goal.returns-clause-ok
@@ -15,3 +15,9 @@ returns-clause-ok c =
     e refl (search rules)
     (λ x z p q r. ap (λ l. shown l x z) c.deref-2.ensures.value ∙ ap (λ o. (or_white o).0) (c.in_ok-blocks.ensures x z p q (omega arith))))
     c.append_bands.ensures.ok
+
+pub returns-in_err-columns-clause-kept : goal.returns-in_err-columns-clause-kept
+returns-in_err-columns-clause-kept c = begins-itself c.args.out.now.items
+
+pub returns-in_err-blocks-clause-kept : goal.returns-in_err-blocks-clause-kept
+returns-in_err-blocks-clause-kept c = begins-itself c.args.out.now.items

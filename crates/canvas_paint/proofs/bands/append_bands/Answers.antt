@@ -2,7 +2,8 @@ use Rattle.std.proofs.Common.{arith, ap, length}
 use Rattle.canvas_doc.specs.Picture.{or_white}
 use Rattle.canvas_paint.specs.Blocks.{shown}
 use Rattle.canvas_paint.specs.Columns.{blocks_in, shown_in}
-use Rattle.canvas_paint.proofs.Banding.{band-after}
+use Rattle.canvas_paint.proofs.Banding.{band-after, begins-kept}
+use Rattle.canvas_paint.proofs.Joined.{begins-same}
 use Rattle.canvas_paint.proofs.bands.append_bands.Goals as goal
 
 pub loop-at-preserved : goal.loop-at-preserved
@@ -13,3 +14,12 @@ loop-at-preserved c = record {
       c.loop-at.invariant.low (omega arith) (omega arith) c.loop-at.invariant.bytes c.in_ok-append_rows.ensures.ok
       (λ x z p q r. ap (λ o. (or_white o).0) (c.in_ok-fill.ensures.fills x z (omega arith) q r));
 }
+
+pub returns-in_err-fill-clause-kept : goal.returns-in_err-fill-clause-kept
+returns-in_err-fill-clause-kept c = begins-same c.args.out.now.items _ c.loop-at.out.items c.loop-at.invariant.bytes
+
+pub returns-in_err-append_rows-clause-kept : goal.returns-in_err-append_rows-clause-kept
+returns-in_err-append_rows-clause-kept c = begins-kept c.args.out.now.items _ c.loop-at.out.items c.append_rows.new.out.items c.loop-at.invariant.bytes c.in_err-append_rows.ensures.kept
+
+pub returns-clause-kept : goal.returns-clause-kept
+returns-clause-kept c = begins-same c.args.out.now.items _ c.loop-at.out.items c.loop-at.invariant.bytes

@@ -1,5 +1,7 @@
 use Rattle.std.proofs.Common.{ap, sym, ◌∙◌}
+use Rattle.std.proofs.lemmas.List.{take_all}
 use Rattle.canvas_doc.specs.Picture.{or_else}
+use Rattle.canvas_scene.specs.Items.{last_fill}
 use Rattle.canvas_plane.specs.Window.{column_shown, row_shown}
 use Rattle.canvas_paint.specs.Blocks.{block_fill, cut_fill, last_block_fill}
 use Rattle.canvas_paint.proofs.Cutting.{cut-more}
@@ -24,3 +26,6 @@ loop-item-preserved c = λ k j p q r.
           (c.in_ok-block.ensures k j p q r)
           (ap (λ v. last_block_fill v.items k j) u.blocks-is ∙ sym (ap (λ o. or_else (cut_fill o k j) old) u.in-None.is))
     ]
+
+pub returns : goal.returns
+returns c = λ k j p q r. c.loop-item.invariant k j p q r ∙ ap (λ l. last_fill l (column_shown c.args.window.now k) (row_shown c.args.window.now j)) (take_all c.loop-item.item-index c.args.items.now c.loop-item-test.false)

@@ -1,6 +1,6 @@
 use Rattle.std.proofs.Common.{◌<◌, ◌∙◌, IfOk, ap, arith, slice_index_or, subst, sym}
 use Rattle.canvas_paint.specs.Strips.{IsStrip}
-use Rattle.canvas_paint.proofs.Joined.{begins-same, strip-after, strips-begin, strips-whole}
+use Rattle.canvas_paint.proofs.Joined.{begins-itself, begins-same, strip-after, strips-begin, strips-whole}
 use Rattle.canvas_paint.proofs.workers.append_strips.Goals as goal
 
 pub loop-strip-init : goal.loop-strip-init
@@ -33,3 +33,6 @@ returns-clause-ok g c =
 
 pub returns-clause-kept : goal.returns-clause-kept
 returns-clause-kept g c = begins-same c.args.out.now.items _ c.loop-strip.out.items c.loop-strip.invariant
+
+pub returns-in_err-strips-clause-kept : goal.returns-in_err-strips-clause-kept
+returns-in_err-strips-clause-kept g c = begins-itself c.args.out.now.items

@@ -3,13 +3,14 @@ use Rattle.std.specs.Arc.{arc_value}
 use Rattle.canvas_doc.specs.Contents.{Contents}
 use Rattle.canvas_paint.specs.Workers.{are_workers}
 use Rattle.canvas_line.specs.declared.version.Version.{Version}
+use Rattle.canvas_line.specs.Lines.{Sight}
 use Rattle.canvas_line.specs.Seats.{Looks}
 use Rattle.canvas_board.specs.Kept.{entries_of}
 use Rattle.canvas_board.specs.Raster.{file_of}
 use Rattle.canvas_board.specs.Seen.{Seen, Grows, document_of}
 use Rattle.canvas_board.specs.Shared.{board_at}
 use Rattle.canvas_board.proofs.Seats.{looks-grow, looks-document, looks-number}
-use Rattle.canvas_board.proofs.Showing.{are-right-on, board-on, board-told, goes-by-look, goes-nowhere, within-on}
+use Rattle.canvas_board.proofs.Showing.{are-right-on, board-on, board-stays, board-told, goes-by-look, goes-nowhere, within-on}
 use Rattle.canvas_board.proofs.shared.SharedBoard.picture.Goals as goal
 
 pub invariant_of-self : goal.invariant_of-self
@@ -54,3 +55,15 @@ invariant_of-self-in-Err g c =
     let looks : Looks i.seat seat c.deref.result.now = subst (Looks i.seat seat) (sym c.deref.ensures) c.in-Ok.ensures in
     let right = are-right-on i.seat seat on (entries_of i.kept.cache) c.self.invariant.1 in
     (within-on i.seat seat i.known on c.self.invariant.0, c.picture_at.ensures.right i.seat seat looks right)
+
+pub returns : goal.returns
+returns g c =
+    let i = c.self.inside in
+    let seat = c.look.new.self in
+    let workers : are_workers c.args.workers ≡ true = search rules in
+    (board-stays i.seat seat i.known (goes-by-look i.seat seat (arc_value c.in-Ok.version) c.in-Ok.ensures) c.self.invariant.0 ∙ c.self.view_is, workers)
+
+pub returns-in_default : goal.returns-in_default
+returns-in_default g c =
+    let workers : are_workers c.args.workers ≡ true = search rules in
+    (ap (λ (s : Sight). board_at s c.self.inside.known) c.in_default.ensures.1 ∙ c.self.view_is, workers, ap (λ (s : Seen). s.alone) (sym c.self.view_is))

@@ -1,6 +1,7 @@
-use Rattle.std.proofs.Common.{◌≡◌, ap, sym, ◌∙◌, subst}
+use Rattle.std.proofs.Common.{◌≡◌, [], ap, sym, ◌∙◌, subst}
 use Rattle.left_right.specs.Sides.{view as seat_view}
 use Rattle.logbook.specs.Pages.{Book}
+use Rattle.canvas_line.specs.Lines.{sight_of}
 use Rattle.canvas_line.specs.Rule.{Knows}
 use Rattle.canvas_line.specs.Trails.{Facts, Trail}
 use Rattle.canvas_line.proofs.line.Line.open.Goals as goal
@@ -11,3 +12,9 @@ new-desk-requires-clause-view g c =
     let facts : Book → Facts = λ book. record { book = book; opening = c.args.document; limit = c.args.limit } in
     let same : facts c.args.opened.trace.book ≡ g.B.Lines.line c.args.name = ap (λ (t : Trail). facts t.book) c.args.opened.empty ∙ sym c.requires in
     subst (λ (f : Facts). Knows (seat_view c.in-Ok.writer.desk.place) f) same c.in-Ok.ensures.view
+
+pub returns-in-Ok-seated-clause-each : goal.returns-in-Ok-seated-clause-each
+returns-in-Ok-seated-clause-each g c =
+    let same : sight_of c.args.name (g.B.Lines.line c.args.name) c.args.opened.trace.changes ≡ record { name = c.args.name; opening = c.args.document; limit = c.args.limit; front = [] } =
+    ap (λ (f : Facts). sight_of c.args.name f c.args.opened.trace.changes) c.requires ∙ ap (λ (t : Trail). record { name = c.args.name; opening = c.args.document; limit = c.args.limit; front = t.changes }) c.args.opened.empty in
+    λ k d lt. c.in-Ok-seated.ensures.each k d lt ∙ same
