@@ -5,3 +5,4 @@ pub mod LinesOf
 pub mod Exchanges
 pub mod Stops
 pub mod Shown
+pub mod Taking

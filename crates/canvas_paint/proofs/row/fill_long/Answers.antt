@@ -1,4 +1,4 @@
-use Rattle.std.proofs.Common.{◌≡◌, ◌+◌, ◌-◌, ◌<◌, arith, get_or, length}
+use Rattle.std.proofs.Common.{◌+◌, ◌-◌, ◌<◌, arith, get_or, length}
 use Rattle.std.proofs.lemmas.List.{get_or-replicate}
 use Rattle.canvas_paint.proofs.Filling.{filled-more}
 use Rattle.canvas_paint.proofs.row.fill_long.Goals as goal
