@@ -1,12 +1,11 @@
 //! A server of one seat and its 1,001 connections, the first of which goes away in the middle of a picture.
 
-use crate::servers::{NO_SEATS, connected, settings};
-use canvas_doc::Document;
-use canvas_server::serve_connections;
+use crate::asserts::{equal, holds, holds_at};
+use crate::servers::{NO_SEATS, connected, listening, served, settings};
 use std::alloc::Global;
 use std::io::{Read, Write};
-use std::net::{Net, OpenStream, Shutdown, SocketAddr, TcpListener, TcpStream};
-use std::test::Fail;
+use std::net::{Net, OpenStream, Shutdown, SocketAddr, TcpStream};
+use std::process::Abort;
 use std::time::{Clock, Duration};
 use std::{io, thread};
 
@@ -21,12 +20,14 @@ pub(crate) const WHITE: &str = "{\"body\":0,\"colour\":\"ffffff\",\"ok\":true,\"
 const OTHERS: u32 = 1_000;
 
 // Asks for a picture of 196,623 bytes, reads the first ten bytes of the answer, and goes away.
-fn leave<H: Net<Stream = TcpStream>>(rt: &H, address: SocketAddr) -> io::Result<[u8; 10]> {
-    let stream = connected(rt, address)?;
+fn leave<H: Net<Stream = TcpStream> + Abort>(rt: &H, address: SocketAddr) -> [u8; 10] {
+    let stream = connected(rt, address).expect(rt, "a client");
     let mut head = [0u8; 10];
-    (&stream).write_all(PICTURE.as_bytes())?;
-    (&stream).read_exact(&mut head)?;
-    Ok(head)
+    (&stream)
+        .write_all(PICTURE.as_bytes())
+        .expect(rt, "a request");
+    (&stream).read_exact(&mut head).expect(rt, "ten bytes");
+    head
 }
 
 /// A connection that has asked for a point, and asks for no more.
@@ -81,24 +82,18 @@ fn ask_each<H: Net<Stream = TcpStream> + Clock>(
 }
 
 #[test]
-fn a_seat_comes_back_from_a_client_that_went_away(rt: HostRuntime) -> Result<(), Fail> {
-    let listener = TcpListener::bind(&rt, "127.0.0.1:0")?;
-    let address = listener.local_addr()?;
+fn a_seat_comes_back_from_a_client_that_went_away(rt: HostRuntime) {
+    let (listener, address) = listening(&rt);
     let alloc = rt.alloc();
-    let (served, (head, (turned_away, answered))) = thread::join(
+    let (ended, (head, (turned_away, answered))) = thread::join(
         &rt,
-        || {
-            let document = Document::empty(alloc);
-            serve_connections(&rt, alloc, &listener, document, &settings(1, 1, 1_001))
-        },
+        || served(&rt, alloc, &listener, &settings(1, 1, 1_001)),
         || (leave(&rt, address), ask_each(&rt, alloc, address)),
     );
-    assert!(rt; served.is_ok());
-    assert!(rt; head?.as_slice() == b"{\"body\":19".as_slice());
+    holds(&rt, "served", ended.is_ok());
+    holds(&rt, "its head", head.starts_with(b"{\"body\":19"));
     // A seat is free before its connection is closed, so once one is answered all others are.
-    assert!(rt;
-        answered > 0 && answered.saturating_add(turned_away) == OTHERS,
-        "{answered} answered, {turned_away} turned away before"
-    );
-    Ok(())
+    holds_at(&rt, "answered", answered, answered > 0);
+    let others = OTHERS.saturating_sub(answered);
+    equal(&rt, "turned away before", &turned_away, &others);
 }

@@ -1,5 +1,6 @@
 //! The number, the name and the text of each fault of a server.
 
+use crate::asserts::{equal, holds};
 use canvas_server::ServerFault;
 use std::alloc::Global;
 use std::process::Abort;
@@ -7,10 +8,8 @@ use std::process::Abort;
 // Asserts that a fault has such a number, or none, and such a name, and that it reads as the name.
 fn assert_told(rt: &impl Abort, alloc: Global, fault: ServerFault, code: Option<u16>, name: &str) {
     let text = format!(in alloc; "{fault}").expect(rt, "memory");
-    assert!(rt;
-        fault.code() == code && fault.name() == name && text.as_str() == name,
-        "{name}"
-    );
+    equal(rt, "a fault", &(fault.code(), fault.name()), &(code, name));
+    holds(rt, name, text.as_str() == name);
 }
 
 #[test]

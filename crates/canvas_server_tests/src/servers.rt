@@ -1,12 +1,14 @@
 //! Servers on the loopback, with their clients on threads beside them.
 
+use crate::asserts::{equal, holds};
 use canvas_doc::Document;
 use canvas_server::{ServerFault, Settings, serve_connections};
 use std::alloc::Global;
 use std::io::{Read, Write};
 use std::net::{Net, OpenListener, OpenStream, SocketAddr, TcpListener, TcpStream};
+use std::process::Abort;
 use std::sync::Wait;
-use std::test::Fail;
+use std::thread::Threads;
 use std::time::{Clock, Duration};
 use std::{io, thread};
 
@@ -48,125 +50,123 @@ pub(crate) fn connected<H: Net<Stream = TcpStream>>(
     Ok(stream)
 }
 
-// The reply to an edit in a session of its own.
-fn edit<H: Net<Stream = TcpStream>>(
+/// A listener on the loopback, and its address.
+pub(crate) fn listening<H: Net<Listener = TcpListener, Stream = TcpStream> + Abort>(
     rt: &H,
-    address: SocketAddr,
-    line: &str,
-) -> io::Result<[u8; 40]> {
-    let stream = connected(rt, address)?;
+) -> (TcpListener, SocketAddr) {
+    let listener = TcpListener::bind(rt, "127.0.0.1:0").expect(rt, "a listener");
+    let address = listener.local_addr().expect(rt, "an address");
+    (listener, address)
+}
+
+/// Serves an empty document to connections.
+pub(crate) fn served<H: Threads + Wait + Clock + Sync>(
+    rt: &H,
+    alloc: Global,
+    listener: &TcpListener,
+    settings: &Settings,
+) -> Result<(), ServerFault> {
+    serve_connections(rt, alloc, listener, Document::empty(alloc), settings)
+}
+
+// The reply to an edit in a session of its own.
+fn edit<H: Net<Stream = TcpStream> + Abort>(rt: &H, address: SocketAddr, line: &str) -> [u8; 40] {
+    let stream = connected(rt, address).expect(rt, "an editor");
     let mut reply = [0u8; 40];
-    (&stream).write_all(line.as_bytes())?;
-    (&stream).read_exact(&mut reply)?;
-    Ok(reply)
+    (&stream).write_all(line.as_bytes()).expect(rt, "an edit");
+    (&stream).read_exact(&mut reply).expect(rt, "its reply");
+    reply
 }
 
 // The reply to a patch, asked for until it shows a version, at most 1,000 times.
-fn view(stream: &TcpStream, version: u8) -> io::Result<[u8; 51]> {
+fn view(rt: &impl Abort, stream: &TcpStream, version: u8) -> [u8; 51] {
     let mut stream = stream;
     let mut reply = [0u8; 51];
     for _ in 0..1000u32 {
-        stream.write_all(PATCH.as_bytes())?;
-        stream.read_exact(&mut reply)?;
+        stream.write_all(PATCH.as_bytes()).expect(rt, "a patch");
+        stream.read_exact(&mut reply).expect(rt, "its reply");
         if reply[PATCH_VERSION] == version {
             break;
         }
     }
-    Ok(reply)
+    reply
 }
 
-// What two editors are told, and what a viewer sees then.
-type Told = ([u8; 40], [u8; 40], [u8; 51]);
-
 #[test]
-fn a_viewer_sees_what_two_editors_made(rt: HostRuntime) -> Result<(), Fail> {
-    let listener = TcpListener::bind(&rt, "127.0.0.1:0")?;
-    let address = listener.local_addr()?;
+fn a_viewer_sees_what_two_editors_made(rt: HostRuntime) {
+    let (listener, address) = listening(&rt);
     let alloc = rt.alloc();
-    let (served, told) = thread::join(
+    let (ended, (red, blue, viewed)) = thread::join(
         &rt,
+        || served(&rt, alloc, &listener, &settings(3, 2, 3)),
         || {
-            let document = Document::empty(alloc);
-            serve_connections(&rt, alloc, &listener, document, &settings(3, 2, 3))
-        },
-        || -> io::Result<Told> {
             // The viewer is answered before the editors come.
-            let viewer = connected(&rt, address)?;
-            view(&viewer, b'0')?;
+            let viewer = connected(&rt, address).expect(&rt, "a viewer");
+            view(&rt, &viewer, b'0');
             let (red, blue) = thread::join(
                 &rt,
                 || edit(&rt, address, RED),
                 || edit(&rt, address, BLUE),
             );
-            Ok((red?, blue?, view(&viewer, b'2')?))
+            (red, blue, view(&rt, &viewer, b'2'))
         },
     );
-    let (red, blue, viewed) = told?;
-    assert!(rt; served.is_ok());
+    holds(&rt, "served", ended.is_ok());
     let versions = [red[EDIT_VERSION], blue[EDIT_VERSION]];
-    assert!(rt; versions == [b'1', b'2'] || versions == [b'2', b'1']);
-    assert!(rt; viewed.starts_with(PATCH_REPLY.as_bytes()));
-    assert!(rt; viewed.ends_with(&[255, 0, 0, 0, 0, 255]));
-    Ok(())
+    let is_each = versions == [b'1', b'2'] || versions == [b'2', b'1'];
+    holds(&rt, "two versions", is_each);
+    let is_viewed = viewed.starts_with(PATCH_REPLY.as_bytes());
+    holds(&rt, "the reply", is_viewed);
+    holds(&rt, "pixels", viewed.ends_with(&[255, 0, 0, 0, 0, 255]));
 }
 
 // What a second connection reads while the first, which was answered once, is still open.
-fn second<H: Net<Stream = TcpStream>>(rt: &H, address: SocketAddr) -> io::Result<[u8; 49]> {
-    let first = connected(rt, address)?;
+fn second<H: Net<Stream = TcpStream> + Abort>(rt: &H, address: SocketAddr) -> [u8; 49] {
+    let first = connected(rt, address).expect(rt, "a first client");
     let mut reply = [0u8; 51];
-    (&first).write_all(PATCH.as_bytes())?;
-    (&first).read_exact(&mut reply)?;
-    let second = connected(rt, address)?;
+    (&first).write_all(PATCH.as_bytes()).expect(rt, "a patch");
+    (&first).read_exact(&mut reply).expect(rt, "its reply");
+    let second = connected(rt, address).expect(rt, "a second client");
     let mut reply = [0u8; 49];
-    (&second).read_exact(&mut reply)?;
-    Ok(reply)
+    (&second).read_exact(&mut reply).expect(rt, "a refusal");
+    reply
 }
 
 #[test]
-fn a_full_house_says_so(rt: HostRuntime) -> Result<(), Fail> {
-    let listener = TcpListener::bind(&rt, "127.0.0.1:0")?;
-    let address = listener.local_addr()?;
+fn a_full_house_says_so(rt: HostRuntime) {
+    let (listener, address) = listening(&rt);
     let alloc = rt.alloc();
-    let (served, reply) = thread::join(
+    let (ended, reply) = thread::join(
         &rt,
-        || {
-            let document = Document::empty(alloc);
-            serve_connections(&rt, alloc, &listener, document, &settings(1, 1, 2))
-        },
+        || served(&rt, alloc, &listener, &settings(1, 1, 2)),
         || second(&rt, address),
     );
-    let reply = reply?;
-    assert!(rt; served.is_ok());
-    assert!(rt; reply.as_slice() == NO_SEATS.as_bytes());
-    Ok(())
+    holds(&rt, "served", ended.is_ok());
+    holds(&rt, "no seats", reply.as_slice() == NO_SEATS.as_bytes());
 }
 
 #[test]
-fn bad_settings_come_first(rt: HostRuntime) -> Result<(), Fail> {
-    let listener = TcpListener::bind(&rt, "127.0.0.1:0")?;
-    let alloc = rt.alloc();
-    for (settings, fault) in [
-        (settings(0, 17, 1), ServerFault::BadSetting),
-        (settings(65, 1, 1), ServerFault::BadSetting),
-        (settings(1, 17, 1), ServerFault::BadWorkers),
-        (settings(1, 0, 1), ServerFault::BadWorkers),
+fn bad_settings_come_first(rt: HostRuntime) {
+    let (listener, _) = listening(&rt);
+    for (seats, workers, fault) in [
+        (0, 17, ServerFault::BadSetting),
+        (65, 1, ServerFault::BadSetting),
+        (1, 17, ServerFault::BadWorkers),
+        (1, 0, ServerFault::BadWorkers),
     ] {
-        let document = Document::empty(alloc);
-        let ended = serve_connections(&rt, alloc, &listener, document, &settings);
-        assert!(rt; ended == Err(fault));
+        let settings = settings(seats, workers, 1);
+        let ended = served(&rt, rt.alloc(), &listener, &settings);
+        equal(&rt, "the end", &ended, &Err(fault));
     }
-    Ok(())
 }
 
 #[test]
-fn a_listener_that_accepts_nothing_ends_the_server(rt: HostRuntime) -> Result<(), Fail> {
-    let listener = TcpListener::bind(&rt, "127.0.0.1:0")?;
-    listener.set_nonblocking(true)?;
-    let alloc = rt.alloc();
-    let document = Document::empty(alloc);
-    let ended = serve_connections(&rt, alloc, &listener, document, &settings(1, 1, 0));
-    assert!(rt; ended == Err(ServerFault::AcceptFault));
-    assert!(rt; ServerFault::AcceptFault.code().is_none());
-    assert!(rt; ServerFault::AcceptFault.name() == "AcceptFault");
-    Ok(())
+fn a_listener_that_accepts_nothing_ends_the_server(rt: HostRuntime) {
+    let (listener, _) = listening(&rt);
+    listener.set_nonblocking(true).expect(&rt, "no waiting");
+    let fault = ServerFault::AcceptFault;
+    let ended = served(&rt, rt.alloc(), &listener, &settings(1, 1, 0));
+    equal(&rt, "the end", &ended, &Err(fault));
+    let told = (fault.code(), fault.name());
+    equal(&rt, "number and name", &told, &(None, "AcceptFault"));
 }

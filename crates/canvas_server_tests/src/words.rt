@@ -1,16 +1,23 @@
 //! Words of the command line, and statuses.
 
+use crate::asserts::equal;
 use canvas_server::{Command, exit_status};
+use std::process::Abort;
+
+// Asserts that words are such a command, or none.
+fn check_read(rt: &impl Abort, words: &[&str], wanted: Option<Command>) {
+    let found = Command::read(words);
+    equal(rt, "words", &(words, found), &(words, wanted));
+}
 
 #[test]
 fn commands(rt: HostRuntime) {
     for (word, workers) in [("1", 1), ("2", 2), ("9", 9), ("10", 10), ("16", 16)] {
-        assert!(rt;
-            Command::read(&["script", word]) == Some(Command::Script { workers }),
-            "at {word}"
-        );
+        let wanted = Command::Script { workers };
+        check_read(&rt, &["script", word], Some(wanted));
     }
-    assert!(rt; Command::read(&["script"]) == Some(Command::Script { workers: 2 }));
+    let wanted = Command::Script { workers: 2 };
+    check_read(&rt, &["script"], Some(wanted));
     for word in [
         "0",
         "17",
@@ -24,16 +31,16 @@ fn commands(rt: HostRuntime) {
         "100",
         "4294967298",
     ] {
-        assert!(rt; Command::read(&["script", word]).is_none(), "at {word}");
+        check_read(&rt, &["script", word], None);
     }
     for words in [
         ["script", "2", "3"],
         ["Serve", "a", "b"],
         ["Script", "", ""],
     ] {
-        assert!(rt; Command::read(&words).is_none());
+        check_read(&rt, &words, None);
     }
-    assert!(rt; Command::read(&[]).is_none());
+    check_read(&rt, &[], None);
 }
 
 #[test]
@@ -47,7 +54,7 @@ fn servers(rt: HostRuntime) {
             file: "b",
             workers,
         };
-        assert!(rt; Command::read(words) == Some(wanted));
+        check_read(&rt, words, Some(wanted));
     }
     for words in [
         &["serve"][..],
@@ -55,25 +62,26 @@ fn servers(rt: HostRuntime) {
         &["serve", "a", "b", "0"][..],
         &["serve", "a", "b", "3", "4"][..],
     ] {
-        assert!(rt; Command::read(words).is_none());
+        check_read(&rt, words, None);
     }
 }
 
 #[test]
 fn statuses(rt: HostRuntime) {
     for (code, status) in [
-        (61, 3),
-        (62, 3),
-        (50, 3),
-        (60, 3),
-        (74, 4),
-        (72, 4),
-        (32, 4),
-        (1, 5),
-        (19, 5),
-        (33, 5),
+        (Some(61), 3),
+        (Some(62), 3),
+        (Some(50), 3),
+        (Some(60), 3),
+        (Some(74), 4),
+        (Some(72), 4),
+        (Some(32), 4),
+        (Some(1), 5),
+        (Some(19), 5),
+        (Some(33), 5),
+        (None, 4),
     ] {
-        assert!(rt; exit_status(Some(code)) == status, "at {code}");
+        let found = (code, exit_status(code));
+        equal(&rt, "code and status", &found, &(code, status));
     }
-    assert!(rt; exit_status(None) == 4);
 }

@@ -1,5 +1,6 @@
 //! Sessions over readers and writers that are slow, fail, or end too early.
 
+use crate::asserts::{equal, holds, holds_at};
 use crate::fakes::{Counting, Drip, Flushed, Narrow, Same};
 use crate::serving::{check, front, is_fault, lines_in, served};
 use crate::sessions::{RED, RED_ANSWERS};
@@ -18,9 +19,11 @@ const TOO_MANY_REQUESTS: &[u8] =
 
 #[test]
 fn a_writer_that_fails(rt: HostRuntime) {
-    assert_eq!(rt; RED_ANSWERS.len(), 94);
+    let output = RED_ANSWERS;
+    equal(&rt, "bytes", &output.len(), &94);
     for room in 0..94usize {
-        assert!(rt; fills(&rt, rt.alloc(), RED, RED_ANSWERS, room));
+        let is_full = fills(&rt, rt.alloc(), RED, output, room);
+        holds_at(&rt, "room for", room, is_full);
     }
 }
 
@@ -53,12 +56,13 @@ fn a_writer_that_takes_nothing(rt: HostRuntime) {
         room: 100,
     };
     let served = served(&rt, rt.alloc(), &mut reader, &mut writer);
-    assert!(rt; is_fault(&served, Cause::WriteFault, 72, 0, 0));
+    let is_ended = is_fault(&served, Cause::WriteFault, 72, 0, 0);
+    holds(&rt, "nothing is taken", is_ended);
 }
 
 #[test]
 fn a_writer_that_cannot_be_flushed(rt: HostRuntime) {
-    assert!(rt; stays_unread(&rt, rt.alloc(), RED));
+    holds(&rt, "unread", stays_unread(&rt, rt.alloc(), RED));
 }
 
 // Whether a session with no flush left ends before it reads.
@@ -83,8 +87,11 @@ fn answers_to(output: &[u8], lines: usize) -> &[u8] {
 
 #[test]
 fn an_input_that_is_cut(rt: HostRuntime) {
-    for end in 0..=RED.len() {
-        assert!(rt; ends_where_cut(&rt, rt.alloc(), front(RED, end), RED_ANSWERS));
+    let input = RED;
+    for end in 0..=input.len() {
+        let cut = front(input, end);
+        let is_ended = ends_where_cut(&rt, rt.alloc(), cut, RED_ANSWERS);
+        holds_at(&rt, "cut at", end, is_ended);
     }
 }
 
@@ -110,18 +117,23 @@ fn is_cut(
     requests: u64,
     written: u64,
 ) -> bool {
-    if input.is_empty() || input.ends_with(b"\n") {
-        *served == Ok(Served { requests, written })
-    } else {
-        is_fault(served, Cause::CutLine, 74, requests, written)
-            && served.is_err_and(|fault| fault.name() == "CutLine")
+    let is_whole = input.is_empty() || input.ends_with(b"\n");
+    match served {
+        Ok(counts) => is_whole && *counts == Served { requests, written },
+        Err(fault) => {
+            !is_whole
+                && is_fault(served, Cause::CutLine, 74, requests, written)
+                && fault.name() == "CutLine"
+        }
     }
 }
 
 #[test]
 fn a_reader_that_fails(rt: HostRuntime) {
-    for reads in 0..=RED.len() {
-        assert!(rt; ends_unread(&rt, rt.alloc(), RED, RED_ANSWERS, reads));
+    let input = RED;
+    for reads in 0..=input.len() {
+        let is_ended = ends_unread(&rt, rt.alloc(), input, RED_ANSWERS, reads);
+        holds_at(&rt, "failed after", reads, is_ended);
     }
 }
 
@@ -157,9 +169,11 @@ fn a_line_that_is_too_long(rt: HostRuntime) {
     };
     let mut out = Vec::new(rt.alloc());
     let served = served(&rt, rt.alloc(), &mut reader, &mut out);
-    assert!(rt; is_fault(&served, Cause::LineTooLong, 70, 0, out.len() as u64));
-    assert!(rt; out.as_slice() == LINE_TOO_LONG);
-    assert_eq!(rt; usize::MAX.saturating_sub(reader.left), 65_537);
+    let is_ended = is_fault(&served, Cause::LineTooLong, 70, 0, out.len() as u64);
+    holds(&rt, "ended", is_ended);
+    holds(&rt, "the reply", out.as_slice() == LINE_TOO_LONG);
+    let read = usize::MAX.saturating_sub(reader.left);
+    equal(&rt, "bytes read", &read, &65_537);
 }
 
 #[test]
@@ -169,7 +183,7 @@ fn the_longest_line_is_read(rt: HostRuntime) {
     input.push(b'\n').expect(&rt, "memory");
     check(&rt, alloc, &input, BAD_JSON, 1);
     input.insert(0, b' ').expect(&rt, "memory");
-    assert!(rt; is_too_long(&rt, alloc, &input));
+    holds(&rt, "too long", is_too_long(&rt, alloc, &input));
 }
 
 // Whether a session ends at its first line, which is too long.
@@ -192,9 +206,15 @@ fn one_line_too_many(rt: HostRuntime) {
         others: Vec::new(rt.alloc()),
     };
     let served = served(&rt, rt.alloc(), &mut reader, &mut writer);
-    assert!(rt; is_fault(&served, Cause::TooManyRequests, 73, 1_000_000, 49_000_057));
-    assert_eq!(rt; writer.count, 1_000_000);
-    assert!(rt; writer.others.as_slice() == TOO_MANY_REQUESTS);
+    let many = Cause::TooManyRequests;
+    let is_ended = is_fault(&served, many, 73, 1_000_000, 49_000_057);
+    holds(&rt, "ended", is_ended);
+    equal(&rt, "replies", &writer.count, &1_000_000);
+    holds(
+        &rt,
+        "the last",
+        writer.others.as_slice() == TOO_MANY_REQUESTS,
+    );
 }
 
 // The first flush comes before anything is read, the second once all lines that were read have their answers.
@@ -206,8 +226,9 @@ fn a_writer_whose_second_flush_fails(rt: HostRuntime) {
         flushes_left: 1,
     };
     let served = served(&rt, rt.alloc(), &mut reader, &mut writer);
-    assert!(rt; is_fault(&served, Cause::WriteFault, 72, 2, 94));
-    assert!(rt; writer.out.as_slice() == RED_ANSWERS);
+    let is_ended = is_fault(&served, Cause::WriteFault, 72, 2, 94);
+    holds(&rt, "ended", is_ended);
+    holds(&rt, "the answers", writer.out.as_slice() == RED_ANSWERS);
 }
 
 // The closing reply to a line that is too long is flushed too.
@@ -220,7 +241,8 @@ fn a_writer_whose_last_flush_fails(rt: HostRuntime) {
         (1, write, 72, 53),
         (2, long, 70, 53),
     ] {
-        assert!(rt; flushes_out(&rt, rt.alloc(), flushes, cause, code, written));
+        let is_ended = flushes_out(&rt, rt.alloc(), flushes, cause, code, written);
+        holds_at(&rt, "flushes", flushes, is_ended);
     }
 }
 

@@ -1,6 +1,7 @@
 //! Sessions for which memory may be refused: run with each allocation refused in turn, nothing is read, or one line is answered by
 //! want of memory and all others as they should be; what was refused is asked again, and answered in full.
 
+use crate::asserts::holds;
 use crate::serving::board;
 use crate::sessions::{RED, RED_ANSWERS};
 use canvas_board::Alone;
@@ -113,13 +114,13 @@ fn serve_again<H: Threads + Wait + Sync + Abort>(
 ) -> Result<(), Fail> {
     let mut out = Vec::with_capacity(alloc, 256)?;
     let mut board = board(rt, alloc, Document::empty(alloc), 1_000_000);
-    assert!(rt; is_counted_right(rt, alloc, &mut board, &mut out, requests, input));
-    let end = end_of(ends, &out);
-    assert!(rt; end.is_some());
-    let end = end.expect(rt, "one of these ends");
+    let is_right = is_counted_right(rt, alloc, &mut board, &mut out, requests, input);
+    holds(rt, "the counts", is_right);
+    let end = end_of(ends, &out).expect(rt, "one of these ends");
     if !end.again.is_empty() {
         out.clear();
-        assert!(rt; answers_again(rt, alloc, &mut board, &mut out, end));
+        let is_answered = answers_again(rt, alloc, &mut board, &mut out, end);
+        holds(rt, "the answers again", is_answered);
     }
     Ok(())
 }

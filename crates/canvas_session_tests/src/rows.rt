@@ -1,6 +1,7 @@
 //! Worked sessions, from the bytes of the requests to the bytes of the answers: each is served in one piece and byte by
 //! byte, with and without a CR before each LF.
 
+use crate::asserts::holds;
 use crate::serving::{answers, board, check};
 use canvas_doc::Document;
 use std::alloc::Global;
@@ -9,6 +10,25 @@ use std::sync::Wait;
 use std::thread::Threads;
 
 const RECTANGLE: &str = r#"{"verb":"create","shape":{"kind":"rect","w":2,"h":1,"fill":"ff0000"}}"#;
+
+const FOUR_PIXELS: &str = r#"{"verb":"patch","x":0,"y":0,"w":4,"h":1}"#;
+
+const FOUR_HEADER: &str = "P6\n4 1\n255\n";
+
+/// A request of a session, and how it is answered.
+#[derive(Clone, Copy)]
+enum Step<'a> {
+    /// It makes a shape of this id, and this version.
+    Creates(&'a str, u32, u32),
+    /// It makes another edit, and this version.
+    Edits(&'a str, u32),
+    /// It is refused by this number and this name.
+    Refuses(&'a str, u16, &'a str),
+    /// It is a picture of this version, with this header and a letter for each pixel.
+    Paints(&'a str, u32, &'a str, &'a str),
+    /// It has this line, and these bytes behind it.
+    Answers(&'a str, &'a str, &'a [u8]),
+}
 
 /// A session that is written down: its requests, and the bytes of its answers.
 #[derive(Drop)]
@@ -24,6 +44,28 @@ impl Session {
             alloc,
             requests: Vec::new(alloc),
             answers: Vec::new(alloc),
+        }
+    }
+
+    /// What is asked and answered next.
+    fn add(&mut self, rt: &impl Abort, step: Step<'_>) {
+        match step {
+            Step::Creates(request, id, version) => self.creates(rt, request, id, version),
+            Step::Edits(request, version) => self.edits(rt, request, version),
+            Step::Refuses(request, code, name) => self.refuses(rt, request, code, name),
+            Step::Paints(request, version, header, pixels) => {
+                self.paints(rt, request, version, header, pixels)
+            }
+            Step::Answers(request, answer, body) => {
+                self.line(rt, request, answer);
+                self.body(rt, body);
+            }
+        }
+    }
+
+    fn add_all(&mut self, rt: &impl Abort, steps: &[Step<'_>]) {
+        for step in steps {
+            self.add(rt, *step);
         }
     }
 
@@ -85,11 +127,33 @@ impl Session {
 
     /// Serves it in each way.
     fn check<H: Threads + Wait + Sync + Abort>(&self, rt: &H) {
+        self.check_lines(rt, "\n");
+        self.check_lines(rt, "\r\n");
+    }
+
+    fn check_lines<H: Threads + Wait + Sync + Abort>(&self, rt: &H, end: &str) {
         let requests = self.requests.len() as u64;
-        for end in ["\n", "\r\n"] {
-            let input = self.input(rt, end);
-            check(rt, self.alloc, input.as_bytes(), &self.answers, requests);
-        }
+        let input = self.input(rt, end);
+        check(rt, self.alloc, input.as_bytes(), &self.answers, requests);
+    }
+}
+
+/// Serves these steps in each way.
+fn check_steps<H: Threads + Wait + Sync + Abort>(rt: &H, alloc: Global, steps: &[Step<'_>]) {
+    let mut session = Session::new(alloc);
+    session.add_all(rt, steps);
+    session.check(rt);
+}
+
+/// Serves each of these lines, which are refused, on an empty document.
+fn check_refused<H: Threads + Wait + Sync + Abort>(
+    rt: &H,
+    alloc: Global,
+    lines: &[(&str, u16, &str)],
+) {
+    for row in lines {
+        let (line, code, name) = *row;
+        check_steps(rt, alloc, &[Step::Refuses(line, code, name)]);
     }
 }
 
@@ -154,11 +218,7 @@ const REFUSED: [(&str, u16, &str); 17] = [
 
 #[test]
 fn lines_on_an_empty_document(rt: HostRuntime) {
-    for (line, code, name) in REFUSED {
-        let mut session = Session::new(rt.alloc());
-        session.refuses(&rt, line, code, name);
-        session.check(&rt);
-    }
+    check_refused(&rt, rt.alloc(), &REFUSED);
 }
 
 #[test]
@@ -170,59 +230,45 @@ fn deep_nesting_is_no_json(rt: HostRuntime) {
             line.push_str(bracket).expect(&rt, "memory");
         }
     }
-    let mut session = Session::new(alloc);
-    session.refuses(&rt, &line, 50, "BadJson");
-    session.check(&rt);
+    check_steps(&rt, alloc, &[Step::Refuses(line.as_str(), 50, "BadJson")]);
 }
 
 #[test]
 fn lines_on_one_rectangle(rt: HostRuntime) {
-    let mut session = Session::new(rt.alloc());
-    session.creates(&rt, RECTANGLE, 1, 1);
-    session.refuses(
-        &rt,
-        r#"{"verb":"create","shape":{"kind":"group"},"parent":1}"#,
-        4,
-        "NotAContainer",
-    );
-    session.refuses(
-        &rt,
-        r#"{"verb":"move","id":1,"parent":1,"spot":"front"}"#,
-        4,
-        "NotAContainer",
-    );
-    session.refuses(
-        &rt,
-        r#"{"verb":"reshape","id":1,"shape":{"kind":"group"}}"#,
-        14,
-        "WrongKind",
-    );
-    session.refuses(
-        &rt,
-        r#"{"verb":"create","shape":{"kind":"group"},"spot":{"at":"a0"}}"#,
-        12,
-        "IndexTaken",
-    );
-    session.edits(
-        &rt,
-        r#"{"verb":"move","id":1,"parent":null,"spot":{"at":"a0"}}"#,
-        2,
-    );
-    session.edits(
-        &rt,
-        r#"{"verb":"move","id":1,"parent":null,"spot":"front"}"#,
-        3,
-    );
-    session.line(
-        &rt,
-        r#"{"verb":"export"}"#,
-        r#"{"body":193,"ok":true,"version":3}"#,
-    );
-    session.body(
-        &rt,
-        br#"{"format":2,"next":2,"shapes":[{"hidden":false,"id":1,"place":{"index":"a0","parent":null},"pose":{"dx":0,"dy":0,"flip":false,"quarter":0},"shape":{"fill":"ff0000","h":1,"kind":"rect","w":2}}]}"#,
-    );
-    session.check(&rt);
+    let steps = [
+        Step::Creates(RECTANGLE, 1, 1),
+        Step::Refuses(
+            r#"{"verb":"create","shape":{"kind":"group"},"parent":1}"#,
+            4,
+            "NotAContainer",
+        ),
+        Step::Refuses(
+            r#"{"verb":"move","id":1,"parent":1,"spot":"front"}"#,
+            4,
+            "NotAContainer",
+        ),
+        Step::Refuses(
+            r#"{"verb":"reshape","id":1,"shape":{"kind":"group"}}"#,
+            14,
+            "WrongKind",
+        ),
+        Step::Refuses(
+            r#"{"verb":"create","shape":{"kind":"group"},"spot":{"at":"a0"}}"#,
+            12,
+            "IndexTaken",
+        ),
+        Step::Edits(
+            r#"{"verb":"move","id":1,"parent":null,"spot":{"at":"a0"}}"#,
+            2,
+        ),
+        Step::Edits(r#"{"verb":"move","id":1,"parent":null,"spot":"front"}"#, 3),
+        Step::Answers(
+            r#"{"verb":"export"}"#,
+            r#"{"body":193,"ok":true,"version":3}"#,
+            br#"{"format":2,"next":2,"shapes":[{"hidden":false,"id":1,"place":{"index":"a0","parent":null},"pose":{"dx":0,"dy":0,"flip":false,"quarter":0},"shape":{"fill":"ff0000","h":1,"kind":"rect","w":2}}]}"#,
+        ),
+    ];
+    check_steps(&rt, rt.alloc(), &steps);
 }
 
 /// Windows that are refused by their level before all else.
@@ -271,156 +317,139 @@ const REFUSED_LEVELS: [(&str, u16, &str); 8] = [
 
 #[test]
 fn levels_that_are_refused(rt: HostRuntime) {
-    for (line, code, name) in REFUSED_LEVELS {
-        let mut session = Session::new(rt.alloc());
-        session.refuses(&rt, line, code, name);
-        session.check(&rt);
-    }
+    check_refused(&rt, rt.alloc(), &REFUSED_LEVELS);
 }
 
 #[test]
 fn patches_of_a_level(rt: HostRuntime) {
-    let mut session = Session::new(rt.alloc());
-    session.creates(
-        &rt,
-        r#"{"verb":"create","shape":{"kind":"rect","w":10,"h":10,"fill":"ff0000"}}"#,
-        1,
-        1,
-    );
-    session.paints(
-        &rt,
-        r#"{"verb":"patch","x":0,"y":0,"w":3,"h":1,"level":3}"#,
-        1,
-        "P6\n3 1\n255\n",
-        "rrw",
-    );
-    session.paints(
-        &rt,
-        r#"{"verb":"patch","x":-1,"y":0,"w":2,"h":1,"level":3}"#,
-        1,
-        "P6\n2 1\n255\n",
-        "wr",
-    );
-    session.paints(
-        &rt,
-        r#"{"verb":"patch","x":32767,"y":-32768,"w":1,"h":1,"level":6}"#,
-        1,
-        "P6\n1 1\n255\n",
-        "w",
-    );
-    session.check(&rt);
+    let steps = [
+        Step::Creates(
+            r#"{"verb":"create","shape":{"kind":"rect","w":10,"h":10,"fill":"ff0000"}}"#,
+            1,
+            1,
+        ),
+        Step::Paints(
+            r#"{"verb":"patch","x":0,"y":0,"w":3,"h":1,"level":3}"#,
+            1,
+            "P6\n3 1\n255\n",
+            "rrw",
+        ),
+        Step::Paints(
+            r#"{"verb":"patch","x":-1,"y":0,"w":2,"h":1,"level":3}"#,
+            1,
+            "P6\n2 1\n255\n",
+            "wr",
+        ),
+        Step::Paints(
+            r#"{"verb":"patch","x":32767,"y":-32768,"w":1,"h":1,"level":6}"#,
+            1,
+            "P6\n1 1\n255\n",
+            "w",
+        ),
+    ];
+    check_steps(&rt, rt.alloc(), &steps);
 }
 
 #[test]
 fn a_pixel_between_those_of_a_level_is_not_seen(rt: HostRuntime) {
-    let mut session = Session::new(rt.alloc());
-    session.creates(
-        &rt,
-        r#"{"verb":"create","shape":{"kind":"rect","w":1,"h":1,"fill":"ff0000"},"pose":{"dx":1}}"#,
-        1,
-        1,
-    );
-    session.paints(
-        &rt,
-        r#"{"verb":"patch","x":0,"y":0,"w":2,"h":1,"level":1}"#,
-        1,
-        "P6\n2 1\n255\n",
-        "ww",
-    );
-    session.paints(
-        &rt,
-        r#"{"verb":"patch","x":0,"y":0,"w":2,"h":1,"level":0}"#,
-        1,
-        "P6\n2 1\n255\n",
-        "wr",
-    );
-    session.check(&rt);
+    let steps = [
+        Step::Creates(
+            r#"{"verb":"create","shape":{"kind":"rect","w":1,"h":1,"fill":"ff0000"},"pose":{"dx":1}}"#,
+            1,
+            1,
+        ),
+        Step::Paints(
+            r#"{"verb":"patch","x":0,"y":0,"w":2,"h":1,"level":1}"#,
+            1,
+            "P6\n2 1\n255\n",
+            "ww",
+        ),
+        Step::Paints(
+            r#"{"verb":"patch","x":0,"y":0,"w":2,"h":1,"level":0}"#,
+            1,
+            "P6\n2 1\n255\n",
+            "wr",
+        ),
+    ];
+    check_steps(&rt, rt.alloc(), &steps);
 }
 
 #[test]
 fn a_turned_frame_cuts_what_it_holds(rt: HostRuntime) {
-    let mut session = Session::new(rt.alloc());
-    session.creates(
-        &rt,
-        r#"{"verb":"create","shape":{"kind":"frame","w":2,"h":1},"pose":{"dx":1,"quarter":1}}"#,
-        1,
-        1,
-    );
-    session.creates(
-        &rt,
-        r#"{"verb":"create","shape":{"kind":"rect","w":5,"h":5,"fill":"00ff00"},"parent":1}"#,
-        2,
-        2,
-    );
-    session.paints(
-        &rt,
-        r#"{"verb":"patch","x":-1,"y":-1,"w":3,"h":4}"#,
-        2,
-        "P6\n3 4\n255\n",
-        "wwwwgwwgwwww",
-    );
-    session.check(&rt);
+    let steps = [
+        Step::Creates(
+            r#"{"verb":"create","shape":{"kind":"frame","w":2,"h":1},"pose":{"dx":1,"quarter":1}}"#,
+            1,
+            1,
+        ),
+        Step::Creates(
+            r#"{"verb":"create","shape":{"kind":"rect","w":5,"h":5,"fill":"00ff00"},"parent":1}"#,
+            2,
+            2,
+        ),
+        Step::Paints(
+            r#"{"verb":"patch","x":-1,"y":-1,"w":3,"h":4}"#,
+            2,
+            "P6\n3 4\n255\n",
+            "wwwwgwwgwwww",
+        ),
+    ];
+    check_steps(&rt, rt.alloc(), &steps);
 }
 
 #[test]
 fn frames_in_frames_cut_and_hide(rt: HostRuntime) {
-    let mut session = Session::new(rt.alloc());
-    session.creates(
-        &rt,
-        r#"{"verb":"create","shape":{"kind":"frame","w":4,"h":4}}"#,
-        1,
-        1,
-    );
-    session.creates(
-        &rt,
-        r#"{"verb":"create","shape":{"kind":"frame","w":8,"h":2},"parent":1}"#,
-        2,
-        2,
-    );
-    session.creates(
-        &rt,
-        r#"{"verb":"create","shape":{"kind":"rect","w":6,"h":2,"fill":"00ff00"},"parent":2}"#,
-        3,
-        3,
-    );
     let patch = r#"{"verb":"patch","x":0,"y":0,"w":6,"h":2}"#;
-    session.paints(&rt, patch, 3, "P6\n6 2\n255\n", "ggggwwggggww");
-    session.edits(&rt, r#"{"verb":"show","id":1,"hidden":true}"#, 4);
-    session.paints(&rt, patch, 4, "P6\n6 2\n255\n", "wwwwwwwwwwww");
-    session.check(&rt);
+    let steps = [
+        Step::Creates(
+            r#"{"verb":"create","shape":{"kind":"frame","w":4,"h":4}}"#,
+            1,
+            1,
+        ),
+        Step::Creates(
+            r#"{"verb":"create","shape":{"kind":"frame","w":8,"h":2},"parent":1}"#,
+            2,
+            2,
+        ),
+        Step::Creates(
+            r#"{"verb":"create","shape":{"kind":"rect","w":6,"h":2,"fill":"00ff00"},"parent":2}"#,
+            3,
+            3,
+        ),
+        Step::Paints(patch, 3, "P6\n6 2\n255\n", "ggggwwggggww"),
+        Step::Edits(r#"{"verb":"show","id":1,"hidden":true}"#, 4),
+        Step::Paints(patch, 4, "P6\n6 2\n255\n", "wwwwwwwwwwww"),
+    ];
+    check_steps(&rt, rt.alloc(), &steps);
 }
 
 #[test]
 fn no_shape_goes_below_itself(rt: HostRuntime) {
-    let mut session = Session::new(rt.alloc());
-    session.creates(
-        &rt,
-        r#"{"verb":"create","shape":{"kind":"frame","w":3,"h":1,"fill":"ff0000"}}"#,
-        1,
-        1,
-    );
-    session.creates(
-        &rt,
-        r#"{"verb":"create","shape":{"kind":"frame","w":2,"h":1,"fill":"00ff00"},"parent":1}"#,
-        2,
-        2,
-    );
-    session.creates(
-        &rt,
-        r#"{"verb":"create","shape":{"kind":"frame","w":1,"h":1,"fill":"0000ff"},"parent":2}"#,
-        3,
-        3,
-    );
-    let patch = r#"{"verb":"patch","x":0,"y":0,"w":4,"h":1}"#;
-    session.paints(&rt, patch, 3, "P6\n4 1\n255\n", "bgrw");
-    session.refuses(
-        &rt,
-        r#"{"verb":"move","id":1,"parent":3,"spot":"front"}"#,
-        5,
-        "Cycle",
-    );
-    session.paints(&rt, patch, 3, "P6\n4 1\n255\n", "bgrw");
-    session.check(&rt);
+    let steps = [
+        Step::Creates(
+            r#"{"verb":"create","shape":{"kind":"frame","w":3,"h":1,"fill":"ff0000"}}"#,
+            1,
+            1,
+        ),
+        Step::Creates(
+            r#"{"verb":"create","shape":{"kind":"frame","w":2,"h":1,"fill":"00ff00"},"parent":1}"#,
+            2,
+            2,
+        ),
+        Step::Creates(
+            r#"{"verb":"create","shape":{"kind":"frame","w":1,"h":1,"fill":"0000ff"},"parent":2}"#,
+            3,
+            3,
+        ),
+        Step::Paints(FOUR_PIXELS, 3, FOUR_HEADER, "bgrw"),
+        Step::Refuses(
+            r#"{"verb":"move","id":1,"parent":3,"spot":"front"}"#,
+            5,
+            "Cycle",
+        ),
+        Step::Paints(FOUR_PIXELS, 3, FOUR_HEADER, "bgrw"),
+    ];
+    check_steps(&rt, rt.alloc(), &steps);
 }
 
 #[test]
@@ -434,90 +463,98 @@ fn no_shape_lies_below_thirty_two(rt: HostRuntime) {
         ).expect(&rt, "memory");
         session.creates(&rt, &request, parent + 1, parent + 1);
     }
-    session.creates(&rt, RECTANGLE, 33, 33);
-    session.refuses(
-        &rt,
-        r#"{"verb":"move","id":33,"parent":32,"spot":"front"}"#,
-        6,
-        "TooDeep",
-    );
-    session.refuses(
-        &rt,
-        r#"{"verb":"create","shape":{"kind":"group"},"parent":32}"#,
-        6,
-        "TooDeep",
-    );
+    let steps = [
+        Step::Creates(RECTANGLE, 33, 33),
+        Step::Refuses(
+            r#"{"verb":"move","id":33,"parent":32,"spot":"front"}"#,
+            6,
+            "TooDeep",
+        ),
+        Step::Refuses(
+            r#"{"verb":"create","shape":{"kind":"group"},"parent":32}"#,
+            6,
+            "TooDeep",
+        ),
+    ];
+    session.add_all(&rt, &steps);
     session.check(&rt);
 }
 
 #[test]
 fn spots_among_siblings(rt: HostRuntime) {
-    let mut session = Session::new(rt.alloc());
-    session.creates(&rt, RECTANGLE, 1, 1);
-    session.creates(&rt, RECTANGLE, 2, 2);
-    session.creates(&rt, r#"{"verb":"create","shape":{"kind":"group"}}"#, 3, 3);
-    session.creates(
-        &rt,
-        r#"{"verb":"create","shape":{"kind":"group"},"parent":3}"#,
-        4,
-        4,
-    );
-    session.refuses(
-        &rt,
-        r#"{"verb":"create","shape":{"kind":"group"},"spot":{"at":"a1"}}"#,
-        12,
-        "IndexTaken",
-    );
-    session.refuses(
-        &rt,
-        r#"{"verb":"move","id":1,"parent":null,"spot":{"over":4}}"#,
-        11,
-        "SpotNotSibling",
-    );
-    session.refuses(
-        &rt,
-        r#"{"verb":"move","id":1,"parent":null,"spot":{"over":1}}"#,
-        11,
-        "SpotNotSibling",
-    );
-    session.check(&rt);
+    let steps = [
+        Step::Creates(RECTANGLE, 1, 1),
+        Step::Creates(RECTANGLE, 2, 2),
+        Step::Creates(r#"{"verb":"create","shape":{"kind":"group"}}"#, 3, 3),
+        Step::Creates(
+            r#"{"verb":"create","shape":{"kind":"group"},"parent":3}"#,
+            4,
+            4,
+        ),
+        Step::Refuses(
+            r#"{"verb":"create","shape":{"kind":"group"},"spot":{"at":"a1"}}"#,
+            12,
+            "IndexTaken",
+        ),
+        Step::Refuses(
+            r#"{"verb":"move","id":1,"parent":null,"spot":{"over":4}}"#,
+            11,
+            "SpotNotSibling",
+        ),
+        Step::Refuses(
+            r#"{"verb":"move","id":1,"parent":null,"spot":{"over":1}}"#,
+            11,
+            "SpotNotSibling",
+        ),
+    ];
+    check_steps(&rt, rt.alloc(), &steps);
 }
 
-#[test]
-fn respacing_shows_the_same(rt: HostRuntime) {
-    let mut session = Session::new(rt.alloc());
-    session.creates(
-        &rt,
+/// Shapes whose indexes are uneven, and then respaced: the indexes are taken anew, and the picture stays.
+const RESPACED: [Step<'static>; 14] = [
+    Step::Creates(
         r#"{"verb":"create","shape":{"kind":"rect","w":3,"h":1,"fill":"ff0000"},"spot":{"at":"a0V"}}"#,
         1,
         1,
-    );
-    session.creates(
-        &rt,
+    ),
+    Step::Creates(
         r#"{"verb":"create","shape":{"kind":"rect","w":2,"h":1,"fill":"00ff00"},"spot":{"at":"a0l"}}"#,
         2,
         2,
-    );
-    session.creates(
-        &rt,
+    ),
+    Step::Creates(
         r#"{"verb":"create","shape":{"kind":"rect","w":1,"h":1,"fill":"0000ff"},"spot":{"at":"b00"}}"#,
         3,
         3,
-    );
-    let patch = r#"{"verb":"patch","x":0,"y":0,"w":4,"h":1}"#;
-    session.paints(&rt, patch, 3, "P6\n4 1\n255\n", "bgrw");
-    session.edits(&rt, r#"{"verb":"respace","parent":null}"#, 4);
-    session.paints(&rt, patch, 4, "P6\n4 1\n255\n", "bgrw");
-    for (index, version) in [("a0", 4u32), ("a1", 4), ("a2", 4)] {
-        let request = format!(in rt.alloc();
-            r#"{{"verb":"create","shape":{{"kind":"group"}},"spot":{{"at":"{index}"}}}}"#
-        ).expect(&rt, "memory");
-        session.refuses(&rt, &request, 12, "IndexTaken");
-        session.paints(&rt, patch, version, "P6\n4 1\n255\n", "bgrw");
-    }
-    session.creates(&rt, r#"{"verb":"create","shape":{"kind":"group"}}"#, 4, 5);
-    session.edits(&rt, r#"{"verb":"respace","parent":4}"#, 6);
-    session.check(&rt);
+    ),
+    Step::Paints(FOUR_PIXELS, 3, FOUR_HEADER, "bgrw"),
+    Step::Edits(r#"{"verb":"respace","parent":null}"#, 4),
+    Step::Paints(FOUR_PIXELS, 4, FOUR_HEADER, "bgrw"),
+    Step::Refuses(
+        r#"{"verb":"create","shape":{"kind":"group"},"spot":{"at":"a0"}}"#,
+        12,
+        "IndexTaken",
+    ),
+    Step::Paints(FOUR_PIXELS, 4, FOUR_HEADER, "bgrw"),
+    Step::Refuses(
+        r#"{"verb":"create","shape":{"kind":"group"},"spot":{"at":"a1"}}"#,
+        12,
+        "IndexTaken",
+    ),
+    Step::Paints(FOUR_PIXELS, 4, FOUR_HEADER, "bgrw"),
+    Step::Refuses(
+        r#"{"verb":"create","shape":{"kind":"group"},"spot":{"at":"a2"}}"#,
+        12,
+        "IndexTaken",
+    ),
+    Step::Paints(FOUR_PIXELS, 4, FOUR_HEADER, "bgrw"),
+    Step::Creates(r#"{"verb":"create","shape":{"kind":"group"}}"#, 4, 5),
+    Step::Edits(r#"{"verb":"respace","parent":4}"#, 6),
+];
+
+#[test]
+fn respacing_shows_the_same(rt: HostRuntime) {
+    check_steps(&rt, rt.alloc(), &RESPACED);
 }
 
 #[test]
@@ -527,5 +564,6 @@ fn ids_are_spent(rt: HostRuntime) {
     let board = board(&rt, alloc, spent, 10);
     let request = b"{\"verb\":\"create\",\"shape\":{\"kind\":\"group\"}}\n";
     let reply = b"{\"body\":0,\"code\":15,\"name\":\"IdsSpent\",\"ok\":false}\n";
-    assert!(rt; answers(&rt, alloc, board, 1, request, reply));
+    let is_answered = answers(&rt, alloc, board, 1, request, reply);
+    holds(&rt, "no id is left", is_answered);
 }

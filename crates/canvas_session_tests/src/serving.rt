@@ -1,5 +1,6 @@
 //! How sessions are served, and what is asked of their ends.
 
+use crate::asserts::holds;
 use crate::fakes::{Drip, Narrow};
 use canvas_board::Alone;
 use canvas_doc::Document;
@@ -53,11 +54,10 @@ pub(crate) fn check<H: Threads + Wait + Sync + Abort>(
         requests,
         written: output.len() as u64,
     };
-    assert!(rt; is_served(rt, alloc, input, output, wanted), "in one piece");
-    assert!(rt;
-        is_dripped(rt, alloc, input, output, wanted),
-        "byte by byte"
-    );
+    let is_served = is_served(rt, alloc, input, output, wanted);
+    holds(rt, "in one piece", is_served);
+    let is_dripped = is_dripped(rt, alloc, input, output, wanted);
+    holds(rt, "byte by byte", is_dripped);
 }
 
 // Whether a session in one piece writes this.

@@ -1,5 +1,6 @@
 //! Worked sessions.
 
+use crate::asserts::holds;
 use crate::serving::{answers, board, check};
 use canvas_doc::Document;
 use canvas_session::answer_line;
@@ -81,14 +82,16 @@ fn a_picture_by_seventeen_workers(rt: HostRuntime) {
     let alloc = rt.alloc();
     let board = board(&rt, alloc, Document::empty(alloc), 1_000_000);
     let tile = b"{\"verb\":\"tile\",\"col\":0,\"row\":0}\n";
-    assert!(rt; answers(&rt, alloc, board, 17, tile, BAD_WORKERS));
+    let is_refused = answers(&rt, alloc, board, 17, tile, BAD_WORKERS);
+    holds(&rt, "seventeen workers", is_refused);
 }
 
 #[test]
 fn a_line_is_answered_alone(rt: HostRuntime) {
     let line = b"{\"verb\":\"tile\",\"col\":0,\"row\":0}";
     let reply = "{\"body\":196623,\"ok\":true,\"version\":0}\n";
-    assert!(rt; is_answered(&rt, rt.alloc(), line, reply, 196_623));
+    let is_answered = is_answered(&rt, rt.alloc(), line, reply, 196_623);
+    holds(&rt, "a tile", is_answered);
 }
 
 // Whether a line on an empty document has this reply, and a body of so many bytes.
@@ -112,5 +115,6 @@ fn versions_have_a_limit(rt: HostRuntime) {
         b"{\"verb\":\"respace\",\"parent\":null}\n{\"verb\":\"respace\",\"parent\":1}\n{\"verb\":\"respace\",\"parent\":null}\n{\"verb\":\"respace\",\"parent\":null}\n{\"verb\":\"respace\",\"parent\":1}\n";
     let replies =
         b"{\"body\":0,\"ok\":true,\"version\":1}\n{\"body\":0,\"code\":3,\"name\":\"NoSuchParent\",\"ok\":false}\n{\"body\":0,\"ok\":true,\"version\":2}\n{\"body\":0,\"code\":16,\"name\":\"VersionsSpent\",\"ok\":false}\n{\"body\":0,\"code\":16,\"name\":\"VersionsSpent\",\"ok\":false}\n";
-    assert!(rt; answers(&rt, alloc, board, 1, requests, replies));
+    let is_answered = answers(&rt, alloc, board, 1, requests, replies);
+    holds(&rt, "two versions", is_answered);
 }
