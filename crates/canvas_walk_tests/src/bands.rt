@@ -1,5 +1,6 @@
 //! Pictures of more shapes than are painted at once, compared with the walk pixel by pixel.
 
+use crate::asserts::{equal, holds};
 use crate::levels::random_kind;
 use crate::shapes::{Dice, away, rect, with};
 use crate::walk::agrees;
@@ -28,11 +29,11 @@ fn crowd(rt: &impl Abort, alloc: Global, dice: &mut Dice, level: u8) -> Document
         let reach = if dice.below(12) == 0 { 40 } else { 6 };
         let kind = random_kind(rt, alloc, dice, scaled(reach, level));
         let pose = dice.turned(low, scaled(90, level), scaled(60, level));
-        document = with(alloc, document, kind, pose, Parent::Page).expect(rt, "memory");
+        document = with(rt, alloc, document, kind, pose, Parent::Page);
     }
     let front = rect(scaled(20, level), scaled(16, level), Colour([1, 2, 3]));
     let at = i64::from(scaled(10, level));
-    with(alloc, document, front, away(at, at), Parent::Page).expect(rt, "memory")
+    with(rt, alloc, document, front, away(at, at), Parent::Page)
 }
 
 // The picture of a window in two strips, of which the second begins at a row.
@@ -60,25 +61,30 @@ fn compare_strips(
 ) {
     for row in [1, 15, 16, 17, 33, 42_u32] {
         let parts = in_two(rt, alloc, items, window, row);
-        assert!(rt; parts.as_slice() == whole, "{} {row}", window.level());
+        let level = window.level();
+        equal(
+            rt,
+            "level, row, bytes",
+            &(level, row, parts.as_slice()),
+            &(level, row, whole),
+        );
     }
 }
 
 // Compares a random document with its picture in a window of a level.
 fn compare(rt: &impl Abort, alloc: Global, level: u8) {
-    let document = crowd(
-        rt,
-        alloc,
-        &mut Dice(u64::from(level).wrapping_add(77)),
-        level,
-    );
+    let number = u64::from(level);
+    let mut dice = Dice(number.wrapping_add(77));
+    let document = crowd(rt, alloc, &mut dice, level);
     let window = Window::at_level(level, -3, -2, 70, 43).expect(rt, "a window");
     let bump = Bump::new(alloc);
     let scene = Scene::build(&bump, &document, &window).expect(rt, "memory");
     let items = scene.display_list();
-    assert!(rt; items.len() > 128, "{level}: {}", items.len());
+    let count = items.len() as u64;
+    holds(rt, "items", count, count > 128);
     let whole = in_two(rt, alloc, items, &window, 0);
-    assert!(rt; agrees(&document, &window, whole.as_slice()), "{level}");
+    let is_right = agrees(&document, &window, whole.as_slice());
+    holds(rt, "level", number, is_right);
     compare_strips(rt, alloc, items, &window, whole.as_slice());
 }
 

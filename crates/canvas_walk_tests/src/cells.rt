@@ -1,7 +1,8 @@
 //! What several rectangles hide together: the cells of 8 by 8 pixels of the window that lie in one of them each.
 
+use crate::asserts::{equal, holds};
 use crate::shapes::{Dice, away, ellipse, frame, rect, small_polygon, with};
-use crate::walk::is_walk;
+use crate::walk::check_walk;
 use bumpalo::Bump;
 use canvas_doc::{Document, Parent};
 use canvas_plane::Window;
@@ -16,7 +17,7 @@ const GREEN: Colour = Colour([0, 255, 0]);
 
 // The document with a shape in front at a place.
 fn at(rt: &impl Abort, alloc: Global, document: Document, kind: Kind, x: i64, y: i64) -> Document {
-    with(alloc, document, kind, away(x, y), Parent::Page).expect(rt, "memory")
+    with(rt, alloc, document, kind, away(x, y), Parent::Page)
 }
 
 // The document with four rectangles in front that tile `w` by `h` pixels, parted at column and row 128.
@@ -63,20 +64,20 @@ fn four_rectangles_that_tile_the_window_hide_all(rt: HostRuntime) {
     let alloc = rt.alloc();
     let tile = Window::tile(0, 0).expect(&rt, "a window");
     let document = behind(&rt, alloc);
-    assert_eq!(rt; count(&rt, alloc, &document, &tile), 4);
+    equal(&rt, "items", &count(&rt, alloc, &document, &tile), &4);
     let document = tiled(&rt, alloc, document, 256, 256);
-    assert_eq!(rt;
-        (document.count(), count(&rt, alloc, &document, &tile)),
-        (8, 4)
-    );
+    equal(&rt, "shapes", &document.count(), &8);
+    equal(&rt, "items", &count(&rt, alloc, &document, &tile), &4);
 }
 
 #[test]
 fn cells_at_the_right_and_bottom_edges_are_cut(rt: HostRuntime) {
     let alloc = rt.alloc();
     let window = Window::new(0, 0, 201, 131).expect(&rt, "a window");
-    assert_eq!(rt; count_tiled(&rt, alloc, &window, 201, 131), 4);
-    assert!(rt; count_tiled(&rt, alloc, &window, 200, 131) > 4);
+    let all = count_tiled(&rt, alloc, &window, 201, 131);
+    equal(&rt, "items", &all, &4);
+    let some = count_tiled(&rt, alloc, &window, 200, 131);
+    holds(&rt, "items", some as u64, some > 4);
 }
 
 // How many items a window has of one rectangle with four in front that tile so many pixels.
@@ -91,10 +92,10 @@ fn count_of_one_tiled(rt: &impl Abort, alloc: Global, window: &Window, w: u32, h
 fn a_window_of_a_level_has_greater_cells(rt: HostRuntime) {
     let alloc = rt.alloc();
     let window = Window::at_level(2, 0, 0, 201, 131).expect(&rt, "a window");
-    for (w, wanted) in [(804, 4), (803, 5)] {
-        let found = count_of_one_tiled(&rt, alloc, &window, w, 524);
-        assert_eq!(rt; (w, found), (w, wanted));
-    }
+    let hidden = count_of_one_tiled(&rt, alloc, &window, 804, 524);
+    equal(&rt, "items of 804 columns", &hidden, &4);
+    let shown = count_of_one_tiled(&rt, alloc, &window, 803, 524);
+    equal(&rt, "items of 803 columns", &shown, &5);
 }
 
 #[test]
@@ -105,7 +106,8 @@ fn a_polygon_behind_a_part_of_the_tiles_alone_makes_an_item(rt: HostRuntime) {
     let mut document = at(&rt, alloc, Document::empty(alloc), polygon, 128, 128);
     for x in [0, 128] {
         document = at(&rt, alloc, document, rect(128, 256, GREEN), x, 0);
-        assert_eq!(rt; (x, count(&rt, alloc, &document, &tile)), (x, 2));
+        let found = (x, count(&rt, alloc, &document, &tile));
+        equal(&rt, "items", &found, &(x, 2));
     }
 }
 
@@ -127,7 +129,7 @@ fn random_document(rt: &impl Abort, alloc: Global, dice: &mut Dice) -> Document 
     for _ in 0..24u32 {
         let kind = random_kind(rt, alloc, dice);
         let pose = dice.turned(-40, 290, 290);
-        document = with(alloc, document, kind, pose, Parent::Page).expect(rt, "memory");
+        document = with(rt, alloc, document, kind, pose, Parent::Page);
     }
     document
 }
@@ -137,7 +139,7 @@ fn compare(rt: &impl Abort, alloc: Global, seed: u64, window: &Window) {
     let mut dice = Dice(seed);
     for _ in 0..3u32 {
         let document = random_document(rt, alloc, &mut dice);
-        assert!(rt; is_walk(rt, alloc, &document, window), "{seed}");
+        check_walk(rt, alloc, &document, window, seed);
     }
 }
 

@@ -1,7 +1,8 @@
 //! Pictures of windows of each level: worked ones, and random documents compared with the walk, pixel by pixel.
 
+use crate::asserts::equal;
 use crate::shapes::{Dice, away, ellipse, frame, polygon, rect, with};
-use crate::walk::is_walk;
+use crate::walk::check_walk;
 use bumpalo::Bump;
 use canvas_doc::{Document, Parent};
 use canvas_paint::append_picture;
@@ -17,20 +18,21 @@ const RED: Colour = Colour([255, 0, 0]);
 fn one(rt: &impl Abort, alloc: Global, side: u32, dx: i64) -> Document {
     let kind = rect(side, side, RED);
     let document = Document::empty(alloc);
-    with(alloc, document, kind, away(dx, 0), Parent::Page).expect(rt, "memory")
+    with(rt, alloc, document, kind, away(dx, 0), Parent::Page)
 }
 
-// A document's picture.
-fn picture<R: Abort + Threads + Sync>(
+// Asserts that these bytes are a document's picture.
+fn check_picture<R: Abort + Threads + Sync>(
     rt: &R,
     alloc: Global,
     document: &Document,
     window: &Window,
-) -> Vec<u8> {
+    wanted: &[u8],
+) {
     let bump = Bump::new(alloc);
     let mut out = Vec::new(alloc);
     append_picture(rt, alloc, &bump, document, window, 1, &mut out).expect(rt, "memory");
-    out
+    equal(rt, "the picture", &out.as_slice(), &wanted);
 }
 
 #[test]
@@ -38,19 +40,17 @@ fn a_pixel_shows_the_first_of_its_block(rt: HostRuntime) {
     let right = Window::at_level(3, 0, 0, 3, 1).expect(&rt, "a window");
     let left = Window::at_level(3, -1, 0, 2, 1).expect(&rt, "a window");
     let document = one(&rt, rt.alloc(), 10, 0);
-    let right = picture(&rt, rt.alloc(), &document, &right);
     let wanted = [255, 0, 0, 255, 0, 0, 255, 255, 255];
-    assert_eq!(rt; right.as_slice(), wanted.as_slice());
-    let left = picture(&rt, rt.alloc(), &document, &left);
-    assert_eq!(rt; left.as_slice(), [255, 255, 255, 255, 0, 0].as_slice());
+    check_picture(&rt, rt.alloc(), &document, &right, &wanted);
+    let wanted = [255, 255, 255, 255, 0, 0];
+    check_picture(&rt, rt.alloc(), &document, &left, &wanted);
 }
 
 #[test]
 fn what_lies_between_the_shown_columns_is_not_seen(rt: HostRuntime) {
     let window = Window::at_level(1, 0, 0, 2, 1).expect(&rt, "a window");
     let document = one(&rt, rt.alloc(), 1, 1);
-    let out = picture(&rt, rt.alloc(), &document, &window);
-    assert_eq!(rt; out.as_slice(), [255_u8; 6].as_slice());
+    check_picture(&rt, rt.alloc(), &document, &window, &[255; 6]);
 }
 
 /// A shape of any kind but a group or a frame, with sides up to `reach`.
@@ -77,7 +77,7 @@ fn random_document(rt: &impl Abort, alloc: Global, dice: &mut Dice, reach: u32) 
     let mut pose = away(i64::from(reach), 0);
     pose.quarter = 1;
     let document = Document::empty(alloc);
-    let mut document = with(alloc, document, holder, pose, Parent::Page).expect(rt, "memory");
+    let mut document = with(rt, alloc, document, holder, pose, Parent::Page);
     for _ in 0..20u32 {
         let kind = random_kind(rt, alloc, dice, reach);
         let parent = match dice.below(3) {
@@ -85,7 +85,7 @@ fn random_document(rt: &impl Abort, alloc: Global, dice: &mut Dice, reach: u32) 
             _ => Parent::Page,
         };
         let pose = dice.turned(low, size, size);
-        document = with(alloc, document, kind, pose, parent).expect(rt, "memory");
+        document = with(rt, alloc, document, kind, pose, parent);
     }
     document
 }
@@ -101,12 +101,13 @@ fn random_window(rt: &impl Abort, dice: &mut Dice, level: u8) -> Window {
 
 // Compares random documents with their pictures in windows of a level near the origin.
 fn compare(rt: &impl Abort, alloc: Global, level: u8) {
-    let mut dice = Dice(u64::from(level).wrapping_add(41));
+    let number = u64::from(level);
+    let mut dice = Dice(number.wrapping_add(41));
     let reach = 40u32.wrapping_shl(u32::from(level));
     for _ in 0..12u32 {
         let document = random_document(rt, alloc, &mut dice, reach);
         let window = random_window(rt, &mut dice, level);
-        assert!(rt; is_walk(rt, alloc, &document, &window), "{level}");
+        check_walk(rt, alloc, &document, &window, number);
     }
 }
 

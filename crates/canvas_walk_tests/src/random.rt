@@ -1,7 +1,8 @@
 //! Pictures of random deep documents, compared with the walk pixel by pixel.
 
+use crate::asserts::{equal, holds};
 use crate::shapes::{Dice, after, create_anyhow, ellipse, far_groups, frame, rect, small_polygon};
-use crate::walk::{is_walk, random_window};
+use crate::walk::{check_walk, picture_number, random_window};
 use canvas_doc::{Document, Edit, Parent};
 use canvas_shape::{Colour, Kind};
 use std::alloc::Global;
@@ -40,7 +41,7 @@ fn random_document(rt: &impl Abort, alloc: Global, dice: &mut Dice, far: i64) ->
     for _ in 0..40u32 {
         let edit = random_edit(rt, alloc, dice, last);
         let id = document.next_id();
-        document = after(alloc, document, &edit).expect(rt, "memory");
+        document = after(rt, alloc, document, edit);
         last = last_parent(&document, id, last);
     }
     document
@@ -64,7 +65,7 @@ fn compared(rt: &impl Abort, alloc: Global, seed: u64, far: i64, x: i32, y: i32)
     for _ in 0..120u32 {
         let document = random_document(rt, alloc, &mut dice, far);
         if let Some(window) = random_window(&mut dice, x, y, 12, 70) {
-            assert!(rt; is_walk(rt, alloc, &document, &window), "{seed} {count}");
+            check_walk(rt, alloc, &document, &window, picture_number(seed, count));
             count = count.saturating_add(1);
         }
     }
@@ -74,7 +75,9 @@ fn compared(rt: &impl Abort, alloc: Global, seed: u64, far: i64, x: i32, y: i32)
 #[test]
 fn deep_pictures_are_the_walk(rt: HostRuntime) {
     let alloc = rt.alloc();
-    assert_eq!(rt; compared(&rt, alloc, 11, 0, 0, 0), 120);
-    assert!(rt; compared(&rt, alloc, 12, 1_048_576, 2_097_062, -2_097_152) > 20);
-    assert!(rt; compared(&rt, alloc, 13, -1_048_576, -2_097_152, 2_097_112) > 20);
+    equal(&rt, "windows", &compared(&rt, alloc, 11, 0, 0, 0), &120);
+    let count = compared(&rt, alloc, 12, 1_048_576, 2_097_062, -2_097_152);
+    holds(&rt, "windows", u64::from(count), count > 20);
+    let count = compared(&rt, alloc, 13, -1_048_576, -2_097_152, 2_097_112);
+    holds(&rt, "windows", u64::from(count), count > 20);
 }

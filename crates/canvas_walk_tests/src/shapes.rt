@@ -1,6 +1,5 @@
 //! Random numbers, and what is put on a page.
 
-use canvas_code::OutOfMemory;
 use canvas_doc::{Document, Edit, Parent, Spot};
 use canvas_plane::{Point, Pose};
 use canvas_shape::{Colour, Kind, Points};
@@ -131,26 +130,23 @@ pub(crate) fn create_anyhow(
 }
 
 /// The document after an edit, or as it was where the edit is refused.
-pub(crate) fn after(
-    alloc: Global,
-    document: Document,
-    edit: &Edit,
-) -> Result<Document, OutOfMemory> {
-    match document.decide(alloc, edit) {
-        Ok(change) => Ok(document.with(alloc, &change)?),
-        Err(_) => Ok(document),
+pub(crate) fn after(rt: &impl Abort, alloc: Global, document: Document, edit: Edit) -> Document {
+    match document.decide(alloc, &edit) {
+        Ok(change) => document.with(alloc, &change).expect(rt, "memory"),
+        Err(_) => document,
     }
 }
 
 /// The document with a shape in front of a parent's children.
 pub(crate) fn with(
+    rt: &impl Abort,
     alloc: Global,
     document: Document,
     kind: Kind,
     pose: Pose,
     parent: Parent,
-) -> Result<Document, OutOfMemory> {
-    after(alloc, document, &create(kind, pose, parent))
+) -> Document {
+    after(rt, alloc, document, create(kind, pose, parent))
 }
 
 /// Two groups that lie `far` from the origin, one in the other.
@@ -158,6 +154,6 @@ pub(crate) fn far_groups(rt: &impl Abort, alloc: Global, far: i64) -> Document {
     let back = 0 - far.min(1_048_576).max(-1_048_576);
     let pose = away(far, back);
     let document = Document::empty(alloc);
-    let outer = with(alloc, document, Kind::Group, pose, Parent::Page).expect(rt, "memory");
-    with(alloc, outer, Kind::Group, pose, Parent::Shape(1)).expect(rt, "memory")
+    let outer = with(rt, alloc, document, Kind::Group, pose, Parent::Page);
+    with(rt, alloc, outer, Kind::Group, pose, Parent::Shape(1))
 }

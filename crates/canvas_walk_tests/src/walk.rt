@@ -1,5 +1,6 @@
 //! Pictures compared with the walk, pixel by pixel.
 
+use crate::asserts::holds;
 use crate::shapes::Dice;
 use bumpalo::Bump;
 use canvas_doc::Document;
@@ -35,18 +36,24 @@ pub(crate) fn agrees(document: &Document, window: &Window, bytes: &[u8]) -> bool
     at == bytes.len()
 }
 
-/// Whether a document's picture in a window has its colour at each pixel.
-pub(crate) fn is_walk(
+/// Asserts that a document's picture in a window has its colour at each pixel. The number tells which picture it is.
+pub(crate) fn check_walk(
     rt: &impl Abort,
     alloc: Global,
     document: &Document,
     window: &Window,
-) -> bool {
+    number: u64,
+) {
     let bump = Bump::new(alloc);
     let scene = Scene::build(&bump, document, window).expect(rt, "memory");
     let items = scene.display_list();
     let bytes = paint_strip(alloc, items, window, 0, window.h()).expect(rt, "memory");
-    agrees(document, window, bytes.as_slice())
+    holds(rt, "picture", number, agrees(document, window, &bytes));
+}
+
+/// The number of a picture, by which a failure tells the seed and how many pictures came before.
+pub(crate) fn picture_number(seed: u64, count: u32) -> u64 {
+    seed.wrapping_mul(1_000).wrapping_add(u64::from(count))
 }
 
 // A place near another.

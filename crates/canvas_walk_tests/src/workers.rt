@@ -1,7 +1,8 @@
 //! Pictures by one to four workers, compared with the walk pixel by pixel.
 
+use crate::asserts::{equal, holds};
 use crate::shapes::{Dice, after, create_anyhow, ellipse, far_groups, frame, polygon, rect, with};
-use crate::walk::{agrees, random_window};
+use crate::walk::{agrees, picture_number, random_window};
 use bumpalo::Bump;
 use canvas_doc::{Document, Edit, Parent};
 use canvas_paint::append_picture;
@@ -11,19 +12,20 @@ use std::alloc::Global;
 use std::process::Abort;
 use std::thread::Threads;
 
-// Whether a document's picture by 1 to 4 workers has its colour at each pixel.
-fn is_walk_by<R: Abort + Threads + Sync>(
+// Asserts that a document's picture by 1 to 4 workers has its colour at each pixel. The number tells which picture it is.
+fn check_walk_by<R: Abort + Threads + Sync>(
     rt: &R,
     alloc: Global,
     document: &Document,
     window: &Window,
     workers: u32,
-) -> bool {
+    number: u64,
+) {
     let bump = Bump::new(alloc);
     let mut out = Vec::new(alloc);
     let workers = workers.clamp(1, 4);
     append_picture(rt, alloc, &bump, document, window, workers, &mut out).expect(rt, "memory");
-    agrees(document, window, out.as_slice())
+    holds(rt, "picture", number, agrees(document, window, &out));
 }
 
 fn random_kind(rt: &impl Abort, alloc: Global, dice: &mut Dice) -> Kind {
@@ -58,7 +60,7 @@ fn random_document(rt: &impl Abort, alloc: Global, dice: &mut Dice, far: i64) ->
     let mut document = far_groups(rt, alloc, far);
     for count in 0..24u32 {
         let edit = random_edit(rt, alloc, dice, count);
-        document = after(alloc, document, &edit).expect(rt, "memory");
+        document = after(rt, alloc, document, edit);
     }
     document
 }
@@ -77,8 +79,8 @@ fn compared<R: Abort + Threads + Sync>(
     for _ in 0..150u32 {
         let document = random_document(rt, alloc, &mut dice, far);
         if let Some(window) = random_window(&mut dice, x, y, 8, 90) {
-            let is_right = is_walk_by(rt, alloc, &document, &window, count % 3 + 1);
-            assert!(rt; is_right, "{seed} {count}");
+            let number = picture_number(seed, count);
+            check_walk_by(rt, alloc, &document, &window, count % 3 + 1, number);
             count = count.saturating_add(1);
         }
     }
@@ -88,9 +90,11 @@ fn compared<R: Abort + Threads + Sync>(
 #[test]
 fn random_pictures_are_the_walk(rt: HostRuntime) {
     let alloc = rt.alloc();
-    assert_eq!(rt; compared(&rt, alloc, 1, 0, 0, 0), 150);
-    assert!(rt; compared(&rt, alloc, 2, 1_048_576, 2_097_072, -2_097_152) > 20);
-    assert!(rt; compared(&rt, alloc, 3, -1_048_576, -2_097_152, 2_097_132) > 20);
+    equal(&rt, "windows", &compared(&rt, alloc, 1, 0, 0, 0), &150);
+    let count = compared(&rt, alloc, 2, 1_048_576, 2_097_072, -2_097_152);
+    holds(&rt, "windows", u64::from(count), count > 20);
+    let count = compared(&rt, alloc, 3, -1_048_576, -2_097_152, 2_097_132);
+    holds(&rt, "windows", u64::from(count), count > 20);
 }
 
 // A rectangle, an ellipse or a polygon with sides up to 120.
@@ -111,7 +115,7 @@ fn wide_document(rt: &impl Abort, alloc: Global) -> Document {
     for _ in 0..60u32 {
         let pose = dice.pose(-40, 300, 140);
         let kind = wide_kind(rt, alloc, &mut dice);
-        document = with(alloc, document, kind, pose, Parent::Page).expect(rt, "memory");
+        document = with(rt, alloc, document, kind, pose, Parent::Page);
     }
     document
 }
@@ -122,9 +126,6 @@ fn wide_pictures_are_the_walk(rt: HostRuntime) {
     let window = Window::new(3, 5, 250, 96).expect(&rt, "a window");
     let document = wide_document(&rt, alloc);
     for workers in 1..5u32 {
-        assert!(rt;
-            is_walk_by(&rt, alloc, &document, &window, workers),
-            "{workers}"
-        );
+        check_walk_by(&rt, alloc, &document, &window, workers, u64::from(workers));
     }
 }
