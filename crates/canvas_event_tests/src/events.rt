@@ -1,11 +1,13 @@
 //! Worked lists of events, told in words.
 
+use crate::asserts::equal;
 use canvas_code::OutOfMemory;
 use canvas_doc::{Document, Edit, Parent, Spot};
 use canvas_plane::{Pose, Window};
 use canvas_shape::{Colour, Kind};
 use canvas_world::{Entry, Event, run};
 use std::alloc::{AllocError, Global};
+use std::process::Abort;
 
 const RED: Colour = Colour([255, 0, 0]);
 
@@ -97,6 +99,12 @@ pub(crate) fn transcript(
     Ok(text)
 }
 
+// Asserts what the transcript of a list of events is in words.
+fn check(rt: &impl Abort, alloc: Global, seats: u32, window: Window, steps: &[Step], wanted: &str) {
+    let told = transcript(alloc, seats, window, steps).expect(rt, "memory");
+    equal(rt, "the transcript", &told.as_str(), &wanted);
+}
+
 /// A look, an edit between its two strips, and two answers.
 pub(crate) const A_TILE: [Step; 6] = [
     Step::Look(0),
@@ -114,8 +122,7 @@ pub(crate) const A_TILE_TOLD: &str =
 #[test]
 fn a_tile_shows_the_version_of_its_look(rt: HostRuntime) {
     let window = Window::new(0, 0, 1, 2).expect(&rt, "a window");
-    let told = transcript(rt.alloc(), 1, window, &A_TILE).expect(&rt, "memory");
-    assert_eq!(rt; told.as_str(), A_TILE_TOLD);
+    check(&rt, rt.alloc(), 1, window, &A_TILE, A_TILE_TOLD);
 }
 
 const NEW_LOOKS: [Step; 8] = [
@@ -129,14 +136,13 @@ const NEW_LOOKS: [Step; 8] = [
     Step::Look(2),
 ];
 
+const NEW_LOOKS_TOLD: &str =
+    "edited 1 1; looked 1; painted; looked 1; skipped; painted; skipped; skipped; ";
+
 #[test]
 fn a_new_look_begins_anew(rt: HostRuntime) {
     let window = Window::new(0, 0, 1, 1).expect(&rt, "a window");
-    let told = transcript(rt.alloc(), 2, window, &NEW_LOOKS).expect(&rt, "memory");
-    assert_eq!(rt;
-        told.as_str(),
-        "edited 1 1; looked 1; painted; looked 1; skipped; painted; skipped; skipped; "
-    );
+    check(&rt, rt.alloc(), 2, window, &NEW_LOOKS, NEW_LOOKS_TOLD);
 }
 
 const A_LEVEL: [Step; 4] = [
@@ -146,14 +152,13 @@ const A_LEVEL: [Step; 4] = [
     Step::Answer(0),
 ];
 
+const A_LEVEL_TOLD: &str =
+    "edited 1 1; looked 1; painted; tile 1 3 1 [255, 255, 255, 255, 0, 0, 255, 255, 255]; ";
+
 #[test]
 fn a_tile_of_a_level_shows_the_first_pixel_of_each_block(rt: HostRuntime) {
     let window = Window::at_level(1, -1, 0, 3, 1).expect(&rt, "a window");
-    let told = transcript(rt.alloc(), 1, window, &A_LEVEL).expect(&rt, "memory");
-    assert_eq!(rt;
-        told.as_str(),
-        "edited 1 1; looked 1; painted; tile 1 3 1 [255, 255, 255, 255, 0, 0, 255, 255, 255]; "
-    );
+    check(&rt, rt.alloc(), 1, window, &A_LEVEL, A_LEVEL_TOLD);
 }
 
 const ANY_ORDER: [Step; 11] = [
@@ -170,14 +175,13 @@ const ANY_ORDER: [Step; 11] = [
     Step::Strip(0, 0, 1),
 ];
 
+const ANY_ORDER_TOLD: &str =
+    "edited 1 1; refused 2; looked 1; painted; skipped; skipped; skipped; skipped; painted; tile 1 1 2 [255, 0, 0, 255, 255, 255]; skipped; ";
+
 #[test]
 fn strips_come_in_any_order(rt: HostRuntime) {
     let window = Window::new(0, 0, 1, 2).expect(&rt, "a window");
-    let told = transcript(rt.alloc(), 1, window, &ANY_ORDER).expect(&rt, "memory");
-    assert_eq!(rt;
-        told.as_str(),
-        "edited 1 1; refused 2; looked 1; painted; skipped; skipped; skipped; skipped; painted; tile 1 1 2 [255, 0, 0, 255, 255, 255]; skipped; "
-    );
+    check(&rt, rt.alloc(), 1, window, &ANY_ORDER, ANY_ORDER_TOLD);
 }
 
 #[test]
@@ -191,5 +195,5 @@ fn seats_of_events(rt: HostRuntime) {
         edit: Edit::Delete { id: 1 },
     };
     let seats = (look.seat(), strip.seat(), answer.seat(), edit.seat());
-    assert_eq!(rt; seats, (4, 5, 6, 7));
+    equal(&rt, "seats", &seats, &(4, 5, 6, 7));
 }

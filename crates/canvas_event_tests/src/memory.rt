@@ -1,6 +1,7 @@
 //! Lists of events for which memory may be refused: run with each allocation refused in turn, a list answers want of
 //! memory, or what it answers with ample memory.
 
+use crate::asserts::equal;
 use crate::events::{A_TILE, A_TILE_TOLD, transcript};
 use canvas_code::OutOfMemory;
 use canvas_plane::Window;
@@ -26,6 +27,7 @@ fn events_with_little_memory(rt: HostRuntime) -> Result<(), Fail> {
     let alloc = rt.alloc();
     let window = Window::new(0, 0, 1, 2)?;
     let first = is_told(alloc, window);
-    assert!(rt; are_right(first, is_told(alloc, window)));
+    let again = is_told(alloc, window);
+    equal(&rt, "two transcripts", &are_right(first, again), &true);
     Ok(())
 }

@@ -1,6 +1,7 @@
 //! Random lists of events, with each entry compared with what is found by looking back over the list.
 
-use canvas_doc::{Change, Document, Edit, Parent, Spot};
+use crate::asserts::holds;
+use canvas_doc::{Change, Document, Edit, Parent, Refusal, Spot};
 use canvas_plane::{Pose, Window};
 use canvas_shape::{Colour, Kind};
 use canvas_world::{Entry, Event, Transcript, run};
@@ -106,18 +107,32 @@ fn replayed(
     many: u64,
 ) -> Document {
     let mut document = Document::empty(alloc);
-    let mut done = 0u64;
+    let mut left = many;
     for (event, entry) in events.iter().zip(entries) {
-        if let (Event::Edit { edit, .. }, Entry::Edited { .. }) = (event, entry) {
-            if done < many {
-                if let Ok(change) = document.decide(alloc, edit) {
-                    document = document.with(alloc, &change).expect(rt, "memory");
-                }
-                done = done.wrapping_add(1);
-            }
+        if let Some(edit) = next_accepted(event, entry, &mut left) {
+            document = after(rt, alloc, document, edit);
         }
     }
     document
+}
+
+// The edit of an event that was accepted, where some are left, of which it is one.
+fn next_accepted<'a>(event: &'a Event, entry: &Entry, left: &mut u64) -> Option<&'a Edit> {
+    match (event, entry) {
+        (Event::Edit { edit, .. }, Entry::Edited { .. }) => {
+            *left = left.checked_sub(1)?;
+            Some(edit)
+        }
+        _ => None,
+    }
+}
+
+// The document after an edit, or as it was where the edit is refused.
+fn after(rt: &impl Abort, alloc: Global, document: Document, edit: &Edit) -> Document {
+    match document.decide(alloc, edit) {
+        Ok(change) => document.with(alloc, &change).expect(rt, "memory"),
+        Err(_) => document,
+    }
 }
 
 fn edits_in(entries: &[Entry]) -> u64 {
@@ -209,9 +224,14 @@ fn edited_right(
 ) -> bool {
     let many = edits_in(entries);
     let document = replayed(rt, alloc, events, entries, many);
-    match (document.decide(alloc, edit), entry) {
+    is_decided(&document.decide(alloc, edit), many, entry)
+}
+
+// Whether an entry tells what was decided of an edit after so many others.
+fn is_decided(decided: &Result<Change, Refusal>, many: u64, entry: &Entry) -> bool {
+    match (decided, entry) {
         (Ok(change), Entry::Edited { version, id }) => {
-            *version == many.wrapping_add(1) && *id == new_id(&change)
+            *version == many.wrapping_add(1) && *id == new_id(change)
         }
         (Err(why), Entry::Refused { code }) => *code == why.code(),
         _ => false,
@@ -267,6 +287,20 @@ fn is_whole(events: &[Event], entries: &[Entry], own: u32, since: usize) -> bool
     0 < n && there == n
 }
 
+// Whether the bytes are the colours of the document after the first so many accepted edits.
+fn shows_replay(
+    rt: &impl Abort,
+    alloc: Global,
+    events: &[Event],
+    entries: &[Entry],
+    many: u64,
+    window: &Window,
+    bytes: &[u8],
+) -> bool {
+    let document = replayed(rt, alloc, events, entries, many);
+    shows(&document, window, bytes)
+}
+
 // Whether an answer came to the right entry after a look at a place.
 fn answered_right(
     rt: &impl Abort,
@@ -288,8 +322,10 @@ fn answered_right(
             Some(Event::Look { window: asked, .. }),
             Some(Entry::Looked { version: fixed }),
         ) => {
-            let document = replayed(rt, alloc, events, entries, *fixed);
-            whole && version == fixed && window == asked && shows(&document, asked, raster.bytes())
+            whole
+                && version == fixed
+                && window == asked
+                && shows_replay(rt, alloc, events, entries, *fixed, asked, raster.bytes())
         }
         (Entry::Skipped, _, _) => !whole,
         _ => false,
@@ -354,30 +390,34 @@ fn tiles_in(entries: &[Entry]) -> u32 {
     many
 }
 
-// How many tiles there were in a list of events over an empty document, if all entries are right.
-fn tiles_of(rt: &impl Abort, alloc: Global, events: &[Event]) -> Option<u32> {
+// How many tiles there were in a list of events over an empty document, of which all entries are to be right. The number
+// tells which list it is.
+fn tiles_of(rt: &impl Abort, alloc: Global, events: &[Event], number: u64) -> u32 {
     let transcript = run(alloc, &Document::empty(alloc), 3, events).expect(rt, "memory");
-    if all_right(rt, alloc, events, &transcript) {
-        Some(tiles_in(transcript.entries()))
-    } else {
-        None
-    }
+    holds(
+        rt,
+        "list",
+        number,
+        all_right(rt, alloc, events, &transcript),
+    );
+    tiles_in(transcript.entries())
 }
 
 // How many tiles there were in random lists of events, all compared.
 fn compared(rt: &impl Abort, alloc: Global, seed: u64) -> u32 {
     let mut dice = Dice(seed);
     let mut tiles = 0u32;
-    for round in 0..2_000u32 {
+    let first = seed.wrapping_mul(10_000);
+    for round in 0..2_000u64 {
         let events = random_events(rt, alloc, &mut dice);
-        let more = tiles_of(rt, alloc, events.as_slice());
-        assert!(rt; more.is_some(), "{seed} {round}");
-        tiles = tiles.wrapping_add(more.unwrap_or(0));
+        let number = first.wrapping_add(round);
+        tiles = tiles.wrapping_add(tiles_of(rt, alloc, &events, number));
     }
     tiles
 }
 
 #[test]
 fn random_lists_are_their_replay(rt: HostRuntime) {
-    assert!(rt; compared(&rt, rt.alloc(), 1) > 200);
+    let tiles = compared(&rt, rt.alloc(), 1);
+    holds(&rt, "tiles", u64::from(tiles), tiles > 200);
 }

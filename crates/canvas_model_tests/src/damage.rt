@@ -1,5 +1,8 @@
 //! Damage of changes: worked boxes, and random changes beside the boxes that looking at every record gives.
 
+ghost use Rattle.canvas_doc.specs.Effect.{Fits};
+
+use crate::asserts::holds;
 use crate::both::Both;
 use crate::plain::{Plain, position_in};
 use crate::random::{edit, id, pose};
@@ -71,13 +74,15 @@ fn triangle(rt: &impl Abort, alloc: Global) -> Kind {
 fn drawing(rt: &impl Abort, alloc: Global) -> Document {
     let mut document = Document::empty(alloc);
     for id in 1..8u32 {
-        document = after(rt, alloc, &document, &creation(rt, alloc, id));
+        document = after(rt, alloc, &document, creation(rt, alloc, id));
     }
     document
 }
 
-fn after(rt: &impl Abort, alloc: Global, document: &Document, edit: &Edit) -> Document {
-    edited(alloc, document, edit).expect(rt, "accepted")
+fn after(rt: &impl Abort, alloc: Global, document: &Document, edit: Edit) -> Document {
+    let after = edited(alloc, document, &edit).expect(rt, "accepted");
+    drop(edit);
+    after
 }
 
 fn to_front(id: u32, parent: Parent) -> Edit {
@@ -96,76 +101,128 @@ fn turn(id: u32, pose: Pose) -> Edit {
     Edit::Pose { id, pose }
 }
 
-// Whether each edit of the drawing has its damage.
-fn have_damage(rt: &impl Abort, alloc: Global, rows: &[(Edit, PageBox)]) {
-    let document = drawing(rt, alloc);
-    let mut row: usize = 0;
-    for (edit, wanted) in rows {
-        let found = damage(rt, alloc, &document, edit);
-        assert_eq!(rt; found, *wanted, "row {row}");
-        row = row.saturating_add(1);
-    }
+// Asserts the damage of an edit.
+fn check(
+    rt: &impl Abort,
+    alloc: Global,
+    document: &Document,
+    what: &str,
+    edit: Edit,
+    wanted: PageBox,
+) {
+    let found = damage(rt, alloc, document, &edit);
+    drop(edit);
+    holds(rt, what, &(found, wanted), found == wanted);
 }
 
 #[test]
 fn a_rectangle_moves(rt: HostRuntime) {
     let alloc = rt.alloc();
     let red = create(rectangle(10, 10, RED), Parent::Page, Spot::Front);
-    let document = after(&rt, alloc, &Document::empty(alloc), &red);
+    let document = after(&rt, alloc, &Document::empty(alloc), red);
     let away = turn(1, moved(100, 0));
-    assert_eq!(rt; damage(&rt, alloc, &document, &away), area(0, 0, 110, 10));
+    let wanted = area(0, 0, 110, 10);
+    check(&rt, alloc, &document, "away", away, wanted);
+    drop(document);
 }
 
 #[test]
 fn groups_alone_and_indexes_damage_nothing(rt: HostRuntime) {
-    let rows = [
-        (create(Kind::Group, Parent::Page, Spot::Back), NOTHING),
-        (create(Kind::Group, Parent::Shape(4), Spot::Back), NOTHING),
-        (Edit::Delete { id: 6 }, NOTHING),
-        (show(6, true), NOTHING),
-        (turn(6, moved(50, 50)), NOTHING),
-        (to_front(6, Parent::Shape(1)), NOTHING),
-        (
-            Edit::Respace {
-                parent: Parent::Page,
-            },
-            NOTHING,
-        ),
-        (
-            Edit::Respace {
-                parent: Parent::Shape(1),
-            },
-            NOTHING,
-        ),
-    ];
-    have_damage(&rt, rt.alloc(), &rows);
+    let alloc = rt.alloc();
+    let drawing = drawing(&rt, alloc);
+    let on_page = create(Kind::Group, Parent::Page, Spot::Back);
+    check(&rt, alloc, &drawing, "new on the page", on_page, NOTHING);
+    let in_group = create(Kind::Group, Parent::Shape(4), Spot::Back);
+    check(&rt, alloc, &drawing, "new in 4", in_group, NOTHING);
+    let delete = Edit::Delete { id: 6 };
+    check(&rt, alloc, &drawing, "delete", delete, NOTHING);
+    check(&rt, alloc, &drawing, "hide", show(6, true), NOTHING);
+    check(
+        &rt,
+        alloc,
+        &drawing,
+        "turn",
+        turn(6, moved(50, 50)),
+        NOTHING,
+    );
+    let to_frame = to_front(6, Parent::Shape(1));
+    check(&rt, alloc, &drawing, "move", to_frame, NOTHING);
+    let parent = Parent::Page;
+    check(
+        &rt,
+        alloc,
+        &drawing,
+        "respace the page",
+        Edit::Respace { parent },
+        NOTHING,
+    );
+    let parent = Parent::Shape(1);
+    check(
+        &rt,
+        alloc,
+        &drawing,
+        "respace 1",
+        Edit::Respace { parent },
+        NOTHING,
+    );
+    drop(drawing);
 }
 
 #[test]
 fn hidden_and_clipped_shapes_count(rt: HostRuntime) {
-    let rows = [
-        (show(7, false), area(-9, 0, -7, 2)),
-        (show(3, true), area(5, 21, 8, 24)),
-        (show(1, true), area(5, 20, 18, 24)),
-        (Edit::Delete { id: 1 }, area(5, 20, 18, 24)),
-        (to_front(2, Parent::Shape(1)), area(12, 20, 18, 22)),
-        (to_front(3, Parent::Shape(4)), area(5, 2, 99, 24)),
-        (
-            Edit::Reshape {
-                id: 1,
-                kind: frame(20, 1),
-            },
-            area(5, 20, 30, 24),
-        ),
-        (
-            Edit::Reshape {
-                id: 2,
-                kind: rectangle(1, 3, RED),
-            },
-            area(12, 20, 18, 23),
-        ),
-    ];
-    have_damage(&rt, rt.alloc(), &rows);
+    let alloc = rt.alloc();
+    let drawing = drawing(&rt, alloc);
+    check(
+        &rt,
+        alloc,
+        &drawing,
+        "show 7",
+        show(7, false),
+        area(-9, 0, -7, 2),
+    );
+    check(
+        &rt,
+        alloc,
+        &drawing,
+        "hide 3",
+        show(3, true),
+        area(5, 21, 8, 24),
+    );
+    check(
+        &rt,
+        alloc,
+        &drawing,
+        "hide 1",
+        show(1, true),
+        area(5, 20, 18, 24),
+    );
+    let delete = Edit::Delete { id: 1 };
+    check(&rt, alloc, &drawing, "delete", delete, area(5, 20, 18, 24));
+    let move_2 = to_front(2, Parent::Shape(1));
+    check(&rt, alloc, &drawing, "move 2", move_2, area(12, 20, 18, 22));
+    let move_3 = to_front(3, Parent::Shape(4));
+    check(&rt, alloc, &drawing, "move 3", move_3, area(5, 2, 99, 24));
+    let (id, kind) = (1, frame(20, 1));
+    let reshape_1 = Edit::Reshape { id, kind };
+    check(
+        &rt,
+        alloc,
+        &drawing,
+        "reshape 1",
+        reshape_1,
+        area(5, 20, 30, 24),
+    );
+    let (id, kind) = (2, rectangle(1, 3, RED));
+    let reshape_2 = Edit::Reshape { id, kind };
+    check(
+        &rt,
+        alloc,
+        &drawing,
+        "reshape 2",
+        reshape_2,
+        area(12, 20, 18, 23),
+    );
+    drop(drawing);
 }
 
 // The edit that gives the triangle another outline.
@@ -179,19 +236,36 @@ fn another_outline(rt: &impl Abort, alloc: Global) -> Edit {
 
 #[test]
 fn a_turned_and_flipped_group_carries_its_shapes(rt: HostRuntime) {
-    let rows = [
-        (show(5, true), area(92, -4, 98, 0)),
-        (Edit::Delete { id: 4 }, area(92, -4, 98, 0)),
-        (turn(5, Pose::STILL), area(92, -4, 100, 0)),
-        (turn(4, Pose::STILL), area(0, -4, 98, 8)),
-        (to_front(5, Parent::Page), area(0, -4, 98, 8)),
-        (another_outline(&rt, rt.alloc()), area(92, -4, 98, 0)),
-        (
-            create(rectangle(1, 2, RED), Parent::Shape(4), Spot::Back),
-            area(98, -1, 100, 0),
-        ),
-    ];
-    have_damage(&rt, rt.alloc(), &rows);
+    let alloc = rt.alloc();
+    let drawing = drawing(&rt, alloc);
+    check(
+        &rt,
+        alloc,
+        &drawing,
+        "hide 5",
+        show(5, true),
+        area(92, -4, 98, 0),
+    );
+    let delete = Edit::Delete { id: 4 };
+    check(&rt, alloc, &drawing, "delete", delete, area(92, -4, 98, 0));
+    let turn_5 = turn(5, Pose::STILL);
+    check(&rt, alloc, &drawing, "turn 5", turn_5, area(92, -4, 100, 0));
+    let turn_4 = turn(4, Pose::STILL);
+    check(&rt, alloc, &drawing, "turn 4", turn_4, area(0, -4, 98, 8));
+    let move_5 = to_front(5, Parent::Page);
+    check(&rt, alloc, &drawing, "move 5", move_5, area(0, -4, 98, 8));
+    let outline = another_outline(&rt, alloc);
+    check(
+        &rt,
+        alloc,
+        &drawing,
+        "reshape 5",
+        outline,
+        area(92, -4, 98, 0),
+    );
+    let new = create(rectangle(1, 2, RED), Parent::Shape(4), Spot::Back);
+    check(&rt, alloc, &drawing, "new", new, area(98, -1, 100, 0));
+    drop(drawing);
 }
 
 // The least box round the points that a path carries to the page.
@@ -324,54 +398,47 @@ fn some_edit(rt: &impl Abort, alloc: Global, dice: &mut Dice, plain: &Plain, num
     }
 }
 
-// What an edit that is allowed does to a document.
-#[derive(Drop)]
-struct Made {
-    change: Change,
-    area: PageBox,
-    after: Document,
-}
-
-fn tried(rt: &impl Abort, alloc: Global, document: &Document, asked: &Edit) -> Option<Made> {
-    match document.decide(alloc, asked) {
-        Ok(change) => {
-            let area = document.damage(&change);
-            let after = document.with(alloc, &change).expect(rt, "memory");
-            Some(Made {
-                change,
-                area,
-                after,
-            })
-        }
-        Err(_) => None,
-    }
-}
-
-// The damage of an edit beside that of the plain model: the document after it.
-fn check_damage(
+// Makes a change in both, whose damage is that of the plain model.
+fn check_change(
     rt: &impl Abort,
     alloc: Global,
     dice: &mut Dice,
     both: &mut Both,
-    made: Made,
-    (levels, number): (u32, u32),
+    change: &Change,
+    case: (u32, u32),
+)
+    requires { Fits change.now both.now.document }
+{
+    let area = both.document.damage(change);
+    let after = both.document.with(alloc, change).expect(rt, "memory");
+    let wanted = plain_damage(rt, alloc, &mut both.plain, change);
+    holds(rt, "damage", &(case, area, wanted), area == wanted);
+    let kept = keeps_colours(dice, &area, &both.document, &after);
+    holds(rt, "colours kept", &case, kept);
+    both.document = after;
+}
+
+// Makes an edit at random in both where it is allowed; the case is the number of levels and that of the edit.
+fn damage_agrees(
+    rt: &impl Abort,
+    alloc: Global,
+    dice: &mut Dice,
+    both: &mut Both,
+    case: (u32, u32),
 ) {
-    let wanted = plain_damage(rt, alloc, &mut both.plain, &made.change);
-    assert_eq!(rt; made.area, wanted, "{levels} levels, edit {number}");
-    let kept = keeps_colours(dice, &made.area, &both.document, &made.after);
-    assert!(rt; kept, "{levels} levels, edit {number}");
-    both.document = made.after;
+    let asked = some_edit(rt, alloc, dice, &both.plain, case.1);
+    if let Ok(change) = &both.document.decide(alloc, &asked) {
+        check_change(rt, alloc, dice, both, change, case);
+    }
 }
 
 // Edits at random of nested groups.
 fn damages_agree(rt: &impl Abort, alloc: Global, dice: &mut Dice, levels: u32) {
     let mut both = Both::nested(rt, alloc, levels);
     for number in 0..60u32 {
-        let asked = some_edit(rt, alloc, dice, &both.plain, number);
-        if let Some(made) = tried(rt, alloc, &both.document, &asked) {
-            check_damage(rt, alloc, dice, &mut both, made, (levels, number));
-        }
+        damage_agrees(rt, alloc, dice, &mut both, (levels, number));
     }
+    drop(both);
 }
 
 #[test]

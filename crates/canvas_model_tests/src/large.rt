@@ -59,6 +59,7 @@ fn all_children_of_a_group_move_away_and_back(rt: HostRuntime) {
         all_move(&rt, rt.alloc(), &mut both, 65, parent);
         is_respaced(&rt, rt.alloc(), &mut both, parent);
     }
+    drop(both);
 }
 
 #[test]
@@ -67,4 +68,5 @@ fn few_of_many_get_new_indexes(rt: HostRuntime) {
     for group in [64u32, 2_048, 4_032] {
         is_respaced(&rt, rt.alloc(), &mut both, Parent::Shape(group));
     }
+    drop(both);
 }

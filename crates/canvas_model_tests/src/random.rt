@@ -1,5 +1,6 @@
 //! Some thousands of random edits, each beside the plain model.
 
+use crate::asserts::holds;
 use crate::both::Both;
 use crate::plain::Plain;
 use crate::viewed::{Pixel, colour_at};
@@ -188,14 +189,6 @@ fn small_edit(dice: &mut Dice, plain: &Plain, number: u64) -> Edit {
     }
 }
 
-fn are_same(own: &Result<Change, Refusal>, plain: &Result<Change, Refusal>) -> bool {
-    match (own, plain) {
-        (Ok(own), Ok(plain)) => own == plain,
-        (Err(own), Err(plain)) => own == plain,
-        _ => false,
-    }
-}
-
 // Whether a document has the records and the next id of the plain one.
 fn agree(rt: &impl Abort, alloc: Global, document: &Document, plain: &Plain) -> bool {
     document.next_id() == plain.next
@@ -206,8 +199,10 @@ fn agree(rt: &impl Abort, alloc: Global, document: &Document, plain: &Plain) -> 
 fn are_records(rt: &impl Abort, alloc: Global, document: &Document, wanted: &[Record]) -> bool {
     let records = document.records_in_order(alloc).expect(rt, "memory");
     let mut same = records.len() == wanted.len();
-    for (own, other) in records.iter().zip(wanted) {
-        same = same && *own == other;
+    let mut at: usize = 0;
+    for other in wanted {
+        same = same && records.get(at) == Some(&other);
+        at = at.saturating_add(1);
     }
     same
 }
@@ -246,16 +241,16 @@ fn is_answer(
     asked: &Edit,
     own: &Result<Change, Refusal>,
 ) -> bool {
-    are_same(own, &plain.decide(rt, alloc, asked))
+    *own == plain.decide(rt, alloc, asked)
 }
 
 // Judges an edit by both, and makes it in both.
 fn answers_agree(rt: &impl Abort, alloc: Global, both: &mut Both, asked: &Edit, number: u32) {
     let own = both.document.decide(alloc, asked);
     let same = is_answer(rt, alloc, &both.plain, asked, &own);
-    assert!(rt; same, "answer {number}");
+    holds(rt, "answer", &number, same);
     if let Ok(change) = &own {
-        assert!(rt; both.document.fits(change), "fits {number}");
+        holds(rt, "fits", &number, both.document.fits(change));
         both.make(rt, alloc, change);
     }
 }
@@ -269,10 +264,24 @@ pub(crate) fn edit_agrees(
     number: u32,
 ) {
     answers_agree(rt, alloc, both, asked, number);
-    assert!(rt;
-        agree(rt, alloc, &both.document, &both.plain),
-        "records {number}"
-    );
+    let same = agree(rt, alloc, &both.document, &both.plain);
+    holds(rt, "records", &number, same);
+}
+
+// Makes an edit at random beside the plain model, and looks at so many pixels after it.
+fn some_edit_agrees(
+    rt: &impl Abort,
+    alloc: Global,
+    dice: &mut Dice,
+    both: &mut Both,
+    number: u32,
+    looks: u32,
+) {
+    let asked = edit(rt, alloc, dice, &both.plain);
+    edit_agrees(rt, alloc, both, &asked, number);
+    drop(asked);
+    let same = look_alike(rt, alloc, dice, both, looks);
+    holds(rt, "colours", &number, same);
 }
 
 /// Makes so many edits at random beside the plain model, and looks at so many pixels after each.
@@ -286,13 +295,9 @@ pub(crate) fn edits_agree(
 ) {
     let mut both = start;
     for number in 0..edits {
-        let asked = edit(rt, alloc, dice, &both.plain);
-        edit_agrees(rt, alloc, &mut both, &asked, number);
-        assert!(rt;
-            look_alike(rt, alloc, dice, &both, looks),
-            "colours {number}"
-        );
+        some_edit_agrees(rt, alloc, dice, &mut both, number, looks);
     }
+    drop(both);
 }
 
 #[test]

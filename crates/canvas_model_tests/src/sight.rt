@@ -1,6 +1,7 @@
 //! Children that may show in a box of the page: those that are left out show nothing there, they nor
 //! what lies below them.
 
+use crate::asserts::holds;
 use crate::both::Both;
 use crate::plain::Plain;
 use crate::random::{edit, id, parent, pose};
@@ -143,7 +144,8 @@ fn left_out_of(
     clip: &PageBox,
 ) -> Vec<u32> {
     let kept = meeting(rt, alloc, &both.document, parent, out, clip);
-    assert!(rt; are_in_order(&both.plain, parent, &kept));
+    let are_so = are_in_order(&both.plain, parent, &kept);
+    holds(rt, "children in order", &parent, are_so);
     left_out(rt, alloc, &both.plain, parent, &kept)
 }
 
@@ -158,7 +160,8 @@ fn look_at_pixels(
 ) {
     for _ in 0..8u32 {
         let at = pixel_in(dice, clip);
-        assert!(rt; show_nothing(rt, alloc, plain, ids, at), "{clip:?}");
+        let is_so = show_nothing(rt, alloc, plain, ids, at);
+        holds(rt, "nothing shown", clip, is_so);
     }
 }
 
@@ -215,6 +218,7 @@ fn look_agrees(
 ) -> usize {
     let asked = some_edit(rt, alloc, dice, &both.plain, number);
     make(rt, alloc, both, &asked);
+    drop(asked);
     look(rt, alloc, dice, both)
 }
 
@@ -226,6 +230,7 @@ fn looks_agree(rt: &impl Abort, alloc: Global, dice: &mut Dice, levels: u32) -> 
         let more = look_agrees(rt, alloc, dice, &mut both, number);
         left_out = left_out.saturating_add(more);
     }
+    drop(both);
     left_out
 }
 
@@ -237,5 +242,5 @@ fn what_is_left_out_shows_nothing(rt: HostRuntime) {
         let more = looks_agree(&rt, rt.alloc(), &mut dice, levels);
         left_out = left_out.saturating_add(more);
     }
-    assert!(rt; left_out > 500, "only {left_out} left out");
+    holds(&rt, "many left out", &left_out, left_out > 500);
 }

@@ -80,13 +80,18 @@ fn place_of<'a>(rt: &impl Abort, alloc: Global, plain: &'a Plain, shape: u32) ->
 }
 
 fn is_behind(place: &[&Key], other: &[&Key]) -> bool {
-    for (index, against) in place.iter().zip(other) {
+    let mut at: usize = 0;
+    for index in place {
+        let Some(against) = other.get(at) else {
+            return false;
+        };
         if index.is_before(against) {
             return true;
         }
         if against.is_before(index) {
             return false;
         }
+        at = at.saturating_add(1);
     }
     place.len() < other.len()
 }
