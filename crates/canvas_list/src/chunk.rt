@@ -284,7 +284,8 @@ impl<T: Share> Counted for Chunk<T> {
 // Puts items in the place of as many, from a position on.
 fn put_run<T: Drop>(items: &mut Vec<T>, at: usize, mut others: Vec<T>)
     requires { at + length others.items ≤ length items.old.items }
-    ensures { items.new.items ≡ replaced_run at others.items items.old.items }
+    ensures items { items.new.items ≡ replaced_run at others.items items.old.items }
+    ensures long { length items.new.items ≡ length items.old.items }
 {
     let end = at + others.len();
     items[at..end].swap_with_slice(&mut others);

@@ -1,9 +1,11 @@
 use Rattle.std.proofs.Common.{◌≡◌, ◌∙◌, ◌+◌, ◌-◌, ◌<◌, ◌≤◌, Global, List, Vec, ◌++◌, ap, arith, cond, length, subst, sym}
+use Rattle.std.specs.Arc.{arc_value}
 use Rattle.std.specs.List.{All}
 use Rattle.std.proofs.lemmas.List.{length-take-le}
 use Rattle.canvas_list.specs.Changed.{replaced_run}
 use Rattle.canvas_list.specs.Chunks.{joined, FitsChunk}
-use Rattle.canvas_list.proofs.Replaced.{all-behind, ends-here, goes-on, run-long}
+use Rattle.canvas_list.specs.declared.sizes.TheConstants.{MOST_IN_CHUNK}
+use Rattle.canvas_list.proofs.Replaced.{all-behind, ends-here, goes-on}
 use Rattle.canvas_list.proofs.chunk.Chunk.+replace_run.Goals as goal
 use Rattle.canvas_list.proofs.chunk.Chunk.+replace_run.Goals.{then-len-room+in-Ok+in-Some-split_first_mut+else-not-replace_run, else-len-room}
 
@@ -13,18 +15,31 @@ returns-then-not-replace_run-clause-some_behind g t c =
 
 pub invariant_of-self-2 : goal.invariant_of-self-2
 invariant_of-self-2 g t c =
-    let own : c.in-Some.own.now.items ≡ c.args.self.now = ap (λ (v : Vec g.row.T.Denot Global). v.items) c.in-Some.ensures.value ∙ c.self.view_is in
-    let long : length c.in-Some.own.now.items ≡ c.in-Some.own.now.len = sym c.in-Some.own.now.ok.0 in
-    let low : c.args.at ≤ length c.in-Some.own.now.items = omega (arith, ap length own, c.requires.place) in
-    let fits : c.args.at + length c.if-len-room.first.items ≤ length c.in-Some.own.now.items =
-    elim c.if-len-room.branch [
-      | then-len-room+in-Ok+in-Some-split_first_mut+else-not-replace_run w ↦ omega (arith, low, long, c.len.ensures, c.len-2.ensures, c.args.items.ok.0, w.if-len-room.true, ap (λ (v : Vec g.row.T.Denot Global). length v.items) w.first-is, ap length w.in-Ok.ensures.items, length-take-le (c.len.result - c.args.at) c.args.items.items (omega (arith, c.len-2.ensures, c.args.items.ok.0, w.if-len-room.true)))
-      | else-len-room w ↦ omega (arith, low, long, c.len.ensures, c.len-2.ensures, c.args.items.ok.0, w.if-len-room.false, ap (λ (v : Vec g.row.T.Denot Global). length v.items) w.first-is)
-    ] in (
-      subst (λ n. FitsChunk n) (sym (ap length c.put_run.ensures ∙ run-long c.in-Some.own.now.items c.if-len-room.first.items c.args.at fits ∙ ap (λ (v : Vec g.row.T.Denot Global). length v.items) c.in-Some.ensures.value)) c.self.invariant.0,
+    let long : length c.put_run.new.items.items ≡ length (arc_value c.self.inside.items).items = c.put_run.ensures.long ∙ ap (λ (v : Vec g.row.T.Denot Global). length v.items) c.in-Some.ensures.value in (
+      subst (λ n. FitsChunk n) (sym long) c.self.invariant.0,
       c.noted_after-self-inside.ensures ∙ ap length c.deref.ensures.value,
       subst (λ (l : List g.row.T.Denot). All (g.T.Share.covers c.summary_of-self-inside.result) l) c.deref-2.ensures.value c.summary_of-self-inside.ensures,
     )
+
+pub noted_after-self-inside-requires-clause-some : goal.noted_after-self-inside-requires-clause-some
+noted_after-self-inside-requires-clause-some g t c =
+    let long : length c.put_run.new.items.items ≡ length (arc_value c.self.inside.items).items = c.put_run.ensures.long ∙ ap (λ (v : Vec g.row.T.Denot Global). length v.items) c.in-Some.ensures.value in
+    subst (λ n. 0 < n) (sym (ap length c.deref.ensures.value ∙ long)) c.self.invariant.0.some
+
+pub noted_after-self-inside-requires-clause-few : goal.noted_after-self-inside-requires-clause-few
+noted_after-self-inside-requires-clause-few g t c =
+    let long : length c.put_run.new.items.items ≡ length (arc_value c.self.inside.items).items = c.put_run.ensures.long ∙ ap (λ (v : Vec g.row.T.Denot Global). length v.items) c.in-Some.ensures.value in
+    subst (λ n. n ≤ MOST_IN_CHUNK) (sym (ap length c.deref.ensures.value ∙ long)) c.self.invariant.0.few
+
+pub summary_of-self-inside-requires : goal.summary_of-self-inside-requires
+summary_of-self-inside-requires g t c =
+    let long : length c.put_run.new.items.items ≡ length (arc_value c.self.inside.items).items = c.put_run.ensures.long ∙ ap (λ (v : Vec g.row.T.Denot Global). length v.items) c.in-Some.ensures.value in
+    subst (λ n. 0 < n) (sym (ap length c.deref-2.ensures.value ∙ long)) c.self.invariant.0.some
+
+pub returns-clause-some : goal.returns-clause-some
+returns-clause-some g t c =
+    let long : length c.put_run.new.items.items ≡ length (arc_value c.self.inside.items).items = c.put_run.ensures.long ∙ ap (λ (v : Vec g.row.T.Denot Global). length v.items) c.in-Some.ensures.value in
+    subst (λ n. 0 < n) (sym long) c.self.invariant.0.some
 
 pub returns-clause-items : goal.returns-clause-items
 returns-clause-items g t c =
@@ -40,7 +55,7 @@ returns-clause-items g t c =
       | then-len-room+in-Ok+in-Some-split_first_mut+else-not-replace_run w ↦
           ap (λ (l : List (List g.row.T.Denot)). c.put_run.new.items.items ++ joined l) w.behind-is
           ∙ goes-on c.args.self.now c.in-Some.own.now.items c.put_run.new.items.items c.args.items.items c.if-len-room.first.items w.in-Ok.rest.items (joined c.args.behind.now) (w.replace_run.new.self ++ joined w.replace_run.new.behind) c.args.at (c.len.result - c.args.at)
-          c.put_run.ensures own
+          c.put_run.ensures.items own
           (ap (λ (v : Vec g.row.T.Denot Global). v.items) w.first-is ∙ w.in-Ok.ensures.items)
           w.in-Ok.ensures.tail
           (omega (arith, low, long, c.len.ensures, c.len-2.ensures, c.args.items.ok.0, w.if-len-room.true, ap (λ (v : Vec g.row.T.Denot Global). length v.items) w.first-is, ap length w.in-Ok.ensures.items, length-take-le (c.len.result - c.args.at) c.args.items.items (omega (arith, c.len-2.ensures, c.args.items.ok.0, w.if-len-room.true))))
@@ -50,7 +65,7 @@ returns-clause-items g t c =
       | else-len-room w ↦
           ap (λ (l : List (List g.row.T.Denot)). c.put_run.new.items.items ++ joined l) w.behind-is
           ∙ ends-here c.args.self.now c.in-Some.own.now.items c.put_run.new.items.items c.args.items.items c.if-len-room.first.items (joined c.args.behind.now) c.args.at
-          c.put_run.ensures own
+          c.put_run.ensures.items own
           (ap (λ (v : Vec g.row.T.Denot Global). v.items) w.first-is)
           fits
     ]
