@@ -1,4 +1,4 @@
-//! Documents to be painted.
+//! Documents to be painted and edited.
 
 mod scattered;
 mod spread;

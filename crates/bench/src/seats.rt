@@ -105,7 +105,7 @@ fn run<B: Lines + Send + Sync, R: Clock + Print + Threads + Wait + Sync>(
     work: Work,
 ) -> Result<(), Fault> {
     match work {
-        Work::Edits => edits::time_by_seat(rt, alloc, &mut seats, records),
+        Work::Edits => edits::time_by_seat(rt, alloc, seats, records),
         Work::LooksInTurn => looks::time_in_turn(rt, &mut seats),
         Work::AtOnce(editors) => looks::time_at_once(rt, alloc, seats, editors),
     }

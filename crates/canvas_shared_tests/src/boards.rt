@@ -110,8 +110,8 @@ fn first_row(left: Colour) -> [u8; 61] {
     row
 }
 
-/// Asserts that an edit is accepted as such a version, and makes such a shape. (Calls of this and of the next two tell a
-/// proof nothing, which keeps tests quick to prove.)
+/// Asserts that an edit is accepted as such a version, and makes such a shape. (Calls of this, of `check_dot` and of
+/// `check_picture` tell a proof nothing, which keeps tests quick to prove.)
 pub(crate) fn check_edit<B: Lines, H: Wait + Abort>(
     rt: &H,
     board: &mut Shared<B>,

@@ -70,7 +70,7 @@ impl Memory {
         Memory {
             bump: Bump::new(alloc),
             out: Vec::new(alloc),
-            row: [7; ROW],
+            row: ready_row(),
         }
     }
 
@@ -82,35 +82,44 @@ impl Memory {
         window: &Window,
     ) -> Result<Cost, Fault> {
         let Memory { bump, out, row } = self;
+        let cost = time_scene(rt, bump, out, document, window)?;
         let filling = time_filling(rt, out, row)?;
-        out.clear();
-        let cost = time_scene(rt, bump, out, document, window, filling)?;
         if bump.reset().is_err() {
             return Err(Fault::Arena);
         }
-        Ok(cost)
+        Ok(Cost { filling, ..cost })
     }
 }
 
-// The costs of a tile, of which that of filling it is known.
+// The bytes of a row, each another than the one before.
+fn ready_row() -> [u8; ROW] {
+    let mut row = [0; ROW];
+    for column in 0..ROW {
+        row[column] = (column % 256) as u8;
+    }
+    row
+}
+
+// The costs of a tile but that of filling it.
 fn time_scene(
     rt: &HostRuntime,
     bump: &Bump,
     out: &mut Vec<u8>,
     document: &Document,
     window: &Window,
-    filling: u64,
 ) -> Result<Cost, Fault> {
     let start = now(rt);
     let scene = Scene::build(bump, document, window)?;
-    let built = now(rt);
+    let built = since(rt, start);
     let list = scene.display_list();
+    out.clear();
+    let start = now(rt);
     append_strip(rt.alloc(), list, window, 0, window.h(), out)?;
     Ok(Cost {
         items: list.len() as u64,
-        scene: built.saturating_sub(start),
-        painting: since(rt, built),
-        filling,
+        scene: built,
+        painting: since(rt, start),
+        filling: 0,
     })
 }
 

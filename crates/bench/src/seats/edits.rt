@@ -50,18 +50,29 @@ pub fn time_alone<R: Clock + Print>(rt: &R, drawing: &mut Drawing) -> Result<(),
     time_editor(rt, drawing, &mut times, "alone", records)
 }
 
-/// Times an edit through the first of these seats.
+/// Times an edit through each of these seats, and closes them.
 pub fn time_by_seat<B: Lines, R: Clock + Print + Wait>(
     rt: &R,
     alloc: Global,
-    seats: &mut [Seat<B>],
+    seats: Vec<Seat<B>>,
     records: usize,
 ) -> Result<(), Fault> {
     let mut times = Vec::new(alloc);
-    match seats.first_mut() {
-        Some(seat) => time_editor(rt, seat, &mut times, "by a seat", records),
-        None => Ok(()),
+    for seat in seats {
+        time_and_close(rt, seat, &mut times, records)?;
     }
+    Ok(())
+}
+
+fn time_and_close<B: Lines, R: Clock + Print + Wait>(
+    rt: &R,
+    mut seat: Seat<B>,
+    times: &mut Vec<u64>,
+    records: usize,
+) -> Result<(), Fault> {
+    let timed = time_editor(rt, &mut seat, times, "by a seat", records);
+    seat.close(rt);
+    timed
 }
 
 fn time_editor<R: Clock + Print, E: Editor<R>>(
