@@ -7,7 +7,7 @@ Clients in C (bench/serve_client.c), one and then eight, each ask for eight wind
 that stays as it is: a hundred records, and 4,000 squares of 10 by 10. The bytes of a kept picture are only copied to the socket, and
 that is what the echo server does with as many bytes: what a kept picture costs above them is finding it. Then an editor moves one
 of the 4,000 squares in a corner of the page, 500 times a second, while others look elsewhere. Which pictures were kept is not in the
-replies: where half of them come as fast as over the still document, at least half of them were. (crates/canvas_shared_tests counts them.)
+replies: where half of them come as fast as over the still document, at least half of them were. (crates/canvas_session_tests counts them.)
 """
 
 import subprocess

@@ -1,12 +1,12 @@
 -- Steps of a board that is alone.
 use Rattle.std.proofs.Common.{◌≡◌, ℕ, ◌<◌, List, [], ◌∷◌, ◌++◌, length, Ok, Err, refl, sym, ap, ◌∙◌, append-nil, arith, subst}
-use Rattle.canvas_doc.specs.declared.edits.Change.{Change}
-use Rattle.canvas_doc.specs.declared.edits.Edit.{Edit}
-use Rattle.canvas_doc.specs.Contents.{Contents}
-use Rattle.canvas_doc.specs.Decision.{decision_of}
-use Rattle.canvas_doc.specs.Effect.{effect_of, Fits, new_id}
-use Rattle.canvas_doc.specs.History.{replay_of, AllFit}
-use Rattle.canvas_doc.proofs.Histories.{replay-snoc, all_fit-snoc}
+use Rattle.canvas_record.specs.declared.edits.Change.{Change}
+use Rattle.canvas_record.specs.declared.edits.Edit.{Edit}
+use Rattle.canvas_record.specs.Contents.{Contents}
+use Rattle.canvas_record.specs.Decision.{decision_of}
+use Rattle.canvas_record.specs.Effect.{effect_of, Fits, new_id}
+use Rattle.canvas_record.specs.History.{replay_of, AllFit}
+use Rattle.canvas_record.proofs.Histories.{replay-snoc, all_fit-snoc}
 use Rattle.canvas_line.specs.declared.fault.Edited.{Edited}
 use Rattle.canvas_board.specs.Seen.{Seen, Grows, IsSound}
 use Rattle.canvas_board.specs.declared.fault.BoardFault.{BoardFault}

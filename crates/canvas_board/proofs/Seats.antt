@@ -1,11 +1,11 @@
 -- Steps of a board over a seat.
 use Rattle.std.proofs.Common.{◌≡◌, ℕ, ◌<◌, ◌≤◌, List, [], ◌∷◌, ◌++◌, length, take, Result, Ok, Err, IfOk, MatchResult, refl, sym, ap, ◌∙◌, arith, subst}
 use mathlib.Core.List.{IsPrefix}
-use Rattle.canvas_doc.specs.declared.edits.Change.{Change}
-use Rattle.canvas_doc.specs.declared.edits.Edit.{Edit}
-use Rattle.canvas_doc.specs.Decision.{decision_of}
-use Rattle.canvas_doc.specs.History.{replay_of, AllFit}
-use Rattle.canvas_doc.proofs.Histories.{all_fit-front}
+use Rattle.canvas_record.specs.declared.edits.Change.{Change}
+use Rattle.canvas_record.specs.declared.edits.Edit.{Edit}
+use Rattle.canvas_record.specs.Decision.{decision_of}
+use Rattle.canvas_record.specs.History.{replay_of, AllFit}
+use Rattle.canvas_record.proofs.Histories.{all_fit-front}
 use Rattle.canvas_line.specs.declared.version.Version.{Version}
 use Rattle.canvas_line.specs.declared.fault.Edited.{Edited}
 use Rattle.canvas_line.specs.declared.fault.LineFault.{LineFault}

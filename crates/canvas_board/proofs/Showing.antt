@@ -4,12 +4,12 @@ use mathlib.Core.List.{IsPrefix}
 use Rattle.std.specs.Arc.{arc_value}
 use Rattle.std.proofs.lemmas.List.{take-append-drop}
 use Rattle.canvas_plane.specs.declared.windows.Window.{Window}
-use Rattle.canvas_doc.specs.declared.edits.Change.{Change}
-use Rattle.canvas_doc.specs.declared.edits.Edit.{Edit}
-use Rattle.canvas_doc.specs.Contents.{Contents, IsWellFormed}
-use Rattle.canvas_doc.specs.History.{replay_of, AllFit}
-use Rattle.canvas_doc.proofs.Damaged.{damage-keeps}
-use Rattle.canvas_doc.proofs.Histories.{all_fit-front, replay-append, replay-well}
+use Rattle.canvas_record.specs.declared.edits.Change.{Change}
+use Rattle.canvas_record.specs.declared.edits.Edit.{Edit}
+use Rattle.canvas_record.specs.Contents.{Contents, IsWellFormed}
+use Rattle.canvas_record.specs.History.{replay_of, AllFit}
+use Rattle.canvas_record.proofs.Damaged.{damage-keeps}
+use Rattle.canvas_record.proofs.Histories.{all_fit-front, replay-append, replay-well}
 use Rattle.canvas_line.specs.declared.version.Version.{Version}
 use Rattle.canvas_line.specs.declared.fault.Edited.{Edited}
 use Rattle.canvas_line.specs.declared.fault.LineFault.{LineFault}

@@ -8,13 +8,13 @@ use Rattle.canvas_plane.specs.Page.{is_in, meet_of}
 use Rattle.canvas_plane.specs.Sides.{scale_of}
 use Rattle.canvas_plane.specs.Window.{covered_by}
 use Rattle.canvas_plane.proofs.Boxes.{empty-none, meet-exact}
-use Rattle.canvas_doc.specs.declared.edits.Change.{Change}
-use Rattle.canvas_doc.specs.Contents.{Contents, IsWellFormed}
-use Rattle.canvas_doc.specs.Damage.{damage_of}
-use Rattle.canvas_doc.specs.Effect.{effect_of, Fits}
-use Rattle.canvas_doc.specs.History.{replay_of, AllFit}
-use Rattle.canvas_doc.specs.Picture.{colour}
-use Rattle.canvas_doc.proofs.Histories.{all_fit-front, replay-append}
+use Rattle.canvas_record.specs.declared.edits.Change.{Change}
+use Rattle.canvas_record.specs.Contents.{Contents, IsWellFormed}
+use Rattle.canvas_record.specs.Damage.{damage_of}
+use Rattle.canvas_record.specs.Effect.{effect_of, Fits}
+use Rattle.canvas_record.specs.History.{replay_of, AllFit}
+use Rattle.canvas_record.specs.Picture.{colour}
+use Rattle.canvas_record.proofs.Histories.{all_fit-front, replay-append}
 use Rattle.canvas_ppm.specs.P6.{p6_of}
 use Rattle.canvas_scene.specs.Pictures.{raster_of}
 use Rattle.canvas_paint.proofs.Joined.{joined-picture}

@@ -1,10 +1,10 @@
 -- Making the board of one caller.
 use Rattle.std.specs.Prelude.{◌≡◌, ℕ, ◌&&◌, nat_le, Bool, true, false, List, [], Result, Ok, Err}
-use Rattle.canvas_doc.specs.declared.edits.Change.{Change}
-use Rattle.canvas_doc.specs.declared.edits.Edit.{Edit}
-use Rattle.canvas_doc.specs.Contents.{Contents}
-use Rattle.canvas_doc.specs.Decision.{decision_of}
-use Rattle.canvas_doc.specs.Effect.{Fits}
+use Rattle.canvas_record.specs.declared.edits.Change.{Change}
+use Rattle.canvas_record.specs.declared.edits.Edit.{Edit}
+use Rattle.canvas_record.specs.Contents.{Contents}
+use Rattle.canvas_record.specs.Decision.{decision_of}
+use Rattle.canvas_record.specs.Effect.{Fits}
 use Rattle.canvas_board.specs.declared.fault.BoardFault.{BoardFault}
 use Rattle.canvas_board.specs.declared.fault.BoardFault.TheVariants.{OutOfMemory, Refused, VersionsSpent, Behind, Strangers, BadWorkers, BadSetting, NoView}
 use Rattle.canvas_board.specs.Seen.{Seen}

@@ -1,6 +1,6 @@
 -- The codes of a board's refusals, and what becomes of those of its seat.
 use Rattle.std.specs.Prelude.{ℕ}
-use Rattle.canvas_doc.specs.Refused.{refusal_code}
+use Rattle.canvas_record.specs.Refused.{refusal_code}
 use Rattle.canvas_line.specs.declared.fault.LineFault.{LineFault}
 use Rattle.canvas_line.specs.declared.fault.LineFault.TheVariants as line
 use Rattle.canvas_board.specs.declared.fault.BoardFault.{BoardFault}

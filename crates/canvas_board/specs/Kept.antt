@@ -6,8 +6,8 @@ use Rattle.canvas_plane.specs.declared.PageBox.{PageBox}
 use Rattle.canvas_plane.specs.declared.windows.Window.{Window}
 use Rattle.canvas_plane.specs.Page.{is_empty_box, meet_of}
 use Rattle.canvas_plane.specs.Window.{covered_by}
-use Rattle.canvas_doc.specs.Contents.{IsWellFormed}
-use Rattle.canvas_doc.specs.History.{replay_of}
+use Rattle.canvas_record.specs.Contents.{IsWellFormed}
+use Rattle.canvas_record.specs.History.{replay_of}
 use Rattle.canvas_line.specs.Lines.{Sight}
 use Rattle.canvas_line.specs.declared.version.Version.{Version}
 use Rattle.canvas_line.specs.declared.recent.Damage.{Damage}

@@ -1,7 +1,7 @@
 -- Pictures of a document as files.
 use Rattle.std.specs.Prelude.{ℕ, List}
-use Rattle.canvas_doc.specs.Contents.{Contents}
-use Rattle.canvas_doc.specs.Picture.{colour}
+use Rattle.canvas_record.specs.Contents.{Contents}
+use Rattle.canvas_record.specs.Picture.{colour}
 use Rattle.canvas_plane.specs.declared.windows.Window.{Window}
 use Rattle.canvas_ppm.specs.P6.{p6_of}
 use Rattle.canvas_scene.specs.Pictures.{picture_of}

@@ -1,8 +1,8 @@
 -- What a board is seen as.
 use Rattle.std.specs.Prelude.{◌≡◌, ℕ, ◌≤◌, Bool, true, List, [], ◌∷◌, ◌++◌, length}
-use Rattle.canvas_doc.specs.declared.edits.Change.{Change}
-use Rattle.canvas_doc.specs.Contents.{Contents}
-use Rattle.canvas_doc.specs.History.{replay_of, AllFit}
+use Rattle.canvas_record.specs.declared.edits.Change.{Change}
+use Rattle.canvas_record.specs.Contents.{Contents}
+use Rattle.canvas_record.specs.History.{replay_of, AllFit}
 
 -- the document that it was opened with, how many changes it may accept, the accepted changes that it has seen, and whether nobody else edits the document
 pub record Seen : Type 0 where

@@ -1,11 +1,11 @@
 -- What each call of a board may answer, and what it leaves.
 use Rattle.std.specs.Prelude.{◌≡◌, ◌≢◌, ℕ, ℤ, ◌<◌, ◌≤◌, true, false, length, Result, Ok, Err}
 use Rattle.std.specs.Arc.{arc_value}
-use Rattle.canvas_doc.specs.declared.edits.Change.{Change}
-use Rattle.canvas_doc.specs.declared.edits.Edit.{Edit}
-use Rattle.canvas_doc.specs.Decision.{decision_of}
-use Rattle.canvas_doc.specs.Effect.{Fits, new_id}
-use Rattle.canvas_doc.specs.Picture.{colour}
+use Rattle.canvas_record.specs.declared.edits.Change.{Change}
+use Rattle.canvas_record.specs.declared.edits.Edit.{Edit}
+use Rattle.canvas_record.specs.Decision.{decision_of}
+use Rattle.canvas_record.specs.Effect.{Fits, new_id}
+use Rattle.canvas_record.specs.Picture.{colour}
 use Rattle.canvas_line.specs.declared.fault.Edited.{Edited}
 use Rattle.canvas_board.specs.declared.answers.Picture.{Picture}
 use Rattle.canvas_board.specs.declared.answers.Dot.{Dot}

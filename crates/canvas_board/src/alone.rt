@@ -1,7 +1,7 @@
 //! The board of one caller, who has the document alone.
 
 ghost use Rattle.std.specs.Prelude.{◌≡◌, IfOk, OnErr};
-ghost use Rattle.canvas_doc.specs.Effect.{effect_of};
+ghost use Rattle.canvas_record.specs.Effect.{effect_of};
 ghost use Rattle.canvas_board.specs.Alone.{Makes, Opens};
 
 use crate::answers::{Dot, MOST_BYTES, Picture, Saved};
@@ -38,7 +38,7 @@ pub struct Alone {
 impl Model for Alone {
     ghost use Rattle.std.specs.Prelude.{◌≡◌, ◌≤◌, true, length};
     ghost use Rattle.canvas_board.specs.Seen.{Seen};
-    ghost use Rattle.canvas_doc.specs.History.{AllFit, replay_of};
+    ghost use Rattle.canvas_record.specs.History.{AllFit, replay_of};
 
     ghost Value = { Seen };
 

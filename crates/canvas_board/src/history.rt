@@ -20,7 +20,7 @@ pub(crate) struct Past {
 }
 
 impl Model for Past {
-    ghost use Rattle.canvas_doc.specs.declared.edits.Change.{Change};
+    ghost use Rattle.canvas_record.specs.declared.edits.Change.{Change};
     ghost use Rattle.std.specs.Prelude.{List, ◌++◌, ◌∷◌, [], length};
     ghost use Rattle.std.proofs.Common.{arith, length-append};
 
@@ -36,7 +36,7 @@ impl Model for Past {
 }
 
 impl Model for History {
-    ghost use Rattle.canvas_doc.specs.declared.edits.Change.{Change};
+    ghost use Rattle.canvas_record.specs.declared.edits.Change.{Change};
     ghost use Rattle.std.specs.Prelude.{List};
     ghost use Rattle.canvas_board.specs.Past.{changes_of};
 

@@ -1,30 +1,36 @@
 -- A document's lists after a change in place.
-use Rattle.std.proofs.Common.{◌≡◌, ◌∙◌, ℕ, Bool, true, false, cond, Some, ◌+◌, ◌^◌, ◌<◌, List, [], ◌∷◌, ◌++◌, refl, sym, ap, subst, arith, length, get_or, set, ◌≤◌, filter, not}
+use Rattle.std.proofs.Common.{◌≡◌, ◌∙◌, ℕ, Bool, true, false, cond, Some, ◌+◌, ◌^◌, ◌<◌, List, [], ◌∷◌, ◌++◌, refl, sym, ap, subst, arith, length, get_or, set, ◌≤◌, filter, not, Fits}
 use Rattle.std.specs.List.{Contains, insert, remove, slice_get}
 use Rattle.std.proofs.Math.ListN.{length-set}
+use Rattle.std.specs.Int.{w64}
+use Rattle.std.proofs.Math.Facts.{Fits-of_lt}
 use Rattle.std.proofs.lemmas.List.{get_or_default, get_or-set_same}
 use Rattle.std.proofs.lemmas.List.Edits.{insert_end, length-insert}
 use Rattle.std.proofs.lemmas.List.Elements.{Contains-push}
 use Rattle.canvas_list.specs.declared.in_place.ItemChange.{ItemChange}
 use Rattle.canvas_list.specs.declared.in_place.ItemChange.TheVariants.{Replace, Remove, Insert}
 use Rattle.canvas_list.specs.Changed.{changed_if}
-use Rattle.canvas_doc.specs.declared.bounds.Bounds.{Bounds}
-use Rattle.canvas_doc.specs.declared.records.Record.{Record}
-use Rattle.canvas_doc.specs.declared.records.Place.{Place}
-use Rattle.canvas_doc.specs.Bounds.{AreBounds, HaveOneShape, IsHeldAbove}
-use Rattle.canvas_doc.specs.Contents.{is_container, most_records, AreRising, Contents, IsStanding, IsWellFormed, StandsAt}
-use Rattle.canvas_doc.specs.declared.edits.Change.{Change}
-use Rattle.canvas_doc.specs.declared.edits.Change.TheVariants.{Delete}
-use Rattle.canvas_doc.specs.declared.records.Parent.TheVariants.{Shape}
-use Rattle.canvas_doc.specs.Effect.{changed_by, changes_one, effect_of, is_in_subtree, ReplacesAt}
-use Rattle.canvas_doc.specs.PlaceOrder.{AreChildrenWithin, IsInPlaceOrder, IsKeptInOrder, IsPlaceOf}
-use Rattle.canvas_doc.specs.Tree.{HavePlaces, IsInLimits}
-use Rattle.canvas_doc.proofs.AfterChange.{leaf-childless}
-use Rattle.canvas_doc.proofs.Childless.{childless-deleted, childless-from_range, IsChildless}
-use Rattle.canvas_doc.proofs.OneChanged.{made-whole, whole-is}
-use Rattle.canvas_doc.proofs.Rebounded as rebounded
-use Rattle.canvas_doc.proofs.Rebounded.{no-own_child, Suits}
-use Rattle.canvas_doc.proofs.Reordered.{added, added-differs, listed-at, moved-well, read-at, replaced, taken, IsListedAt}
+use Rattle.canvas_record.specs.declared.bounds.Bounds.{Bounds}
+use Rattle.canvas_record.specs.declared.records.Record.{Record}
+use Rattle.canvas_record.specs.declared.records.Place.{Place}
+use Rattle.canvas_record.specs.Bounds.{AreBounds, HaveOneShape, IsHeldAbove}
+use Rattle.canvas_record.specs.Contents.{is_container, most_records, AreRising, Contents, IsStanding, IsWellFormed, StandsAt}
+use Rattle.canvas_record.specs.declared.edits.Change.{Change}
+use Rattle.canvas_record.specs.declared.edits.Change.TheVariants.{Delete}
+use Rattle.canvas_record.specs.declared.records.Parent.TheVariants.{Shape}
+use Rattle.canvas_record.specs.Effect.{changed_by, changes_one, effect_of, is_in_subtree, ReplacesAt}
+use Rattle.canvas_record.specs.Deletion.{AreLists}
+use Rattle.canvas_doc.specs.Placements.{Placements}
+use Rattle.canvas_record.specs.PlaceOrder.{AreChildrenWithin, IsInPlaceOrder, IsKeptInOrder, IsPlaceOf}
+use Rattle.canvas_record.specs.Tree.{HavePlaces, IsInLimits}
+use Rattle.canvas_record.proofs.AfterChange.{leaf-childless}
+use Rattle.canvas_record.proofs.Childless.{childless-deleted, childless-from_range, IsChildless}
+use Rattle.canvas_record.proofs.Found.{found-here}
+use Rattle.canvas_record.proofs.Freed.{taken-after}
+use Rattle.canvas_record.proofs.OneChanged.{made-whole, whole-is}
+use Rattle.canvas_record.proofs.Rebounded as rebounded
+use Rattle.canvas_record.proofs.Rebounded.{no-own_child, Suits}
+use Rattle.canvas_record.proofs.Reordered.{added, added-differs, listed-at, moved-well, read-at, replaced, taken, IsListedAt}
 
 module _ (d : Contents) (order : List Record) (bounds : List Bounds) (kept : IsKeptInOrder d order bounds) (now : Contents) (well : IsWellFormed now) where
   -- another record at one position, whose group holds its bounds
@@ -111,6 +117,21 @@ module _ (ch : Change) (inside now : Contents) (at : ℕ) (r v s : Record) (same
 pub kept-is : (now : Contents) (order made : List Record) (bounds boxes : List Bounds) → made ≡ order → boxes ≡ bounds → IsKeptInOrder now order bounds → IsKeptInOrder now made boxes
 kept-is now order made bounds boxes e f h = subst (λ l. IsKeptInOrder now l boxes) (sym e) (subst (λ l. IsKeptInOrder now order l) (sym f) h)
 
+-- lists that are a document's
+pub lists-kept : (d : Contents) (order : Placements) → IsKeptInOrder d order.shapes order.bounds → (rs : List Record) (made : Placements) → rs ≡ d.records → made ≡ order → AreLists rs made.shapes made.bounds
+lists-kept d order kept rs made e f =
+    subst (λ (l : List Record). AreLists l made.shapes made.bounds) (sym e) (subst (λ (p : Placements). AreLists d.records p.shapes p.bounds) (sym f) (record {
+      few = subst (λ n. n ≤ most_records) (sym kept.in_order.long) kept.well_formed.few;
+      rising = kept.well_formed.rising;
+      in_order = kept.in_order;
+      bounded = kept.bounded;
+    }))
+
+-- the same without the record at a position
+pub lists-taken : (rs order made put : List Record) (bounds boxes : List Bounds) (r : Record) (at k : ℕ) → AreLists rs order bounds → IsListedAt order rs r at k → made ≡ remove rs at → put ≡ remove order k → boxes ≡ remove bounds k → AreLists made put boxes
+lists-taken rs order made put bounds boxes r at k lists l =
+    taken-after r.id rs order made put bounds boxes r at k lists (l.there, λ d. found-here rs at r.id d lists.rising l.there (ap (λ (x : Record). x.id) (get_or_default rs at d r l.there ∙ l.here))) l
+
 -- a document whose lists were changed, or stayed as they were
 module _ (d : Contents) (order : List Record) (bounds : List Bounds) (kept : IsKeptInOrder d order bounds) (rs made : List Record) (boxes : List Bounds) where
   stays : rs ≡ d.records → made ≡ order → boxes ≡ bounds → IsKeptInOrder (record { records = rs; next = d.next }) made boxes
@@ -180,6 +201,9 @@ module _ (inside now : Contents) (same : inside ≡ now) (rs : List Record) wher
 
 pub room-within : (order rs : List Record) (at : ℕ) → length order ≡ length rs → length rs ≤ most_records → at ≤ length order → (at ≤ length order) × (length order + 1 < 2 ^ 32)
 room-within order rs at long few bound = (bound, omega arith)
+
+pub room-next : (order rs : List Record) (at end : ℕ) → length order ≡ length rs → length rs ≤ most_records → end ≤ length order → at < end → Fits w64 (at + 1)
+room-next order rs at end long few bound within = Fits-of_lt (omega arith)
 
 pub room-behind : (rs : List Record) (last : ℕ) → length rs ≤ most_records → last ≡ length rs → (last ≤ length rs) × (length rs + 1 < 2 ^ 32)
 room-behind rs last few end = (omega arith, omega arith)

@@ -8,19 +8,19 @@ use Rattle.canvas_plane.specs.declared.PageBox.{PageBox}
 use Rattle.canvas_plane.specs.declared.Pose.{Pose}
 use Rattle.canvas_plane.specs.Motion.{carry}
 use Rattle.canvas_plane.specs.Page.{is_in}
-use Rattle.canvas_doc.specs.declared.bounds.Bounds.{Bounds}
+use Rattle.canvas_record.specs.declared.bounds.Bounds.{Bounds}
 use Rattle.canvas_doc.specs.declared.placed_shapes.PlacedShape.{PlacedShape}
-use Rattle.canvas_doc.specs.declared.records.Parent.{Parent}
-use Rattle.canvas_doc.specs.declared.records.Record.{Record}
-use Rattle.canvas_doc.specs.Bounds.{HoldsClip, LieApart}
-use Rattle.canvas_doc.specs.Children.{children, IsPartOf}
-use Rattle.canvas_doc.specs.Contents.{Contents}
-use Rattle.canvas_doc.specs.Picture.{answer_of, first_answer}
+use Rattle.canvas_record.specs.declared.records.Parent.{Parent}
+use Rattle.canvas_record.specs.declared.records.Record.{Record}
+use Rattle.canvas_record.specs.Bounds.{HoldsClip, LieApart}
+use Rattle.canvas_record.specs.Children.{children, IsPartOf}
+use Rattle.canvas_record.specs.Contents.{Contents}
+use Rattle.canvas_record.specs.Picture.{answer_of, first_answer}
 use Rattle.canvas_doc.specs.Placements.{Placements, placements_of}
-use Rattle.canvas_doc.specs.PlaceOrder.{AreChildrenWithin, IsInPlaceOrder, IsKeptInOrder}
-use Rattle.canvas_doc.specs.Tree.{IsInLimits}
-use Rattle.canvas_doc.proofs.ChildrenInOrder.{all-in_order, children-are, one-more}
-use Rattle.canvas_doc.proofs.Culled.{answers-pass, answers-push, apart-none, StandIn}
+use Rattle.canvas_record.specs.PlaceOrder.{AreChildrenWithin, IsInPlaceOrder, IsKeptInOrder}
+use Rattle.canvas_record.specs.Tree.{IsInLimits}
+use Rattle.canvas_record.proofs.ChildrenInOrder.{all-in_order, children-are, one-more}
+use Rattle.canvas_record.proofs.Culled.{answers-pass, answers-push, apart-none, StandIn}
 use Rattle.canvas_doc.proofs.Placements.{bounds-at, long, long-bounds, shape-at}
 
 -- ---- parts of lists

@@ -10,18 +10,18 @@ use Rattle.canvas_plane.specs.Motion.{carry}
 use Rattle.canvas_plane.specs.Page.{is_in}
 use Rattle.canvas_shape.specs.declared.Colour.{Colour}
 use Rattle.canvas_list.specs.Chunks.{AllBetween}
-use Rattle.canvas_doc.specs.declared.bounds.Bounds.{Bounds}
+use Rattle.canvas_record.specs.declared.bounds.Bounds.{Bounds}
 use Rattle.canvas_doc.specs.declared.placed_shapes.PlacedShape.{PlacedShape}
-use Rattle.canvas_doc.specs.declared.records.Record.{Record}
-use Rattle.canvas_doc.specs.Bounds.{HoldsClip, LieApart}
-use Rattle.canvas_doc.specs.Contents.{Contents}
-use Rattle.canvas_doc.specs.Picture.{answer_of, first_answer}
+use Rattle.canvas_record.specs.declared.records.Record.{Record}
+use Rattle.canvas_record.specs.Bounds.{HoldsClip, LieApart}
+use Rattle.canvas_record.specs.Contents.{Contents}
+use Rattle.canvas_record.specs.Picture.{answer_of, first_answer}
 use Rattle.canvas_doc.specs.Placements.{Placements, placements_of}
-use Rattle.canvas_doc.specs.PlaceOrder.{IsKeptInOrder}
-use Rattle.canvas_doc.proofs.ChildrenInOrder.{first-and-rest, one-more}
+use Rattle.canvas_record.specs.PlaceOrder.{IsKeptInOrder}
+use Rattle.canvas_record.proofs.ChildrenInOrder.{first-and-rest, one-more}
 use Rattle.canvas_doc.proofs.InSight.{AreInSight, IsOutOfSight, one-passed, out-of-sight}
 use Rattle.canvas_doc.proofs.Placements.{bounds-at, long, long-bounds, some-in}
-use Rattle.canvas_doc.proofs.Walk.{silent-rest}
+use Rattle.canvas_record.proofs.Walk.{silent-rest}
 
 -- records from a position on, all out of sight
 many-passed : (rs : List Record) (out : Pose) (clip : PageBox) (order seen : List Record) (start from n : ℕ) → start ≤ from → from + n ≤ length order

@@ -8,9 +8,9 @@ use Rattle.std.proofs.lemmas.List.{append_assoc, drop-drop, length-map, map-appe
 use Rattle.canvas_list.specs.declared.in_place.ItemChange.{ItemChange}
 use Rattle.canvas_list.specs.declared.in_place.ItemChange.TheVariants.{Replace, Remove, Insert}
 use Rattle.canvas_list.specs.Changed.{changed_if, replaced_run, IsPositionOf}
-use Rattle.canvas_doc.specs.declared.bounds.Bounds.{Bounds}
+use Rattle.canvas_record.specs.declared.bounds.Bounds.{Bounds}
 use Rattle.canvas_doc.specs.declared.placed_shapes.PlacedShape.{PlacedShape}
-use Rattle.canvas_doc.specs.declared.records.Record.{Record}
+use Rattle.canvas_record.specs.declared.records.Record.{Record}
 use Rattle.canvas_doc.specs.Placements.{Placements, bounds_change, placements_of, shape_change}
 
 abbrev pub shape_of : PlacedShape → Record

@@ -1,20 +1,20 @@
 -- A document after the children of a parent got new indexes, each of which is found in the list of records by id.
-use Rattle.std.proofs.Common.{◌≡◌, ◌∙◌, ℕ, ◌+◌, ◌-◌, ◌≤◌, Bool, true, cond, List, ◌++◌, ap, arith, drop, filter, length, map, subst, sym, take}
+use Rattle.std.proofs.Common.{◌≡◌, ◌∙◌, ℕ, ◌+◌, ◌-◌, ◌^◌, ◌<◌, ◌≤◌, Bool, true, cond, List, ◌++◌, ap, arith, drop, filter, length, map, subst, sym, take}
 use Rattle.std.specs.Option.{unwrap_or}
 use Rattle.std.proofs.lemmas.List.{length-drop, length-map, length-take-le}
 use Rattle.canvas_list.specs.Changed.{replaced_run}
-use Rattle.canvas_doc.specs.declared.bounds.Bounds.{Bounds}
-use Rattle.canvas_doc.specs.declared.records.Parent.{Parent}
-use Rattle.canvas_doc.specs.declared.records.Record.{Record}
-use Rattle.canvas_doc.specs.Bounds.{AreBounds}
-use Rattle.canvas_doc.specs.Children.{is_child}
-use Rattle.canvas_doc.specs.Contents.{record_of, Contents, HaveIds, IsWellFormed}
-use Rattle.canvas_doc.specs.Effect.{respaced}
-use Rattle.canvas_doc.specs.PlaceOrder.{AreChildrenWithin, IsInPlaceOrder, IsKeptInOrder}
+use Rattle.canvas_record.specs.declared.bounds.Bounds.{Bounds}
+use Rattle.canvas_record.specs.declared.records.Parent.{Parent}
+use Rattle.canvas_record.specs.declared.records.Record.{Record}
+use Rattle.canvas_record.specs.Bounds.{AreBounds}
+use Rattle.canvas_record.specs.Children.{is_child}
+use Rattle.canvas_record.specs.Contents.{most_records, record_of, Contents, HaveIds, IsWellFormed}
+use Rattle.canvas_record.specs.Effect.{respaced}
+use Rattle.canvas_record.specs.PlaceOrder.{AreChildrenWithin, IsInPlaceOrder, IsKeptInOrder}
 use Rattle.canvas_doc.proofs.Placements.{parts-whole}
-use Rattle.canvas_doc.proofs.Rebounded.{respaced-bounds}
-use Rattle.canvas_doc.proofs.Respaced.{respaced-well}
-use Rattle.canvas_doc.proofs.Respacing.{children-ids, each-respaced, order-respaced, respaced-order}
+use Rattle.canvas_record.proofs.Rebounded.{respaced-bounds}
+use Rattle.canvas_record.proofs.Respaced.{respaced-well}
+use Rattle.canvas_record.proofs.Respacing.{children-ids, each-respaced, order-respaced, respaced-order}
 
 -- a document, and where the children of a parent stand in the order
 pub record AreToBeRespaced (d : Contents) (order : List Record) (bounds : List Bounds) (p : Parent) (start end : ℕ) : Type 0 where
@@ -58,6 +58,18 @@ module _ (d : Contents) (order : List Record) (bounds : List Bounds) (p : Parent
 
   pub shapes-many : length shapes ≡ end - start
   shapes-many = ap length are.shapes_are ∙ length-map (filter (is_child p) order) (respaced p order) ∙ many
+
+  pub many-within : start + length shapes ≤ length order
+  many-within =
+      let from : start ≤ end = at.children.from in
+      let bound : end ≤ length order = at.children.bound in
+      omega (arith, from, bound, shapes-many)
+
+  pub many-more : length order + length shapes < 2 ^ 32
+  many-more =
+      let few : length d.records ≤ most_records = at.kept.well_formed.few in
+      let within : start + length shapes ≤ length order = many-within in
+      omega (arith, few, within, at.kept.in_order.long)
 
   pub boxes-many : length boxes ≡ end - start
   boxes-many =

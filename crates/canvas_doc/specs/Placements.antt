@@ -2,9 +2,9 @@
 use Rattle.std.specs.Prelude.{List, map}
 use Rattle.canvas_list.specs.declared.in_place.ItemChange.{ItemChange}
 use Rattle.canvas_list.specs.declared.in_place.ItemChange.TheVariants.{Replace, Remove, Insert}
-use Rattle.canvas_doc.specs.declared.bounds.Bounds.{Bounds}
+use Rattle.canvas_record.specs.declared.bounds.Bounds.{Bounds}
 use Rattle.canvas_doc.specs.declared.placed_shapes.PlacedShape.{PlacedShape}
-use Rattle.canvas_doc.specs.declared.records.Record.{Record}
+use Rattle.canvas_record.specs.declared.records.Record.{Record}
 
 pub record Placements : Type 0 where
   pub shapes : List Record

@@ -3,15 +3,14 @@
 ghost use Rattle.std.specs.Prelude.{◌≡◌, ◌≤◌, ◌+◌, ◌+ℤ◌, ◌*◌, ◌^◌, cond, pos};
 ghost use Rattle.canvas_plane.specs.Motion.{carry, reach_of};
 ghost use Rattle.canvas_shape.specs.Inside.{holds_of};
-ghost use Rattle.canvas_doc.specs.Picture.{answer_among, answer_of, or_else, or_white, colour};
-ghost use Rattle.canvas_doc.specs.Tree.{IsInLimits};
+ghost use Rattle.canvas_record.specs.Picture.{answer_among, answer_of, or_else, or_white, colour};
+ghost use Rattle.canvas_record.specs.Tree.{IsInLimits};
 
 use crate::Document;
-use crate::bounds::Bounds;
 use crate::place_order::children_of;
-use crate::records::{Parent, Record};
 use canvas_list::FoundRange;
 use canvas_plane::{PageBox, Pose};
+use canvas_record::{Bounds, Parent, Record};
 use canvas_shape::{Colour, Kind};
 
 impl Document {

@@ -1,11 +1,12 @@
 //! All records of a document in order, and copies of it.
 
 ghost use Rattle.std.specs.Prelude.{◌≡◌, IfOk, map};
-ghost use Rattle.canvas_doc.specs.Contents.{AreRising, IsWellFormed};
+ghost use Rattle.canvas_record.specs.Contents.{AreRising, IsWellFormed};
 
 use crate::Document;
-use crate::records::{Record, Records};
+use crate::records::Records;
 use canvas_code::OutOfMemory;
+use canvas_record::Record;
 use std::alloc::Global;
 
 impl Document {

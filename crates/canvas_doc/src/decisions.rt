@@ -4,21 +4,21 @@ ghost use Rattle.std.specs.Prelude.{◌≡◌, IfOk, false};
 ghost use Rattle.canvas_plane.specs.Limits.{is_pose};
 ghost use Rattle.canvas_shape.specs.Limits.{takes_memory};
 ghost use Rattle.canvas_key.specs.Text.{IsKey};
-ghost use Rattle.canvas_doc.specs.Contents.{AreRising, IsWellFormed};
-ghost use Rattle.canvas_doc.specs.Effect.{Fits, HasKey};
-ghost use Rattle.canvas_doc.specs.Decision.{same_variant, move_index, create_index, move_decision, pose_decision, reshape_judgement, reshape_decision, show_decision, delete_decision, respace_decision, decision_of, asks_memory, IsAnswer};
+ghost use Rattle.canvas_record.specs.declared.edits.Edit.TheVariants.{Create};
+ghost use Rattle.canvas_record.specs.Contents.{AreRising, IsWellFormed};
+ghost use Rattle.canvas_record.specs.Effect.{Fits, HasKey};
+ghost use Rattle.canvas_record.specs.Decision.{same_variant, move_index, create_index, move_decision, pose_decision, reshape_judgement, reshape_decision, show_decision, delete_decision, respace_decision, decision_of, asks_memory, IsAnswer};
 
 use crate::ancestry::{
     STEPS, can_have_children, has_parent, has_shape, is_above_32, is_below, reaches_page,
 };
-use crate::edits::{Change, Edit, Spot};
 use crate::lookup::find;
-use crate::records::{Parent, Place, Records};
-use crate::refusals::Refusal;
+use crate::records::Records;
 use crate::spots::index_at;
 use crate::{Document, MOST_RECORDS};
 use canvas_key::Key;
 use canvas_plane::Pose;
+use canvas_record::{Change, Edit, Parent, Place, Refusal, Spot};
 use canvas_shape::Kind;
 use std::alloc::Global;
 
@@ -51,19 +51,7 @@ fn decision(alloc: Global, document: &Document, edit: &Edit) -> Result<Change, R
             hidden,
             parent,
             spot,
-        } => {
-            let index = create_index(document, kind, pose, *parent, spot)?;
-            Ok(Change::Create {
-                id: document.next,
-                kind: kind.try_clone(alloc)?,
-                pose: *pose,
-                hidden: *hidden,
-                place: Place {
-                    parent: *parent,
-                    index,
-                },
-            })
-        }
+        } => decide_create(alloc, document, kind, pose, *hidden, *parent, spot),
         Edit::Move { id, parent, spot } => decide_move(document, *id, *parent, spot),
         Edit::Pose { id, pose } => decide_pose(records, *id, *pose),
         Edit::Reshape { id, kind } => decide_reshape(alloc, records, *id, kind),
@@ -71,6 +59,30 @@ fn decision(alloc: Global, document: &Document, edit: &Edit) -> Result<Change, R
         Edit::Delete { id } => decide_delete(records, *id),
         Edit::Respace { parent } => decide_respace(records, *parent),
     }
+}
+
+// A new shape, or why it is refused.
+fn decide_create(
+    alloc: Global,
+    document: &Document,
+    kind: &Kind,
+    pose: &Pose,
+    hidden: bool,
+    parent: Parent,
+    spot: &Spot,
+) -> Result<Change, Refusal>
+    ensures value { IsAnswer result (decision_of (Create kind.now pose.now hidden parent spot.now) document.now) }
+    ensures exact { takes_memory kind.now ≡ false → result ≡ decision_of (Create kind.now pose.now hidden parent spot.now) document.now }
+    ensures key { IfOk result HasKey }
+{
+    let index = create_index(document, kind, pose, parent, spot)?;
+    Ok(Change::Create {
+        id: document.next,
+        kind: kind.try_clone(alloc)?,
+        pose: *pose,
+        hidden,
+        place: Place { parent, index },
+    })
 }
 
 // The index of a new shape, or why it is refused.

@@ -1,19 +1,21 @@
 //! A shape and all below it, taken out of the lists of a document: what it costs grows with what goes.
 
-ghost use Rattle.std.specs.Prelude.{◌≡◌, ◌≤◌, ◌-◌, ◌++◌, ◌==◌, IfOk, drop, filter, length, not, take};
+ghost use Rattle.std.specs.Prelude.{◌≡◌, ◌<◌, ◌≤◌, ◌-◌, ◌++◌, ◌==◌, IfOk, drop, filter, length, not, take};
+ghost use Rattle.std.specs.List.{remove};
 ghost use Rattle.std.specs.List.Sorted.{IsStrictlySortedBy};
-ghost use Rattle.canvas_doc.specs.Children.{is_child};
-ghost use Rattle.canvas_doc.specs.Contents.{AreRising};
-ghost use Rattle.canvas_doc.specs.declared.records.Parent.TheVariants.{Shape};
-ghost use Rattle.canvas_doc.specs.Deletion.{is_held, has_id_of, container_ids, containers_under, holders_below, AreLists};
-ghost use Rattle.canvas_doc.specs.PlaceOrder.{comes_first};
+ghost use Rattle.canvas_record.specs.Children.{is_child};
+ghost use Rattle.canvas_record.specs.Contents.{AreRising};
+ghost use Rattle.canvas_record.specs.declared.records.Parent.TheVariants.{Shape};
+ghost use Rattle.canvas_record.specs.Deletion.{is_held, has_id_of, container_ids, containers_under, holders_below, AreLists};
+ghost use Rattle.canvas_record.specs.PlaceOrder.{comes_first};
 
 use crate::ancestry::is_container;
 use crate::lookup::position_of;
 use crate::place_order::{children_range, position_in};
 use crate::placed_shapes::PlacedShapes;
-use crate::records::{Parent, Records};
+use crate::records::Records;
 use canvas_code::OutOfMemory;
+use canvas_record::Parent;
 use std::alloc::Global;
 use std::ops::Range;
 
@@ -147,13 +149,21 @@ pub(crate) fn without_shape(alloc: Global, id: u32, lists: Lists) -> Result<List
     ensures records { IfOk result (λ after. after.records ≡ filter (λ r. not (r.id == id)) lists.records) }
 {
     match position_of(&lists.records, id) {
-        Some(at) => {
-            let from = position_in(&lists.order, &lists.records.at(at).value().place);
-            Ok(Lists {
-                records: lists.records.without(alloc, at)?,
-                order: lists.order.without(alloc, from)?,
-            })
-        }
+        Some(at) => without_at(alloc, at, &lists),
         None => Ok(lists),
     }
+}
+
+// The lists without the record at a position.
+fn without_at(alloc: Global, at: usize, lists: &Lists) -> Result<Lists, OutOfMemory>
+    requires lists { AreLists lists.now.records lists.now.order.shapes lists.now.order.bounds }
+    requires at { at < length lists.now.records }
+    ensures lists { IfOk result (λ after. AreLists after.records after.order.shapes after.order.bounds) }
+    ensures records { IfOk result (λ after. after.records ≡ remove lists.now.records at) }
+{
+    let from = position_in(&lists.order, &lists.records.at(at).value().place);
+    Ok(Lists {
+        records: lists.records.without(alloc, at)?,
+        order: lists.order.without(alloc, from)?,
+    })
 }

@@ -2,31 +2,31 @@
 
 ghost use Rattle.std.specs.Prelude.{◌≡◌, ◌+◌, ◌<◌, ◌++◌, ◌∷◌, [], map, length, ◌==◌, IfOk, IfSome, MatchOption, None, false, true, slice_index_or, slice_set};
 ghost use Rattle.std.specs.List.{remove};
-ghost use Rattle.canvas_doc.specs.Bounds.{AreBounds, HaveOneShape};
-ghost use Rattle.canvas_doc.specs.Contents.{AreRising, IsWellFormed};
-ghost use Rattle.canvas_doc.specs.declared.records.Record.{Record};
-ghost use Rattle.canvas_doc.specs.Effect.{changed_by, Replaces};
-ghost use Rattle.canvas_doc.specs.PlaceOrder.{IsInPlaceOrder};
+ghost use Rattle.canvas_record.specs.Bounds.{AreBounds, HaveOneShape};
+ghost use Rattle.canvas_record.specs.Contents.{AreRising, IsWellFormed};
+ghost use Rattle.canvas_record.specs.declared.records.Record.{Record};
+ghost use Rattle.canvas_record.specs.Effect.{changed_by, Replaces};
+ghost use Rattle.canvas_record.specs.PlaceOrder.{IsInPlaceOrder};
 
 use crate::Document;
 use crate::ancestry::{STEPS, is_container};
 use crate::deletion::{Lists, without_below, without_shape};
-use crate::edits::Change;
 use crate::kept_bounds::{bounds_for, raised};
-use crate::lookup::{Standing, locate};
+use crate::lookup::locate;
 use crate::place_order::{children_range, position_in, position_without};
 use crate::placed_shapes::PlacedShapes;
-use crate::records::{ListedRecord, Parent, Place, Record, Records};
+use crate::records::{ListedRecord, Records};
 use canvas_code::OutOfMemory;
 use canvas_plane::Pose;
+use canvas_record::{Change, Parent, Place, Record, Standing};
 use canvas_shape::Kind;
 use std::alloc::Global;
 
 impl Document {
     ghost use Rattle.std.specs.Prelude.{◌+◌, ℤ, true};
-    ghost use Rattle.canvas_doc.specs.Effect.{changes_one, effect_of, Fits, SpacesOnly};
-    ghost use Rattle.canvas_doc.specs.declared.edits.Change.TheVariants.{Delete};
-    ghost use Rattle.canvas_doc.specs.Picture.{colour};
+    ghost use Rattle.canvas_record.specs.Effect.{changes_one, effect_of, Fits, SpacesOnly};
+    ghost use Rattle.canvas_record.specs.declared.edits.Change.TheVariants.{Delete};
+    ghost use Rattle.canvas_record.specs.Picture.{colour};
 
     /// The document after a change that fits.
     pub fn with(&self, alloc: Global, change: &Change) -> Result<Document, OutOfMemory>

@@ -4,27 +4,27 @@
 
 ghost use Rattle.std.specs.Prelude.{◌≡◌, ◌<◌, ◌+◌, ◌++◌, ◌∷◌, [], OnErr, OnOk, cond, length, true};
 ghost use Rattle.std.specs.List.{remove};
-ghost use Rattle.canvas_doc.specs.declared.records.Record.{Record};
-ghost use Rattle.canvas_doc.specs.Bounds.{HaveOneShape};
-ghost use Rattle.canvas_doc.specs.Contents.{IsWellFormed};
-ghost use Rattle.canvas_doc.specs.Effect.{changed_by};
+ghost use Rattle.canvas_record.specs.declared.records.Record.{Record};
+ghost use Rattle.canvas_record.specs.Bounds.{HaveOneShape};
+ghost use Rattle.canvas_record.specs.Contents.{IsWellFormed};
+ghost use Rattle.canvas_record.specs.Effect.{changed_by};
 
 use crate::Document;
 use crate::ancestry::STEPS;
-use crate::edits::Change;
 use crate::effects::{changed_by, changed_record};
 use crate::kept_bounds::{bounds_for, is_held_above, widen_above};
 use crate::lookup::locate;
 use crate::place_order::{position_in, position_without};
 use crate::placed_shapes::PlacedShape;
-use crate::records::{ListedRecord, Place, Record};
+use crate::records::ListedRecord;
 use canvas_code::OutOfMemory;
 use canvas_list::{ItemChange, Way};
+use canvas_record::{Change, Place, Record};
 use std::alloc::Global;
 
 impl Document {
-    ghost use Rattle.canvas_doc.specs.Effect.{changes_one, effect_of, Fits};
-    ghost use Rattle.canvas_doc.specs.declared.edits.Change.TheVariants.{Delete};
+    ghost use Rattle.canvas_record.specs.Effect.{changes_one, effect_of, Fits};
+    ghost use Rattle.canvas_record.specs.declared.edits.Change.TheVariants.{Delete};
 
     /// Makes a change that fits in the document itself, in place where that can be done. Want of memory is the
     /// only refusal, and leaves the document as it was.
@@ -152,17 +152,8 @@ impl Document {
             widen_above(&self.records, &mut self.order, parent, &bounds, STEPS);
             return false;
         }
-        let Ok(shape) = new.shared() else {
-            return false;
-        };
-        let placed = PlacedShape::new(shape, bounds);
-        self.order.change_both(
-            from,
-            ItemChange::Replace(placed),
-            &mut self.records,
-            at,
-            ItemChange::Replace(new),
-        )
+        self.order
+            .replace_both(from, bounds, &mut self.records, at, new)
     }
 
     // Moves a shape, if its new group's bounds hold it.
@@ -187,18 +178,8 @@ impl Document {
             widen_above(&self.records, &mut self.order, parent, &bounds, STEPS);
             return false;
         }
-        let Ok(shape) = new.shared() else {
-            return false;
-        };
-        let placed = PlacedShape::new(shape, bounds);
-        self.order.move_both(
-            from,
-            to,
-            placed,
-            &mut self.records,
-            at,
-            ItemChange::Replace(new),
-        )
+        self.order
+            .move_to(from, to, bounds, &mut self.records, at, new)
     }
 
     // Adds a record, which its group's bounds hold.

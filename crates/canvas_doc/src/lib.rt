@@ -6,14 +6,11 @@ ghost use Rattle.std.specs.Prelude.{◌≡◌, [], length};
 ghost use Rattle.std.specs.Option.{option_copied};
 
 mod ancestry;
-mod bounds;
 mod colour;
 mod copies;
-mod corners;
 mod damage;
 mod decisions;
 mod deletion;
-mod edits;
 mod effects;
 mod fits;
 mod in_place;
@@ -24,17 +21,13 @@ mod order;
 mod place_order;
 mod placed_shapes;
 mod records;
-mod refusals;
 mod restored;
 mod spots;
 
-pub use edits::{Change, Edit, Spot};
+pub use canvas_record::{Change, Edit, Parent, Place, Record, Refusal, Spot, TreeFault};
 use lookup::find;
 use placed_shapes::PlacedShapes;
 use records::Records;
-pub use records::{Parent, Place, Record};
-pub use refusals::Refusal;
-pub use restored::TreeFault;
 use std::alloc::Global;
 use std::marker::Model;
 
@@ -52,8 +45,8 @@ pub struct Document {
 }
 
 impl Model for Document {
-    ghost use Rattle.canvas_doc.specs.Contents.{Contents};
-    ghost use Rattle.canvas_doc.specs.PlaceOrder.{IsKeptInOrder};
+    ghost use Rattle.canvas_record.specs.Contents.{Contents};
+    ghost use Rattle.canvas_record.specs.PlaceOrder.{IsKeptInOrder};
 
     ghost Value = { Contents };
 
@@ -63,7 +56,7 @@ impl Model for Document {
 }
 
 impl Document {
-    ghost use Rattle.canvas_doc.specs.Contents.{record_of, IsWellFormed};
+    ghost use Rattle.canvas_record.specs.Contents.{record_of, IsWellFormed};
 
     /// A document with no record and next id 1.
     pub fn empty(alloc: Global) -> Document

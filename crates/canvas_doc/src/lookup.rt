@@ -2,18 +2,10 @@
 
 ghost use Rattle.std.specs.Prelude.{◌≡◌, MatchOption, None};
 ghost use Rattle.std.specs.Option.{option_copied};
-ghost use Rattle.canvas_doc.specs.Contents.{record_of, AreRising, IsStanding, StandsAt};
+ghost use Rattle.canvas_record.specs.Contents.{record_of, AreRising, IsStanding, StandsAt};
 
-use crate::records::{Record, Records, hint_of_id};
-
-/// A record, and where it stands among the records of its document.
-#[derive(Clone, Copy)]
-pub(crate) struct Standing<'a> {
-    /// Its position.
-    pub(crate) at: usize,
-    /// The record.
-    pub(crate) shape: &'a Record,
-}
+use crate::records::{Records, hint_of_id};
+use canvas_record::{Record, Standing};
 
 // The record of an id, and its position.
 pub(crate) fn locate(records: &Records, id: u32) -> Option<Standing<'_>>

@@ -4,26 +4,27 @@ ghost use Rattle.std.specs.Prelude.{◌≡◌, ◌+◌, ◌-◌, ◌≤◌, ◌<
 ghost use Rattle.std.specs.List.Sorted.{IsStrictlySortedBy};
 ghost use Rattle.std.specs.Option.{unwrap_or};
 ghost use Rattle.canvas_key.specs.Rank.{fresh_key};
-ghost use Rattle.canvas_doc.specs.Children.{is_child};
-ghost use Rattle.canvas_doc.specs.Contents.{record_of, HaveIds, AreRising, most_records};
-ghost use Rattle.canvas_doc.specs.Effect.{respaced};
+ghost use Rattle.canvas_record.specs.Children.{is_child};
+ghost use Rattle.canvas_record.specs.Contents.{record_of, HaveIds, AreRising, most_records};
+ghost use Rattle.canvas_record.specs.Effect.{respaced};
 ghost use Rattle.canvas_doc.specs.Placements.{placements_of};
-ghost use Rattle.canvas_doc.specs.PlaceOrder.{comes_first, AreChildrenWithin};
+ghost use Rattle.canvas_record.specs.PlaceOrder.{comes_first, AreChildrenWithin};
 
 use crate::Document;
 use crate::lookup::position_of;
 use crate::place_order::children_range;
 use crate::placed_shapes::{PlacedShape, PlacedShapes};
-use crate::records::{ListedRecord, Parent, Place, Record, Records};
+use crate::records::{ListedRecord, Records};
 use canvas_code::OutOfMemory;
 use canvas_key::fresh;
 use canvas_list::{ItemChange, Share, Shared};
+use canvas_record::{Parent, Place, Record};
 use std::alloc::Global;
 use std::ops::Range;
 
 impl Document {
-    ghost use Rattle.canvas_doc.specs.Effect.{effect_of};
-    ghost use Rattle.canvas_doc.specs.declared.edits.Change.TheVariants.{Respace};
+    ghost use Rattle.canvas_record.specs.Effect.{effect_of};
+    ghost use Rattle.canvas_record.specs.declared.edits.Change.TheVariants.{Respace};
 
     /// The document with new indexes for the children of a parent.
     pub(crate) fn with_new_indexes(
@@ -51,8 +52,8 @@ const MOST_RESPACED_IN_PLACE: usize = 16;
 
 impl Document {
     ghost use Rattle.std.specs.Prelude.{cond};
-    ghost use Rattle.canvas_doc.specs.Effect.{effect_of};
-    ghost use Rattle.canvas_doc.specs.declared.edits.Change.TheVariants.{Respace};
+    ghost use Rattle.canvas_record.specs.Effect.{effect_of};
+    ghost use Rattle.canvas_record.specs.declared.edits.Change.TheVariants.{Respace};
 
     /// Gives the few children of a parent new indexes: in the order in place, of the records a new list is made first.
     /// Answers whether it did; else the document is as it was.
@@ -180,7 +181,7 @@ fn with_one(
     ensures { IfOk result (λ all. all ≡ map (λ r. unwrap_or (record_of r.id (other.now ∷ [])) r) records.now) }
 {
     match position_of(records, other.value().id) {
-        Some(at) => records.with_replaced(alloc, at, ListedRecord::of(other.share()?)),
+        Some(at) => records.with_replaced(alloc, at, ListedRecord::of(other.try_clone()?)),
         None => records.try_clone(alloc),
     }
 }
@@ -195,9 +196,9 @@ fn put(
     requires { at < length records.old }
     ensures { OnOk result (records.new ≡ slice_set records.old at shape.now) }
 {
-    let new = ListedRecord::of(shape.share()?);
+    let new = ListedRecord::of(shape.try_clone()?);
     if !records.change(at, ItemChange::Replace(new)) {
-        let new = ListedRecord::of(shape.share()?);
+        let new = ListedRecord::of(shape.try_clone()?);
         *records = records.with_replaced(alloc, at, new)?;
     }
     Ok(())
@@ -217,7 +218,7 @@ fn with_many(
     let mut all = listed(alloc, records)?;
     for other in others {
         if let Some(at) = position_of(records, other.shape.value().id) {
-            all[at] = ListedRecord::of(other.shape.share()?);
+            all[at] = ListedRecord::of(other.shape.try_clone()?);
         }
     }
     Records::from_vec(alloc, all)

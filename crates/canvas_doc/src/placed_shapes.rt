@@ -3,14 +3,15 @@
 ghost use Rattle.std.specs.Prelude.{◌≡◌, ◌≤◌, ◌<◌, ◌+◌, ◌++◌, ◌^◌, [], IfOk, cond, drop, length, slice_index_or, slice_set, take};
 ghost use Rattle.std.specs.List.{insert, remove, slice_get};
 ghost use Rattle.std.specs.Option.{option_copied};
+ghost use Rattle.canvas_list.specs.declared.in_place.ItemChange.TheVariants.{Replace};
 ghost use Rattle.canvas_list.specs.Changed.{changed_if, replaced_run, IsPositionOf};
 ghost use Rattle.canvas_doc.specs.Placements.{bounds_change, placements_of, shape_change};
 
-use crate::bounds::Bounds;
 use crate::place_order::hint_of_place;
-use crate::records::{ListedRecord, Record, Records};
+use crate::records::{ListedRecord, Records};
 use canvas_code::OutOfMemory;
 use canvas_list::{Hint, ItemChange, Reader, Share, Shared, SharedList, ShortHint, Way};
+use canvas_record::{Bounds, Record};
 use std::alloc::Global;
 use std::marker::Model;
 
@@ -41,7 +42,7 @@ impl PlacedShape {
 
 // A summary of some shapes is a box that holds all that their bounds hold. A walk seeks those whose bounds meet a box.
 impl Share for PlacedShape {
-    ghost use Rattle.canvas_doc.specs.Bounds.{IsWithinBounds, LieApart};
+    ghost use Rattle.canvas_record.specs.Bounds.{IsWithinBounds, LieApart};
 
     type Summary = Bounds;
 
@@ -52,7 +53,7 @@ impl Share for PlacedShape {
     #[inline(always)]
     fn share(&self) -> Result<PlacedShape, OutOfMemory> {
         Ok(PlacedShape {
-            shape: self.shape.share()?,
+            shape: self.shape.try_clone()?,
             bounds: self.bounds,
             short: self.short,
         })
@@ -207,7 +208,7 @@ impl PlacedShapes {
         ensures shapes { IfOk result (λ all. all.shapes ≡ self.now.shapes) }
         ensures bounds { IfOk result (λ all. all.bounds ≡ slice_set self.now.bounds at bounds) }
     {
-        let shape = self.at(at).share()?;
+        let shape = self.at(at).try_clone()?;
         self.with_replaced(alloc, at, shape, bounds)
     }
 
@@ -303,6 +304,56 @@ impl PlacedShapes {
             .move_both(from, to, placed, records, other_at, other_change)
     }
 
+    /// Puts a record and its bounds in the place of those at a position here, and the record in that of one of other
+    /// records: both in place, or neither.
+    pub(crate) fn replace_both(
+        &mut self,
+        at: usize,
+        bounds: Bounds,
+        records: &mut Records,
+        other_at: usize,
+        new: ListedRecord,
+    ) -> bool
+        requires at { at < length self.old.shapes }
+        requires other { other_at < length records.old }
+        ensures shapes { self.new.shapes ≡ changed_if result (Replace new) at self.old.shapes }
+        ensures bounds { self.new.bounds ≡ changed_if result (Replace bounds) at self.old.bounds }
+        ensures other { records.new ≡ changed_if result (Replace new) other_at records.old }
+    {
+        let Ok(shape) = new.shared() else {
+            return false;
+        };
+        let placed = PlacedShape::new(shape, bounds);
+        let change = ItemChange::Replace(placed);
+        self.change_both(at, change, records, other_at, ItemChange::Replace(new))
+    }
+
+    /// Takes the record at `from` away with its bounds, and puts another with its own in front of what then stands at
+    /// `to`, or at the end, and in the place of one of other records: both in place, or neither.
+    pub(crate) fn move_to(
+        &mut self,
+        from: usize,
+        to: usize,
+        bounds: Bounds,
+        records: &mut Records,
+        other_at: usize,
+        new: ListedRecord,
+    ) -> bool
+        requires from { from < length self.old.shapes }
+        requires to { to < length self.old.shapes }
+        requires other { other_at < length records.old }
+        ensures shapes { self.new.shapes ≡ cond result (insert (remove self.old.shapes from) to new) self.old.shapes }
+        ensures bounds { self.new.bounds ≡ cond result (insert (remove self.old.bounds from) to bounds) self.old.bounds }
+        ensures other { records.new ≡ changed_if result (Replace new) other_at records.old }
+    {
+        let Ok(shape) = new.shared() else {
+            return false;
+        };
+        let placed = PlacedShape::new(shape, bounds);
+        let change = ItemChange::Replace(new);
+        self.move_both(from, to, placed, records, other_at, change)
+    }
+
     /// Makes way about a position for a change in place that was refused.
     pub(crate) fn make_way(&mut self, alloc: Global, at: usize, way: Way)
         ensures { self.new ≡ self.old }
@@ -316,7 +367,7 @@ impl PlacedShapes {
         ensures shapes { self.new.shapes ≡ self.old.shapes }
         ensures bounds { self.new.bounds ≡ cond result (slice_set self.old.bounds at bounds) self.old.bounds }
     {
-        let Ok(shape) = self.at(at).share() else {
+        let Ok(shape) = self.at(at).try_clone() else {
             return false;
         };
         let placed = PlacedShape::new(shape, bounds);

@@ -3,88 +3,23 @@
 ghost use Rattle.std.specs.Prelude.{ℕ, IsErrOf, ◌≡◌, ◌≤◌, ◌⊎◌, ◌&&◌, ◌||◌, ◌==◌, Ok, Err, IfOk, MatchResult, OnOk, All, Some, None, length, take, not};
 ghost use Rattle.std.specs.Option.{option_copied};
 ghost use Rattle.std.specs.List.{list_any, slice_get};
-ghost use Rattle.canvas_doc.specs.declared.records.Record.{Record};
+ghost use Rattle.canvas_record.specs.declared.records.Record.{Record};
 ghost use Rattle.canvas_code.specs.Names.{name_of};
 ghost use Rattle.canvas_key.specs.Text.{IsKey};
-ghost use Rattle.canvas_doc.specs.Contents.{record_of, IsWellFormed, most_records};
-ghost use Rattle.canvas_doc.specs.Decision.{can_have_children};
-ghost use Rattle.canvas_doc.specs.Restored.{is_record, record_fault, leads_to_page, same_place, tree_fault, by_id, restoration_of, tree_fault_code};
-ghost use Rattle.canvas_doc.specs.Listed.{GivesFirsts, holder_of, has_place};
+ghost use Rattle.canvas_record.specs.Contents.{record_of, IsWellFormed, most_records};
+ghost use Rattle.canvas_record.specs.Decision.{can_have_children};
+ghost use Rattle.canvas_record.specs.Restored.{is_record, record_fault, leads_to_page, same_place, tree_fault, by_id, restoration_of, tree_fault_code};
+ghost use Rattle.canvas_record.specs.Listed.{GivesFirsts, holder_of, has_place};
 
+use crate::Document;
 use crate::ancestry::{STEPS, is_container};
 use crate::kept_bounds::bounded;
 use crate::place_order::{holder_of, in_place_order};
 use crate::records::{ListedRecord, Records};
-use crate::{Document, Parent, Record};
 use canvas_code::OutOfMemory;
-use std::alloc::{AllocError, Global};
+use canvas_record::{Parent, Record, TreeFault};
+use std::alloc::Global;
 use std::collections::{BTreeMap, BTreeSet};
-use thiserror::Error;
-
-/// Why a list of records is no document.
-#[derive(Clone, Copy, Debug, PartialEq, Eq, Drop, Error)]
-pub enum TreeFault {
-    /// There was no memory.
-    #[error("OutOfMemory")]
-    OutOfMemory,
-    /// The record at this position, counted from 0, is outside the limits of one record.
-    #[error("BadRecord")]
-    BadRecord { position: usize },
-    /// The record at this position, counted from 0, does not belong to a page tree.
-    #[error("BadTree")]
-    BadTree { position: usize },
-}
-
-impl TreeFault {
-    /// The number of the fault.
-    pub fn code(&self) -> u16
-        ensures { result ≡ tree_fault_code self.now }
-    {
-        match self {
-            TreeFault::OutOfMemory => 1,
-            TreeFault::BadRecord { .. } => 61,
-            TreeFault::BadTree { .. } => 62,
-        }
-    }
-
-    /// The name of the fault.
-    pub fn name(&self) -> &'static str
-        ensures { result.now ≡ name_of (tree_fault_code self.now) }
-    {
-        canvas_code::name_of(self.code())
-    }
-}
-
-impl From<AllocError> for TreeFault {
-    ghost use Rattle.std.specs.Prelude.{◌≡◌};
-    ghost use Rattle.canvas_doc.specs.declared.restored.TreeFault.TheVariants.{OutOfMemory};
-
-    ghost from_gives = { λ _ fault. fault ≡ OutOfMemory };
-
-    fn from(_: AllocError) -> TreeFault {
-        TreeFault::OutOfMemory
-    }
-}
-
-impl From<OutOfMemory> for TreeFault {
-    ghost use Rattle.std.specs.Prelude.{◌≡◌};
-    ghost use Rattle.canvas_doc.specs.declared.restored.TreeFault.TheVariants.{OutOfMemory};
-
-    ghost from_gives = { λ _ fault. fault ≡ OutOfMemory };
-
-    fn from(_: OutOfMemory) -> TreeFault {
-        TreeFault::OutOfMemory
-    }
-}
-
-impl Record {
-    /// Whether the id is 1 to `next - 1`, the pose is none that `Pose::check` refuses and the kind none that `Kind::check` refuses.
-    pub fn is_within(&self, next: u32) -> bool
-        ensures { result ≡ is_record next self.now }
-    {
-        1 <= self.id && self.id < next && self.pose.check().is_ok() && self.kind.check().is_ok()
-    }
-}
 
 impl Document {
     /// The document of these records, which may stand in any order, with `next` as its next id.
@@ -256,7 +191,7 @@ fn can_have_children(records: &[Record], firsts: &BTreeMap<u32, usize>, parent: 
 }
 
 // Whether following parents comes to the page within so many steps.
-#[tactic(auto, using(crate::proofs::Leads::leads_rules))]
+#[tactic(auto, using(canvas_record::proofs::Leads::leads_rules))]
 fn leads_to_page(
     records: &[Record],
     firsts: &BTreeMap<u32, usize>,

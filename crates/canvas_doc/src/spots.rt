@@ -6,17 +6,15 @@ ghost use Rattle.std.specs.Option.{option_copied};
 ghost use Rattle.canvas_key.specs.Order.{AreApart};
 ghost use Rattle.canvas_key.specs.Text.{IsKey, is_same};
 ghost use Rattle.canvas_key.specs.Between.{key_between};
-ghost use Rattle.canvas_doc.specs.Siblings.{is_sibling, siblings, least_above, greatest_index, is_taken, with_room, index_at};
-ghost use Rattle.canvas_doc.specs.Ends.{first_index, last_index};
+ghost use Rattle.canvas_record.specs.Siblings.{is_sibling, siblings, least_above, greatest_index, is_taken, with_room, index_at};
+ghost use Rattle.canvas_record.specs.Ends.{first_index, last_index};
 
 use crate::Document;
-use crate::edits::Spot;
 use crate::lookup::find;
 use crate::place_order::{children_range, position_in};
 use crate::placed_shapes::PlacedShapes;
-use crate::records::{Parent, Place, Record};
-use crate::refusals::Refusal;
 use canvas_key::{Key, first_fresh};
+use canvas_record::{Parent, Place, Record, Refusal, Spot};
 use std::ops::Range;
 
 // The index of a spot among the children of a parent but for one shape.

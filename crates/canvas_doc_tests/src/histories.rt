@@ -1,10 +1,11 @@
 //! Long histories: documents that share their records stay apart.
 
 use crate::asserts::holds;
+use crate::dice::Dice;
+use crate::samples::{BLUE, GREEN, RED, create, edited, moved, record, rectangle, restored};
 use canvas_doc::{Document, Edit, Parent, Record, Refusal, Spot};
 use canvas_key::{Key, fresh};
 use canvas_plane::Pose;
-use canvas_samples::{BLUE, Dice, GREEN, RED, create, edited, moved, record, rectangle, restored};
 use canvas_shape::{Colour, Kind};
 use std::alloc::Global;
 use std::process::Abort;

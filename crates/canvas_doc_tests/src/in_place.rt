@@ -1,12 +1,13 @@
 //! Histories of documents that are changed in place, beside clones that are kept.
 
 use crate::asserts::holds;
+use crate::dice::Dice;
 use crate::histories::{
     Version, check_all_records, check_records, check_versions, crowd_document, edit_after,
     edit_in_turn, first_document, push_version, tell,
 };
+use crate::samples::edited;
 use canvas_doc::{Document, Edit, Refusal};
-use canvas_samples::{Dice, edited};
 use std::alloc::Global;
 use std::process::Abort;
 

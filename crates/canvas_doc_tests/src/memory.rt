@@ -3,10 +3,10 @@
 
 use crate::asserts::holds;
 use crate::in_place::make;
+use crate::samples::{BLUE, RED, create, edited, moved, polygon, record, rectangle, restored};
 use canvas_code::OutOfMemory;
 use canvas_doc::{Document, Edit, Parent, Record, Refusal, Spot, TreeFault};
 use canvas_key::fresh;
-use canvas_samples::{BLUE, RED, create, edited, moved, polygon, record, rectangle, restored};
 use canvas_shape::Kind;
 use std::alloc::{AllocError, Global};
 use std::process::Abort;

@@ -2,12 +2,12 @@
 
 use crate::asserts::holds;
 use crate::histories::edited_by;
+use crate::samples::{
+    RED, create, frame, last_index_below_a1, moved, polygon, record, rectangle, restored,
+};
 use canvas_doc::{Document, Edit, Parent, Record, Refusal, Spot};
 use canvas_key::{Key, fresh};
 use canvas_plane::Pose;
-use canvas_samples::{
-    RED, create, frame, last_index_below_a1, moved, polygon, record, rectangle, restored,
-};
 use canvas_shape::Kind;
 use std::alloc::Global;
 use std::fmt::Debug;

@@ -3,10 +3,10 @@
 use crate::asserts::holds;
 use crate::histories::edited_by;
 use crate::refused::{check as check_refusal, new_group};
+use crate::samples::{RED, frame, index_of, moved, polygon, record, rectangle, restored};
 use canvas_doc::{Document, Edit, Parent, Record, Refusal, Spot, TreeFault};
 use canvas_key::fresh;
 use canvas_plane::Pose;
-use canvas_samples::{RED, frame, index_of, moved, polygon, record, rectangle, restored};
 use canvas_shape::Kind;
 use std::alloc::Global;
 use std::fmt::Debug;

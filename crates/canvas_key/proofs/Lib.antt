@@ -6,6 +6,7 @@ pub mod Keys
 pub mod Carry
 pub mod Steps
 pub mod Turns
+pub mod Texts
 pub mod Before
 pub mod Mids
 pub mod Rising

@@ -5,7 +5,7 @@ use Rattle.std.proofs.lemmas.Bool.Decides.{nat_tests}
 use mathlib.Core.List.{IsPrefix}
 use prog.Atomic.{either}
 use Rattle.logbook.specs.Pages.{Cell, cell, keeps, no_nib, step, Moves, Goes}
-use Rattle.canvas_doc.specs.declared.edits.Change.{Change}
+use Rattle.canvas_record.specs.declared.edits.Change.{Change}
 use Rattle.canvas_line.specs.Books.{IsKept, Adds}
 use Rattle.canvas_line.proofs.Prefixes.{prefix_whole}
 

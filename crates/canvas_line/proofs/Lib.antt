@@ -2,6 +2,7 @@ pub mod Prefixes
 pub mod Adding
 pub mod Turns
 pub mod Recently
+pub mod Recounts
 pub mod Versions
 pub mod Knowing
 pub mod Looking

@@ -1,7 +1,7 @@
 -- A seat goes on.
 use Rattle.std.proofs.Common.{ℕ, List, refl}
 use mathlib.Core.List.{IsPrefix}
-use Rattle.canvas_doc.specs.declared.edits.Change.{Change}
+use Rattle.canvas_record.specs.declared.edits.Change.{Change}
 use Rattle.canvas_line.specs.declared.version.Version.{Version}
 use Rattle.canvas_line.specs.Trails.{Facts}
 use Rattle.canvas_line.specs.Standing.{IsVersionOf}

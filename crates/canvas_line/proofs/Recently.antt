@@ -5,11 +5,11 @@ use Rattle.std.proofs.lemmas.List.{drop-append-le}
 use Rattle.std.proofs.lemmas.List.Elements.{All-drop, All-head, All-tail}
 use Rattle.std.proofs.lemmas.Option.{get_or_from_slice_get, slice_get_cases, slice_get_within}
 use Rattle.canvas_plane.specs.declared.PageBox.{PageBox}
-use Rattle.canvas_doc.specs.declared.edits.Change.{Change}
-use Rattle.canvas_doc.specs.Contents.{Contents}
-use Rattle.canvas_doc.specs.Damage.{damage_of}
-use Rattle.canvas_doc.specs.Effect.{effect_of}
-use Rattle.canvas_doc.specs.History.{replay_of}
+use Rattle.canvas_record.specs.declared.edits.Change.{Change}
+use Rattle.canvas_record.specs.Contents.{Contents}
+use Rattle.canvas_record.specs.Damage.{damage_of}
+use Rattle.canvas_record.specs.Effect.{effect_of}
+use Rattle.canvas_record.specs.History.{replay_of}
 use Rattle.canvas_line.specs.declared.recent.Damage.{Damage}
 use Rattle.canvas_line.specs.Recent.{damages_from, last_64, recent_of}
 

@@ -1,6 +1,6 @@
 -- What is decided at a document stands at its version.
 use Rattle.std.proofs.Common.{ℕ, ◌<◌, Err}
-use Rattle.canvas_doc.specs.declared.edits.Edit.{Edit}
+use Rattle.canvas_record.specs.declared.edits.Edit.{Edit}
 use Rattle.canvas_line.specs.declared.version.Version.{Version}
 use Rattle.canvas_line.specs.declared.fault.LineFault.{LineFault}
 use Rattle.canvas_line.specs.declared.fault.LineFault.TheVariants as fault

@@ -1,10 +1,10 @@
 -- The version after one more change.
 use Rattle.std.proofs.Common.{◌≡◌, ℕ, ◌<◌, ◌+◌, List, [], ◌∷◌, ◌++◌, None, Some, ap, refl, sym, ◌∙◌, subst, arith, length-append}
-use Rattle.canvas_doc.specs.declared.edits.Change.{Change}
-use Rattle.canvas_doc.specs.Contents.{Contents}
-use Rattle.canvas_doc.specs.Damage.{damage_of}
-use Rattle.canvas_doc.specs.Effect.{effect_of, Fits}
-use Rattle.canvas_doc.proofs.Histories.{replay-snoc, all_fit-snoc, last-snoc}
+use Rattle.canvas_record.specs.declared.edits.Change.{Change}
+use Rattle.canvas_record.specs.Contents.{Contents}
+use Rattle.canvas_record.specs.Damage.{damage_of}
+use Rattle.canvas_record.specs.Effect.{effect_of, Fits}
+use Rattle.canvas_record.proofs.Histories.{replay-snoc, all_fit-snoc, last-snoc}
 use Rattle.canvas_line.specs.declared.version.Version.{Version}
 use Rattle.canvas_line.specs.declared.recent.Damage.{Damage}
 use Rattle.canvas_line.specs.Recent.{last_64}

@@ -1,7 +1,7 @@
 -- The rule of a line's book, and what a step tells.
 use Rattle.std.specs.Prelude.{ℕ, ◌≡◌, ◌==◌, true, List, [], ◌∷◌, ◌++◌, length, MatchBool}
 use Rattle.logbook.specs.Pages.{Cell, Step, View, Book, Named}
-use Rattle.canvas_doc.specs.declared.edits.Change.{Change}
+use Rattle.canvas_record.specs.declared.edits.Change.{Change}
 
 -- the first word is the length of the history. A book has two words, of which this one leaves the second at 0
 abbrev pub IsKept : List Cell → List Change → Type 0

@@ -1,6 +1,6 @@
 -- The codes of a line's refusals.
 use Rattle.std.specs.Prelude.{ℕ}
-use Rattle.canvas_doc.specs.Refused.{refusal_code}
+use Rattle.canvas_record.specs.Refused.{refusal_code}
 use Rattle.canvas_line.specs.declared.fault.LineFault.{LineFault}
 use Rattle.canvas_line.specs.declared.fault.LineFault.TheVariants.{OutOfMemory, Refused, VersionsSpent, Behind, Strangers, NoSeats, BadSetting, NoView}
 

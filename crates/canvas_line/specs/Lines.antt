@@ -1,12 +1,12 @@
 -- What a desk and a seat are seen as, and what an edit does to a desk.
 use Rattle.std.specs.Prelude.{ℕ, ◌≡◌, ◌+◌, ◌<◌, ◌≤◌, List, [], ◌∷◌, ◌++◌, length, Result, Ok, Err, Some}
-use Rattle.canvas_doc.specs.declared.edits.Change.{Change}
-use Rattle.canvas_doc.specs.declared.edits.Edit.{Edit}
-use Rattle.canvas_doc.specs.Contents.{Contents}
-use Rattle.canvas_doc.specs.Damage.{damage_of}
-use Rattle.canvas_doc.specs.Decision.{decision_of}
-use Rattle.canvas_doc.specs.Effect.{effect_of, Fits, new_id}
-use Rattle.canvas_doc.specs.History.{replay_of}
+use Rattle.canvas_record.specs.declared.edits.Change.{Change}
+use Rattle.canvas_record.specs.declared.edits.Edit.{Edit}
+use Rattle.canvas_record.specs.Contents.{Contents}
+use Rattle.canvas_record.specs.Damage.{damage_of}
+use Rattle.canvas_record.specs.Decision.{decision_of}
+use Rattle.canvas_record.specs.Effect.{effect_of, Fits, new_id}
+use Rattle.canvas_record.specs.History.{replay_of}
 use Rattle.canvas_line.specs.declared.version.Version.{Version}
 use Rattle.canvas_line.specs.declared.fault.Edited.{Edited}
 use Rattle.canvas_line.specs.declared.fault.LineFault.{LineFault}

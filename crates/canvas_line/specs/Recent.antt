@@ -1,9 +1,9 @@
 -- The damage of the last changes of a history.
 use Rattle.std.specs.Prelude.{ℕ, ◌+◌, ◌-◌, List, [], ◌∷◌, length, drop}
-use Rattle.canvas_doc.specs.declared.edits.Change.{Change}
-use Rattle.canvas_doc.specs.Contents.{Contents}
-use Rattle.canvas_doc.specs.Damage.{damage_of}
-use Rattle.canvas_doc.specs.Effect.{effect_of}
+use Rattle.canvas_record.specs.declared.edits.Change.{Change}
+use Rattle.canvas_record.specs.Contents.{Contents}
+use Rattle.canvas_record.specs.Damage.{damage_of}
+use Rattle.canvas_record.specs.Effect.{effect_of}
 use Rattle.canvas_line.specs.declared.recent.Damage.{Damage}
 
 -- the damage of each of some changes made one after another of a document, the first of which makes the version after n

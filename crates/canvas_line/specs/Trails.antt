@@ -1,8 +1,8 @@
 -- A beginning of a book's history, and what stays of a line.
 use Rattle.std.specs.Prelude.{ℕ, List, [], ◌∷◌, ◌++◌}
 use Rattle.logbook.specs.Pages.{Book}
-use Rattle.canvas_doc.specs.declared.edits.Change.{Change}
-use Rattle.canvas_doc.specs.Contents.{Contents}
+use Rattle.canvas_record.specs.declared.edits.Change.{Change}
+use Rattle.canvas_record.specs.Contents.{Contents}
 
 -- a beginning of the history of a book
 pub record Trail : Type 0 where

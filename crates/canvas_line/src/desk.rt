@@ -1,6 +1,6 @@
 //! What lies under the lock: the writer, and the head of the history.
 ghost use Rattle.std.specs.Prelude.{◌≡◌, ◌≤◌, length, IfOk, IfSome, MatchBool, MatchResult};
-ghost use Rattle.canvas_doc.specs.History.{AllFit};
+ghost use Rattle.canvas_record.specs.History.{AllFit};
 ghost use Rattle.canvas_line.specs.Lines.{Accepts, Rightly, Next, with_history, line_of};
 ghost use Rattle.canvas_line.specs.Rule.{Knows};
 ghost use Rattle.left_right.specs.Sides.{view as seat_view};

@@ -90,22 +90,7 @@ fn first_writer<R: Wait>(
     ensures facts { IfOk result (λ w. w.desk.shown.value.facts ≡ record { book = trace.now.book; opening = document; limit = limit }) }
     ensures changes { IfOk result (λ w. w.desk.shown.value.changes ≡ []) }
 {
-    let recent = Recent::none(alloc)?;
-    let version = Version {
-        number: 0,
-        change: None,
-        document,
-        recent,
-    };
-    let Ok(version) = Arc::new(alloc, version) else {
-        return Err(OutOfMemory);
-    };
-    let first = Published {
-        opening: Arc::try_clone(&version)?,
-        version,
-        limit,
-        trace: trace.again(),
-    };
+    let first = first_published(alloc, trace, document, limit)?;
     let second = first.copied()?;
     let third = first.copied()?;
     let writer = LineWriter::new(alloc, first, second, viewers)?;
@@ -115,6 +100,33 @@ fn first_writer<R: Wait>(
         return Err(OutOfMemory);
     }
     Ok(writer)
+}
+
+// What a line shows at first: version 0, which is its opening version too.
+fn first_published(
+    alloc: Global,
+    trace: &Trace,
+    document: Document,
+    limit: u64,
+) -> Result<Published, OutOfMemory>
+    requires { trace.now.changes ≡ [] }
+    ensures facts { IfOk result (λ p. p.facts ≡ record { book = trace.now.book; opening = document; limit = limit }) }
+    ensures changes { IfOk result (λ p. p.changes ≡ []) }
+{
+    let recent = Recent::none(alloc)?;
+    let version = Version {
+        number: 0,
+        change: None,
+        document,
+        recent,
+    };
+    let version = Arc::new(alloc, version)?;
+    Ok(Published {
+        opening: Arc::try_clone(&version)?,
+        version,
+        limit,
+        trace: trace.again(),
+    })
 }
 
 // So many viewers of the line, if there is a place for each.

@@ -1,14 +1,17 @@
 //! What an edit leads to.
-ghost use Rattle.std.specs.Prelude.{◌≡◌, ◌≤◌, IfOk, MatchResult};
+ghost use Rattle.std.specs.Prelude.{◌≡◌, ◌+◌, ◌<◌, ◌≤◌, ◌^◌, ◌++◌, ◌∷◌, [], Some, IfOk, MatchResult};
 ghost use Rattle.std.specs.Arc.{arc_value};
-ghost use Rattle.canvas_doc.specs.Effect.{new_id};
+ghost use Rattle.canvas_record.specs.Damage.{damage_of};
+ghost use Rattle.canvas_record.specs.Effect.{Fits, effect_of, new_id};
 ghost use Rattle.canvas_line.specs.Lines.{Decides, Follows, Next, RefusedAt, Rightly};
+ghost use Rattle.canvas_line.specs.Recent.{last_64};
 
 use crate::fault::{Edited, LineFault};
 use crate::front::Head;
 use crate::published::Published;
 use crate::recent::Damage;
 use crate::version::Version;
+use canvas_code::OutOfMemory;
 use canvas_doc::{Change, Document, Edit, Refusal};
 use std::alloc::Global;
 use std::snapshot::Snapshot;
@@ -48,26 +51,41 @@ fn next_version(
         return Err(LineFault::VersionsSpent);
     }
     let change = decided(alloc, &version.document, edit)?;
-    let document = version.document.with(alloc, &change)?;
-    let number = version.number + 1;
-    let area = version.document.damage(&change);
-    let recent = version.recent.with(alloc, Damage { number, area })?;
     let id = change.new_id();
     let added = Snapshot::of(&change);
-    let next = Version {
-        number,
-        change: Some(change),
-        document,
-        recent,
-    };
-    let Ok(version) = Arc::new(alloc, next) else {
-        return Err(LineFault::OutOfMemory);
-    };
+    let version = version_after(alloc, version, change)?;
+    let number = version.number;
     Ok(NextVersion {
         version,
         change: added,
         edited: Edited { number, id },
     })
+}
+
+// The version that a change makes.
+fn version_after(
+    alloc: Global,
+    version: &Version,
+    change: Change,
+) -> Result<Arc<Version, Global>, OutOfMemory>
+    requires number { version.now.number + 1 < 2 ^ 64 }
+    requires fits { Fits change version.now.document }
+    ensures { IfOk result (λ w. ((arc_value w).number ≡ version.now.number + 1) × ((arc_value w).change ≡ Some change) × ((arc_value w).document ≡ effect_of change version.now.document)
+        × ((arc_value w).recent ≡ last_64 (version.now.recent ++ record { number = version.now.number + 1; area = damage_of change version.now.document } ∷ []))) }
+{
+    let document = version.document.with(alloc, &change)?;
+    let number = version.number + 1;
+    let area = version.document.damage(&change);
+    let recent = version.recent.with(alloc, Damage { number, area })?;
+    Ok(Arc::new(
+        alloc,
+        Version {
+            number,
+            change: Some(change),
+            document,
+            recent,
+        },
+    )?)
 }
 
 // What is to be published once the edit is accepted. All memory is there before the history grows.

@@ -1,5 +1,5 @@
 -- Items from a position up to another, of each of which something holds.
-use Rattle.std.proofs.Common.{◌≡◌, ◌∙◌, ℕ, ◌+◌, ◌-◌, ◌<◌, ◌≤◌, ◌++◌, All, List, ap, arith, drop, get_or, inl, inr, length, refl, subst, sym, take}
+use Rattle.std.proofs.Common.{◌≡◌, ◌∙◌, ℕ, ◌+◌, ◌-◌, ◌<◌, ◌≤◌, ◌++◌, All, List, ap, arith, drop, get_or, inl, inr, length, max, refl, subst, sym, take}
 use Rattle.std.proofs.lemmas.Bool.{cases_lt}
 use Rattle.std.proofs.lemmas.List.{length-append, take_rest}
 use Rattle.std.proofs.lemmas.List.Elements.{All-append, All-get_or}
@@ -14,6 +14,10 @@ all-between P xs from end all within = λ i x low high. All-get_or P xs i x (ome
 -- there are none
 pub none-between : {X : Type 0} (P : X → Type 0) (xs : List X) (from end : ℕ) → end ≤ from → AllBetween P xs from end
 none-between P xs from end h = λ i x low high. absurd (omega arith)
+
+-- those up to the end, or none, where that stands behind it
+pub between-max : {X : Type 0} (P : X → Type 0) (xs : List X) (from end upto : ℕ) → upto ≡ max from end → AllBetween P xs from end → AllBetween P xs from upto
+between-max P xs from end upto is all = λ i x low high. all i x low (omega (arith, is))
 
 -- those up to a position, and those from there on
 pub between-join : {X : Type 0} (P : X → Type 0) (xs : List X) (from at end : ℕ) → AllBetween P xs from at → AllBetween P xs at end → AllBetween P xs from end

@@ -1,30 +1,42 @@
 -- What is put between two lists that are gone over.
-use Rattle.std.proofs.Common.{◌≡◌, ◌∙◌, ◌+◌, ◌<◌, ◌++◌, ℕ, List, [], ap, arith, length}
-use Rattle.std.proofs.lemmas.List.{append-nil, append_assoc, length-append}
+use Rattle.std.proofs.Common.{◌≡◌, ◌∙◌, ◌+◌, ◌<◌, ◌++◌, ℕ, List, [], ap, arith, length, refl, sym}
+use Rattle.std.proofs.lemmas.List.{append_assoc, length-append}
+
+in-two : {X : Type 0} (a b all : List X) → all ≡ a ++ b → length all ≡ length a + length b
+in-two a b all is = ap length is ∙ length-append a b
+
+in-three : {X : Type 0} (a b c all : List X) → a ++ b ++ c ≡ all → length all ≡ length a + length b + length c
+in-three a b c all is = sym (ap length is) ∙ length-append (a ++ b) c ∙ ap (λ n. n + length c) (length-append a b)
+
+-- the first of what is behind is small beside it
+pub few-first : (a b c most : ℕ) → a + b + c < most → a + b < most
+few-first a b c most few = omega arith
+
+pub few-last : {X : Type 0} (a b list rest : List X) (most : ℕ) → list ≡ a ++ b → length a + length b + length rest < most → length list + length rest < most
+few-last a b list rest most is few = omega (arith, few, in-two a b list is)
 
 -- the parts of a list, other items, and the parts of another list
-pub between : {X : Type 0} (front chunks back items front2 chunks2 back2 before behind : List X) (first middle last none none2 new new2 start a b c d : List X) → start ≡ [] → none ≡ [] → none2 ≡ [] → new ≡ [] → new2 ≡ [] → first ≡ front ++ new ++ none → middle ≡ back ++ items ++ front2 → last ≡ none2 ++ new2 ++ back2 → a ≡ start ++ first → b ≡ a ++ chunks → c ≡ b ++ middle → d ≡ c ++ chunks2 → front ++ chunks ++ back ≡ before → front2 ++ chunks2 ++ back2 ≡ behind → d ++ last ≡ before ++ items ++ behind
-between front chunks back items front2 chunks2 back2 before behind first middle last none none2 new new2 start a b c d is_start is_none is_none2 is_new is_new2 is_first is_middle is_last is_a is_b is_c is_d is_before is_behind =
-    rw (is_d, is_c, is_b, is_a, is_first, is_middle, is_last, is_start, is_none, is_none2, is_new, is_new2, ← is_before, ← is_behind) (simp (append_assoc, append-nil))
+pub between : {X : Type 0} (front chunks back items front2 chunks2 back2 before behind start a b c d : List X) → start ≡ [] → a ≡ start ++ front → b ≡ a ++ chunks → c ≡ b ++ (back ++ items ++ front2) → d ≡ c ++ chunks2 → front ++ chunks ++ back ≡ before → front2 ++ chunks2 ++ back2 ≡ behind → d ++ back2 ≡ before ++ items ++ behind
+between front chunks back items front2 chunks2 back2 before behind start a b c d is_start is_a is_b is_c is_d is_before is_behind =
+    rw (is_d, is_c, is_b, is_a, is_start, ← is_before, ← is_behind) (simp (append_assoc))
 
 -- each list on the way to it is small
-pub record AreFew {X : Type 0} (start first a chunks b middle c chunks2 d last : List X) (most : ℕ) : Type 0 where
-  pub with_first : length start + length first < most
-  pub with_chunks : length a + length chunks < most
-  pub with_middle : length b + length middle < most
-  pub with_chunks2 : length c + length chunks2 < most
-  pub with_last : length d + length last < most
+pub few-front : {X : Type 0} (front chunks back before items behind start : List X) (most : ℕ) → start ≡ [] → front ++ chunks ++ back ≡ before → length before + length items + length behind < most → length start + length front < most
+few-front front chunks back before items behind start most is_start is_before few =
+    omega (arith, few, ap length is_start, in-three front chunks back before is_before)
 
-pub few-between : {X : Type 0} (front chunks back items front2 chunks2 back2 before behind : List X) (first middle last none none2 new new2 start a b c d : List X) (most : ℕ) → start ≡ [] → none ≡ [] → none2 ≡ [] → new ≡ [] → new2 ≡ [] → first ≡ front ++ new ++ none → middle ≡ back ++ items ++ front2 → last ≡ none2 ++ new2 ++ back2 → a ≡ start ++ first → b ≡ a ++ chunks → c ≡ b ++ middle → d ≡ c ++ chunks2 → front ++ chunks ++ back ≡ before → front2 ++ chunks2 ++ back2 ≡ behind → length before + length items + length behind < most → AreFew start first a chunks b middle c chunks2 d last most
-few-between front chunks back items front2 chunks2 back2 before behind first middle last none none2 new new2 start a b c d most is_start is_none is_none2 is_new is_new2 is_first is_middle is_last is_a is_b is_c is_d is_before is_behind few =
-    let all : length (d ++ last) ≡ length (before ++ items ++ behind) = ap length (between front chunks back items front2 chunks2 back2 before behind first middle last none none2 new new2 start a b c d is_start is_none is_none2 is_new is_new2 is_first is_middle is_last is_a is_b is_c is_d is_before is_behind) in
-    let last_long : length (d ++ last) ≡ length d + length last = length-append d last in
-    let d_long : length d ≡ length c + length chunks2 = ap length is_d ∙ length-append c chunks2 in
-    let c_long : length c ≡ length b + length middle = ap length is_c ∙ length-append b middle in
-    let b_long : length b ≡ length a + length chunks = ap length is_b ∙ length-append a chunks in
-    let a_long : length a ≡ length start + length first = ap length is_a ∙ length-append start first in
-    let total : length (before ++ items ++ behind) ≡ length before + length items + length behind = length-append (before ++ items) behind ∙ ap (λ n. n + length behind) (length-append before items) in
-    record { with_first = omega arith; with_chunks = omega arith; with_middle = omega arith; with_chunks2 = omega arith; with_last = omega arith }
+pub few-chunks : {X : Type 0} (front chunks back before items behind start a : List X) (most : ℕ) → start ≡ [] → a ≡ start ++ front → front ++ chunks ++ back ≡ before → length before + length items + length behind < most → length a + length chunks < most
+few-chunks front chunks back before items behind start a most is_start is_a is_before few =
+    omega (arith, few, ap length is_start, in-two start front a is_a, in-three front chunks back before is_before)
+
+pub few-middle : {X : Type 0} (front chunks back before items front2 chunks2 back2 behind start a b : List X) (most : ℕ) → start ≡ [] → a ≡ start ++ front → b ≡ a ++ chunks → front ++ chunks ++ back ≡ before → front2 ++ chunks2 ++ back2 ≡ behind → length before + length items + length behind < most → length b + length back + length items + length front2 < most
+few-middle front chunks back before items front2 chunks2 back2 behind start a b most is_start is_a is_b is_before is_behind few =
+    omega (arith, few, ap length is_start, in-two start front a is_a, in-two a chunks b is_b, in-three front chunks back before is_before, in-three front2 chunks2 back2 behind is_behind)
+
+-- and behind the other items
+pub few-behind : {X : Type 0} (front chunks back before items front2 chunks2 back2 behind start a b c : List X) (most : ℕ) → start ≡ [] → a ≡ start ++ front → b ≡ a ++ chunks → c ≡ b ++ (back ++ items ++ front2) → front ++ chunks ++ back ≡ before → front2 ++ chunks2 ++ back2 ≡ behind → length before + length items + length behind < most → length c + length chunks2 + length back2 < most
+few-behind front chunks back before items front2 chunks2 back2 behind start a b c most is_start is_a is_b is_c is_before is_behind few =
+    omega (arith, few, ap length is_start, in-two start front a is_a, in-two a chunks b is_b, in-two b (back ++ items ++ front2) c is_c, in-three back items front2 (back ++ items ++ front2) refl, in-three front chunks back before is_before, in-three front2 chunks2 back2 behind is_behind)
 
 -- the parts that are put together are small, one after another
 pub small-first : {X : Type 0} (none front new back : List X) (most : ℕ) → none ≡ [] → length front + length new + length back < most → length none + length front < most

@@ -1,5 +1,5 @@
 -- Edits at the ends of a list in chunks, steps over it from its ends, and what a move leaves.
-use Rattle.std.proofs.Common.{◌≡◌, ◌∙◌, ◌+◌, ◌-◌, ◌<◌, ◌≤◌, ℕ, List, Bool, cond, false, [], ◌∷◌, ◌++◌, sym, ap, arith, length, get_or, take, drop, slice_set, ◌^◌}
+use Rattle.std.proofs.Common.{◌≡◌, ◌∙◌, ◌+◌, ◌-◌, ◌<◌, ◌≤◌, ℕ, List, [], ◌∷◌, ◌++◌, sym, ap, arith, length, get_or, take, drop, slice_set, ◌^◌}
 use Rattle.std.specs.List.{insert, remove}
 use Rattle.std.proofs.lemmas.List.{append-nil, append_assoc, nil_from_length, set-get_or, take-append-drop, take_all}
 use Rattle.std.proofs.lemmas.List.Edits.{insert-append_right, length-remove}

@@ -32,16 +32,3 @@ put-few list part more given put view item total most e same viewed is less few 
 -- so there are in the list at the end
 pub all-few : {X : Type 0} (list part given : List X) (total most : ℕ) → list ++ part ≡ given → length given ≡ total → total < most → length list + length part < most
 all-few list part given total most same all few = omega (arith, ap length same, length-append list part)
-
--- the items that are not in the list yet are few
-pub more-few : {X : Type 0} (list part more given : List X) (item : X) (total most : ℕ) → more ≡ part ++ item ∷ [] → list ++ part ≡ given → length given < total → total < most → length more < most
-more-few list part more given item total most e same less few =
-    omega (arith, ap length (one-more list part more given item e same), length-append list more, length-append given (item ∷ []))
-
-pub rest-few : {X : Type 0} (list part given : List X) (total most : ℕ) → list ++ part ≡ given → length given ≡ total → total < most → length part < most
-rest-few list part given total most same all few = omega (arith, ap length same, length-append list part)
-
--- the list with the last items is small
-pub both-few : {X : Type 0} (list part given view put : List X) (total most : ℕ) → list ++ part ≡ given → view ≡ list → put ≡ part → length given ≡ total → total < most → length view + length put < most
-both-few list part given view put total most same viewed is all few =
-    omega (arith, ap length same, length-append list part, ap length viewed, ap length is)

@@ -111,3 +111,7 @@ module _ {X : Type 0} (cs : List (List X)) (xs : List X) (n k s at : ℕ) (c : L
   table-more made item new p e is =
       let more : length new ≡ length c + 1 = part-more made item new p e is in
       subst (λ m. IsTable (set cs k new) m) (omega (arith, more, part-fewer (Insert item) p)) (table-after made (Insert item) new (length c) (length new) p e refl refl (omega (arith, more)))
+
+-- a part that is as it was
+pub same-part : {X : Type 0} (cs : List (List X)) (k : ℕ) (old new : List X) → new ≡ old → old ≡ get_or cs k old → set cs k new ≡ cs
+same-part cs k old new e is = ap (λ d. set cs k d) (e ∙ is) ∙ set-get_or cs k old

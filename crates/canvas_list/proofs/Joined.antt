@@ -148,15 +148,19 @@ still-small cs more xs n m i c h e is len few =
     let all : length (joined (take (i + 1) more)) ≤ length (joined more) = take-fewer more (i + 1) in
     omega arith
 
--- one more chunk of others behind a part that is being gathered
-pub gathered : {X : Type 0} (more : List (List X)) (xs list part next : List X) (i : ℕ) (c : List X) → i < length more → c ≡ get_or more i c → list ++ part ≡ xs ++ joined (take i more) → next ≡ part ++ c → list ++ next ≡ xs ++ joined (take (i + 1) more)
-gathered more xs list part next i c h e is n =
-    ap (λ l. list ++ l) n
-    ∙ sym (append_assoc list part c)
-    ∙ ap (λ l. l ++ c) is
-    ∙ append_assoc xs (joined (take i more)) c
-    ∙ ap (λ l. xs ++ l) (ap (λ l. joined (take i more) ++ l) e ∙ sym (joined_more more i c h))
+-- some items, and the chunks behind them that are still to be put there
+module _ {X : Type 0} (more rest part others : List (List X)) (xs list : List X) (n : ℕ) (inv : list ++ joined rest ≡ xs ++ joined more) where
+  -- some of the chunks are put there
+  pub put-part : (next : List X) → part ≡ take n rest → others ≡ drop n rest → next ≡ list ++ joined part → next ++ joined others ≡ xs ++ joined more
+  put-part next front back is =
+      let all : part ++ others ≡ rest = ap (λ l. l ++ others) front ∙ ap (λ l. take n rest ++ l) back ∙ take-append-drop n rest in
+      ap (λ l. l ++ joined others) is
+      ∙ append_assoc list (joined part) (joined others)
+      ∙ ap (λ l. list ++ l) (sym (joined-append part others) ∙ ap joined all)
+      ∙ inv
 
-pub gathered-few : {X : Type 0} (more : List (List X)) (xs list part : List X) (i m : ℕ) → list ++ part ≡ xs ++ joined (take i more) → length xs + length (joined more) < m → length list + length part < m
-gathered-few more xs list part i m is few =
-    omega (arith, ap length is, length-append list part, length-append xs (joined (take i more)), take-fewer more i)
+  pub rest-few : (m : ℕ) → length xs + length (joined more) < m → length list + length (joined rest) < m
+  rest-few m few = omega (arith, ap length inv, length-append list (joined rest), length-append xs (joined more))
+
+  pub part-few : (m : ℕ) → part ≡ take n rest → length xs + length (joined more) < m → length list + length (joined part) < m
+  part-few m front few = omega (arith, rest-few m few, ap (λ l. length (joined l)) front, take-fewer rest n)

@@ -1,5 +1,5 @@
 -- A chunk or a block after a change in place.
-use Rattle.std.proofs.Common.{◌≡◌, ◌∙◌, ◌+◌, ◌<◌, ◌≤◌, ℕ, List, Result, sym, ap, subst, arith, length}
+use Rattle.std.proofs.Common.{◌≡◌, ◌≢◌, ◌∙◌, ◌+◌, ◌<◌, ◌≤◌, ℕ, List, Result, sym, ap, subst, arith, length}
 use Rattle.std.specs.Bool.{if◌then◌else◌}
 use Rattle.std.specs.Result.{is_ok, IsOk}
 use Rattle.std.specs.List.{insert, remove}
@@ -26,6 +26,15 @@ pub fits-after : {X : Type 0} (change : ItemChange X) (at : ℕ) (old made new x
 fits-after change at old made new xs len room fits same all place e ready is =
     subst (λ l. FitsChunk (length l)) (sym is)
     (fits-changed change at made len room (subst (λ l. FitsChunk (length l)) (sym same) fits) e (subst (λ l. IsPositionOf change at l) (sym (same ∙ all)) place) ready)
+
+-- items of which one is removed stay a chunk, if it was not the only one
+pub fits-less : {X : Type 0} (old made new xs : List X) (at len : ℕ) → FitsChunk (length old) → made ≡ old → old ≡ xs → len ≡ length made → len ≢ 1 → at < length xs → new ≡ remove made at → FitsChunk (length new)
+fits-less old made new xs at len fits same all e more h is =
+    let place : at < length made = omega (arith, ap length same, ap length all) in
+    record {
+      some = omega (arith, ap length is, length-remove made at place);
+      few = omega (arith, ap length is, length-remove made at place, ap length same, fits.few);
+    }
 
 -- a move leaves as many items
 moved-long : {X : Type 0} (old new : List X) (from to : ℕ) (item : X) → new ≡ insert (remove old from) to item → from < length old → to < length old → length new ≡ length old

@@ -13,7 +13,7 @@ use Rattle.canvas_list.proofs.Blocks.{of-block, one-part}
 use Rattle.canvas_list.proofs.Ends.{chunk-unchanged}
 use Rattle.canvas_list.proofs.InPlace.{other-part}
 use Rattle.canvas_list.proofs.Joined.{fewer, joined-append, len-is, split_at}
-use Rattle.canvas_list.proofs.Spliced.{inserted, is-part, moved, part-end, removed, IsIn, IsOfSpot, IsPart}
+use Rattle.canvas_list.proofs.Spliced.{inserted, is-part, moved, part-end, removed, sum-parts, IsIn, IsOfSpot, IsPart}
 
 -- one of two numbers that are not the same is below the other
 pub below : (i j : ℕ) → i ≤ j → i ≢ j → i < j
@@ -53,14 +53,17 @@ module _ {X : Type 0} (cs front back : List X) (b : ℕ) (parts : AreHalves cs f
   in-back x e = e ∙ ap (λ l. get_or l 0 x) parts.from ∙ get_or-drop b cs 0 x ∙ ap (λ i. get_or cs i x) (add-zero b)
 
   -- the table whose halves they are then
-  pub joined-halves : (len i : ℕ) (x y : X) → len ≡ length cs → i < b → b < length cs → take len ((set front i x ++ set back 0 y) ++ drop (length (set front i x ++ set back 0 y)) cs) ≡ set (set cs i x) b y
-  joined-halves len i x y long h k =
-      let both : set front i x ++ set back 0 y ≡ set (set cs i x) b y =
-      ap (λ l. set l i x ++ set back 0 y) parts.before ∙ ap (λ l. set (take b cs) i x ++ set l 0 y) parts.from ∙ set-parted cs i b x y h k in
-      let all : length (set front i x ++ set back 0 y) ≡ len = ap length both ∙ length-set (set cs i x) b y ∙ length-set cs i x ∙ sym long in
-      take-append-le len (set front i x ++ set back 0 y) (drop (length (set front i x ++ set back 0 y)) cs) (omega arith)
-      ∙ take_all len (set front i x ++ set back 0 y) (omega arith)
-      ∙ both
+  pub changed-halves : (i : ℕ) (x y : X) → i < b → b < length cs → set front i x ++ set back 0 y ≡ set (set cs i x) b y
+  changed-halves i x y h k =
+      ap (λ l. set l i x ++ set back 0 y) parts.before ∙ ap (λ l. set (take b cs) i x ++ set l 0 y) parts.from ∙ set-parted cs i b x y h k
+
+-- the parts that a table then has, as many as before
+pub as-many : {X : Type 0} (cs rs : List X) (len i j : ℕ) (x y : X) → len ≡ length cs → rs ≡ cs → take len (set (set rs j y) i x ++ drop (length (set (set rs j y) i x)) cs) ≡ set (set cs j y) i x
+as-many cs rs len i j x y long same =
+    let all : length (set (set rs j y) i x) ≡ len = length-set (set rs j y) i x ∙ length-set rs j y ∙ ap length same ∙ sym long in
+    take-append-le len (set (set rs j y) i x) (drop (length (set (set rs j y) i x)) cs) (omega arith)
+    ∙ take_all len (set (set rs j y) i x) (omega arith)
+    ∙ ap (λ l. set (set l j y) i x) same
 
 -- how many items stand before a part and from it on
 cut : {X : Type 0} (cs : List (List X)) (k : ℕ) → length (joined cs) ≡ length (joined (take k cs)) + length (joined (drop k cs))
@@ -69,10 +72,22 @@ cut cs k =
     ∙ ap length (joined-append (take k cs) (drop k cs))
     ∙ length-append (joined (take k cs)) (joined (drop k cs))
 
+-- a position is a small number
+pub to-small : {X : Type 0} (cs : List (List X)) (n : ℕ) (xs : List X) (to : ℕ) → IsTable cs n → joined cs ≡ xs → to < length xs → to < 2 ^ 32
+to-small cs n xs to table all h = omega (arith, len-is cs n xs table all, table.is_small)
+
 -- within one part
 pub moved-within : {X : Type 0} (cs : List (List X)) (xs : List X) (k s from to : ℕ) (old new : List X) (item : X) → IsOfSpot cs xs k s from old → new ≡ insert (remove old (from - s)) (to - s) item → from < length xs → s ≤ to → to - s < length old → joined (set cs k new) ≡ insert (remove xs from) to item
 moved-within cs xs k s from to old new item p e within low high =
     other-part cs k new p.within ∙ moved cs cs xs k (k + 1) s from to old new item p.part p.place refl e within low high
+
+pub moved-few : {X : Type 0} (cs ds : List (List X)) (xs : List X) (n k s from to : ℕ) (old new : List X) (item : X) → IsTable cs n → ds ≡ cs → IsOfSpot cs xs k s from old → new ≡ insert (remove old (from - s)) (to - s) item → from < length xs → to - s < length old
+    → length (joined (take k ds)) + length new + length (joined (drop (k + 1) ds)) < 2 ^ 32
+moved-few cs ds xs n k s from to old new item table e p is within high =
+    let inside : from - s < length old = p.place.before within in
+    let less : length (remove old (from - s)) + 1 ≡ length old = omega (arith, length-remove old (from - s) inside, inside) in
+    let long : length new ≡ length old = omega (arith, ap length is, length-insert (remove old (from - s)) (to - s) item (omega (arith, less, high)), less) in
+    omega (arith, long, sum-parts cs ds xs k (k + 1) s old p.part e, len-is cs n xs table p.part.all, table.is_small)
 
 -- what is found of the part that an item leaves, and of the one where it comes to
 pub record IsMove {X : Type 0} (cs : List (List X)) (xs : List X) (k s m t from to place : ℕ) (old goal : List X) : Type 0 where

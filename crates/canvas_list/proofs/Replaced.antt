@@ -12,6 +12,11 @@ use Rattle.canvas_list.proofs.Joined.{joined-append, len-is, split_at}
 use Rattle.canvas_list.proofs.Moved.{halves, in-back}
 use Rattle.canvas_list.proofs.Spliced.{IsOfSpot}
 
+-- items put over the first ones leave as many
+pub as-long : {X : Type 0} (n : ℕ) (items xs : List X) → n ≡ length xs → length (take n (items ++ drop (length items) xs)) ≡ length xs
+as-long n items xs e =
+    length-take-le n (items ++ drop (length items) xs) (omega (arith, length-append items (drop (length items) xs), length-drop (length items) xs)) ∙ e
+
 -- they stand behind others
 pub run-behind : {X : Type 0} (front xs items : List X) (at s : ℕ) → length front ≡ s → s ≤ at → front ++ replaced_run (at - s) items xs ≡ replaced_run at items (front ++ xs)
 run-behind {X} front xs items at s long low =
@@ -74,6 +79,19 @@ ends-here xs own now items first behind at is own-is all h =
     ∙ run-before own behind first at h
     ∙ ap (λ l. replaced_run at l (own ++ behind)) all
     ∙ ap (λ l. replaced_run at items (l ++ behind)) own-is
+
+-- the first of more items than there is room for fill it
+pub first-fills : {X : Type 0} (xs own items first : List X) (at n m : ℕ) → own ≡ xs → at ≤ length xs → n ≡ length own → m ≡ length items → n - at < m → first ≡ take (n - at) items → at + length first ≡ length own
+first-fills xs own items first at n m own-is low long many h front = omega (arith, ap length own-is, ap length front, length-take-le (n - at) items (omega arith))
+
+-- and no more than that fit
+pub all-fit : {X : Type 0} (xs own items first : List X) (at n m : ℕ) → own ≡ xs → at ≤ length xs → n ≡ length own → m ≡ length items → m ≤ n - at → first ≡ items → at + length first ≤ length own
+all-fit xs own items first at n m own-is low long many h all = omega (arith, ap length own-is, ap length all)
+
+-- as many items as go on there stand behind
+pub rest-fits : {X : Type 0} (xs own items rest next : List X) (behind others : List (List X)) (at n : ℕ) → own ≡ xs → n ≡ length own → behind ≡ next ∷ others → rest ≡ drop (n - at) items → at + length items ≤ length (xs ++ joined behind) → 0 + length rest ≤ length (next ++ joined others)
+rest-fits xs own items rest next behind others at n own-is long is back h =
+    omega (arith, ap length back, length-drop (n - at) items, ap length own-is, ap (λ l. length (joined l)) is, length-append xs (joined behind))
 
 -- what holds of the first of some chunks and of the others after a change holds of all
 pub all-behind : {X : Type 0} (P : X → Type 0) (behind others after : List X) (next new : X) → behind ≡ next ∷ others → P new → (All P others → All P after) → All P behind → All P (new ∷ after)

@@ -1,5 +1,5 @@
 -- Other items in place of some chunks.
-use Rattle.std.proofs.Common.{◌≡◌, ◌∙◌, ℕ, suc, ◌+◌, ◌-◌, ◌<◌, ◌≤◌, List, [], ◌∷◌, ◌++◌, take, drop, slice_set, slice_range, refl, sym, ap, arith, length}
+use Rattle.std.proofs.Common.{◌≡◌, ◌∙◌, ℕ, suc, ◌+◌, ◌-◌, ◌<◌, ◌≤◌, List, [], ◌∷◌, ◌++◌, take, drop, slice_set, slice_range, sym, ap, arith, length}
 use Rattle.std.specs.List.{insert, remove, sum_by}
 use Rattle.std.proofs.lemmas.List.{append_assoc, length-append, set-append_left, set-append_right, set_split, take-append-drop, take_rest}
 use Rattle.std.proofs.lemmas.List.Edits.{insert-append_left, insert-append_right, length-remove, remove-append_left, remove-append_right, split_between}
@@ -113,6 +113,10 @@ moved {X} cs ds xs i j s from to old new x p q e is h low high =
     ∙ sym (insert-append_right front (left ++ back) s to x (sym p.start) low)
     ∙ ap (λ l. insert l to x) (sym others)
 
+-- one between others
+pub one-between : {X : Type 0} (front back none one all : List X) (x : X) → all ≡ front ++ one ++ back → one ≡ insert none 0 x → none ≡ [] → all ≡ front ++ x ∷ back
+one-between front back none one all x e is n = e ∙ ap (λ l. front ++ l ++ back) (is ∙ ap (λ l. insert l 0 x) n) ∙ append_assoc front (x ∷ []) back
+
 -- the items before one, and those behind it
 pub all-but : {X : Type 0} (xs all none front items : List X) (i : ℕ) → all ≡ xs → none ≡ [] → front ≡ none ++ take i all → items ≡ front ++ take (length all - (i + 1)) (drop (i + 1) all) → items ≡ remove xs i
 all-but xs all none front items i a n f e =
@@ -160,24 +164,28 @@ of-part cs ds rs bs xs n k t i j s at old table e last all d l m b read is =
     record { part = p; place = is-in cs xs n k t i j s at old f (len-is cs n xs table all) l m p }
 
 -- the same items in place of some chunks, cut in two
-pub unchanged : {X : Type 0} (cs ds es : List (List X)) (xs : List X) (i j s k : ℕ) (old first second none front more all : List X) → IsPart cs xs i j s old → ds ≡ cs → es ≡ cs → first ≡ take k old → second ≡ drop k old → none ≡ [] → front ≡ none ++ joined (take i ds) → more ≡ front ++ first → all ≡ more ++ second → all ++ joined (drop j es) ≡ xs
-unchanged {X} cs ds es xs i j s k old first second none front more all p d e f g n h m a =
+pub untouched : {X : Type 0} (cs ds : List (List X)) (xs : List X) (i j s : ℕ) (old : List X) → IsPart cs xs i j s old → ds ≡ cs → joined (take i ds) ++ old ++ joined (drop j ds) ≡ xs
+untouched {X} cs ds xs i j s old p e =
     let F : List X = joined (take i cs) in
     let B : List X = joined (drop j cs) in
-    let before : front ≡ F = h ∙ ap (λ l. l ++ joined (take i ds)) n ∙ ap (λ l. joined (take i l)) d in
-    let both : first ++ second ≡ old = ap (λ l. l ++ second) f ∙ ap (λ l. take k old ++ l) g ∙ take-append-drop k old in
-    ap (λ l. l ++ joined (drop j es)) (a ∙ ap (λ l. l ++ second) (m ∙ ap (λ l. l ++ first) before) ∙ append_assoc F first second ∙ ap (λ l. F ++ l) both)
-    ∙ ap (λ l. (F ++ old) ++ joined (drop j l)) e
+    ap (λ l. joined (take i l) ++ old ++ joined (drop j l)) e
     ∙ ap (λ l. (F ++ l) ++ B) p.items
     ∙ append_assoc F (joined (slice_range cs i j)) B
     ∙ sym (parts cs i j p.order)
     ∙ p.all
 
--- how many items these are
-pub cut-long : {X : Type 0} (cs ds es : List (List X)) (xs : List X) (i j s k : ℕ) (old first second : List X) → IsPart cs xs i j s old → ds ≡ cs → es ≡ cs → first ≡ take k old → second ≡ drop k old → length (joined (take i ds)) + length first + length second + length (joined (drop j es)) ≡ length xs
-cut-long cs ds es xs i j s k old first second p d e f g =
-    let both : first ++ second ≡ old = ap (λ l. l ++ second) f ∙ ap (λ l. take k old ++ l) g ∙ take-append-drop k old in
-    let long : length first + length second ≡ length old = sym (length-append first second) ∙ ap length both in
-    let front : length (joined (take i ds)) ≡ length (joined (take i cs)) = ap (λ l. length (joined (take i l))) d in
-    let back : length (joined (drop j es)) ≡ length (joined (drop j cs)) = ap (λ l. length (joined (drop j l))) e in
-    omega (arith, sum-parts cs cs xs i j s old p refl)
+-- items that were cut in two, put behind others
+cut-same : {X : Type 0} (old first second : List X) (k : ℕ) → first ≡ take k old → second ≡ drop k old → first ++ second ≡ old
+cut-same old first second k f g = ap (λ l. l ++ second) f ∙ ap (λ l. take k old ++ l) g ∙ take-append-drop k old
+
+pub both : {X : Type 0} (list old first second more : List X) (k : ℕ) → first ≡ take k old → second ≡ drop k old → more ≡ list ++ first → more ++ second ≡ list ++ old
+both list old first second more k is_first is_second is_more =
+    ap (λ l. l ++ second) is_more ∙ append_assoc list first second ∙ ap (λ l. list ++ l) (cut-same old first second k is_first is_second)
+
+pub few-first : {X : Type 0} (list old first second : List X) (k most : ℕ) → first ≡ take k old → second ≡ drop k old → length list + length old < most → length list + length first < most
+few-first list old first second k most is_first is_second few =
+    omega (arith, few, ap length (cut-same old first second k is_first is_second), length-append first second)
+
+pub few-second : {X : Type 0} (list old first second more : List X) (k most : ℕ) → first ≡ take k old → second ≡ drop k old → more ≡ list ++ first → length list + length old < most → length more + length second < most
+few-second list old first second more k most is_first is_second is_more few =
+    omega (arith, few, ap length (cut-same old first second k is_first is_second), length-append first second, ap length is_more, length-append list first)

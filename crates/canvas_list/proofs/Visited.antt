@@ -1,9 +1,9 @@
 -- Going over a list in chunks.
-use Rattle.std.proofs.Common.{◌≡◌, ◌∙◌, ℕ, zero, suc, false, ◌==◌, ◌+◌, ◌-◌, ◌<◌, ◌≤◌, List, [], ◌∷◌, ◌++◌, take, drop, inl, inr, sym, ap, arith, length, get_or, Bor, Option, None, Some}
+use Rattle.std.proofs.Common.{◌≡◌, ◌∙◌, ℕ, zero, suc, false, true, ◌==◌, ◌+◌, ◌-◌, ◌<◌, ◌≤◌, List, [], ◌∷◌, ◌++◌, take, drop, inl, inr, sym, ap, arith, length, get_or, Bor, Option, None, Some}
 use Rattle.std.specs.Iterator.{item_count, MakesProgress, YieldsLastRef}
-use Rattle.std.proofs.lemmas.Bool.{cases_lt}
+use Rattle.std.proofs.lemmas.Bool.{cases_lt, eqb-true}
 use Rattle.std.proofs.lemmas.List.{append-nil, append_assoc, drop-append-le, drop-drop, drop-take, drop_at, get_or-take, length-append, length-drop, length-take-le, nil_from_length, take-append-le, take-take, take_all, take_at, take_more}
-use Rattle.std.proofs.Math.Seq.{take-add}
+use Rattle.std.proofs.Math.Seq.{drop-nil, take-add, take-nil}
 use Rattle.canvas_list.specs.Chunks.{joined}
 use Rattle.canvas_list.proofs.Joined.{chunk-read, fewer, joined-push, split_at, IsFound}
 
@@ -128,6 +128,19 @@ items-between {X} cs xs n k s from k2 s2 to c items c2 items2 f l all less is sa
 pub not-empty : (n m : ℕ) → false ≡ (n == 0) → n ≡ m → 0 < m
 not-empty zero m h e = cc
 not-empty (suc n) m h e = omega arith
+
+-- no parts have no items
+pub none-there : {X : Type 0} (cs : List (List X)) (xs : List X) (n : ℕ) → true ≡ (n == 0) → n ≡ length cs → joined cs ≡ xs → xs ≡ []
+none-there [] xs n h e all = sym all
+none-there (c ∷ cs) xs n h e all = absurd (omega (arith, eqb-true n 0 (sym h), e))
+
+-- so there are none up to a position
+pub none-before : {X : Type 0} (xs got : List X) (at : ℕ) → got ≡ xs → xs ≡ [] → got ≡ take at xs
+none-before xs got at same none = same ∙ none ∙ sym (ap (take at) none ∙ take-nil at)
+
+-- and none from there on
+pub none-from : {X : Type 0} (xs got : List X) (at : ℕ) → got ≡ xs → xs ≡ [] → got ≡ drop at xs
+none-from xs got at same none = same ∙ none ∙ sym (ap (drop at) none ∙ drop-nil at)
 
 -- the last item of the last block
 pub block-steps : {X : Type 0} (xs front back items new : List X) (cs rest : List (List X)) (c : List X) (r : Option (Bor X)) → front ++ joined cs ++ back ≡ xs → back ≡ [] → cs ≡ rest ++ c ∷ [] → items ≡ c → 0 < length c → YieldsLastRef (λ l. l) items r new → YieldsLastRef (λ l. l) xs r (front ++ joined rest ++ new)

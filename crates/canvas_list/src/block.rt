@@ -78,6 +78,7 @@ impl<T: Share> Block<T> {
         ensures { self.new ≡ changed_if result change at self.old }
     {
         let Some(chunks) = Arc::get_mut(&mut self.chunks) else {
+            drop(change);
             return false;
         };
         let made = chunks.change(at, change, per_chunk);
@@ -105,6 +106,8 @@ impl<T: Share> Block<T> {
         ensures other { other.new ≡ changed_if result other_change other_at other.old }
     {
         let Some(chunks) = Arc::get_mut(&mut self.chunks) else {
+            drop(change);
+            drop(other_change);
             return false;
         };
         let made = chunks.change_both(at, change, per_chunk, other, other_at, other_change);
@@ -135,6 +138,7 @@ impl<T: Share> Block<T> {
         ensures other { other.new ≡ changed_if result other_change other_at other.old }
     {
         let Some(chunks) = Arc::get_mut(&mut self.chunks) else {
+            drop(other_change);
             return false;
         };
         let made = chunks.move_both(from, to, item, per_chunk, other, other_at, other_change);
@@ -168,9 +172,11 @@ impl<T: Share> Block<T> {
         ensures other { other.new ≡ changed_if result other_change other_at other.old }
     {
         let Some(chunks) = Arc::get_mut(&mut self.chunks) else {
+            drop(other_change);
             return false;
         };
         let Some(goal) = Arc::get_mut(&mut target.chunks) else {
+            drop(other_change);
             return false;
         };
         let made = chunks.move_to(

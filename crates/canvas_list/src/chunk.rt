@@ -81,9 +81,11 @@ impl<T: Share> Chunk<T> {
         ensures { self.new ≡ changed_if result change at self.old }
     {
         let Some(items) = Arc::get_mut(&mut self.items) else {
+            drop(change);
             return false;
         };
         if !make_room(items, &change, per_chunk) {
+            drop(change);
             return false;
         }
         change_items(items, at, change);
@@ -109,9 +111,18 @@ impl<T: Share> Chunk<T> {
         ensures other { other.new ≡ changed_if result other_change other_at other.old }
     {
         let Some(items) = Arc::get_mut(&mut self.items) else {
+            drop(change);
+            drop(other_change);
             return false;
         };
-        if !make_room(items, &change, per_chunk) || !other.change(other_at, other_change) {
+        if !make_room(items, &change, per_chunk) {
+            drop(change);
+            drop(other_change);
+            return false;
+        }
+        let made = other.change(other_at, other_change);
+        if !made {
+            drop(change);
             return false;
         }
         change_items(items, at, change);
@@ -138,6 +149,7 @@ impl<T: Share> Chunk<T> {
         ensures other { other.new ≡ changed_if result other_change other_at other.old }
     {
         let Some(items) = Arc::get_mut(&mut self.items) else {
+            drop(other_change);
             return false;
         };
         if !other.change(other_at, other_change) {
@@ -174,9 +186,11 @@ impl<T: Share> Chunk<T> {
         ensures other { other.new ≡ changed_if result other_change other_at other.old }
     {
         let Some(items) = Arc::get_mut(&mut self.items) else {
+            drop(other_change);
             return false;
         };
         if items.len() == 1 {
+            drop(other_change);
             return false;
         }
         let insert = ItemChange::Insert(item);

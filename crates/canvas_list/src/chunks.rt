@@ -172,13 +172,23 @@ impl<T: Share> Chunks<T> {
             return Ok(self);
         }
         if items.len() <= per_chunk {
-            return self.and(Chunk::new(alloc, items)?);
+            return self.and_one(alloc, items);
         }
         let mut first = items;
         let half = first.len() / 2;
         let second = first.split_off(half)?;
-        self.and(Chunk::new(alloc, first)?)?
-            .and(Chunk::new(alloc, second)?)
+        self.and_one(alloc, first)?.and_one(alloc, second)
+    }
+
+    /// More items, in one chunk.
+    pub(crate) fn and_one(self, alloc: Global, items: Vec<T>) -> Result<Chunks<T>, OutOfMemory>
+        requires some { 0 < length items.items }
+        requires few { length items.items ≤ MOST_IN_CHUNK }
+        requires small { length self + length items.items < 2 ^ 32 }
+        ensures { IfOk result (λ list. list ≡ self ++ items.items) }
+    {
+        let chunk = Chunk::new(alloc, items)?;
+        self.and(chunk)
     }
 
     /// The chunks of another, behind these.

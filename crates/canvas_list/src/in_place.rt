@@ -71,12 +71,21 @@ pub(crate) fn keeps_parts<T: Share>(
 {
     match change {
         ItemChange::Replace(_) => true,
-        ItemChange::Remove => {
-            let part = small_about(chunks, chunk, per_chunk);
-            part.end - part.first == 1
-        }
+        ItemChange::Remove => keeps_parts_without(chunks, chunk, per_chunk),
         ItemChange::Insert(_) => true,
     }
+}
+
+/// The same where an item of the chunk is removed.
+pub(crate) fn keeps_parts_without<T: Share>(
+    chunks: &[Chunk<T>],
+    chunk: usize,
+    per_chunk: usize,
+) -> bool
+    requires { chunk < length chunks.now }
+{
+    let part = small_about(chunks, chunk, per_chunk);
+    part.end - part.first == 1
 }
 
 impl<T: Share> Chunks<T> {
@@ -89,10 +98,12 @@ impl<T: Share> Chunks<T> {
         ensures some { 0 < length self.old → 0 < length self.new }
     {
         if self.chunks.is_empty() {
+            drop(change);
             return false;
         }
         let spot = spot_of(&self.chunks, at);
         if !keeps_parts(&self.chunks, spot.chunk, &change, per_chunk) {
+            drop(change);
             return false;
         }
         let chunk = &mut self.chunks[spot.chunk];
@@ -121,10 +132,14 @@ impl<T: Share> Chunks<T> {
         ensures other { other.new ≡ changed_if result other_change other_at other.old }
     {
         if self.chunks.is_empty() {
+            drop(change);
+            drop(other_change);
             return false;
         }
         let spot = spot_of(&self.chunks, at);
         if !keeps_parts(&self.chunks, spot.chunk, &change, per_chunk) {
+            drop(change);
+            drop(other_change);
             return false;
         }
         let chunk = &mut self.chunks[spot.chunk];
@@ -152,6 +167,7 @@ impl<T: Share> SharedList<T> {
         ensures { self.new ≡ changed_if result change at self.old }
     {
         if self.blocks.is_empty() {
+            drop(change);
             return false;
         }
         let per_chunk = PartSizes::of(self.len()).per_chunk;
@@ -179,6 +195,8 @@ impl<T: Share> SharedList<T> {
         ensures other { other.new ≡ changed_if result other_change other_at other.old }
     {
         if self.blocks.is_empty() {
+            drop(change);
+            drop(other_change);
             return false;
         }
         let per_chunk = PartSizes::of(self.len()).per_chunk;

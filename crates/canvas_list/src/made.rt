@@ -1,9 +1,8 @@
 //! Lists made of all its items at once.
 
-ghost use Rattle.std.specs.Prelude.{◌≡◌, ◌<◌, ◌^◌, IfOk, length};
+ghost use Rattle.std.specs.Prelude.{◌≡◌, ◌<◌, ◌+◌, ◌^◌, ◌++◌, IfOk, length};
 ghost use Rattle.canvas_list.specs.Chunks.{FitsChunk};
 
-use crate::chunk::Chunk;
 use crate::chunks::Chunks;
 use crate::share::Share;
 use crate::sizes::PartSizes;
@@ -27,7 +26,7 @@ impl<T: Share> Chunks<T> {
         for item in items {
             fresh.push(item)?;
             if fresh.len() == per_chunk {
-                list = list.and(Chunk::new(alloc, fresh)?)?;
+                list = list.and_one(alloc, fresh)?;
                 fresh = Vec::with_capacity(alloc, per_chunk)?;
             }
         }
@@ -48,10 +47,25 @@ impl<T: Share> SharedList<T> {
         for item in items {
             fresh.push(item)?;
             if fresh.len() == whole {
-                list = list.and_block(alloc, Chunks::from_vec(alloc, fresh, sizes.per_chunk)?)?;
+                list = list.and_items(alloc, fresh, sizes.per_chunk)?;
                 fresh = Vec::new(alloc);
             }
         }
-        list.and_block(alloc, Chunks::from_vec(alloc, fresh, sizes.per_chunk)?)
+        list.and_items(alloc, fresh, sizes.per_chunk)
+    }
+
+    // More items, in one block, so many in a chunk.
+    fn and_items(
+        self,
+        alloc: Global,
+        items: Vec<T>,
+        per_chunk: usize,
+    ) -> Result<SharedList<T>, OutOfMemory>
+        requires chunk { FitsChunk per_chunk }
+        requires few { length self + length items.items < 2 ^ 32 }
+        ensures { IfOk result (λ list. list ≡ self ++ items.items) }
+    {
+        let chunks = Chunks::from_vec(alloc, items, per_chunk)?;
+        self.and_block(alloc, chunks)
     }
 }

@@ -68,6 +68,16 @@ impl<T: Drop> Shared<T> {
         })
     }
 
+    /// The value with one more owner.
+    #[inline(always)]
+    pub fn try_clone(&self) -> Result<Shared<T>, OutOfMemory>
+        ensures { IfOk result (λ other. other ≡ self.now) }
+    {
+        Ok(Shared {
+            value: Arc::try_clone(&self.value)?,
+        })
+    }
+
     /// The value.
     #[inline(always)]
     pub fn value(&self) -> &T
@@ -87,9 +97,7 @@ impl<T: Drop + Hinted> Share for Shared<T> {
 
     #[inline(always)]
     fn share(&self) -> Result<Shared<T>, OutOfMemory> {
-        Ok(Shared {
-            value: Arc::try_clone(&self.value)?,
-        })
+        self.try_clone()
     }
 
     #[inline(always)]

@@ -1,6 +1,6 @@
 //! Other items in place of a range of a list.
 
-ghost use Rattle.std.specs.Prelude.{◌≡◌, ◌<◌, ◌≤◌, ◌+◌, ◌^◌, ◌++◌, IfOk, take, drop, length};
+ghost use Rattle.std.specs.Prelude.{◌≡◌, ◌<◌, ◌≤◌, ◌+◌, ◌^◌, ◌++◌, IfOk, OnOk, take, drop, length};
 ghost use Rattle.canvas_list.specs.Chunks.{FitsChunk};
 
 use crate::chunk::push_shared;
@@ -46,20 +46,47 @@ fn list_between<T: Share>(
     requires few { length before.now + length items.items + length behind.now < 2 ^ 32 }
     ensures { IfOk result (λ list. list ≡ before.now ++ items.items ++ behind.now) }
 {
-    let PartSizes {
-        per_chunk,
-        per_block,
-    } = sizes;
-    let none = ChunkItems::none();
-    let first = chunks_between(alloc, &before.front, Vec::new(alloc), &none, per_chunk)?;
-    let middle = chunks_between(alloc, &before.back, items, &behind.front, per_chunk)?;
-    let last = chunks_between(alloc, &none, Vec::new(alloc), &behind.back, per_chunk)?;
     SharedList::empty(alloc)
-        .and_chunks(alloc, first, per_block)?
+        .and_rest(alloc, &before.front, sizes)?
         .and_all(before.blocks)?
-        .and_chunks(alloc, middle, per_block)?
+        .and_between(alloc, &before.back, items, &behind.front, sizes)?
         .and_all(behind.blocks)?
-        .and_chunks(alloc, last, per_block)
+        .and_rest(alloc, &behind.back, sizes)
+}
+
+impl<T: Share> SharedList<T> {
+    // More items, which are shared.
+    fn and_rest(
+        self,
+        alloc: Global,
+        rest: &ChunkItems<'_, T>,
+        sizes: PartSizes,
+    ) -> Result<SharedList<T>, OutOfMemory>
+        requires chunk { FitsChunk sizes.per_chunk }
+        requires some { 0 < sizes.per_block }
+        requires few { length self + length rest.now < 2 ^ 32 }
+        ensures { IfOk result (λ list. list ≡ self ++ rest.now) }
+    {
+        self.and_between(alloc, rest, Vec::new(alloc), &ChunkItems::none(), sizes)
+    }
+
+    // More items between others, which are shared.
+    fn and_between(
+        self,
+        alloc: Global,
+        before: &ChunkItems<'_, T>,
+        items: Vec<T>,
+        behind: &ChunkItems<'_, T>,
+        sizes: PartSizes,
+    ) -> Result<SharedList<T>, OutOfMemory>
+        requires chunk { FitsChunk sizes.per_chunk }
+        requires some { 0 < sizes.per_block }
+        requires few { length self + length before.now + length items.items + length behind.now < 2 ^ 32 }
+        ensures { IfOk result (λ list. list ≡ self ++ (before.now ++ items.items ++ behind.now)) }
+    {
+        let chunks = chunks_between(alloc, before, items, behind, sizes.per_chunk)?;
+        self.and_chunks(alloc, chunks, sizes.per_block)
+    }
 }
 
 // The same of parts of lists, in chunks that get so many items.
@@ -74,15 +101,40 @@ fn chunks_between<T: Share>(
     requires few { length before.now + length items.items + length behind.now < 2 ^ 32 }
     ensures { IfOk result (λ chunks. chunks ≡ before.now ++ items.items ++ behind.now) }
 {
-    let first = items_between(alloc, before.front, Vec::new(alloc), &[])?;
-    let middle = items_between(alloc, before.back, items, behind.front)?;
-    let last = items_between(alloc, &[], Vec::new(alloc), behind.back)?;
     Chunks::empty(alloc)
-        .and_items(alloc, first, per_chunk)?
+        .and_rest(alloc, before.front, per_chunk)?
         .and_all(before.chunks)?
-        .and_items(alloc, middle, per_chunk)?
+        .and_between(alloc, before.back, items, behind.front, per_chunk)?
         .and_all(behind.chunks)?
-        .and_items(alloc, last, per_chunk)
+        .and_rest(alloc, behind.back, per_chunk)
+}
+
+impl<T: Share> Chunks<T> {
+    // More items, which are shared, in chunks that get so many.
+    fn and_rest(self, alloc: Global, rest: &[T], per_chunk: usize) -> Result<Chunks<T>, OutOfMemory>
+        requires chunk { FitsChunk per_chunk }
+        requires few { length self + length rest.now < 2 ^ 32 }
+        ensures { IfOk result (λ list. list ≡ self ++ rest.now) }
+    {
+        self.and_between(alloc, rest, Vec::new(alloc), &[], per_chunk)
+    }
+
+    // More items between others, which are shared, in chunks that get so many.
+    fn and_between(
+        self,
+        alloc: Global,
+        before: &[T],
+        items: Vec<T>,
+        behind: &[T],
+        per_chunk: usize,
+    ) -> Result<Chunks<T>, OutOfMemory>
+        requires chunk { FitsChunk per_chunk }
+        requires few { length self + length before.now + length items.items + length behind.now < 2 ^ 32 }
+        ensures { IfOk result (λ list. list ≡ self ++ (before.now ++ items.items ++ behind.now)) }
+    {
+        let all = items_between(alloc, before, items, behind)?;
+        self.and_items(alloc, all, per_chunk)
+    }
 }
 
 // Items, others, and more items.
@@ -100,9 +152,17 @@ fn items_between<T: Share>(
         .saturating_add(behind.len());
     let mut all = Vec::with_capacity(alloc, room)?;
     push_shared(&mut all, before)?;
+    push_all(&mut all, items)?;
+    push_shared(&mut all, behind)?;
+    Ok(all)
+}
+
+// Puts items behind others.
+fn push_all<T: Drop>(all: &mut Vec<T>, items: Vec<T>) -> Result<(), OutOfMemory>
+    ensures { OnOk result (all.new.items ≡ all.old.items ++ items.items) }
+{
     for item in items {
         all.push(item)?;
     }
-    push_shared(&mut all, behind)?;
-    Ok(all)
+    Ok(())
 }

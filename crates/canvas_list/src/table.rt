@@ -156,16 +156,24 @@ impl<T: Share> SharedList<T> {
         requires { length self + length (joined more.now) < 2 ^ 32 }
         ensures { IfOk result (λ list. list ≡ self ++ joined more.now) }
     {
+        let size = size.max(1);
         let mut list = self;
-        let mut part = Chunks::with_room(alloc, size)?;
-        for chunk in more {
-            part = part.and(chunk.try_clone()?)?;
-            if part.chunks().len() >= size {
-                list = list.and_block(alloc, part)?;
-                part = Chunks::with_room(alloc, size)?;
-            }
+        let mut rest = more;
+        'parts: while rest.len() > size {
+            let (part, others) = rest.split_at(size);
+            list = list.and_shared(alloc, part)?;
+            rest = others;
         }
-        list.and_block(alloc, part)
+        list.and_shared(alloc, rest)
+    }
+
+    // More chunks, which are shared, in one block, if there are any.
+    fn and_shared(self, alloc: Global, more: &[Chunk<T>]) -> Result<SharedList<T>, OutOfMemory>
+        requires { length self + length (joined more.now) < 2 ^ 32 }
+        ensures { IfOk result (λ list. list ≡ self ++ joined more.now) }
+    {
+        let chunks = Chunks::with_room(alloc, more.len())?.and_all(more)?;
+        self.and_block(alloc, chunks)
     }
 
     // The same items in fewer blocks, where there are many and these have few chunks each: most likely

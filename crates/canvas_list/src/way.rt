@@ -1,11 +1,11 @@
 //! Way for a change in place: a full chunk is cut, and short ones become one.
 
-ghost use Rattle.std.specs.Prelude.{◌≡◌, ◌<◌, ◌≤◌, IfOk, length};
-ghost use Rattle.canvas_list.specs.Chunks.{FitsChunk};
+ghost use Rattle.std.specs.Prelude.{◌≡◌, ◌<◌, ◌≤◌, ◌+◌, ◌^◌, ◌++◌, IfOk, take, drop, length};
+ghost use Rattle.canvas_list.specs.Chunks.{joined, FitsChunk};
 
 use crate::block::Block;
-use crate::chunk::items_of;
-use crate::chunks::{Chunks, small_about};
+use crate::chunk::{Chunk, items_of};
+use crate::chunks::{Chunks, Part, small_about};
 use crate::counted::{Counted, spot_of};
 use crate::share::Share;
 use crate::sizes::PartSizes;
@@ -46,16 +46,52 @@ impl<T: Share> Chunks<T> {
     {
         let spot = spot_of(&self.chunks, at);
         let part = small_about(&self.chunks, spot.chunk, per_chunk);
-        let mut items = items_of(alloc, &self.chunks[part.first..part.end], per_chunk)?;
+        let items = items_of(alloc, &self.chunks[part.first..part.end], per_chunk)?;
         let is_one = part.end - part.first == 1;
         let cut = cut_at(is_one, at - spot.start, items.len());
-        let behind = items.split_off(cut)?;
-        Chunks::with_room(alloc, self.chunks.len() + 2)?
-            .and_all(&self.chunks[..part.first])?
-            .and_items(alloc, items, per_chunk)?
-            .and_items(alloc, behind, per_chunk)?
-            .and_all(&self.chunks[part.end..])
+        spliced_in_two(alloc, &self.chunks, part, items, cut, per_chunk)
     }
+
+    // More items, cut in two, in chunks that get so many.
+    fn and_both(
+        self,
+        alloc: Global,
+        items: Vec<T>,
+        cut: usize,
+        per_chunk: usize,
+    ) -> Result<Chunks<T>, OutOfMemory>
+        requires chunk { FitsChunk per_chunk }
+        requires within { cut ≤ length items.items }
+        requires small { length self + length items.items < 2 ^ 32 }
+        ensures { IfOk result (λ list. list ≡ self ++ items.items) }
+    {
+        let mut first = items;
+        let second = first.split_off(cut)?;
+        self.and_items(alloc, first, per_chunk)?
+            .and_items(alloc, second, per_chunk)
+    }
+}
+
+// Other items in place of some chunks, cut in two, in chunks that get so many.
+fn spliced_in_two<T: Share>(
+    alloc: Global,
+    chunks: &[Chunk<T>],
+    part: Part,
+    items: Vec<T>,
+    cut: usize,
+    per_chunk: usize,
+) -> Result<Chunks<T>, OutOfMemory>
+    requires chunk { FitsChunk per_chunk }
+    requires first { part.first ≤ part.end }
+    requires end { part.end ≤ length chunks.now }
+    requires within { cut ≤ length items.items }
+    requires small { length (joined (take part.first chunks.now)) + length items.items + length (joined (drop part.end chunks.now)) < 2 ^ 32 }
+    ensures { IfOk result (λ list. list ≡ joined (take part.first chunks.now) ++ items.items ++ joined (drop part.end chunks.now)) }
+{
+    Chunks::with_room(alloc, chunks.len() + 2)?
+        .and_all(&chunks[..part.first])?
+        .and_both(alloc, items, cut, per_chunk)?
+        .and_all(&chunks[part.end..])
 }
 
 // Where so many items of one chunk are cut in two for one more at a position: beside an end where it comes to that end, so

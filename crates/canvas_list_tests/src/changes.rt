@@ -1,19 +1,20 @@
 //! Some thousands of changes, each beside the same change of a plain list.
 
 ghost use Rattle.std.specs.Prelude.{◌≡◌, ◌<◌, ◌≤◌, ◌+◌, ◌^◌, length, vec_len};
+ghost use Rattle.canvas_list.specs.Changed.{IsPositionOf};
 
 use crate::asserts::holds_at;
 use crate::dice::Dice;
 use crate::in_place::clone_of;
-use crate::numbers::{NumberItem, Numbers, has, shared_number};
+use crate::moves::moved;
+use crate::numbers::{NumberItem, Numbers, has, number_item};
+use crate::picks::{MOST, Pick, change_plain, made_anew};
 use crate::reader::reads_about;
-use canvas_list::SharedList;
+use canvas_list::{ItemChange, SharedList};
 use std::alloc::Global;
 use std::process::Abort;
 
-// How many items a list gets at most, and how many a splice puts in.
-const MOST: usize = 50_000;
-
+// How many items a splice puts in at most.
 const SPLICED: usize = 40;
 
 /// A list, and the plain list that has the same numbers.
@@ -29,73 +30,99 @@ impl Both {
         holds_at(rt, what, number, has(&self.list, &self.plain));
     }
 
+    /// The same, of what is not needed any more.
+    pub(crate) fn check_last(self, rt: &impl Abort, what: &str, number: u32) {
+        holds_at(rt, what, number, has(&self.list, &self.plain));
+    }
+
+    /// Makes a change, by which the list is made anew.
+    pub(crate) fn change(&mut self, rt: &impl Abort, alloc: Global, pick: Pick)
+        requires { IsPositionOf pick.change pick.at self.old.list }
+    {
+        change_plain(rt, &mut self.plain, &pick);
+        self.list = made_anew(rt, alloc, &self.list, pick.at, pick.change);
+    }
+
     fn insert(&mut self, rt: &impl Abort, alloc: Global, at: usize, value: u32)
         requires list { at ≤ length self.old.list }
-        requires plain { at ≤ vec_len self.old.plain }
         requires few { length self.old.list + 1 < 2 ^ 32 }
     {
-        let item = shared_number(alloc, value).expect(rt, "memory");
-        let list = self.list.with_inserted(alloc, at, item);
-        self.list = list.expect(rt, "memory");
-        self.plain.insert(at, value).expect(rt, "memory");
+        let change = ItemChange::Insert(number_item(rt, alloc, value));
+        self.change(rt, alloc, Pick { at, change });
     }
 
     fn replace(&mut self, rt: &impl Abort, alloc: Global, at: usize, value: u32)
-        requires list { at < length self.old.list }
-        requires plain { at < vec_len self.old.plain }
+        requires { at < length self.old.list }
     {
-        let item = shared_number(alloc, value).expect(rt, "memory");
-        let list = self.list.with_replaced(alloc, at, item);
-        self.list = list.expect(rt, "memory");
-        self.plain[at] = value;
-    }
-
-    pub(crate) fn remove(&mut self, rt: &impl Abort, alloc: Global, at: usize)
-        requires list { at < length self.old.list }
-        requires plain { at < vec_len self.old.plain }
-    {
-        self.list = self.list.without(alloc, at).expect(rt, "memory");
-        self.plain.remove(at);
+        let change = ItemChange::Replace(number_item(rt, alloc, value));
+        self.change(rt, alloc, Pick { at, change });
     }
 
     fn move_item(&mut self, rt: &impl Abort, alloc: Global, from: usize, to: usize, value: u32)
-        requires list_from { from < length self.old.list }
-        requires list_to { to < length self.old.list }
-        requires plain_from { from < vec_len self.old.plain }
-        requires plain_to { to < vec_len self.old.plain }
+        requires from { from < length self.old.list }
+        requires to { to < length self.old.list }
     {
-        let item = shared_number(alloc, value).expect(rt, "memory");
+        self.plain = moved(rt, &self.plain, from, to, value);
+        let item = number_item(rt, alloc, value);
         let list = self.list.with_moved(alloc, from, to, item);
         self.list = list.expect(rt, "memory");
-        self.plain.remove(from);
-        self.plain.insert(to, value).expect(rt, "memory");
     }
 
-    fn splice(&mut self, rt: &impl Abort, alloc: Global, first: usize, end: usize, values: &[u32])
+    // Puts a number so many times in the place of those from one position up to another.
+    fn splice(
+        &mut self,
+        rt: &impl Abort,
+        alloc: Global,
+        first: usize,
+        end: usize,
+        count: usize,
+        value: u32,
+    )
         requires order { first ≤ end }
         requires list { end ≤ length self.old.list }
-        requires plain { end ≤ vec_len self.old.plain }
-        requires few { length self.old.list + length values.now < 2 ^ 32 }
+        requires few { length self.old.list + count < 2 ^ 32 }
     {
-        let items = shared_numbers(rt, alloc, values);
+        self.plain = spliced(rt, alloc, &self.plain, first, end, count, value);
+        let items = number_items(rt, alloc, count, value);
         let list = self.list.with_spliced(alloc, first, end, items);
         self.list = list.expect(rt, "memory");
-        let tail = self.plain.split_off(end).expect(rt, "memory");
-        self.plain.truncate(first);
-        self.plain.extend_from_slice(values).expect(rt, "memory");
-        self.plain.extend_from_slice(&tail).expect(rt, "memory");
     }
 }
 
-fn shared_numbers(rt: &impl Abort, alloc: Global, values: &[u32]) -> Vec<NumberItem>
-    ensures { vec_len result ≡ length values.now }
+// A number, so many times.
+fn number_items(rt: &impl Abort, alloc: Global, count: usize, value: u32) -> Vec<NumberItem>
+    ensures { vec_len result ≡ count }
 {
     let mut items = Vec::new(alloc);
-    for value in values {
-        let item = shared_number(alloc, *value).expect(rt, "memory");
-        items.push(item).expect(rt, "memory");
+    for _ in 0..count {
+        items
+            .push(number_item(rt, alloc, value))
+            .expect(rt, "memory");
     }
     items
+}
+
+// A plain list that has a number so many times in the place of those from one position up to another.
+fn spliced(
+    rt: &impl Abort,
+    alloc: Global,
+    plain: &[u32],
+    first: usize,
+    end: usize,
+    count: usize,
+    value: u32,
+) -> Vec<u32> {
+    let end = end.min(plain.len());
+    let first = first.min(end);
+    let mut after = Vec::new(alloc);
+    after
+        .extend_from_slice(&plain[..first])
+        .expect(rt, "memory");
+    for _ in 0..count {
+        after.push(value).expect(rt, "memory");
+    }
+    after.extend_from_slice(&plain[end..]).expect(rt, "memory");
+    after
 }
 
 // A change at a place that the dice pick; `grows` of 16 times an insertion.
@@ -107,41 +134,59 @@ fn change(
     value: u32,
     grows: usize,
 ) {
-    let len = both.list.len().min(both.plain.len());
-    if both.list.len() >= MOST {
+    let len = both.list.len();
+    if len >= MOST {
         return;
     }
     if len == 0 || dice.below(16) < grows {
-        return both.insert(rt, alloc, dice.below(len + 1), value);
+        both.insert(rt, alloc, dice.below(len + 1), value);
+    } else {
+        change_some(rt, alloc, dice, both, value);
     }
+}
+
+// A change of a number that is there, or of some.
+fn change_some(rt: &impl Abort, alloc: Global, dice: &mut Dice, both: &mut Both, value: u32)
+    requires some { 0 < length both.old.list }
+    requires few { length both.old.list < MOST }
+{
+    let len = both.list.len();
     let at = dice.below(len);
     match dice.below(8) {
-        0..4 => both.remove(rt, alloc, at),
+        0..4 => {
+            let change = ItemChange::Remove;
+            both.change(rt, alloc, Pick { at, change })
+        }
         4 => both.move_item(rt, alloc, at, dice.below(len), value),
         5 => both.move_item(rt, alloc, at, (at + dice.below(4)).min(len - 1), value),
         6 => both.replace(rt, alloc, at, value),
         _ => {
             let end = at + dice.below(SPLICED).min(len - at);
-            let values: [u32; SPLICED] = [value; SPLICED];
-            both.splice(rt, alloc, at, end, &values[..dice.below(SPLICED)])
+            both.splice(rt, alloc, at, end, dice.below(SPLICED), value)
         }
     }
 }
 
-// Puts the first numbers behind one another.
-fn fill(rt: &impl Abort, alloc: Global, both: &mut Both, count: u32) {
-    for value in 0..count {
-        let end = both.list.len();
-        if end < MOST && end == both.plain.len() {
-            both.insert(rt, alloc, end, value);
-        }
-    }
-}
-
-fn empty(alloc: Global) -> Both {
-    Both {
+// The first numbers, put behind one another, or each in front of those before it.
+fn filled(rt: &impl Abort, alloc: Global, count: u32, is_in_front: bool) -> Both {
+    let mut both = Both {
         list: SharedList::empty(alloc),
         plain: Vec::new(alloc),
+    };
+    for value in 0..count {
+        put(rt, alloc, &mut both, value, is_in_front);
+    }
+    both
+}
+
+// Puts one more number in, of which the numbers are compared now and then.
+fn put(rt: &impl Abort, alloc: Global, both: &mut Both, value: u32, is_in_front: bool) {
+    let len = both.list.len();
+    if len < MOST {
+        both.insert(rt, alloc, if is_in_front { 0 } else { len }, value);
+    }
+    if value % 127 == 0 {
+        both.check(rt, "after", value);
     }
 }
 
@@ -160,41 +205,29 @@ fn changes_in_turn(rt: &impl Abort, alloc: Global, dice: &mut Dice, both: &mut B
 fn changes_beside_a_plain_list(rt: HostRuntime) {
     let alloc = rt.alloc();
     let mut dice = Dice { state: 12_345 };
-    let mut both = empty(alloc);
-    fill(&rt, alloc, &mut both, 1_500);
+    let mut both = filled(&rt, alloc, 1_500, false);
     both.check(&rt, "after the first", 1_500);
     changes_in_turn(&rt, alloc, &mut dice, &mut both);
-    both.check(&rt, "after all", 7_500);
     let is_read = reads_about(&both.list, &both.plain, &mut dice);
     holds_at(&rt, "read after all", 7_500, is_read);
-}
-
-fn insert_in_front(rt: &impl Abort, alloc: Global, both: &mut Both) {
-    for value in 0..3_000u32 {
-        if both.list.len() < MOST {
-            both.insert(rt, alloc, 0, value);
-        }
-        if value % 127 == 0 {
-            both.check(rt, "after", value);
-        }
-    }
+    both.check_last(&rt, "after all", 7_500);
 }
 
 #[test]
 fn items_come_in_front_of_one_another(rt: HostRuntime) {
-    let mut both = empty(rt.alloc());
-    insert_in_front(&rt, rt.alloc(), &mut both);
-    both.check(&rt, "after all", 3_000);
+    let both = filled(&rt, rt.alloc(), 3_000, true);
+    both.check_last(&rt, "after all", 3_000);
 }
 
-// A clone from before each of some changes.
-fn kept_before_changes(rt: &impl Abort, alloc: Global, both: &mut Both) -> Vec<Both> {
+// A clone from before each of some changes, and what they make.
+fn kept_before_changes(rt: &impl Abort, alloc: Global, mut both: Both) -> Vec<Both> {
     let mut dice = Dice { state: 54_321 };
     let mut kept = Vec::new(alloc);
     for round in 0..400u32 {
-        kept.push(clone_of(rt, alloc, both)).expect(rt, "memory");
-        change(rt, alloc, &mut dice, both, round, 5);
+        kept.push(clone_of(rt, alloc, &both)).expect(rt, "memory");
+        change(rt, alloc, &mut dice, &mut both, round, 5);
     }
+    kept.push(both).expect(rt, "memory");
     kept
 }
 
@@ -208,8 +241,8 @@ fn check_all(rt: &impl Abort, kept: &[Both]) {
 
 #[test]
 fn a_change_leaves_the_list_before_it(rt: HostRuntime) {
-    let mut both = empty(rt.alloc());
-    fill(&rt, rt.alloc(), &mut both, 700);
-    let kept = kept_before_changes(&rt, rt.alloc(), &mut both);
+    let both = filled(&rt, rt.alloc(), 700, false);
+    let kept = kept_before_changes(&rt, rt.alloc(), both);
     check_all(&rt, &kept);
+    drop(kept);
 }

@@ -6,48 +6,50 @@ ghost use Rattle.std.specs.List.Sorted.{IsNonDecreasingBy, IsPartitionPoint};
 
 use crate::asserts::holds_at;
 use crate::changes::Both;
-use crate::in_place::clone_of;
-use crate::numbers::{Numbers, evens, plain_evens};
-use canvas_list::{FoundRange, Hint, SharedList};
+use crate::in_place::{clone_of, first_evens};
+use crate::numbers::{NumberItem, Numbers};
+use crate::picks::Pick;
+use canvas_list::{FoundRange, Hint, ItemChange};
 use std::alloc::Global;
 use std::process::Abort;
-
-// Where the first number stands that is no less than another.
-fn place_of(list: &Numbers, least: u32) -> usize
-    requires { IsNonDecreasingBy (λ number. number.value) list.now }
-    ensures { IsPartitionPoint (λ number. number.value < least) (λ number. least ≤ number.value) list.now result }
-{
-    list.partition_point(|number| number.value().value < least)
-}
 
 fn hint_of(major: u32) -> Hint {
     Hint { major, minor: 0 }
 }
 
-// The same, begun where a hint points to.
-fn place_near(list: &Numbers, hint: u32, least: u32) -> usize
-    requires { IsNonDecreasingBy (λ number. number.value) list.now }
-    ensures { IsPartitionPoint (λ number. number.value < least) (λ number. least ≤ number.value) list.now result }
-{
-    list.partition_point_near(hint_of(hint), |number| number.value().value < least)
+fn number_of(item: Option<&NumberItem>) -> Option<u32> {
+    match item {
+        Some(item) => Some(item.value().value),
+        None => None,
+    }
 }
 
-// The number that stands there.
-fn number_near(list: &Numbers, hint: u32, least: u32) -> Option<u32> {
-    let found = list.found_near(hint_of(hint), |number| number.value().value < least);
-    Some(found.item?.value().value)
+// Where the first number stands that is no less than another, searched from the front and begun where a hint points to,
+// and that number.
+fn places_of(list: &Numbers, hint: u32, least: u32) -> (usize, usize, Option<u32>)
+    requires { IsNonDecreasingBy (λ number. number.value) list.now }
+    ensures place { IsPartitionPoint (λ number. number.value < least) (λ number. least ≤ number.value) list.now result.0 }
+    ensures near { IsPartitionPoint (λ number. number.value < least) (λ number. least ≤ number.value) list.now result.1 }
+{
+    let is_less = |number: &NumberItem| number.value().value < least;
+    let place = list.partition_point(is_less);
+    let near = list.partition_point_near(hint_of(hint), is_less);
+    let found = list.found_near(hint_of(hint), is_less);
+    (place, near, number_of(found.item))
 }
 
 fn number_at(list: &Numbers, place: usize) -> Option<u32> {
-    Some(list.get(place)?.value().value)
+    number_of(list.get(place))
+}
+
+// Where a number stands in a list of so many even numbers, or the next one if it is odd.
+fn place_in(count: u32, value: u32) -> usize {
+    (value as usize).div_ceil(2).min(count as usize)
 }
 
 // Whether the numbers from one up to another stand where they should, wherever the searches for both ends begin, and
 // the reader gives the first of them.
-fn finds_range(list: &Numbers, least: u32, end: u32, hints: [u32; 2]) -> bool
-    requires { IsNonDecreasingBy (λ number. number.value) list.now }
-{
-    let [from, to] = hints;
+fn finds_range(list: &Numbers, count: u32, least: u32, end: u32, [from, to]: [u32; 2]) -> bool {
     let FoundRange {
         start,
         end: behind,
@@ -58,26 +60,27 @@ fn finds_range(list: &Numbers, least: u32, end: u32, hints: [u32; 2]) -> bool
         hint_of(to),
         |number| number.value().value < end,
     );
-    if start != place_of(list, least) || behind != place_of(list, end) {
-        return false;
+    let mut found = start == place_in(count, least);
+    found &= behind == place_in(count, end);
+    if start < behind {
+        found &= number_at(list, start) == Some(reader.at(start).value().value);
     }
-    start >= behind || number_at(list, start) == Some(reader.at(start).value().value)
+    found
 }
 
 // Whether a number is found, wherever the search for it begins.
-fn finds(list: &Numbers, value: u32, place: usize) -> bool
+fn finds(list: &Numbers, count: u32, value: u32) -> bool
     requires { IsNonDecreasingBy (λ number. number.value) list.now }
 {
     let (half, next) = (value / 2, value.saturating_add(3));
-    let mut found = place_of(list, value) == place;
-    found &= place_near(list, value, value) == place;
-    found &= place_near(list, half, value) == place;
-    found &= place_near(list, u32::MAX, value) == place;
-    found &= number_near(list, value, value) == number_at(list, place);
-    found &= number_near(list, half, value) == number_at(list, place);
-    found &= finds_range(list, value, next, [value, next]);
-    found &= finds_range(list, half, value, [half, value]);
-    found &= finds_range(list, half, value, [value, half]);
+    let place = place_in(count, value);
+    let wanted = (place, place, number_at(list, place));
+    let mut found = places_of(list, value, value) == wanted;
+    found &= places_of(list, half, value) == wanted;
+    found &= places_of(list, u32::MAX, value) == wanted;
+    found &= finds_range(list, count, value, next, [value, next]);
+    found &= finds_range(list, count, half, value, [half, value]);
+    found &= finds_range(list, count, half, value, [value, half]);
     found
 }
 
@@ -86,20 +89,19 @@ fn finds_all(list: &Numbers, count: u32) -> bool
     requires rising { IsNonDecreasingBy (λ number. number.value) list.now }
     requires few { count ≤ 100000 }
 {
+    let mut found = true;
     for value in 0..2 * count + 3 {
-        let place = (value as usize).div_ceil(2).min(count as usize);
-        if !finds(list, value, place) {
-            return false;
-        }
+        found &= finds(list, count, value);
     }
-    true
+    found
 }
 
 // Takes the number in the middle away, and compares the rest now and then.
 fn take_middle(rt: &impl Abort, alloc: Global, rest: &mut Both, count: u32) {
     let at = rest.plain.len() / 2;
-    if at < rest.list.len() && at < rest.plain.len() {
-        rest.remove(rt, alloc, at);
+    if at < rest.list.len() {
+        let change = ItemChange::Remove;
+        rest.change(rt, alloc, Pick { at, change });
         if rest.list.len() % 50 == 0 {
             rest.check(rt, "going: items", count);
         }
@@ -112,20 +114,18 @@ fn check_going(rt: &impl Abort, alloc: Global, mut rest: Both, count: u32) {
         take_middle(rt, alloc, &mut rest, count);
     }
     holds_at(rt, "nothing left of", count, rest.list.is_empty());
+    drop(rest);
 }
 
 // Asserts that a list of so many numbers is right, made at once and taken away.
 fn check_made(rt: &impl Abort, alloc: Global, count: u32)
     requires { count ≤ 100000 }
 {
-    let items = evens(alloc, count).expect(rt, "memory");
-    let both = Both {
-        list: SharedList::from_vec(alloc, items).expect(rt, "memory"),
-        plain: plain_evens(alloc, count).expect(rt, "memory"),
-    };
+    let both = first_evens(rt, alloc, count);
     both.check(rt, "items:", count);
     holds_at(rt, "found items:", count, finds_all(&both.list, count));
     check_going(rt, alloc, clone_of(rt, alloc, &both), count);
+    drop(both);
 }
 
 #[test]

@@ -1,19 +1,25 @@
 //! Moves in place together with a change of another list: both are made, or neither.
 
-ghost use Rattle.std.specs.Prelude.{◌<◌, ◌≤◌};
+ghost use Rattle.std.specs.Prelude.{◌<◌};
 
-use crate::asserts::{equal, holds};
+use crate::asserts::{holds, holds_at};
 use crate::changes::Both;
 use crate::dice::Dice;
-use crate::in_place::{Count, clone_of, first_evens};
-use crate::numbers::shared_number;
+use crate::in_place::{Counts, clone_of, first_evens, keep_if};
+use crate::numbers::number_item;
 use crate::picks::{plain_after, some_replacement};
 use crate::together::check_both;
 use std::alloc::Global;
 use std::process::Abort;
 
-// A plain list without the number at a position, and with another in front of what then stands at `to`.
-fn moved(rt: &impl Abort, plain: &Vec<u32>, from: usize, to: usize, number: u32) -> Vec<u32> {
+/// A plain list without the number at a position, and with another in front of what then stands at `to`.
+pub(crate) fn moved(
+    rt: &impl Abort,
+    plain: &Vec<u32>,
+    from: usize,
+    to: usize,
+    number: u32,
+) -> Vec<u32> {
     let mut after = plain.clone().expect(rt, "memory");
     if from < after.len() {
         after.remove(from);
@@ -51,18 +57,16 @@ fn move_both(
     }
     let from = dice.below(len);
     let to = some_target(dice, from, len);
-    let item = shared_number(alloc, number).expect(rt, "memory");
     let also = some_replacement(rt, alloc, dice, &second.list);
     let plain = moved(rt, &first.plain, from, to, number);
     let other = plain_after(rt, &second.plain, &also);
+    let item = number_item(rt, alloc, number);
     let list = &mut second.list;
     let made = first
         .list
         .move_both(from, to, item, list, also.at, also.change);
-    if made {
-        first.plain = plain;
-        second.plain = other;
-    }
+    keep_if(made, &mut first.plain, plain);
+    keep_if(made, &mut second.plain, other);
     made
 }
 
@@ -73,54 +77,55 @@ fn moves_in_turn(
     dice: &mut Dice,
     first: &mut Both,
     second: &mut Both,
-    count: &mut Count,
+    is_alone: bool,
+    counts: &mut Counts,
 ) {
     for round in 0..60u32 {
-        count.add(move_both(rt, alloc, dice, first, second, round));
+        counts.add(is_alone, move_both(rt, alloc, dice, first, second, round));
         check_both(rt, "move", round, first, second);
     }
 }
 
-// Moves in a list of so many numbers, in turns with no clone, with one of it and with one of the other list.
-fn moves_of(
-    rt: &impl Abort,
-    alloc: Global,
-    dice: &mut Dice,
-    count: u32,
-    alone: &mut Count,
-    beside: &mut Count,
-)
-    requires { count ≤ 100000 }
-{
+// Moves in a list of so many numbers, in turns with no clone and with one of the other list.
+fn moves_of(rt: &impl Abort, alloc: Global, dice: &mut Dice, count: u32, counts: &mut Counts) {
     let mut first = first_evens(rt, alloc, count);
     let mut second = first_evens(rt, alloc, 400);
-    moves_in_turn(rt, alloc, dice, &mut first, &mut second, alone);
+    moves_in_turn(rt, alloc, dice, &mut first, &mut second, true, counts);
     let clone = clone_of(rt, alloc, &second);
-    moves_in_turn(rt, alloc, dice, &mut first, &mut second, beside);
-    clone.check(rt, "clone beside", count);
+    moves_in_turn(rt, alloc, dice, &mut first, &mut second, false, counts);
+    clone.check_last(rt, "clone beside", count);
+    first.check_last(rt, "moved, of", count);
+    second.check_last(rt, "replaced, beside", count);
 }
 
 // A list that shares its blocks with a clone changes no chunk that the clone has.
-fn moves_beside(rt: &impl Abort, alloc: Global, dice: &mut Dice) {
-    let mut count = Count::none();
+fn moves_beside(rt: &impl Abort, alloc: Global, dice: &mut Dice, counts: &mut Counts) {
     let mut first = first_evens(rt, alloc, 3_000);
     let mut second = first_evens(rt, alloc, 400);
     let clone = clone_of(rt, alloc, &first);
-    moves_in_turn(rt, alloc, dice, &mut first, &mut second, &mut count);
-    equal(rt, "moves beside a clone", &count.in_place, &0);
-    clone.check(rt, "clone of", 3_000);
+    moves_in_turn(rt, alloc, dice, &mut first, &mut second, false, counts);
+    clone.check_last(rt, "clone of", 3_000);
+    first.check_last(rt, "beside a clone of", 3_000);
+    second.check_last(rt, "beside a moved one:", 3_000);
 }
+
+const COUNTS: [u32; 8] = [0, 1, 2, 7, 40, 300, 1_500, 3_000];
 
 #[test]
 fn moves_are_made_in_place_or_not_at_all(rt: HostRuntime) {
     let alloc = rt.alloc();
     let mut dice = Dice { state: 97_531 };
-    let mut alone = Count::none();
-    let mut beside = Count::none();
-    for count in [0u32, 1, 2, 7, 40, 300, 1_500, 3_000] {
-        moves_of(&rt, alloc, &mut dice, count, &mut alone, &mut beside);
+    let mut counts = Counts::none();
+    for count in &COUNTS {
+        moves_of(&rt, alloc, &mut dice, *count, &mut counts);
     }
+    moves_beside(&rt, alloc, &mut dice, &mut counts);
+    let Counts { alone, beside } = counts;
     holds(&rt, "alone", alone.exceeds(150, 150));
-    equal(&rt, "beside a clone", &beside.in_place, &0);
-    moves_beside(&rt, alloc, &mut dice);
+    holds_at(
+        &rt,
+        "beside a clone:",
+        beside.in_place,
+        beside.in_place == 0,
+    );
 }

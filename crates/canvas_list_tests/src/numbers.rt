@@ -1,6 +1,6 @@
 //! Lists of numbers, and plain ones that should have the same.
 
-ghost use Rattle.std.specs.Prelude.{◌≡◌, ◌≤◌, IfOk, vec_len};
+ghost use Rattle.std.specs.Prelude.{◌≡◌, ◌≤◌, IfOk, length, vec_len};
 ghost use Rattle.std.specs.List.Sorted.{IsNonDecreasingBy};
 
 use crate::reader::{meets, reads_on};
@@ -8,6 +8,7 @@ use canvas_code::OutOfMemory;
 use canvas_list::{Hint, Hinted, Items, Share, Shared, SharedList, ShortHint};
 use std::alloc::Global;
 use std::marker::Model;
+use std::process::Abort;
 
 /// A number.
 #[derive(Drop)]
@@ -118,6 +119,11 @@ pub(crate) fn shared_number(alloc: Global, value: u32) -> Result<NumberItem, Out
     })
 }
 
+/// The same, where there is memory.
+pub(crate) fn number_item(rt: &impl Abort, alloc: Global, value: u32) -> NumberItem {
+    shared_number(alloc, value).expect(rt, "memory")
+}
+
 /// The first even numbers.
 pub(crate) fn evens(alloc: Global, count: u32) -> Result<Vec<NumberItem>, OutOfMemory>
     requires { count ≤ 100000 }
@@ -144,45 +150,62 @@ pub(crate) fn plain_evens(alloc: Global, count: u32) -> Result<Vec<u32>, OutOfMe
 
 /// Whether a list has the numbers of a plain one, however it is read.
 pub(crate) fn has(list: &Numbers, plain: &[u32]) -> bool {
-    let third = list.len() / 3;
-    let end = list.len() - third;
-    let middle = plain.get(third..end).unwrap_or(&[]);
-    let mut same = list.len() == plain.len();
-    same &= list.is_empty() == plain.is_empty();
+    let len = plain.len();
+    if list.len() != len {
+        return false;
+    }
+    let third = len / 3;
+    let end = len - third;
+    let mut same = list.is_empty() == plain.is_empty();
     same &= reads(list, plain);
     same &= reads_on(list, plain);
     same &= meets(list, plain);
-    same &= gives(list.iter(), plain);
-    same &= gives_back(list.iter(), plain);
-    same &= gives(list.iter_from(third), plain.get(third..).unwrap_or(&[]));
-    same &= gives_back(list.iter_before(third), plain.get(..third).unwrap_or(&[]));
-    same &= gives(list.iter_range(third, end), middle);
-    same &= gives_back(list.iter_range(third, end), middle);
+    same &= gives(list.iter(), plain, 0, len);
+    same &= gives_back(list.iter(), plain, 0, len);
+    same &= gives(list.iter_from(third), plain, third, len);
+    same &= gives_back(list.iter_before(third), plain, 0, third);
+    same &= gives(list.iter_range(third, end), plain, third, end);
+    same &= gives_back(list.iter_range(third, end), plain, third, end);
     same
 }
 
-fn reads(list: &Numbers, plain: &[u32]) -> bool {
+fn reads(list: &Numbers, plain: &[u32]) -> bool
+    requires { length list.now ≡ length plain.now }
+{
     let mut same = list.get(plain.len()).is_none();
-    for (at, value) in plain.iter().enumerate() {
-        same &= at < list.len() && list.at(at).value().value == *value;
+    for at in 0..plain.len() {
+        same &= list.at(at).value().value == plain[at];
     }
     same
 }
 
-fn gives(items: Items<'_, NumberItem>, plain: &[u32]) -> bool {
-    let mut wanted = plain.iter();
-    let mut same = true;
-    for item in items {
-        same &= wanted.next() == Some(&item.value().value);
+fn is_number(item: Option<&NumberItem>, value: u32) -> bool {
+    match item {
+        Some(item) => item.value().value == value,
+        None => false,
     }
-    same && wanted.next().is_none()
 }
 
-fn gives_back(items: Items<'_, NumberItem>, plain: &[u32]) -> bool {
-    let mut wanted = plain.iter().rev();
+// Whether items are the numbers of a part of a plain list.
+fn gives(mut items: Items<'_, NumberItem>, plain: &[u32], from: usize, end: usize) -> bool
+    requires order { from ≤ end }
+    requires plain { end ≤ length plain.now }
+{
     let mut same = true;
-    for item in items.rev() {
-        same &= wanted.next() == Some(&item.value().value);
+    for at in from..end {
+        same &= is_number(items.next(), plain[at]);
     }
-    same && wanted.next().is_none()
+    same & items.next().is_none()
+}
+
+// The same, from the last to the first.
+fn gives_back(mut items: Items<'_, NumberItem>, plain: &[u32], from: usize, end: usize) -> bool
+    requires order { from ≤ end }
+    requires plain { end ≤ length plain.now }
+{
+    let mut same = true;
+    for passed in 0..end - from {
+        same &= is_number(items.next_back(), plain[end - 1 - passed]);
+    }
+    same & items.next_back().is_none()
 }

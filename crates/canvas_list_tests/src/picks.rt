@@ -4,7 +4,7 @@ ghost use Rattle.std.specs.Prelude.{◌≡◌, ◌<◌, length};
 ghost use Rattle.canvas_list.specs.Changed.{IsPositionOf};
 
 use crate::dice::Dice;
-use crate::numbers::{NumberItem, Numbers, shared_number};
+use crate::numbers::{NumberItem, Numbers, number_item};
 use canvas_list::{ItemChange, Share};
 use std::alloc::Global;
 use std::process::Abort;
@@ -28,7 +28,7 @@ impl Pick {
 }
 
 fn some_number(rt: &impl Abort, alloc: Global, dice: &mut Dice) -> NumberItem {
-    shared_number(alloc, dice.below(1_000_000_000) as u32).expect(rt, "memory")
+    number_item(rt, alloc, dice.below(1_000_000_000) as u32)
 }
 
 /// Another number in the place of some number of a list.
@@ -55,12 +55,11 @@ pub(crate) fn some_change(
     list: &Numbers,
     grows: usize,
 ) -> Pick
-    requires { length list.now < MOST }
     ensures { IsPositionOf result.change result.at list.now }
 {
     let len = list.len();
     let number = dice.below(16);
-    if len == 0 || number < grows {
+    if len == 0 || (number < grows && len < MOST) {
         return Pick {
             at: dice.below(len + 1),
             change: ItemChange::Insert(some_number(rt, alloc, dice)),
@@ -104,14 +103,15 @@ pub(crate) fn made_anew(
     made.expect(rt, "memory")
 }
 
-/// A plain list after a change, if it has the place of the change.
+/// A plain list after the same.
 pub(crate) fn plain_after(rt: &impl Abort, plain: &Vec<u32>, pick: &Pick) -> Vec<u32> {
     let mut after = plain.clone().expect(rt, "memory");
     change_plain(rt, &mut after, pick);
     after
 }
 
-fn change_plain(rt: &impl Abort, plain: &mut Vec<u32>, pick: &Pick) {
+/// Changes a plain list, if it has the place of the change.
+pub(crate) fn change_plain(rt: &impl Abort, plain: &mut Vec<u32>, pick: &Pick) {
     let at = pick.at;
     match &pick.change {
         ItemChange::Replace(item) if at < plain.len() => plain[at] = item.value().value,

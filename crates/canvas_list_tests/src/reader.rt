@@ -1,46 +1,48 @@
 //! Lists as a reader reads them, beside plain lists.
 
-ghost use Rattle.std.specs.Prelude.{◌≤◌, length};
+ghost use Rattle.std.specs.Prelude.{◌≡◌, ◌≤◌, length};
 
 use crate::dice::Dice;
 use crate::numbers::{Numbers, Span};
 
-/// Whether a reader gives the numbers of a plain list in order.
+/// Whether a list has as many numbers as a plain one, and a reader gives them in order.
 pub(crate) fn reads_on(list: &Numbers, plain: &[u32]) -> bool {
-    let mut reader = list.reader();
-    for (at, value) in plain.iter().enumerate() {
-        if at >= list.len() || reader.at(at).value().value != *value {
-            return false;
-        }
+    if list.len() != plain.len() {
+        return false;
     }
-    true
+    let mut reader = list.reader();
+    let mut same = true;
+    for at in 0..plain.len() {
+        same &= reader.at(at).value().value == plain[at];
+    }
+    same
 }
 
 /// Whether a reader gives them at positions that the dice pick, and at those beside them.
 pub(crate) fn reads_about(list: &Numbers, plain: &[u32], dice: &mut Dice) -> bool {
     let mut reader = list.reader();
     let len = list.len().min(plain.len());
+    let mut same = true;
     for round in 0..4_000u32 {
-        let at = if len == 0 { 0 } else { dice.below(len) };
-        let at = if round % 4 == 0 { at } else { at / 64 };
-        if at < len && reader.at(at).value().value != plain[at] {
-            return false;
+        if len > 0 {
+            let at = dice.below(len);
+            let at = if round % 4 == 0 { at } else { at / 64 };
+            same &= reader.at(at).value().value == plain[at];
         }
     }
-    true
+    same
 }
 
 /// Whether walks through a list and through a part of it come to just the numbers that some spans have.
-pub(crate) fn meets(list: &Numbers, plain: &[u32]) -> bool {
+pub(crate) fn meets(list: &Numbers, plain: &[u32]) -> bool
+    requires { length list.now ≡ length plain.now }
+{
     let len = plain.len();
-    if list.len() != len {
-        return false;
-    }
     let third = len / 3;
     let mut same = true;
-    for span in some_spans(plain) {
-        same &= meets_between(list, plain, 0, len, &span);
-        same &= meets_between(list, plain, third, len - third, &span);
+    for span in &some_spans(plain) {
+        same &= meets_between(list, plain, 0, len, span);
+        same &= meets_between(list, plain, third, len - third, span);
     }
     same
 }
@@ -74,5 +76,5 @@ fn meets_between(list: &Numbers, plain: &[u32], from: usize, end: usize, sought:
             next = reader.next_meeting(at + 1, end, sought);
         }
     }
-    same && next == end
+    same & (next == end)
 }

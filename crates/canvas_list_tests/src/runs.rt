@@ -2,11 +2,11 @@
 
 ghost use Rattle.std.specs.Prelude.{◌≡◌, ◌<◌, ◌≤◌, ◌+◌, length, true, vec_len};
 
-use crate::asserts::{equal, holds};
+use crate::asserts::{holds, holds_at};
 use crate::changes::Both;
 use crate::dice::Dice;
-use crate::in_place::{Count, clone_of, first_evens};
-use crate::numbers::{NumberItem, Numbers, shared_number};
+use crate::in_place::{Counts, clone_of, first_evens, keep_if};
+use crate::numbers::{NumberItem, Numbers, number_item};
 use std::alloc::Global;
 use std::process::Abort;
 
@@ -18,15 +18,17 @@ fn other_numbers(
     rt: &impl Abort,
     alloc: Global,
     dice: &mut Dice,
-    plain: &mut Vec<u32>,
+    plain: &mut [u32],
     at: usize,
 ) -> Vec<NumberItem> {
     let mut items = Vec::new(alloc);
-    let count = 1 + dice.below(MOST_REPLACED);
-    for number in plain.iter_mut().skip(at).take(count) {
+    let at = at.min(plain.len());
+    let end = at + (1 + dice.below(MOST_REPLACED)).min(plain.len() - at);
+    for number in &mut plain[at..end] {
         *number = dice.below(1_000_000_000) as u32;
-        let item = shared_number(alloc, *number).expect(rt, "memory");
-        items.push(item).expect(rt, "memory");
+        items
+            .push(number_item(rt, alloc, *number))
+            .expect(rt, "memory");
     }
     items
 }
@@ -51,9 +53,7 @@ fn replace_run(
     let items = other_numbers(rt, alloc, dice, &mut plain, at);
     assert!(rt; has_run(&both.list, at, &items), "a run");
     let made = both.list.replace_run(at, items);
-    if made {
-        both.plain = plain;
-    }
+    keep_if(made, &mut both.plain, plain);
     made
 }
 
@@ -63,45 +63,45 @@ fn runs_in_turn(
     alloc: Global,
     dice: &mut Dice,
     both: &mut Both,
-    count: &mut Count,
+    is_alone: bool,
+    counts: &mut Counts,
 ) {
     let len = both.list.len();
     for round in 0..60u32 {
         if len > 0 {
             let at = dice.below(len);
-            count.add(replace_run(rt, alloc, dice, both, at));
+            counts.add(is_alone, replace_run(rt, alloc, dice, both, at));
         }
         both.check(rt, "run", round);
     }
 }
 
 // Runs of a list of so many numbers, with no clone and then beside one.
-fn runs_of(
-    rt: &impl Abort,
-    alloc: Global,
-    dice: &mut Dice,
-    count: u32,
-    alone: &mut Count,
-    beside: &mut Count,
-)
-    requires { count ≤ 100000 }
-{
+fn runs_of(rt: &impl Abort, alloc: Global, dice: &mut Dice, count: u32, counts: &mut Counts) {
     let mut both = first_evens(rt, alloc, count);
-    runs_in_turn(rt, alloc, dice, &mut both, alone);
+    runs_in_turn(rt, alloc, dice, &mut both, true, counts);
     let clone = clone_of(rt, alloc, &both);
-    runs_in_turn(rt, alloc, dice, &mut both, beside);
-    clone.check(rt, "clone of", count);
+    runs_in_turn(rt, alloc, dice, &mut both, false, counts);
+    clone.check_last(rt, "clone of", count);
+    both.check_last(rt, "beside a clone of", count);
 }
+
+const COUNTS: [u32; 9] = [0, 1, 2, 7, 40, 300, 1_500, 3_000, 7_000];
 
 #[test]
 fn runs_are_replaced_in_place_or_not_at_all(rt: HostRuntime) {
     let alloc = rt.alloc();
     let mut dice = Dice { state: 8_642 };
-    let mut alone = Count::none();
-    let mut beside = Count::none();
-    for count in [0u32, 1, 2, 7, 40, 300, 1_500, 3_000, 7_000] {
-        runs_of(&rt, alloc, &mut dice, count, &mut alone, &mut beside);
+    let mut counts = Counts::none();
+    for count in &COUNTS {
+        runs_of(&rt, alloc, &mut dice, *count, &mut counts);
     }
+    let Counts { alone, beside } = counts;
     holds(&rt, "alone", alone.exceeds(300, 10));
-    equal(&rt, "beside a clone", &beside.in_place, &0);
+    holds_at(
+        &rt,
+        "beside a clone:",
+        beside.in_place,
+        beside.in_place == 0,
+    );
 }

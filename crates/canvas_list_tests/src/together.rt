@@ -1,24 +1,19 @@
 //! Changes of two lists at once in place: both are made, or neither.
 
-ghost use Rattle.std.specs.Prelude.{◌≤◌};
 ghost use Rattle.canvas_list.specs.Changed.{IsPositionOf};
 
 use crate::asserts::{holds, holds_at};
 use crate::changes::Both;
 use crate::dice::Dice;
-use crate::in_place::{Count, change, clone_of, first_evens};
-use crate::picks::{MOST, Pick, plain_after, some_change, some_replacement};
+use crate::in_place::{Counts, change, clone_of, first_evens, keep_if};
+use crate::picks::{Pick, plain_after, some_change, some_replacement};
 use crate::reader::reads_on;
 use std::alloc::Global;
 use std::process::Abort;
 
 // Whether lists have the numbers of their plain ones, as a reader reads them.
 fn have(first: &Both, second: &Both) -> bool {
-    let mut same = first.list.len() == first.plain.len();
-    same &= second.list.len() == second.plain.len();
-    same &= reads_on(&first.list, &first.plain);
-    same &= reads_on(&second.list, &second.plain);
-    same
+    reads_on(&first.list, &first.plain) & reads_on(&second.list, &second.plain)
 }
 
 /// Ends the test with these words and a number unless lists have the numbers of their plain ones.
@@ -37,10 +32,8 @@ fn change_both(rt: &impl Abort, first: &mut Both, second: &mut Both, pick: Pick,
     let made = first
         .list
         .change_both(pick.at, pick.change, list, also.at, also.change);
-    if made {
-        first.plain = plain;
-        second.plain = other;
-    }
+    keep_if(made, &mut first.plain, plain);
+    keep_if(made, &mut second.plain, other);
     made
 }
 
@@ -77,23 +70,19 @@ fn replacements(
     }
 }
 
-// A change of each list, and then one of both at once, which is counted.
+// A change of each list, and then one of both at once: whether that was made.
 fn change_in_turn(
     rt: &impl Abort,
     alloc: Global,
     dice: &mut Dice,
     first: &mut Both,
     second: &mut Both,
-    count: &mut Count,
-) {
-    let mut others = Count::none();
-    change(rt, alloc, dice, first, 6, &mut others);
-    change(rt, alloc, dice, second, 6, &mut others);
-    if first.list.len() < MOST && second.list.len() < MOST {
-        let pick = some_change(rt, alloc, dice, &first.list, 6);
-        let also = some_change(rt, alloc, dice, &second.list, 6);
-        count.add(change_both(rt, first, second, pick, also));
-    }
+) -> bool {
+    change(rt, alloc, dice, first, 6);
+    change(rt, alloc, dice, second, 6);
+    let pick = some_change(rt, alloc, dice, &first.list, 6);
+    let also = some_change(rt, alloc, dice, &second.list, 6);
+    change_both(rt, first, second, pick, also)
 }
 
 fn changes_in_turn(
@@ -102,10 +91,11 @@ fn changes_in_turn(
     dice: &mut Dice,
     first: &mut Both,
     second: &mut Both,
-    count: &mut Count,
+    is_alone: bool,
+    counts: &mut Counts,
 ) {
     for round in 0..40u32 {
-        change_in_turn(rt, alloc, dice, first, second, count);
+        counts.add(is_alone, change_in_turn(rt, alloc, dice, first, second));
         check_both(rt, "change", round, first, second);
     }
 }
@@ -126,49 +116,40 @@ fn turn_of(
     first: &mut Both,
     second: &mut Both,
     turn: u32,
-    count: &mut Count,
+    counts: &mut Counts,
 ) {
+    let is_alone = turn % 3 == 0;
     let clone = some_clone(rt, alloc, first, second, turn);
-    replacements(rt, alloc, dice, first, second, turn % 3 == 0);
-    changes_in_turn(rt, alloc, dice, first, second, count);
+    replacements(rt, alloc, dice, first, second, is_alone);
+    changes_in_turn(rt, alloc, dice, first, second, is_alone, counts);
     first.check(rt, "first: turn", turn);
     second.check(rt, "second: turn", turn);
-    clone.check(rt, "clone: turn", turn);
+    clone.check_last(rt, "clone: turn", turn);
 }
 
 // Changes of two lists, in turns with no clone, with one of the first and with one of the second. The
 // first begins with so many numbers.
-fn changes_from(
-    rt: &impl Abort,
-    alloc: Global,
-    dice: &mut Dice,
-    count: u32,
-    alone: &mut Count,
-    beside: &mut Count,
-)
-    requires { count ≤ 100000 }
-{
+fn changes_from(rt: &impl Abort, alloc: Global, dice: &mut Dice, count: u32, counts: &mut Counts) {
     let mut first = first_evens(rt, alloc, count);
     let mut second = first_evens(rt, alloc, 400);
     for turn in 0..9u32 {
-        let count = if turn % 3 == 0 {
-            &mut *alone
-        } else {
-            &mut *beside
-        };
-        turn_of(rt, alloc, dice, &mut first, &mut second, turn, count);
+        turn_of(rt, alloc, dice, &mut first, &mut second, turn, counts);
     }
+    first.check_last(rt, "first, of", count);
+    second.check_last(rt, "second, beside", count);
 }
+
+const COUNTS: [u32; 6] = [0, 1, 7, 300, 1_500, 3_000];
 
 #[test]
 fn two_lists_change_at_once_or_stay(rt: HostRuntime) {
     let alloc = rt.alloc();
     let mut dice = Dice { state: 8_642 };
-    let mut alone = Count::none();
-    let mut beside = Count::none();
-    for count in [0u32, 1, 7, 300, 1_500, 3_000] {
-        changes_from(&rt, alloc, &mut dice, count, &mut alone, &mut beside);
+    let mut counts = Counts::none();
+    for count in &COUNTS {
+        changes_from(&rt, alloc, &mut dice, *count, &mut counts);
     }
+    let Counts { alone, beside } = counts;
     holds(&rt, "alone", alone.exceeds(200, 100));
     holds(&rt, "beside a clone", beside.exceeds(200, 100));
 }

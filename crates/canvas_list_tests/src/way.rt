@@ -1,52 +1,60 @@
 //! Changes in place that are refused for want of way, and made once there is some.
 
-ghost use Rattle.std.specs.Prelude.{◌≡◌, ◌<◌, ◌≤◌, length, true, vec_len};
+ghost use Rattle.std.specs.Prelude.{◌≡◌, true};
+ghost use Rattle.canvas_list.specs.Changed.{IsPositionOf};
 
 use crate::asserts::holds;
 use crate::changes::Both;
-use crate::in_place::first_evens;
-use crate::numbers::{has, shared_number};
-use crate::picks::MOST;
+use crate::in_place::{first_evens, keep_if};
+use crate::numbers::{Numbers, has, number_item};
+use crate::picks::{MOST, Pick, plain_after};
 use canvas_list::{ItemChange, Way};
 use std::alloc::Global;
 use std::process::Abort;
 
-// Whether a number may come to a position.
-fn has_place(both: &Both, at: usize) -> bool
-    ensures list { result ≡ true → at ≤ length both.now.list }
-    ensures few { result ≡ true → length both.now.list < MOST }
-    ensures plain { result ≡ true → at ≤ vec_len both.now.plain }
+// Whether a list has the place of a change.
+fn has_place(list: &Numbers, pick: &Pick) -> bool
+    ensures { result ≡ true → IsPositionOf pick.now.change pick.now.at list.now }
 {
-    at <= both.list.len() && both.list.len() < MOST && at <= both.plain.len()
+    match pick.change {
+        ItemChange::Insert(_) => pick.at <= list.len() && list.len() < MOST,
+        _ => pick.at < list.len(),
+    }
 }
 
-// Whether there is a number at a position.
-fn has_number(both: &Both, at: usize) -> bool
-    ensures list { result ≡ true → at < length both.now.list }
-    ensures plain { result ≡ true → at < vec_len both.now.plain }
-{
-    at < both.list.len() && at < both.plain.len()
+// Makes a change in place, if that can be.
+fn change(rt: &impl Abort, both: &mut Both, pick: Pick) -> bool {
+    assert!(rt; has_place(&both.list, &pick), "no place");
+    let plain = plain_after(rt, &both.plain, &pick);
+    let made = both.list.change(pick.at, pick.change);
+    keep_if(made, &mut both.plain, plain);
+    made
 }
 
 // Puts a number before the one at a position, in place, if that can be.
 fn insert(rt: &impl Abort, alloc: Global, both: &mut Both, at: usize) -> bool {
-    assert!(rt; has_place(both, at), "no place {at}");
-    let item = shared_number(alloc, 7).expect(rt, "memory");
-    let made = both.list.change(at, ItemChange::Insert(item));
-    if made {
-        both.plain.insert(at, 7).expect(rt, "memory");
-    }
-    made
+    let change_in = ItemChange::Insert(number_item(rt, alloc, 7));
+    change(
+        rt,
+        both,
+        Pick {
+            at,
+            change: change_in,
+        },
+    )
 }
 
 // Takes the number at a position away, in place, if that can be.
 fn remove(rt: &impl Abort, both: &mut Both, at: usize) -> bool {
-    assert!(rt; has_number(both, at), "no number at {at}");
-    let made = both.list.change(at, ItemChange::Remove);
-    if made {
-        both.plain.remove(at);
-    }
-    made
+    let change_out = ItemChange::Remove;
+    change(
+        rt,
+        both,
+        Pick {
+            at,
+            change: change_out,
+        },
+    )
 }
 
 // Makes way at a position, which leaves the numbers.
@@ -77,23 +85,23 @@ fn way_out(rt: &impl Abort, alloc: Global, both: &mut Both, at: usize) -> u32 {
 }
 
 // Way in a list of so many numbers: at its front, in the middle, and where numbers go.
-fn ways_of(rt: &impl Abort, alloc: Global, count: u32) -> u32
-    requires { count ≤ 100000 }
-{
+fn ways_of(rt: &impl Abort, alloc: Global, count: u32) -> u32 {
     let mut both = first_evens(rt, alloc, count);
     let middle = both.list.len() / 2;
     way_in(rt, alloc, &mut both, middle);
     way_in(rt, alloc, &mut both, 0);
     let helped = way_out(rt, alloc, &mut both, middle);
-    both.check(rt, "items:", count);
+    both.check_last(rt, "items:", count);
     helped
 }
+
+const COUNTS: [u32; 5] = [100, 300, 1_500, 3_000, 7_000];
 
 #[test]
 fn a_refused_change_is_made_once_there_is_way(rt: HostRuntime) {
     let mut helped: u32 = 0;
-    for count in [100u32, 300, 1_500, 3_000, 7_000] {
-        helped = helped.saturating_add(ways_of(&rt, rt.alloc(), count));
+    for count in &COUNTS {
+        helped = helped.saturating_add(ways_of(&rt, rt.alloc(), *count));
     }
     holds(&rt, "helped", helped > 2);
 }

@@ -3,7 +3,7 @@ use Rattle.std.proofs.Common.{◌≡◌, ℕ, ◌+◌, ◌-◌, ◌/◌, ◌<◌
 use Rattle.std.proofs.lemmas.Bool.{cases_eq}
 use Rattle.std.proofs.lemmas.List.{get_or-map, take_more}
 use Rattle.canvas_shape.specs.declared.Colour.{Colour}
-use Rattle.canvas_doc.specs.Picture.{or_else}
+use Rattle.canvas_record.specs.Picture.{or_else}
 use Rattle.canvas_scene.specs.Pictures.{raster_of}
 use Rattle.canvas_scene.proofs.Raster.{band-more, raster-agree}
 use Rattle.canvas_paint.specs.declared.block.Block.{Block}

@@ -1,10 +1,10 @@
 -- Steps of choosing the blocks that show in a word, from front to back.
-use Rattle.std.proofs.Common.{◌≡◌, ℕ, ◌+◌, ◌-◌, ◌<◌, ◌≤◌, List, [], ◌∷◌, ◌++◌, Bool, true, false, not, ◌&&◌, cond, Option, Some, None, refl, sym, ap, ◌∙◌, arith, length, take, get_or, map, ◌⊎◌, inl, inr, ⊎_elim}
+use Rattle.std.proofs.Common.{min, ◌≡◌, ℕ, ◌+◌, ◌-◌, ◌<◌, ◌≤◌, List, [], ◌∷◌, ◌++◌, Bool, true, false, not, ◌&&◌, cond, Option, Some, None, refl, sym, ap, ◌∙◌, arith, length, take, get_or, map, ◌⊎◌, inl, inr, ⊎_elim}
 use Rattle.std.proofs.lemmas.Bool.{cases_Bool}
 use Rattle.std.proofs.lemmas.List.{map-append, take_more, take_all}
 use Rattle.canvas_shape.specs.declared.Colour.{Colour}
 use Rattle.canvas_shape.specs.Words.{has}
-use Rattle.canvas_doc.specs.Picture.{or_else}
+use Rattle.canvas_record.specs.Picture.{or_else}
 use Rattle.canvas_paint.specs.declared.active.Active.{Active}
 use Rattle.canvas_paint.specs.declared.block.Block.{Block}
 use Rattle.canvas_paint.specs.Blocks.{block_fill, block_holds, form_holds, last_block_fill}
@@ -49,6 +49,16 @@ start-choosing width bs y base free end live f = record {
   parts = λ i j below lt p q. ap (λ l. last_block_fill l (base + i) j) (take_all (length bs) bs (omega arith));
   hides = λ i j o below lt e p q. absurd (true-not (base + i) width lt (sym (f i below) ∙ e));
 }
+
+-- where a block changes before the next change, that is the next one
+pub next-change : (y end at next : ℕ) → next ≡ min end at → y < end → y < at → (y < next) × ((next ≤ end) × ((j : ℕ) → j < next → j < at))
+next-change y end at next is live lt = (omega arith, (omega arith, λ j below. omega arith))
+
+pub same-change : (y end next : ℕ) → next ≡ end → y < end → (y < next) × (next ≤ end)
+same-change y end next is live = (omega arith, omega arith)
+
+pub later : (at y j : ℕ) → at ≤ y → y ≤ j → at ≤ j
+later at y j p q = omega arith
 
 -- one block less to look at, which shows in no free pixel up to the next change
 pub pass-block : (width : ℕ) (bs : List Block) (active : List Active) (left y base free end next : ℕ) (b d : Block) → 0 < left → b ≡ get_or bs (left - 1) d → y < next → next ≤ end → ((i j : ℕ) → i < 64 → has free i ≡ true → y ≤ j → j < next → block_holds b (base + i) j ≡ false) → IsChoosing width bs active left y base free end → IsChoosing width bs active (left - 1) y base free next

@@ -6,7 +6,7 @@ use Rattle.std.proofs.lemmas.Bool.{cases_Bool, cases_eq, cases_lt}
 use Rattle.std.proofs.lemmas.Bool.Decides.{nat_tests}
 use Rattle.std.proofs.lemmas.List.{get_or-map}
 use Rattle.canvas_shape.specs.Words.{has}
-use Rattle.canvas_doc.specs.Picture.{or_else, or_white}
+use Rattle.canvas_record.specs.Picture.{or_else, or_white}
 use Rattle.canvas_scene.specs.Pictures.{raster_of}
 use Rattle.canvas_scene.proofs.Raster.{raster-agree}
 use Rattle.canvas_paint.specs.declared.active.Active.{Active}
@@ -136,6 +136,9 @@ row-fresh row (c ∷ cs) y k four all narrow kept live x d lt =
     ∙ ap (λ bs. shown bs x y) (sym (get_or-map (λ c. c.blocks.items) (c ∷ cs) n c [] (omega arith)))
 
 -- the bytes of a strip of rows so wide
+pub before-end : (first end z : ℕ) → first ≤ z → z < first + (end - first) → z < end
+before-end first end z low high = omega arith
+
 pub strip-bytes : (f g : ℕ → ℕ → List ℕ) (n w first rows : ℕ) (start old out : List ℕ) → out ≡ old ++ raster_of f n first rows → old ≡ start → n ≡ w → ((x z : ℕ) → x < w → first ≤ z → z < first + rows → f x z ≡ g x z) → out ≡ start ++ raster_of g w first rows
 strip-bytes f g n w first rows start old out e o same agree =
     e ∙ ap (λ l. l ++ raster_of f n first rows) o

@@ -3,10 +3,10 @@ use Rattle.std.proofs.Common.{◌≡◌, ℕ, zero, suc, ◌+◌, ◌-◌, ◌*�
 use Rattle.std.specs.Prelude.{int_le, int_lt, unsigned_abs}
 use Rattle.canvas_plane.specs.Sides.{scale_of}
 use Rattle.canvas_plane.proofs.Levels.{along}
-use Rattle.std.proofs.lemmas.List.{take_more}
+use Rattle.std.proofs.lemmas.List.{get_or-take, length-take, length-take-le, take_more}
 use Rattle.std.proofs.lemmas.Bool.{cases_eq}
 use Rattle.std.proofs.lemmas.Bool.Decides.{nat_tests}
-use Rattle.std.proofs.Math.Nat.{div-mul-le_self, mod-eq_of_lt}
+use Rattle.std.proofs.Math.Nat.{div-le_of_le-mul, div-mul-le_self, le-div_iff_mul-le, mod-eq_of_lt, mul-le-mul_right}
 use Rattle.std.proofs.lemmas.Int.{fits_signed_from_abs, ints, to_z-of_z}
 use mir.Val.{of_z, to_z}
 use Rattle.canvas_plane.specs.Page.{is_in}
@@ -20,7 +20,7 @@ use Rattle.canvas_plane.specs.declared.PageBox.{PageBox}
 use Rattle.canvas_plane.specs.declared.windows.Window.{Window}
 use Rattle.canvas_shape.specs.declared.Colour.{Colour}
 use Rattle.canvas_shape.specs.Leaves.{carried_holds, page_box_of}
-use Rattle.canvas_doc.specs.Picture.{or_else}
+use Rattle.canvas_record.specs.Picture.{or_else}
 use Rattle.canvas_scene.specs.Items.{fill_at, item_holds, last_fill}
 use Rattle.canvas_scene.specs.declared.item.Item.{Item}
 use Rattle.canvas_paint.specs.declared.block.Block.{Block}
@@ -71,6 +71,29 @@ put-row test rows row top n width inside before last k j lt low high =
     (λ (ne : j - top ≢ n).
     ap (λ r. row_has r k) (get_or-set_other rows n (j - top) row [] ne) ∙ before k j lt low (omega arith))
     (cases_eq (j - top) n)
+
+-- the same of those that are put down
+pub taken-rows : (test : ℕ → ℕ → Bool) (rows : List (List ℕ)) (top n width : ℕ) → n ≤ length rows → ((k j : ℕ) → k < width → top ≤ j → j < top + n → row_has (get_or rows (j - top) []) k ≡ test k j) → (k j : ℕ) → k < width → top ≤ j → j < top + length (take n rows) → row_has (get_or (take n rows) (j - top) []) k ≡ test k j
+taken-rows test rows top n width inside made k j lt low high =
+    let long : length (take n rows) ≡ n = length-take-le n rows inside in
+    let below : j < top + n = omega (arith, high, long) in
+    ap (λ r. row_has r k) (get_or-take n rows (j - top) [] (omega (arith, below, low))) ∙ made k j lt low below
+
+pub take-most : {A : Type 0} (n most : ℕ) (l : List A) → n ≤ most → length (take n l) ≤ most
+take-most n most l h = let long : length (take n l) ≡ min n (length l) = length-take n l in omega (arith, long, h)
+
+pub width-taken : {A : Type 0} (n width most : ℕ) (l : List A) → length l ≡ most → n ≤ most → n ≡ width → length (take n l) ≡ width
+width-taken n width most l all h is = let long : length (take n l) ≡ min n (length l) = length-take n l in omega (arith, long, all, h, is)
+
+-- the rows of a strip begin before they end, and end within the picture
+pub rows-order : (h all k n : ℕ) → h ≡ all → k < n → (k * h / n ≤ (k + 1) * h / n) × ((k + 1) * h / n ≤ all)
+rows-order h all k n is lt =
+    let low : k * h / n * n ≤ k * h = div-mul-le_self (k * h) n in
+    let more : (k + 1) * h ≡ k * h + h = omega arith in
+    let most : (k + 1) * h ≤ n * h = mul-le-mul_right h (omega (arith, lt)) in
+    let end : (k + 1) * h / n ≤ h = div-le_of_le-mul n most in
+    let above : 0 < n = omega (arith, lt) in
+    ((le-div_iff_mul-le above).1 (omega (arith, low, more)), omega (arith, end, is))
 
 -- none is no held one
 pub none-held : (i : ℕ) (held : Bool) → has 0 i ≡ true → held ≡ true

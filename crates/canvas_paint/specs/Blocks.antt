@@ -1,7 +1,7 @@
 -- Items as a window shows them: its columns and rows in place of the pixels of the page that they show.
 use Rattle.std.specs.Prelude.{ℕ, List, [], ◌∷◌, Bool, true, ◌&&◌, cond, Option, Some, None, slice_index, slice_index_or, ◌-◌, ◌/◌, ◌%◌}
 use Rattle.canvas_shape.specs.declared.Colour.{Colour}
-use Rattle.canvas_doc.specs.Picture.{or_else, or_white}
+use Rattle.canvas_record.specs.Picture.{or_else, or_white}
 use Rattle.canvas_paint.specs.declared.block.Form.{Form}
 use Rattle.canvas_paint.specs.declared.block.Form.TheVariants.{Whole, Rows}
 use Rattle.canvas_paint.specs.declared.block.Block.{Block}

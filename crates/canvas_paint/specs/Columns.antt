@@ -2,7 +2,7 @@
 use Rattle.std.specs.Prelude.{◌≡◌, ℕ, ◌+◌, ◌*◌, ◌/◌, ◌<◌, ◌≤◌, List, [], ◌∷◌, Bool, ◌&&◌, cond, Option, Some, None, length, map, slice_index_or}
 use Rattle.canvas_shape.specs.declared.Colour.{Colour}
 use Rattle.canvas_shape.specs.Words.{has}
-use Rattle.canvas_doc.specs.Picture.{or_else, or_white}
+use Rattle.canvas_record.specs.Picture.{or_else, or_white}
 use Rattle.canvas_paint.specs.declared.block.Block.{Block}
 use Rattle.canvas_paint.specs.declared.active.Active.{Active}
 use Rattle.canvas_paint.specs.declared.column.Column.{Column}

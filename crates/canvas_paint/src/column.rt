@@ -2,7 +2,7 @@
 //! anew only where one begins or ends, and in a row only the pixels that change are filled.
 
 ghost use Rattle.std.specs.Prelude.{◌≡◌, ℕ, ◌+◌, ◌-◌, ◌*◌, ◌%◌, ◌<◌, ◌≤◌, IfOk, List, [], length, false, true, OnOk, slice_index_or, vec_len, if◌then◌else◌};
-ghost use Rattle.canvas_doc.specs.Picture.{or_else};
+ghost use Rattle.canvas_record.specs.Picture.{or_else};
 ghost use Rattle.canvas_shape.specs.Words.{has};
 ghost use Rattle.canvas_paint.specs.Blocks.{block_fill, last_block_fill};
 ghost use Rattle.canvas_paint.specs.Columns.{IsChosen, IsColumn, IsNew, active_fill, masked, masked_fill};

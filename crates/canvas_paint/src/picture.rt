@@ -1,7 +1,7 @@
 //! Pictures of documents.
 
 ghost use Rattle.std.specs.Prelude.{◌≡◌, ◌++◌, OnOk, OnErr, true};
-ghost use Rattle.canvas_doc.specs.Picture.{colour};
+ghost use Rattle.canvas_record.specs.Picture.{colour};
 ghost use Rattle.canvas_scene.specs.Pictures.{picture_of};
 ghost use Rattle.canvas_paint.specs.Workers.{are_workers};
 

@@ -4,7 +4,7 @@ ghost use Rattle.std.specs.Prelude.{◌≡◌, ℕ, ◌+◌, ◌-◌, ◌*◌, �
 ghost use Rattle.canvas_plane.specs.Window.{column_shown, row_shown};
 ghost use Rattle.canvas_scene.specs.Items.{last_colour, last_fill};
 ghost use Rattle.canvas_scene.specs.Pictures.{raster_of, rows_of};
-ghost use Rattle.canvas_doc.specs.Picture.{or_else};
+ghost use Rattle.canvas_record.specs.Picture.{or_else};
 ghost use Rattle.canvas_paint.specs.Blocks.{block_fill};
 ghost use Rattle.canvas_paint.specs.Columns.{AreColumns, IsNew, blocks_in, fill_in, shown_in};
 ghost use Rattle.canvas_paint.specs.Strips.{strip_start};

@@ -1,4 +1,4 @@
-//! Tests of scenes and pictures of small documents, and of images.
+//! Tests of scenes and pictures of small documents and of random ones, of images, and of lists of events.
 #![tactic(auto)]
 
 #[cfg(test)]
@@ -15,3 +15,5 @@ mod painting;
 mod rows;
 #[cfg(test)]
 mod shapes;
+#[cfg(test)]
+mod walks;

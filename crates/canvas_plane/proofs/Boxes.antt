@@ -1,14 +1,19 @@
 -- Boxes of pixels, side by side.
-use Rattle.std.proofs.Common.{◌≡◌, ℤ, pos, ◌-ℤ◌, ◌≤ℤ◌, Bool, true, false, ◌&&◌, ◌||◌, ◌↔◌, refl, sym, ap, ◌∙◌, arith}
+use Rattle.std.proofs.Common.{◌≡◌, ℤ, pos, ◌-ℤ◌, ◌≤ℤ◌, Bool, true, false, ◌&&◌, ◌||◌, ◌↔◌, refl, sym, ap, ◌∙◌, arith, FitsSigned, w64, to_z, of_z}
 use Rattle.std.specs.Prelude.{int_le, int_lt}
 use Rattle.std.specs.Int.{int_min, int_max}
-use Rattle.std.proofs.lemmas.Int.{ints}
+use Rattle.std.proofs.lemmas.Int.{ints, to_z-of_z}
 use Rattle.canvas_plane.specs.declared.PageBox.{PageBox}
 use Rattle.canvas_plane.specs.Page.{is_in, is_empty_box, IsWithin, meet_of, joined}
 
 -- x is from the one up to the other
 abbrev side : ℤ → ℤ → ℤ → Bool
 side from to x = int_le from x && int_lt x to
+
+-- the machine compares the same numbers
+pub kept-side : (a b x : ℤ) → FitsSigned w64 a → FitsSigned w64 b → FitsSigned w64 x
+    → (int_le (to_z w64 (of_z w64 a)) (to_z w64 (of_z w64 x)) && int_lt (to_z w64 (of_z w64 x)) (to_z w64 (of_z w64 b))) ≡ (int_le a x && int_lt x b)
+kept-side a b x f g h = λ i. int_le (to_z-of_z w64 a f i) (to_z-of_z w64 x h i) && int_lt (to_z-of_z w64 x h i) (to_z-of_z w64 b g i)
 
 side-none : (a b x : ℤ) → int_le b a ≡ true → side a b x ≡ false
 side-none a b x h = grind (arith, ints)

@@ -1,7 +1,8 @@
 -- Places on the page that a window of a level shows.
-use Rattle.std.proofs.Common.{◌≡◌, ◌∙◌, ◌≤◌, ◌<◌, ◌+◌, ◌*◌, ◌^◌, ℕ, ℤ, pos, negsuc, zero, suc, ◌+ℤ◌, ◌*ℤ◌, ◌≤ℤ◌, ◌<ℤ◌, ◌-ℤ◌, true, false, FitsSigned, w32, ◌↔◌, ◌/◌, arith, ap}
-use Rattle.std.proofs.lemmas.Int.{ints}
-use Rattle.std.specs.Prelude.{int_le, int_lt, nat_le, nat_lt}
+use Rattle.std.proofs.Common.{◌≡◌, ◌∙◌, ◌≤◌, ◌<◌, ◌+◌, ◌*◌, ◌^◌, ℕ, ℤ, pos, negsuc, zero, suc, ◌+ℤ◌, ◌*ℤ◌, ◌≤ℤ◌, ◌<ℤ◌, ◌-ℤ◌, true, false, FitsSigned, w32, w64, ◌↔◌, ◌/◌, arith, ap}
+use Rattle.std.proofs.lemmas.Int.{fits_signed_mul, ints, to_z-of_z}
+use Rattle.std.specs.Int.{cast_signed, cast_unsigned}
+use Rattle.std.specs.Prelude.{int_le, int_lt, nat_le, nat_lt, unsigned_abs}
 use Rattle.std.proofs.Math.Nat.{one-le-pow, le-mul_of_pos_right, le-div_iff_mul-le, mul-lt-mul_of_pos_right, mul-le-mul_right}
 use Rattle.std.proofs.Math.Pow.{pow_mono}
 use Rattle.std.proofs.Math.IntN.{+ℤ-suc_ℤ, suc_ℤ-*ℤ, pos-*ℤ-pos, negsuc-*ℤ-pos}
@@ -128,3 +129,16 @@ edge-fits s from size least side =
     let near = least-place (2 ^ 21) from s least side.near in
     let far = most-place (2 ^ 21) (from +ℤ pos size) s least side.far in
     small-fits from (omega (arith, ints)) (omega (arith, ints))
+
+pub size-within : (z : ℤ) (n : ℕ) → neg_ℤ (pos n) ≤ℤ z → z ≤ℤ pos n → unsigned_abs z ≤ n
+size-within z n h k = omega (arith, ints)
+
+-- a place of a window times its scale fits 64 bits
+pub product-fits : (place scale : ℤ) → neg_ℤ (pos (2 ^ 41)) ≤ℤ place → place ≤ℤ pos (2 ^ 41) → pos 1 ≤ℤ scale → scale ≤ℤ pos 64 → FitsSigned w64 (place *ℤ scale)
+product-fits place scale h k least most =
+    let l : neg_ℤ (pos 64) ≤ℤ scale = omega (arith, ints) in
+    fits_signed_mul w64 place scale (2 ^ 41) 64 (size-within place (2 ^ 41) h k) (size-within scale 64 l most) (omega arith)
+
+-- and the machine's is the same
+pub product-kept : (place scale : ℤ) → FitsSigned w64 place → FitsSigned w64 scale → cast_signed w64 (cast_unsigned w64 place) *ℤ cast_signed w64 (cast_unsigned w64 scale) ≡ place *ℤ scale
+product-kept place scale f g = ap (λ z. z *ℤ cast_signed w64 (cast_unsigned w64 scale)) (to_z-of_z w64 place f) ∙ ap (λ z. place *ℤ z) (to_z-of_z w64 scale g)

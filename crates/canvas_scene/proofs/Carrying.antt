@@ -1,7 +1,8 @@
 -- Points that are carried one after another.
-use Rattle.std.proofs.Common.{◌≡◌, ℕ, ◌+◌, ◌<◌, ◌≤◌, ◌≢◌, List, pos, sym, ap, ◌∙◌, arith, length, map, get_or, set, get_or-set_same, get_or-set_other, ⊎_elim}
+use Rattle.std.proofs.Common.{◌≡◌, ℕ, ◌+◌, ◌<◌, ◌≤◌, ◌≢◌, List, ◌++◌, take, pos, sym, ap, ◌∙◌, arith, length, map, get_or, set, get_or-set_same, get_or-set_other, ⊎_elim}
 use Rattle.std.proofs.lemmas.Bool.{cases_eq}
 use Rattle.std.proofs.lemmas.List.{length-map, ext_get_or, get_or-map, get_or_default}
+use Rattle.std.proofs.Math.Seq.{take-append_seam}
 use Rattle.canvas_plane.specs.declared.Point.{Point}
 
 -- the first so many points are carried, and the others stand as they stood
@@ -31,3 +32,12 @@ all-carried out count old points same all h =
     let d : Point = record { x = pos 0; y = pos 0 } in
     ext_get_or d points (map out old) (same ∙ sym (length-map old out)) (λ i lt.
     h.done i d (omega arith) (omega arith) ∙ sym (get_or-map out old i d d (omega arith)))
+
+-- where all of a list is written anew, the rest of it is none
+pub all-written : (count : ℕ) (lent old new rest : List Point) → count ≡ length old → length new ≡ length lent → lent ≡ old → take count (new ++ rest) ≡ new
+all-written count lent old new rest all same is = ap (λ n. take n (new ++ rest)) (all ∙ sym (same ∙ ap length is)) ∙ take-append_seam new rest
+
+pub some-carried : (out : Point → Point) (points carried own : List Point) → points ≡ own → 3 ≤ length own → carried ≡ map out points → 0 < length carried
+some-carried out points carried own same least is =
+    let long : length carried ≡ length own = ap length is ∙ length-map points out ∙ ap length same in
+    omega (arith, long, least)

@@ -1,5 +1,5 @@
 -- What is hidden behind the items in front of it.
-use Rattle.std.proofs.Common.{◌≡◌, List, [], ◌∷◌, ◌++◌, Bool, true, false, ◌&&◌, ◌||◌, cond, Option, Some, None, ℤ, refl, sym, ap, ◌∙◌, reverse, All, subst}
+use Rattle.std.proofs.Common.{◌≡◌, List, [], ◌∷◌, ◌++◌, Bool, true, false, ◌&&◌, ◌||◌, cond, Option, Some, None, ℤ, refl, sym, ap, ◌∙◌, reverse, All, subst, Result, OnOk}
 use Rattle.std.proofs.lemmas.List.{reverse-append}
 use Rattle.std.proofs.lemmas.List.Elements.{All-weaker}
 use Rattle.canvas_plane.specs.declared.PageBox.{PageBox}
@@ -9,14 +9,15 @@ use Rattle.canvas_shape.specs.declared.Carried.{Carried}
 use Rattle.canvas_shape.specs.declared.Carried.TheVariants.{Rect}
 use Rattle.canvas_shape.specs.declared.parts.LeafBox.{LeafBox}
 use Rattle.canvas_shape.specs.Leaves.{carried_holds, page_box_of}
-use Rattle.canvas_doc.specs.declared.records.Record.{Record}
-use Rattle.canvas_doc.specs.Picture.{first_answer, or_else}
+use Rattle.canvas_record.specs.declared.records.Record.{Record}
+use Rattle.canvas_record.specs.Picture.{first_answer, or_else}
 use Rattle.canvas_scene.specs.declared.cells.Cells.{Cells}
 use Rattle.canvas_scene.specs.declared.item.Item.{Item}
 use Rattle.canvas_scene.specs.Cells.{is_covered}
 use Rattle.canvas_scene.specs.Covers.{AreCellsHidden, first_fill, is_filled, IsHidden}
 use Rattle.canvas_scene.specs.Items.{fill_at, item_holds, last_fill}
 use Rattle.canvas_scene.specs.Nodes.{seen}
+use Rattle.canvas_scene.proofs.Results.{on-ok}
 use Rattle.canvas_scene.proofs.Seen.{frame-cases, last_fill-append, or_else-assoc, or_else-none, seen-or_else, swap-seen}
 
 pub first_fill-append : (xs ys : List Item) (x y : ℤ) → first_fill (xs ++ ys) x y ≡ or_else (first_fill xs x y) (first_fill ys x y)
@@ -175,3 +176,11 @@ added-frame old mid new fill inner clip box common ec em en =
     en ∙ ap (λ o. or_else o (seen clip (seen box fill))) (em ∙ ap (λ b. or_else old (seen b inner)) ec)
     ∙ or_else-assoc old (seen (clip && box) inner) (seen clip (seen box fill))
     ∙ ap (or_else old) (frame-cases clip box inner fill)
+
+-- nothing is hidden where no cell is marked
+pub none-marked : (items : List Item) (cells : Cells) → ((x y : ℤ) → is_covered cells x y ≡ false) → AreCellsHidden items cells
+none-marked items cells none = λ x y h. let z : false ≡ true = sym (none x y) ∙ h in cc
+
+-- what a leaf's item shows is what its kind does, where a call added it
+pub leaf-filled : {A E : Type 0} (result : Result A E) (old new : List Item) (clip : PageBox) (item kind : ℤ → ℤ → Option Colour) → ((x y : ℤ) → item x y ≡ kind x y) → OnOk result ((x y : ℤ) → first_fill new x y ≡ or_else (first_fill old x y) (seen (is_in clip x y) (item x y))) → OnOk result ((x y : ℤ) → first_fill new x y ≡ or_else (first_fill old x y) (seen (is_in clip x y) (kind x y)))
+leaf-filled result old new clip item kind same h = on-ok result (λ g. λ x y. g x y ∙ ap (λ o. or_else (first_fill old x y) (seen (is_in clip x y) o)) (same x y)) h

@@ -7,6 +7,7 @@ pub mod Covering
 pub mod Marking
 pub mod Ordered
 pub mod Raster
+pub mod Results
 pub mod Seen
 pub mod Sides
 pub mod Within

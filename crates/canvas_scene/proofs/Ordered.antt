@@ -11,11 +11,11 @@ use Rattle.canvas_plane.specs.declared.Pose.{Pose}
 use Rattle.canvas_plane.specs.Motion.{carry}
 use Rattle.canvas_shape.specs.declared.Colour.{Colour}
 use Rattle.canvas_shape.specs.declared.Kind.TheVariants.{Frame}
-use Rattle.canvas_doc.specs.declared.records.Parent.{Parent}
-use Rattle.canvas_doc.specs.declared.records.Parent.TheVariants.{Shape}
-use Rattle.canvas_doc.specs.declared.records.Record.{Record}
-use Rattle.canvas_doc.specs.Children.{IsPartOf, children}
-use Rattle.canvas_doc.specs.Contents.{is_container}
+use Rattle.canvas_record.specs.declared.records.Parent.{Parent}
+use Rattle.canvas_record.specs.declared.records.Parent.TheVariants.{Shape}
+use Rattle.canvas_record.specs.declared.records.Record.{Record}
+use Rattle.canvas_record.specs.Children.{IsPartOf, children}
+use Rattle.canvas_record.specs.Contents.{is_container}
 use Rattle.canvas_scene.specs.declared.item.Item.{Item}
 use Rattle.canvas_scene.specs.declared.nodes.Node.{Node}
 use Rattle.canvas_scene.specs.Trees.{are_in_order, AreNodesOf, clip_of, is_back_of, is_branch_of, is_leaf_of, is_node_of, is_same_box, IsOneMore, Test}

@@ -1,10 +1,12 @@
 -- The last item of a tree against the first answer of a walk.
-use Rattle.std.proofs.Common.{◌≡◌, List, [], ◌∷◌, ◌++◌, Bool, true, false, ◌&&◌, cond, Option, Some, None, ℤ, refl, sym, ap, ◌∙◌, reverse, append-nil}
+use Rattle.std.proofs.Common.{◌≡◌, List, [], ◌∷◌, ◌++◌, Bool, true, false, ◌&&◌, cond, Option, Some, None, ℤ, refl, sym, ap, ◌∙◌, reverse, append-nil, append_assoc}
+use Rattle.std.proofs.lemmas.List.{reverse-append}
 use Rattle.canvas_shape.specs.declared.Colour.{Colour}
-use Rattle.canvas_doc.specs.Picture.{or_else}
+use Rattle.canvas_record.specs.Picture.{or_else}
 use Rattle.canvas_scene.specs.declared.item.Item.{Item}
 use Rattle.canvas_scene.specs.Items.{fill_at, last_fill}
-use Rattle.canvas_scene.specs.Nodes.{seen}
+use Rattle.canvas_scene.specs.declared.nodes.Node.{Node}
+use Rattle.canvas_scene.specs.Nodes.{back_item, items_along, items_of, seen}
 
 pub or_else-none : (o : Option Colour) → o ≡ or_else o None
 or_else-none None = refl
@@ -53,3 +55,24 @@ frame-cases false false inner fill = refl
 
 pub list-none : (old items : List Item) → items ≡ [] → old ≡ old ++ reverse items
 list-none old items e = sym (append-nil old) ∙ ap (λ l. old ++ reverse l) (sym e)
+
+-- once a node is added, its items stand before those of the nodes in front of it
+pub one-more : (nodes news : List Node) (node : Node) → news ≡ nodes ++ node ∷ [] → items_along (reverse news) ≡ items_of node ++ items_along (reverse nodes)
+one-more nodes news node e = ap (λ l. items_along (reverse l)) e ∙ ap items_along (reverse-append nodes (node ∷ []))
+
+-- more items were shown, from front to back
+pub shown-more : (start shown news added along after : List Item) → shown ≡ start ++ reverse along → after ≡ added ++ along → news ≡ shown ++ reverse added → news ≡ start ++ reverse after
+shown-more start shown news added along after h a e =
+    e ∙ ap (λ l. l ++ reverse added) h ∙ append_assoc start (reverse along) (reverse added)
+    ∙ ap (λ l. start ++ l) (sym (ap reverse a ∙ reverse-append added along))
+
+back-reversed : (back : Option Item) → back_item back ≡ reverse (back_item back)
+back-reversed None = refl
+back-reversed (Some i) = refl
+
+-- a frame's children were shown, and then its own item
+pub frame-shown : (start shown mid news kids along after : List Item) (back : Option Item) → shown ≡ start ++ reverse along → mid ≡ shown ++ reverse kids → news ≡ mid ++ back_item back → after ≡ (back_item back ++ kids) ++ along → news ≡ start ++ reverse after
+frame-shown start shown mid news kids along after back h m e a =
+    shown-more start shown news (back_item back ++ kids) along after h a
+    (e ∙ ap (λ l. l ++ back_item back) m ∙ append_assoc shown (reverse kids) (back_item back)
+    ∙ ap (λ l. shown ++ (reverse kids ++ l)) (back-reversed back) ∙ ap (λ l. shown ++ l) (sym (reverse-append (back_item back) kids)))

@@ -119,3 +119,15 @@ side-short x size level h =
     let none : 0 * s ≡ 0 = omega arith in
     let most : size * s ≤ 256 * s = mul-le-mul_right s h in
     omega (arith, ints, first, last, none, most)
+
+-- ---- how far a place lies from the start
+
+pub from-start : (start end at x : ℤ) (n : ℕ) → start +ℤ pos n ≡ at → is_from_to start x end ≡ true → int_le at x ≡ nat_le n (unsigned_abs (x -ℤ start))
+from-start start end at x n e on = grind (arith, ints)
+
+-- no place of the side lies so far from its start
+pub from-start-to-end : (start end at x : ℤ) (n : ℕ) → start +ℤ pos n ≡ end → int_lt at end ≡ false → is_from_to start x end ≡ true → int_le at x ≡ nat_le n (unsigned_abs (x -ℤ start))
+from-start-to-end start end at x n e past on = grind (arith, ints)
+
+pub none-after : (start end at x : ℤ) (n : ℕ) → int_le end at ≡ true → is_from_to start x end ≡ true → int_le at x ≡ true → 32 ≤ n
+none-after start end at x n e on h = grind (arith, ints)

@@ -3,7 +3,7 @@ use Rattle.std.specs.Prelude.{List, [], ◌∷◌, Bool, cond, ◌&&◌, Option,
 use Rattle.canvas_plane.specs.Page.{is_in}
 use Rattle.canvas_shape.specs.declared.Colour.{Colour}
 use Rattle.canvas_shape.specs.Leaves.{carried_holds}
-use Rattle.canvas_doc.specs.Picture.{or_else, or_white}
+use Rattle.canvas_record.specs.Picture.{or_else, or_white}
 use Rattle.canvas_scene.specs.declared.item.Item.{Item}
 
 -- leaf and clip both hold the pixel

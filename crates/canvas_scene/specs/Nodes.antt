@@ -5,7 +5,7 @@ use Rattle.canvas_plane.specs.Motion.{carry}
 use Rattle.canvas_shape.specs.declared.Colour.{Colour}
 use Rattle.canvas_shape.specs.declared.Kind.{Kind}
 use Rattle.canvas_shape.specs.Inside.{holds_of}
-use Rattle.canvas_doc.specs.Picture.{kind_answer}
+use Rattle.canvas_record.specs.Picture.{kind_answer}
 use Rattle.canvas_scene.specs.declared.item.Item.{Item}
 use Rattle.canvas_scene.specs.declared.nodes.Node.{Node}
 use Rattle.canvas_scene.specs.declared.nodes.Node.TheOpen.{Node-F, Leaf, Branch}

@@ -8,11 +8,11 @@ use Rattle.canvas_plane.specs.Page.{meet_of}
 use Rattle.canvas_shape.specs.Box.{box_of}
 use Rattle.canvas_shape.specs.declared.Kind.{Kind}
 use Rattle.canvas_shape.specs.declared.Kind.TheVariants.{Group, Frame, Rect, Ellipse, Polygon}
-use Rattle.canvas_doc.specs.declared.records.Parent.{Parent}
-use Rattle.canvas_doc.specs.declared.records.Parent.TheVariants.{Shape}
-use Rattle.canvas_doc.specs.declared.records.Record.{Record}
-use Rattle.canvas_doc.specs.Children.{children}
-use Rattle.canvas_doc.specs.Contents.{is_container}
+use Rattle.canvas_record.specs.declared.records.Parent.{Parent}
+use Rattle.canvas_record.specs.declared.records.Parent.TheVariants.{Shape}
+use Rattle.canvas_record.specs.declared.records.Record.{Record}
+use Rattle.canvas_record.specs.Children.{children}
+use Rattle.canvas_record.specs.Contents.{is_container}
 use Rattle.canvas_scene.specs.declared.item.Item.{Item}
 use Rattle.canvas_scene.specs.declared.nodes.Node.{Node}
 use Rattle.canvas_scene.specs.declared.nodes.Node.TheOpen.{Node-F, Leaf, Branch}

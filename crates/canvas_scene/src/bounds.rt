@@ -6,7 +6,7 @@ ghost use Rattle.canvas_plane.specs.Page.{is_in};
 ghost use Rattle.canvas_shape.specs.Edges.{is_in_polygon};
 ghost use Rattle.canvas_shape.specs.Inside.{AreVertices, IsSound};
 ghost use Rattle.canvas_shape.specs.declared.Colour.{Colour};
-ghost use Rattle.canvas_doc.specs.Contents.{is_container};
+ghost use Rattle.canvas_record.specs.Contents.{is_container};
 ghost use Rattle.canvas_scene.specs.Nodes.{seen, shown_of};
 ghost use Rattle.canvas_scene.specs.Trees.{clip_of};
 

@@ -1,7 +1,7 @@
 //! The tree of a scene.
 
 ghost use Rattle.std.specs.Prelude.{◌≡◌, ◌++◌, [], ◌∷◌, ℤ, List, OnOk, map, reverse, Some};
-ghost use Rattle.canvas_doc.specs.declared.records.Record.{Record};
+ghost use Rattle.canvas_record.specs.declared.records.Record.{Record};
 ghost use Rattle.canvas_scene.specs.Clips.{at_pixel, branch_at, leaf_at};
 ghost use Rattle.canvas_scene.specs.Nodes.{items_of, items_along, back_item};
 ghost use Rattle.canvas_scene.specs.Trees.{is_branch_of, is_leaf_of, is_node_of};

@@ -3,8 +3,8 @@
 ghost use Rattle.std.specs.Prelude.{◌≡◌, ◌≤◌, ◌<◌, ℕ, ℤ, All, IfOk, true, reverse};
 ghost use Rattle.canvas_plane.specs.Page.{is_in};
 ghost use Rattle.canvas_plane.specs.Window.{covered_by};
-ghost use Rattle.canvas_doc.specs.Picture.{colour};
-ghost use Rattle.canvas_doc.specs.declared.records.Parent.TheVariants.{Page};
+ghost use Rattle.canvas_record.specs.Picture.{colour};
+ghost use Rattle.canvas_record.specs.declared.records.Parent.TheVariants.{Page};
 ghost use Rattle.canvas_scene.specs.Clips.{IsClipped};
 ghost use Rattle.canvas_scene.specs.Items.{last_colour};
 ghost use Rattle.canvas_scene.specs.Nodes.{items_along};

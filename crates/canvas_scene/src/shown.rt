@@ -3,7 +3,7 @@
 ghost use Rattle.std.specs.Prelude.{◌≡◌, ◌++◌, ◌&&◌, [], ◌∷◌, ℤ, All, IfOk, IsTrue, List, Some, int_le, reverse};
 ghost use Rattle.canvas_plane.specs.Page.{is_in, IsWithin};
 ghost use Rattle.canvas_shape.specs.Leaves.{carried_holds};
-ghost use Rattle.canvas_doc.specs.Picture.{or_else};
+ghost use Rattle.canvas_record.specs.Picture.{or_else};
 ghost use Rattle.canvas_scene.specs.declared.item.Item.{Item};
 ghost use Rattle.canvas_scene.specs.Covers.{first_fill, AreCellsHidden, IsHidden};
 ghost use Rattle.canvas_scene.specs.Nodes.{seen};

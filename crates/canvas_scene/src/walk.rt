@@ -7,10 +7,10 @@ ghost use Rattle.canvas_plane.specs.Page.{is_in};
 ghost use Rattle.canvas_shape.specs.Inside.{AreVertices, IsSound, holds_of};
 ghost use Rattle.canvas_shape.specs.declared.Colour.{Colour};
 ghost use Rattle.canvas_shape.specs.Leaves.{carried_holds};
-ghost use Rattle.canvas_doc.specs.Contents.{is_container};
-ghost use Rattle.canvas_doc.specs.Picture.{answer_among, colour, or_else, or_white, shape_answer};
-ghost use Rattle.canvas_doc.specs.declared.records.Parent.TheVariants.{Page, Shape};
-ghost use Rattle.canvas_doc.specs.declared.records.Record.{Record};
+ghost use Rattle.canvas_record.specs.Contents.{is_container};
+ghost use Rattle.canvas_record.specs.Picture.{answer_among, colour, or_else, or_white, shape_answer};
+ghost use Rattle.canvas_record.specs.declared.records.Parent.TheVariants.{Page, Shape};
+ghost use Rattle.canvas_record.specs.declared.records.Record.{Record};
 ghost use Rattle.canvas_scene.specs.Clips.{IsClipped};
 ghost use Rattle.canvas_scene.specs.Covers.{first_fill};
 ghost use Rattle.canvas_scene.specs.Nodes.{AreShown, back_item, items_along, seen, shown_of};
@@ -48,7 +48,7 @@ pub(crate) fn nodes_of_page<'a>(
     ensures clips { IfOk result (λ nodes. All (IsClipped clip.now) nodes.now) }
     ensures tree { IfOk result (λ nodes. AreNodesOf document.now.records Page (λ q. q) clip.now nodes.now) }
 {
-    let nodes = nodes_among(
+    nodes_among(
         bump,
         document,
         DEPTH,
@@ -56,8 +56,7 @@ pub(crate) fn nodes_of_page<'a>(
         &Pose::STILL,
         clip,
         shown,
-    )?;
-    Ok(nodes)
+    )
 }
 
 // The nodes of a parent's children, where `out` carries its points to the page.
@@ -160,14 +159,12 @@ fn add_node<'a>(
     match &shape.kind {
         Kind::Group => {
             let children = nodes_among(bump, document, levels, inside, page, clip, shown)?;
-            keep(nodes, branch(*clip, None, children))?;
-            Ok(())
+            keep(nodes, branch(*clip, None, children))
         }
         Kind::Frame { w, h, fill } => {
             let children = nodes_among(bump, document, levels, inside, page, part, shown)?;
             let back = back_of(Carried::rect(page, *w, *h), clip, part, *fill, shown)?;
-            keep(nodes, branch(*part, back, children))?;
-            Ok(())
+            keep(nodes, branch(*part, back, children))
         }
         Kind::Rect { w, h, fill } => {
             add_leaf(Carried::rect(page, *w, *h), clip, *fill, shown, nodes)
@@ -219,8 +216,7 @@ fn add_leaf<'a>(
     ensures tree { OnOk result (IsOneMore (λ node. (rs : List Record) → is_node_of rs node ≡ is_leaf_of clip.now) nodes.old.items nodes.new.items) }
 {
     let item = shown.add(shape, clip, fill)?;
-    keep(nodes, leaf(item))?;
-    Ok(())
+    keep(nodes, leaf(item))
 }
 
 // Vertices as a pose carries them to the page, in the arena.

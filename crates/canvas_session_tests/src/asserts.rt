@@ -14,6 +14,6 @@ pub(crate) fn equal<T: PartialEq + Debug>(rt: &impl Abort, what: &str, left: &T,
 }
 
 /// Ends the test with these words and this number unless it is so.
-pub(crate) fn holds_at(rt: &impl Abort, what: &str, number: usize, is_so: bool) {
+pub(crate) fn holds_at(rt: &impl Abort, what: &str, number: u64, is_so: bool) {
     assert!(rt; is_so, "{what} {number}");
 }

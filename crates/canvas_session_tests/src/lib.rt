@@ -1,17 +1,21 @@
-//! Tests of sessions.
+//! Tests of boards and sessions, over a document of one's own and over one that many share, and of the numbers, the names and the texts of refusals.
 #![tactic(auto)]
 
 #[cfg(test)]
+mod alone;
+#[cfg(test)]
 mod asserts;
 #[cfg(test)]
-mod ends;
+mod boards;
 #[cfg(test)]
-mod fakes;
+mod dice;
+#[cfg(test)]
+mod kept;
 #[cfg(test)]
 mod memory;
 #[cfg(test)]
-mod rows;
-#[cfg(test)]
-mod serving;
-#[cfg(test)]
 mod sessions;
+#[cfg(test)]
+mod table;
+#[cfg(test)]
+mod viewers;

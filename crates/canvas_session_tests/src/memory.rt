@@ -1,165 +1,141 @@
-//! Sessions for which memory may be refused: run with each allocation refused in turn, nothing is read, or one line is answered by
-//! want of memory and all others as they should be; what was refused is asked again, and answered in full.
+//! Boards at one document for which memory may be refused: run with each allocation refused in turn, a call that is refused leaves
+//! the history as it was, and made again it is answered in full.
 
-use crate::asserts::holds;
-use crate::serving::board;
-use crate::sessions::{RED, RED_ANSWERS};
-use canvas_board::Alone;
-use canvas_doc::Document;
-use canvas_session::{Cause, Served, SessionFault, serve};
+ghost use Rattle.std.specs.Prelude.{◌≡◌};
+
+use crate::asserts::{equal, holds};
+use crate::boards::{RED, WHITE, accepted, at, boards, is_painted, origin, square};
+use crate::sessions::saved_squares;
+use canvas_board::{Board, BoardFault, Dot, Edited, Picture, Saved, Shared};
+use canvas_doc::{Document, Edit};
+use canvas_line::{Lines, Opened};
+use canvas_plane::Window;
+use canvas_shape::Colour;
 use std::alloc::Global;
+use std::marker::Brand;
 use std::process::Abort;
 use std::sync::Wait;
 use std::test::Fail;
 use std::thread::Threads;
 
-const PATCH: &[u8] = b"{\"verb\":\"patch\",\"x\":0,\"y\":0,\"w\":3,\"h\":1}\n";
-
-const PATCH_ANSWER: &[u8] =
-    b"{\"body\":20,\"ok\":true,\"version\":1}\nP6\n3 1\n255\n\xff\x00\x00\xff\x00\x00\xff\xff\xff";
-
-const EDIT_REFUSED: &[u8] =
-    b"{\"body\":0,\"code\":1,\"name\":\"OutOfMemory\",\"ok\":false}\n{\"body\":20,\"ok\":true,\"version\":0}\nP6\n3 1\n255\n\xff\xff\xff\xff\xff\xff\xff\xff\xff";
-
-const PATCH_REFUSED: &[u8] =
-    b"{\"body\":0,\"id\":1,\"ok\":true,\"version\":1}\n{\"body\":0,\"code\":1,\"name\":\"OutOfMemory\",\"ok\":false}\n";
-
-const EXPORT: &[u8] = b"{\"verb\":\"export\"}\n";
-
-const EXPORT_ANSWER: &[u8] =
-    b"{\"body\":33,\"ok\":true,\"version\":0}\n{\"format\":2,\"next\":1,\"shapes\":[]}";
-
-const EXPORT_REFUSED: &[u8] = b"{\"body\":0,\"code\":1,\"name\":\"OutOfMemory\",\"ok\":false}\n";
-
-/// What a session may write, and the requests that are then asked again, with their answers.
-#[derive(Clone, Copy)]
-struct End {
-    written: &'static [u8],
-    again: &'static [u8],
-    answers: &'static [u8],
-}
-
-const RED_ENDS: [End; 4] = [
-    End {
-        written: RED_ANSWERS,
-        again: b"",
-        answers: b"",
-    },
-    End {
-        written: b"",
-        again: RED,
-        answers: RED_ANSWERS,
-    },
-    End {
-        written: EDIT_REFUSED,
-        again: RED,
-        answers: RED_ANSWERS,
-    },
-    End {
-        written: PATCH_REFUSED,
-        again: PATCH,
-        answers: PATCH_ANSWER,
-    },
-];
-
-const EXPORT_ENDS: [End; 3] = [
-    End {
-        written: EXPORT_ANSWER,
-        again: b"",
-        answers: b"",
-    },
-    End {
-        written: b"",
-        again: EXPORT,
-        answers: EXPORT_ANSWER,
-    },
-    End {
-        written: EXPORT_REFUSED,
-        again: EXPORT,
-        answers: EXPORT_ANSWER,
-    },
-];
-
-// The end of a session that wrote this, if it may write it.
-fn end_of(ends: &[End], written: &[u8]) -> Option<End> {
-    for end in ends {
-        if end.written == written {
-            return Some(*end);
-        }
-    }
-    None
-}
-
-// Whether a session tells its counts, or nothing was read for want of memory.
-fn is_counted(served: &Result<Served, SessionFault>, counts: Served, is_unread: bool) -> bool {
-    match served {
-        Ok(served) => *served == counts,
-        Err(fault) => {
-            fault.cause == Cause::OutOfMemory
-                && fault.answered == 0
-                && fault.written == 0
-                && counts.written == 0
-                && is_unread
-        }
+// Whether a board sees such a version.
+fn sees<B: Lines>(board: &mut Shared<B>, version: u64) -> bool {
+    match board.point(0, 0) {
+        Ok(dot) => dot.version == version,
+        Err(_) => false,
     }
 }
 
-// Serves requests, so many, and what was refused of them again.
-fn serve_again<H: Threads + Wait + Sync + Abort>(
+// Makes an edit, and makes it again where memory was wanted: then neither board sees a version more.
+fn edited<B: Lines, H: Wait + Abort>(
+    rt: &H,
+    board: &mut Shared<B>,
+    other: &mut Shared<B>,
+    version: u64,
+    edit: Edit,
+) -> Result<Edited, BoardFault> {
+    match board.edit(rt, &edit) {
+        Err(BoardFault::OutOfMemory | BoardFault::NoView) => {
+            holds(rt, "the board sees no more", sees(board, version));
+            holds(rt, "nor the other", sees(other, version));
+            board.edit(rt, &edit)
+        }
+        answer => answer,
+    }
+}
+
+// The picture of a window, asked for again where memory was wanted.
+fn painted<B: Lines, H: Threads + Wait + Sync>(
+    rt: &H,
+    board: &mut Shared<B>,
+    window: &Window,
+) -> Result<Picture, BoardFault> {
+    match board.picture(rt, window, 1) {
+        Err(BoardFault::OutOfMemory | BoardFault::NoView) => board.picture(rt, window, 1),
+        answer => answer,
+    }
+}
+
+// The colour of a pixel, asked for again where memory was wanted.
+fn seen<B: Lines>(board: &mut Shared<B>, x: i32) -> Result<Dot, BoardFault> {
+    match board.point(x, 0) {
+        Err(BoardFault::NoView) => board.point(x, 0),
+        answer => answer,
+    }
+}
+
+// The saved document, asked for again where memory was wanted.
+fn saved<B: Lines>(board: &mut Shared<B>) -> Result<Saved, BoardFault> {
+    match board.saved() {
+        Err(BoardFault::OutOfMemory | BoardFault::NoView) => board.saved(),
+        answer => answer,
+    }
+}
+
+#[test]
+fn a_square_moves_away_with_little_memory(rt: HostRuntime) -> Result<(), Fail> {
+    let alloc = rt.alloc();
+    moves_away::<Brand, _>(&rt, alloc, Opened::new(), Document::empty(alloc))
+}
+
+fn moves_away<B: Lines, H: Threads + Wait + Abort + Sync>(
     rt: &H,
     alloc: Global,
-    requests: u64,
-    input: &[u8],
-    ends: &[End],
-) -> Result<(), Fail> {
-    let mut out = Vec::with_capacity(alloc, 256)?;
-    let mut board = board(rt, alloc, Document::empty(alloc), 1_000_000);
-    let is_right = is_counted_right(rt, alloc, &mut board, &mut out, requests, input);
-    holds(rt, "the counts", is_right);
-    let end = end_of(ends, &out).expect(rt, "one of these ends");
-    if !end.again.is_empty() {
-        out.clear();
-        let is_answered = answers_again(rt, alloc, &mut board, &mut out, end);
-        holds(rt, "the answers again", is_answered);
-    }
+    opened: Opened,
+    document: Document,
+) -> Result<(), Fail>
+    requires { B.line 1 ≡ record { book = opened.head.word.book; opening = document; limit = 10 } }
+{
+    let (mut first, mut second) = boards::<B, H>(rt, alloc, opened, document, 10)?;
+    check_moves(rt, &mut first, &mut second);
+    check_the_end(rt, &mut first);
+    check_the_end(rt, &mut second);
     Ok(())
 }
 
-// Whether a session over a board tells its counts, or nothing was read for want of memory.
-fn is_counted_right<H: Threads + Wait + Sync + Abort>(
+// Makes a square, moves it away and makes another, of which the second board paints pictures.
+fn check_moves<B: Lines, H: Threads + Wait + Abort + Sync>(
     rt: &H,
-    alloc: Global,
-    board: &mut Alone,
-    out: &mut Vec<u8>,
-    requests: u64,
-    input: &[u8],
-) -> bool {
-    let mut reader = input;
-    let served = serve(rt, alloc, board, 1, &mut reader, out);
-    let written = out.len() as u64;
-    let counts = Served { requests, written };
-    is_counted(&served, counts, reader.len() == input.len())
+    first: &mut Shared<B>,
+    second: &mut Shared<B>,
+) {
+    let answer = edited(rt, first, second, 0, square(10, 0));
+    equal(rt, "a square", &answer, &accepted(1, Some(1)));
+    check_picture(rt, second, 1, RED);
+    let away = Edit::Pose {
+        id: 1,
+        pose: at(100),
+    };
+    let answer = edited(rt, second, first, 1, away);
+    equal(rt, "away", &answer, &accepted(2, None));
+    check_picture(rt, second, 2, WHITE);
+    let answer = edited(rt, first, second, 2, square(1, 500));
+    equal(rt, "another", &answer, &accepted(3, Some(2)));
+    // One picture at most could not be kept, so one of these is answered as kept, or both.
+    check_picture(rt, second, 3, WHITE);
+    check_picture(rt, second, 3, WHITE);
+    let hits = second.hits();
+    holds(rt, "one or two hits", hits == 1 || hits == 2);
 }
 
-// Whether what is asked again is answered.
-fn answers_again<H: Threads + Wait + Sync + Abort>(
+fn check_picture<B: Lines, H: Threads + Wait + Abort + Sync>(
     rt: &H,
-    alloc: Global,
-    board: &mut Alone,
-    out: &mut Vec<u8>,
-    end: End,
-) -> bool {
-    let mut reader = end.again;
-    let served = serve(rt, alloc, board, 1, &mut reader, out);
-    served.is_ok() && out.as_slice() == end.answers
+    board: &mut Shared<B>,
+    version: u64,
+    left: Colour,
+) {
+    let answer = painted(rt, board, &origin(rt));
+    let picture = answer.expect(rt, "a picture");
+    holds(rt, "its bytes", is_painted(&picture, version, left));
 }
 
-#[test]
-fn an_edit_and_a_picture_with_little_memory(rt: HostRuntime) -> Result<(), Fail> {
-    serve_again(&rt, rt.alloc(), 2, RED, &RED_ENDS)
-}
-
-#[test]
-fn an_export_with_little_memory(rt: HostRuntime) -> Result<(), Fail> {
-    serve_again(&rt, rt.alloc(), 1, EXPORT, &EXPORT_ENDS)
+// Checks what a board answers after the three edits.
+fn check_the_end<B: Lines, R: Abort>(rt: &R, board: &mut Shared<B>) {
+    for (x, colour) in [(0, WHITE), (109, RED), (500, RED)] {
+        let wanted = Ok(Dot { version: 3, colour });
+        equal(rt, "a colour at the end", &seen(board, x), &wanted);
+    }
+    let saved = saved(board).expect(rt, "a saved document");
+    equal(rt, "its version", &saved.version, &3);
+    holds(rt, "its text", saved.text.as_slice() == saved_squares());
 }

@@ -1,120 +1,212 @@
-//! Worked sessions.
+//! A session over a seat's board, from the bytes of the requests to the bytes of the answers.
 
-use crate::asserts::holds;
-use crate::serving::{answers, board, check};
+ghost use Rattle.std.specs.Prelude.{◌≡◌};
+
+use crate::asserts::{equal, holds};
+use crate::boards::first_board;
+use canvas_board::Shared;
 use canvas_doc::Document;
-use canvas_session::answer_line;
+use canvas_line::{Lines, Opened};
+use canvas_session::{Served, SessionFault, serve};
 use std::alloc::Global;
+use std::io;
+use std::io::{Read, Write};
+use std::marker::Brand;
 use std::process::Abort;
 use std::sync::Wait;
 use std::thread::Threads;
 
-pub(crate) const RED: &[u8] =
-    b"{\"verb\":\"create\",\"shape\":{\"kind\":\"rect\",\"w\":2,\"h\":1,\"fill\":\"ff0000\"}}\n{\"verb\":\"patch\",\"x\":0,\"y\":0,\"w\":3,\"h\":1}\n";
+// (What a function names as a constant text, it carries through its proof: so these are asked for as slices.)
+fn requests() -> &'static [u8] {
+    br#"{"verb":"create","shape":{"kind":"rect","w":10,"h":10,"fill":"ff0000"}}
+{"verb":"patch","x":0,"y":0,"w":16,"h":1}
+{"verb":"pose","id":1,"pose":{"dx":100}}
+{"verb":"patch","x":0,"y":0,"w":16,"h":1}
+{"verb":"create","shape":{"kind":"rect","w":1,"h":1,"fill":"ff0000"},"pose":{"dx":500}}
+{"verb":"patch","x":0,"y":0,"w":16,"h":1}
+{"verb":"point","x":0,"y":0}
+{"verb":"delete","id":9}
+{"verb":"export"}
+"#
+}
 
-pub(crate) const RED_ANSWERS: &[u8] =
-    b"{\"body\":0,\"id\":1,\"ok\":true,\"version\":1}\n{\"body\":20,\"ok\":true,\"version\":1}\nP6\n3 1\n255\n\xff\x00\x00\xff\x00\x00\xff\xff\xff";
+const HEADER: &[u8] = b"P6\n16 1\n255\n";
 
-const BAD_WORKERS: &[u8] = b"{\"body\":0,\"code\":31,\"name\":\"BadWorkers\",\"ok\":false}\n";
+/// A square of 10 at 100 and one of 1 at 500, as they are saved.
+pub(crate) fn saved_squares() -> &'static [u8] {
+    br#"{"format":2,"next":3,"shapes":[{"hidden":false,"id":1,"place":{"index":"a0","parent":null},"pose":{"dx":100,"dy":0,"flip":false,"quarter":0},"shape":{"fill":"ff0000","h":10,"kind":"rect","w":10}},{"hidden":false,"id":2,"place":{"index":"a1","parent":null},"pose":{"dx":500,"dy":0,"flip":false,"quarter":0},"shape":{"fill":"ff0000","h":1,"kind":"rect","w":1}}]}"#
+}
 
-#[test]
-fn an_empty_document_is_white(rt: HostRuntime) {
-    check(
-        &rt,
-        rt.alloc(),
-        b"{\"verb\":\"patch\",\"x\":0,\"y\":0,\"w\":2,\"h\":1}\n",
-        b"{\"body\":17,\"ok\":true,\"version\":0}\nP6\n2 1\n255\n\xff\xff\xff\xff\xff\xff",
-        1,
+fn push(rt: &impl Abort, out: &mut Vec<u8>, bytes: &[u8]) {
+    out.extend_from_slice(bytes).expect(rt, "memory");
+}
+
+// Puts the answer of a picture behind others, of 16 pixels of which so many are red and the others white.
+fn push_picture(rt: &impl Abort, out: &mut Vec<u8>, line: &[u8], reds: usize) {
+    push(rt, out, line);
+    push(rt, out, HEADER);
+    for place in 0..16 {
+        let pixel = if place < reds {
+            [255, 0, 0]
+        } else {
+            [255, 255, 255]
+        };
+        push(rt, out, pixel.as_slice());
+    }
+}
+
+fn push_pictures(rt: &impl Abort, out: &mut Vec<u8>) {
+    push(
+        rt,
+        out,
+        b"{\"body\":0,\"id\":1,\"ok\":true,\"version\":1}\n",
     );
-}
-
-#[test]
-fn a_red_rectangle_is_painted(rt: HostRuntime) {
-    check(&rt, rt.alloc(), RED, RED_ANSWERS, 2);
-}
-
-#[test]
-fn a_rectangle_behind_comes_to_the_front(rt: HostRuntime) {
-    check(
-        &rt,
-        rt.alloc(),
-        b"{\"verb\":\"create\",\"shape\":{\"kind\":\"rect\",\"w\":2,\"h\":1,\"fill\":\"ff0000\"}}\n{\"verb\":\"create\",\"shape\":{\"kind\":\"rect\",\"w\":2,\"h\":1,\"fill\":\"0000ff\"},\"spot\":\"back\"}\n{\"verb\":\"point\",\"x\":0,\"y\":0}\n{\"verb\":\"move\",\"id\":2,\"parent\":null,\"spot\":\"front\"}\n{\"verb\":\"point\",\"x\":0,\"y\":0}\n",
-        b"{\"body\":0,\"id\":1,\"ok\":true,\"version\":1}\n{\"body\":0,\"id\":2,\"ok\":true,\"version\":2}\n{\"body\":0,\"colour\":\"ff0000\",\"ok\":true,\"version\":2}\n{\"body\":0,\"ok\":true,\"version\":3}\n{\"body\":0,\"colour\":\"0000ff\",\"ok\":true,\"version\":3}\n",
-        5,
+    push_picture(rt, out, b"{\"body\":60,\"ok\":true,\"version\":1}\n", 10);
+    push(rt, out, b"{\"body\":0,\"ok\":true,\"version\":2}\n");
+    push_picture(rt, out, b"{\"body\":60,\"ok\":true,\"version\":2}\n", 0);
+    push(
+        rt,
+        out,
+        b"{\"body\":0,\"id\":2,\"ok\":true,\"version\":3}\n",
     );
+    push_picture(rt, out, b"{\"body\":60,\"ok\":true,\"version\":3}\n", 0);
 }
 
-#[test]
-fn a_point_is_asked(rt: HostRuntime) {
-    check(
-        &rt,
-        rt.alloc(),
-        b"{\"verb\":\"create\",\"shape\":{\"kind\":\"rect\",\"w\":2,\"h\":1,\"fill\":\"ff0000\"}}\r\n{\"verb\":\"point\",\"x\":1,\"y\":0}\r\n",
-        b"{\"body\":0,\"id\":1,\"ok\":true,\"version\":1}\n{\"body\":0,\"colour\":\"ff0000\",\"ok\":true,\"version\":1}\n",
-        2,
+// The bytes of all answers.
+fn answers(rt: &impl Abort, alloc: Global) -> Vec<u8> {
+    let mut out = Vec::new(alloc);
+    push_pictures(rt, &mut out);
+    push(
+        rt,
+        &mut out,
+        b"{\"body\":0,\"colour\":\"ffffff\",\"ok\":true,\"version\":3}\n",
     );
-}
-
-#[test]
-fn the_document_is_exported(rt: HostRuntime) {
-    check(
-        &rt,
-        rt.alloc(),
-        b"{\"verb\":\"export\"}\n",
-        b"{\"body\":33,\"ok\":true,\"version\":0}\n{\"format\":2,\"next\":1,\"shapes\":[]}",
-        1,
+    push(
+        rt,
+        &mut out,
+        b"{\"body\":0,\"code\":2,\"name\":\"NoSuchShape\",\"ok\":false}\n",
     );
+    push(rt, &mut out, b"{\"body\":360,\"ok\":true,\"version\":3}\n");
+    push(rt, &mut out, saved_squares());
+    out
+}
+
+/// A reader that gives one byte a read.
+#[derive(Drop)]
+struct Drip<'a> {
+    rest: &'a [u8],
+}
+
+impl Read for Drip<'_> {
+    fn read(&mut self, buf: &mut [u8]) -> io::Result<usize> {
+        if buf.is_empty() {
+            return Ok(0);
+        }
+        match self.rest {
+            [] => Ok(0),
+            [first, others @ ..] => {
+                buf[0] = *first;
+                self.rest = others;
+                Ok(1)
+            }
+        }
+    }
+}
+
+/// A writer that takes one byte a write.
+#[derive(Drop)]
+struct Narrow {
+    out: Vec<u8>,
+}
+
+impl Write for Narrow {
+    fn write(&mut self, buf: &[u8]) -> io::Result<usize> {
+        let n = buf.len().min(1);
+        self.out.extend_from_slice(&buf[..n])?;
+        Ok(n)
+    }
+
+    fn flush(&mut self) -> io::Result<()> {
+        Ok(())
+    }
 }
 
 #[test]
-fn what_is_refused_has_its_code(rt: HostRuntime) {
-    check(
-        &rt,
-        rt.alloc(),
-        b"[]\n{\n\n{\"verb\":\"paint\"}\n{\"verb\":\"delete\",\"id\":1}\n{\"verb\":\"patch\",\"x\":0,\"y\":0,\"w\":257,\"h\":1}\n{\"verb\":\"tile\",\"col\":8192,\"row\":0}\n",
-        b"{\"body\":0,\"code\":51,\"name\":\"NotObject\",\"ok\":false}\n{\"body\":0,\"code\":50,\"name\":\"BadJson\",\"ok\":false}\n{\"body\":0,\"code\":50,\"name\":\"BadJson\",\"ok\":false}\n{\"body\":0,\"code\":52,\"name\":\"BadVerb\",\"ok\":false}\n{\"body\":0,\"code\":2,\"name\":\"NoSuchShape\",\"ok\":false}\n{\"body\":0,\"code\":30,\"name\":\"BadWindow\",\"ok\":false}\n{\"body\":0,\"code\":30,\"name\":\"BadWindow\",\"ok\":false}\n",
-        7,
-    );
-}
-
-#[test]
-fn a_picture_by_seventeen_workers(rt: HostRuntime) {
+fn a_session_in_one_piece(rt: HostRuntime) {
     let alloc = rt.alloc();
-    let board = board(&rt, alloc, Document::empty(alloc), 1_000_000);
-    let tile = b"{\"verb\":\"tile\",\"col\":0,\"row\":0}\n";
-    let is_refused = answers(&rt, alloc, board, 17, tile, BAD_WORKERS);
-    holds(&rt, "seventeen workers", is_refused);
+    in_one_piece::<Brand, _>(&rt, alloc, Opened::new(), Document::empty(alloc))
 }
 
-#[test]
-fn a_line_is_answered_alone(rt: HostRuntime) {
-    let line = b"{\"verb\":\"tile\",\"col\":0,\"row\":0}";
-    let reply = "{\"body\":196623,\"ok\":true,\"version\":0}\n";
-    let is_answered = is_answered(&rt, rt.alloc(), line, reply, 196_623);
-    holds(&rt, "a tile", is_answered);
-}
-
-// Whether a line on an empty document has this reply, and a body of so many bytes.
-fn is_answered<H: Threads + Wait + Sync + Abort>(
+fn in_one_piece<B: Lines, H: Threads + Wait + Abort + Sync>(
     rt: &H,
     alloc: Global,
-    line: &[u8],
-    reply: &str,
-    bytes: usize,
-) -> bool {
-    let mut board = board(rt, alloc, Document::empty(alloc), 1_000_000);
-    let answer = answer_line(rt, alloc, &mut board, 1, line);
-    answer.line().as_str() == reply && answer.body().len() == bytes
+    opened: Opened,
+    document: Document,
+)
+    requires { B.line 1 ≡ record { book = opened.head.word.book; opening = document; limit = 10 } }
+{
+    let mut board = first_board::<B, H>(rt, alloc, opened, document, 10);
+    check_one_piece(rt, alloc, &mut board);
+}
+
+fn check_one_piece<B: Lines, H: Threads + Wait + Abort + Sync>(
+    rt: &H,
+    alloc: Global,
+    board: &mut Shared<B>,
+) {
+    let mut reader = requests();
+    let mut whole = Vec::new(alloc);
+    let served = serve(rt, alloc, board, 1, &mut reader, &mut whole);
+    check_answers(rt, alloc, served, &whole);
+}
+
+// Asserts that a session counted and wrote what it should.
+fn check_answers(
+    rt: &impl Abort,
+    alloc: Global,
+    served: Result<Served, SessionFault>,
+    written: &[u8],
+) {
+    let wanted = answers(rt, alloc);
+    equal(rt, "the counts", &served, &Ok(all_served(&wanted)));
+    holds(rt, "the answers", written == wanted.as_slice());
 }
 
 #[test]
-fn versions_have_a_limit(rt: HostRuntime) {
+fn a_session_byte_by_byte(rt: HostRuntime) {
     let alloc = rt.alloc();
-    let board = board(&rt, alloc, Document::empty(alloc), 2);
-    let requests =
-        b"{\"verb\":\"respace\",\"parent\":null}\n{\"verb\":\"respace\",\"parent\":1}\n{\"verb\":\"respace\",\"parent\":null}\n{\"verb\":\"respace\",\"parent\":null}\n{\"verb\":\"respace\",\"parent\":1}\n";
-    let replies =
-        b"{\"body\":0,\"ok\":true,\"version\":1}\n{\"body\":0,\"code\":3,\"name\":\"NoSuchParent\",\"ok\":false}\n{\"body\":0,\"ok\":true,\"version\":2}\n{\"body\":0,\"code\":16,\"name\":\"VersionsSpent\",\"ok\":false}\n{\"body\":0,\"code\":16,\"name\":\"VersionsSpent\",\"ok\":false}\n";
-    let is_answered = answers(&rt, alloc, board, 1, requests, replies);
-    holds(&rt, "two versions", is_answered);
+    byte_by_byte::<Brand, _>(&rt, alloc, Opened::new(), Document::empty(alloc))
+}
+
+fn byte_by_byte<B: Lines, H: Threads + Wait + Abort + Sync>(
+    rt: &H,
+    alloc: Global,
+    opened: Opened,
+    document: Document,
+)
+    requires { B.line 1 ≡ record { book = opened.head.word.book; opening = document; limit = 10 } }
+{
+    let mut board = first_board::<B, H>(rt, alloc, opened, document, 10);
+    check_bytes(rt, alloc, &mut board);
+}
+
+fn check_bytes<B: Lines, H: Threads + Wait + Abort + Sync>(
+    rt: &H,
+    alloc: Global,
+    board: &mut Shared<B>,
+) {
+    let mut drip = Drip { rest: requests() };
+    let mut narrow = Narrow {
+        out: Vec::new(alloc),
+    };
+    let served = serve(rt, alloc, board, 1, &mut drip, &mut narrow);
+    check_answers(rt, alloc, served, &narrow.out);
+}
+
+/// What a session of nine requests counts.
+fn all_served(answers: &Vec<u8>) -> Served {
+    Served {
+        requests: 9,
+        written: answers.len() as u64,
+    }
 }

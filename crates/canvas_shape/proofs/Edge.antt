@@ -39,6 +39,18 @@ lt-lt_test a b h = grind (arith, ints)
 pub le-lt_test : (a b : ℤ) → b ≤ℤ a → int_lt a b ≡ false
 le-lt_test a b h = grind (arith, ints)
 
+pub le_test-true : (a b : ℤ) → int_le a b ≡ true → a ≤ℤ b
+le_test-true a b h = grind (arith, ints)
+
+pub le_test-false : (a b : ℤ) → int_le a b ≡ false → b <ℤ a
+le_test-false a b h = grind (arith, ints)
+
+pub le-le_test : (a b : ℤ) → a ≤ℤ b → int_le a b ≡ true
+le-le_test a b h = grind (arith, ints)
+
+pub lt-le_test : (a b : ℤ) → b <ℤ a → int_le a b ≡ false
+lt-le_test a b h = grind (arith, ints)
+
 -- two tests of an order give one answer
 pub lt-same : (a b c d : ℤ) → (a <ℤ b → c <ℤ d) → (b ≤ℤ a → d ≤ℤ c) → int_lt a b ≡ int_lt c d
 lt-same a b c d f g = elim (cases_Bool (int_lt a b)) [ inl t ↦ t ∙ sym (lt-lt_test c d (f (lt_test-true a b t))) | inr t ↦ t ∙ sym (le-lt_test c d (g (lt_test-false a b t))) ]

@@ -1,4 +1,5 @@
 -- The row of an ellipse.
+use Rattle.canvas_shape.proofs.Edge.{le_test-true, le_test-false, le-le_test, lt-le_test}
 use Rattle.std.proofs.Common.{◌≡◌, ℕ, ◌+◌, ◌-◌, ◌*◌, ◌/◌, ◌≤◌, ◌<◌, ℤ, pos, negsuc, ◌+ℤ◌, ◌-ℤ◌, ◌*ℤ◌, ◌≤ℤ◌, ◌<ℤ◌, true, false, refl, sym, ap, ◌∙◌, arith, inl, inr, leb, ◌&&◌}
 use Rattle.std.specs.Prelude.{int_le, int_lt, unsigned_abs, nat_le}
 use Rattle.std.proofs.Math.Nat.{mul-le-mul, mul_comm, add_comm}
@@ -99,18 +100,6 @@ not-edge at from h le = omega (arith, ints)
 
 abs-test : (z : ℤ) (r : ℕ) → (int_le (pos 0) (z +ℤ pos r) && int_le z (pos r)) ≡ leb (unsigned_abs z) r
 abs-test z r = grind (arith, ints, nat_tests)
-
-le_test-true : (a b : ℤ) → int_le a b ≡ true → a ≤ℤ b
-le_test-true a b h = grind (arith, ints)
-
-le_test-false : (a b : ℤ) → int_le a b ≡ false → b <ℤ a
-le_test-false a b h = grind (arith, ints)
-
-le-le_test : (a b : ℤ) → a ≤ℤ b → int_le a b ≡ true
-le-le_test a b h = grind (arith, ints)
-
-lt-le_test : (a b : ℤ) → b <ℤ a → int_le a b ≡ false
-lt-le_test a b h = grind (arith, ints)
 
 -- two tests of an order give one answer
 le-same : (a b c d : ℤ) → (a ≤ℤ b → c ≤ℤ d) → (b <ℤ a → d <ℤ c) → int_le a b ≡ int_le c d

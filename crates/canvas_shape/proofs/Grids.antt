@@ -1,14 +1,18 @@
 -- Columns and rows that a window shows.
-use Rattle.std.proofs.Common.{◌≡◌, ℕ, ◌+◌, ◌*◌, ◌/◌, ◌-◌, ◌<◌, ◌≤◌, ℤ, pos, ◌+ℤ◌, ◌*ℤ◌, ◌<ℤ◌, ◌≤ℤ◌, sym, ap, ◌∙◌, arith, inl, inr}
-use Rattle.std.specs.Prelude.{int_lt, nat_lt, min}
-use Rattle.std.proofs.lemmas.Bool.{cases_lt, lt-ltb, le-ltb}
-use Rattle.std.proofs.lemmas.Int.{ints}
+use Rattle.canvas_shape.proofs.Sizes.{difference-words, low-fits, unsigned-fits, unsigned-is}
+use lib.Dec.{T}
+use Rattle.std.specs.Int.Signed.{non_neg}
+use Rattle.std.specs.Int.{w64}
+use Rattle.std.proofs.Common.{◌^◌, ◌≡◌, ℕ, ◌+◌, ◌*◌, ◌/◌, ◌-◌, ◌<◌, ◌≤◌, ℤ, pos, ◌+ℤ◌, ◌*ℤ◌, ◌<ℤ◌, ◌≤ℤ◌, sym, ap, ◌∙◌, arith, inl, inr, FitsSigned, Fits, to_z, of_z, subst, true, false, ◌-ℤ◌}
+use Rattle.std.specs.Prelude.{int_lt, nat_lt, min, int_le, unsigned_abs}
+use Rattle.std.proofs.lemmas.Bool.{cases_lt, lt-ltb, le-ltb, false≢true}
+use Rattle.std.proofs.lemmas.Int.{ints, to_z-of_z}
 use Rattle.std.proofs.lemmas.Nat.{div_below, le-div, mul-le, pow_pos}
 use Rattle.std.proofs.Math.Nat.{div-mul-le_self, pow-le-pow_right}
 use Rattle.canvas_plane.specs.Sides.{scale_of}
 use Rattle.canvas_plane.specs.Window.{row_shown}
 use Rattle.canvas_plane.specs.declared.windows.Window.{Window}
-use Rattle.canvas_shape.proofs.Edge.{lt-lt_test, le-lt_test, times-add}
+use Rattle.canvas_shape.proofs.Edge.{lt-lt_test, le-lt_test, times-add, lt_test-true, le_test-true, le-le_test}
 
 below-of : (edge from : ℤ) (n m : ℕ) → from +ℤ pos n +ℤ pos 1 ≡ edge → edge ≤ℤ (from +ℤ pos m) → n < m
 below-of edge from n m e le = omega (arith, ints)
@@ -85,3 +89,57 @@ minus-less n first k = grind arith
 -- rows that are counted from a later one
 pub rows-less : (n first count k : ℕ) → k < count → nat_lt k (min (n - first) count) ≡ nat_lt (first + k) n
 rows-less n first count k lt = min-less (n - first) count k lt ∙ minus-less n first k
+
+-- a row before a count of rows is one that the window shows
+pub row-inside : (first k count h : ℕ) → k < count → first + count ≤ h → first + k < h
+row-inside first k count h lt le = omega arith
+
+-- ---- ways before an edge, as machine words
+way-least : (edge from : ℤ) → from <ℤ edge → pos 0 ≤ℤ (edge -ℤ from -ℤ pos 1)
+way-least edge from lt = omega (arith, ints)
+
+way-most : (edge from : ℤ) → edge ≤ℤ (from +ℤ pos 16384) → (edge -ℤ from -ℤ pos 1) <ℤ pos 4294967296
+way-most edge from le = omega (arith, ints)
+
+way-gap : (edge from : ℤ) → edge ≤ℤ (from +ℤ pos 16384) → (edge -ℤ from) <ℤ pos 4294967296
+way-gap edge from le = omega (arith, ints)
+
+way-there : (edge from : ℤ) → from <ℤ edge → pos 0 ≤ℤ (edge -ℤ from)
+way-there edge from lt = omega (arith, ints)
+
+way-words : (edge from : ℤ) → FitsSigned w64 edge → FitsSigned w64 from → from <ℤ edge → edge ≤ℤ (from +ℤ pos 16384) → to_z w64 (of_z w64 (to_z w64 (of_z w64 edge) -ℤ to_z w64 (of_z w64 from))) -ℤ pos 1 ≡ edge -ℤ from -ℤ pos 1
+way-words edge from fe ff lt le =
+    ap (λ z. to_z w64 (of_z w64 z) -ℤ pos 1) (difference-words edge from fe ff)
+    ∙ ap (λ z. z -ℤ pos 1) (to_z-of_z w64 (edge -ℤ from) (low-fits (edge -ℤ from) (way-there edge from lt) (way-gap edge from le)))
+
+pub way-fits : (edge from : ℤ) → FitsSigned w64 edge → FitsSigned w64 from → from <ℤ edge → edge ≤ℤ (from +ℤ pos 16384) → FitsSigned w64 (to_z w64 (of_z w64 (to_z w64 (of_z w64 edge) -ℤ to_z w64 (of_z w64 from))) -ℤ pos 1)
+way-fits edge from fe ff lt le = subst (FitsSigned w64) (sym (way-words edge from fe ff lt le)) (low-fits (edge -ℤ from -ℤ pos 1) (way-least edge from lt) (way-most edge from le))
+
+pub way-unsigned : (edge from : ℤ) → FitsSigned w64 edge → FitsSigned w64 from → from <ℤ edge → edge ≤ℤ (from +ℤ pos 16384) → T (non_neg (to_z w64 (of_z w64 (to_z w64 (of_z w64 (to_z w64 (of_z w64 edge) -ℤ to_z w64 (of_z w64 from))) -ℤ pos 1)))) × Fits w64 (unsigned_abs (to_z w64 (of_z w64 (to_z w64 (of_z w64 (to_z w64 (of_z w64 edge) -ℤ to_z w64 (of_z w64 from))) -ℤ pos 1))))
+way-unsigned edge from fe ff lt le = unsigned-fits _ (edge -ℤ from -ℤ pos 1) (way-words edge from fe ff lt le) (way-least edge from lt) (way-most edge from le)
+
+way-back : (edge from : ℤ) → from +ℤ (edge -ℤ from -ℤ pos 1) +ℤ pos 1 ≡ edge
+way-back edge from = omega (arith, ints)
+
+pub way-is : (edge from : ℤ) → FitsSigned w64 edge → FitsSigned w64 from → from <ℤ edge → edge ≤ℤ (from +ℤ pos 16384) → from +ℤ pos (unsigned_abs (to_z w64 (of_z w64 (to_z w64 (of_z w64 (to_z w64 (of_z w64 edge) -ℤ to_z w64 (of_z w64 from))) -ℤ pos 1)))) +ℤ pos 1 ≡ edge
+way-is edge from fe ff lt le =
+    ap (λ z. from +ℤ z +ℤ pos 1) (unsigned-is _ (edge -ℤ from -ℤ pos 1) (way-words edge from fe ff lt le) (way-least edge from lt) (way-most edge from le)) ∙ way-back edge from
+
+-- ---- whether an edge is inside
+left-test : (left edge l : ℤ) → FitsSigned w64 left → FitsSigned w64 edge → left ≡ l → int_lt (to_z w64 (of_z w64 left)) (to_z w64 (of_z w64 edge)) ≡ int_lt l edge
+left-test left edge l fl fe e = ap (λ z. int_lt z (to_z w64 (of_z w64 edge))) (to_z-of_z w64 left fl ∙ e) ∙ ap (int_lt l) (to_z-of_z w64 edge fe)
+
+right-test : (right edge r : ℤ) → FitsSigned w64 right → FitsSigned w64 edge → right ≡ r → int_le (to_z w64 (of_z w64 edge)) (to_z w64 (of_z w64 right)) ≡ int_le edge r
+right-test right edge r fr fe e = ap (λ z. int_le z (to_z w64 (of_z w64 right))) (to_z-of_z w64 edge fe) ∙ ap (int_le edge) (to_z-of_z w64 right fr ∙ e)
+
+pub inside-right : (left right edge l r : ℤ) → FitsSigned w64 left → FitsSigned w64 right → FitsSigned w64 edge → left ≡ l → right ≡ r → int_lt (to_z w64 (of_z w64 left)) (to_z w64 (of_z w64 edge)) ≡ true → (int_le (to_z w64 (of_z w64 edge)) (to_z w64 (of_z w64 right)) ≡ true → (l <ℤ edge) × (edge ≤ℤ r)) × ((l <ℤ edge) × (edge ≤ℤ r) → int_le (to_z w64 (of_z w64 edge)) (to_z w64 (of_z w64 right)) ≡ true)
+inside-right left right edge l r fl fr fe el er h =
+    let t = right-test right edge r fr fe er in
+    (λ k. (lt_test-true l edge (sym (left-test left edge l fl fe el) ∙ h), le_test-true edge r (sym t ∙ k)), λ p. t ∙ le-le_test edge r p.1)
+
+pub inside-left : (left edge l r : ℤ) → FitsSigned w64 left → FitsSigned w64 edge → left ≡ l → int_lt (to_z w64 (of_z w64 left)) (to_z w64 (of_z w64 edge)) ≡ false → (int_lt (to_z w64 (of_z w64 left)) (to_z w64 (of_z w64 edge)) ≡ true → (l <ℤ edge) × (edge ≤ℤ r)) × ((l <ℤ edge) × (edge ≤ℤ r) → int_lt (to_z w64 (of_z w64 left)) (to_z w64 (of_z w64 edge)) ≡ true)
+inside-left left edge l r fl fe el h = (λ k. absurd (false≢true (sym h ∙ k)), λ p. left-test left edge l fl fe el ∙ lt-lt_test l edge p.0)
+
+-- the same of steps of a level
+pub steps-level : (edge from : ℤ) (n l level k : ℕ) → l ≡ level → from +ℤ pos n +ℤ pos 1 ≡ edge → edge ≤ℤ (from +ℤ pos (k * scale_of level)) → n / 2 ^ l < k
+steps-level edge from n l level k e h le = subst (λ i. n / 2 ^ i < k) (sym e) (steps-most edge from n (scale_of level) k (scale-positive level) h le)

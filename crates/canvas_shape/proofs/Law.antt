@@ -1,5 +1,5 @@
 -- The box of a polygon has all its pixels.
-use Rattle.std.proofs.Common.{◌≡◌, ℕ, suc, ◌+◌, ◌<◌, ◌≤◌, List, [], ◌∷◌, length, get_or, drop, ℤ, pos, ◌+ℤ◌, ◌-ℤ◌, ◌≤ℤ◌, ◌<ℤ◌, true, false, ◌&&◌, refl, sym, ap, ◌∙◌, arith, inl, inr, All, drop-cons, add-one}
+use Rattle.std.proofs.Common.{◌≡◌, ℕ, suc, ◌+◌, ◌<◌, ◌≤◌, List, [], ◌∷◌, length, get_or, drop, ℤ, pos, ◌+ℤ◌, ◌-ℤ◌, ◌≤ℤ◌, ◌<ℤ◌, true, ◌&&◌, refl, sym, ap, ◌∙◌, arith, inl, inr, All, drop-cons, add-one}
 use Rattle.std.specs.Prelude.{int_le, int_lt}
 use Rattle.std.specs.Int.{int_min, int_max}
 use Rattle.std.proofs.lemmas.Int.{ints, clamps}
@@ -12,7 +12,7 @@ use Rattle.canvas_plane.specs.Page.{is_in}
 use Rattle.canvas_shape.specs.Edges.{is_in_polygon}
 use Rattle.canvas_shape.specs.Bounds.{dot_of, grown_to, grown_along, bounds_of, IsAmong}
 use Rattle.canvas_shape.proofs.Outside.{none-left, none-past, none-above, none-below}
-use Rattle.canvas_shape.proofs.Edge.{lt_test-false}
+use Rattle.canvas_shape.proofs.Edge.{lt_test-false, le_test-false, le-le_test, lt-le_test}
 
 min-left : (a b : ℤ) → int_min a b ≤ℤ a
 min-left a b = omega (arith, ints, clamps)
@@ -52,15 +52,6 @@ along-has b (p ∷ ps) = All-cons (λ q. IsAmong (grown_along (grown_to b p) ps)
 pub bounds-have : (ps : List Point) → All (λ p. IsAmong (bounds_of ps) p) ps
 bounds-have [] = λ k d h. absurd (omega arith)
 bounds-have (p ∷ ps) = along-has (dot_of p) (p ∷ ps)
-
-le_test-false : (a b : ℤ) → int_le a b ≡ false → b <ℤ a
-le_test-false a b h = grind (arith, ints)
-
-lt-le_test : (a b : ℤ) → b <ℤ a → int_le a b ≡ false
-lt-le_test a b h = grind (arith, ints)
-
-le-le_test : (a b : ℤ) → a ≤ℤ b → int_le a b ≡ true
-le-le_test a b h = grind (arith, ints)
 
 right-of : (l x px : ℤ) → x <ℤ l → l ≤ℤ px → pos 0 ≤ℤ (px -ℤ x -ℤ pos 1)
 right-of l x px h k = omega (arith, ints)

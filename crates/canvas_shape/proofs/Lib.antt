@@ -8,11 +8,14 @@ pub mod Grids
 pub mod Held
 pub mod Law
 pub mod LeafRows
+pub mod Leans
 pub mod Limits
 pub mod LineLaws
+pub mod Mirrors
 pub mod Odd
 pub mod Outside
 pub mod Pairs
 pub mod Sides
+pub mod Sizes
 pub mod Strips
 pub mod Turned

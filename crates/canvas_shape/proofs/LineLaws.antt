@@ -1,14 +1,15 @@
 -- The line of an edge from row to row.
-use Rattle.std.proofs.Common.{◌≡◌, ℕ, suc, ◌+◌, ◌*◌, ◌≤◌, ◌<◌, ℤ, pos, negsuc, ◌+ℤ◌, ◌-ℤ◌, ◌*ℤ◌, ◌≤ℤ◌, ◌<ℤ◌, Bool, true, false, ◌&&◌, cond, refl, sym, ap, ◌∙◌, subst, arith, inl, inr}
+use Rattle.std.proofs.Common.{◌≡◌, ℕ, suc, ◌+◌, ◌*◌, ◌≤◌, ◌<◌, ℤ, pos, negsuc, ◌+ℤ◌, ◌-ℤ◌, ◌*ℤ◌, ◌≤ℤ◌, ◌<ℤ◌, Bool, true, false, ◌&&◌, cond, refl, sym, ap, ◌∙◌, subst, arith, inl, inr, FitsSigned, to_z, of_z}
 use Rattle.std.specs.Prelude.{int_lt}
-use Rattle.std.proofs.lemmas.Int.{ints}
+use Rattle.std.specs.Int.{w64}
+use Rattle.std.proofs.lemmas.Int.{ints, to_z-of_z}
 use Rattle.std.proofs.lemmas.Bool.{cases_Bool}
 use lib.IntN.{neg_ℤ, *ℤ-negsuc}
 use Rattle.canvas_plane.specs.declared.Point.{Point}
 use Rattle.canvas_shape.specs.declared.line.Line.{Line}
 use Rattle.canvas_shape.specs.Edges.{counts, crosses_row, is_right_of}
 use Rattle.canvas_shape.specs.Lines.{IsDivided, downward, lean_of, lean_over, Follows}
-use Rattle.canvas_shape.proofs.Edge.{times-add, first-past, down-edge, up-edge, lt_test-true, lt_test-false, le-lt_test}
+use Rattle.canvas_shape.proofs.Edge.{times-add, first-past, down-edge, up-edge, lt_test-true, lt_test-false, lt-lt_test, le-lt_test}
 
 neg-sum : (a b : ℤ) → neg_ℤ (a +ℤ b) ≡ neg_ℤ a +ℤ neg_ℤ b
 neg-sum a b = omega (arith, ints)
@@ -140,3 +141,30 @@ up-follows p q apart y lean step h line above ex eh er some low el es here next 
       here = subst (λ k. IsDivided ((downward p q (lean_of p q y) +ℤ pos k) -ℤ pos 1) k line.here.whole line.here.rest) (sym eh) (subst (λ l. IsDivided ((l +ℤ pos h) -ℤ pos 1) h line.here.whole line.here.rest) (el ∙ up (lean_of p q y)) here);
       step = subst (λ k. IsDivided (downward p q (lean_over p q apart)) k line.step.whole line.step.rest) (sym eh) (subst (λ n. IsDivided n h line.step.whole line.step.rest) (es ∙ up (lean_over p q apart)) next);
     }
+
+-- the same of one that runs downward
+pub down-follows : (p q : Point) (apart : ℕ) (y lean step : ℤ) (h : ℕ) (line : Line) → p.y <ℤ q.y → line.x ≡ p.x → line.height ≡ h → pos h ≡ q.y -ℤ p.y → 0 < h → h ≤ 268435456 → lean ≡ lean_of p q y → step ≡ lean_over p q apart → IsDivided ((lean +ℤ pos h) -ℤ pos 1) h line.here.whole line.here.rest → IsDivided step h line.step.whole line.step.rest → Follows p q apart y line
+down-follows p q apart y lean step h line below ex eh er some low el es here next =
+    let t = lt-lt_test p.y q.y below in
+    let down : (n : ℤ) → n ≡ downward p q n = λ n. sym (ap (λ b. cond b n (neg_ℤ n)) t) in
+    record {
+      x = ex;
+      height = ap pos eh ∙ er ∙ down (q.y -ℤ p.y);
+      positive = omega arith;
+      low = omega arith;
+      here = subst (λ k. IsDivided ((downward p q (lean_of p q y) +ℤ pos k) -ℤ pos 1) k line.here.whole line.here.rest) (sym eh) (subst (λ l. IsDivided ((l +ℤ pos h) -ℤ pos 1) h line.here.whole line.here.rest) (el ∙ down (lean_of p q y)) here);
+      step = subst (λ k. IsDivided (downward p q (lean_over p q apart)) k line.step.whole line.step.rest) (sym eh) (subst (λ n. IsDivided n h line.step.whole line.step.rest) (es ∙ down (lean_over p q apart)) next);
+    }
+
+-- ---- what a quotient leaves over, in words
+held-words : (w held : ℤ) (h : ℕ) → FitsSigned w64 w → FitsSigned w64 held → held ≡ to_z w64 (of_z w64 w) *ℤ pos h → w *ℤ pos h ≡ to_z w64 (of_z w64 held)
+held-words w held h fw fh e = sym (to_z-of_z w64 held fh ∙ e ∙ ap (λ z. z *ℤ pos h) (to_z-of_z w64 w fw))
+
+pub left-least : (v w held : ℤ) (h : ℕ) → FitsSigned w64 w → FitsSigned w64 held → held ≡ to_z w64 (of_z w64 w) *ℤ pos h → ((w *ℤ pos h) +ℤ (w *ℤ pos h)) ≤ℤ v → (to_z w64 (of_z w64 held) +ℤ to_z w64 (of_z w64 held)) ≤ℤ v
+left-least v w held h fw fh e le = subst (λ u. (u +ℤ u) ≤ℤ v) (held-words w held h fw fh e) le
+
+left-room : (v u : ℤ) (h : ℕ) → h ≤ 268435456 → v <ℤ ((u +ℤ u) +ℤ (pos h +ℤ pos h)) → v <ℤ ((u +ℤ u) +ℤ pos 536870912)
+left-room v u h low lt = omega (arith, ints)
+
+pub left-most : (v w held : ℤ) (h : ℕ) → FitsSigned w64 w → FitsSigned w64 held → held ≡ to_z w64 (of_z w64 w) *ℤ pos h → h ≤ 268435456 → v <ℤ (((w *ℤ pos h) +ℤ (w *ℤ pos h)) +ℤ (pos h +ℤ pos h)) → v <ℤ ((to_z w64 (of_z w64 held) +ℤ to_z w64 (of_z w64 held)) +ℤ pos 536870912)
+left-most v w held h fw fh e low lt = subst (λ u. v <ℤ ((u +ℤ u) +ℤ pos 536870912)) (held-words w held h fw fh e) (left-room v (w *ℤ pos h) h low lt)

@@ -8,7 +8,7 @@ use lib.IntN.{neg_ℤ, *ℤ_comm, neg_ℤ-neg_ℤ, neg_ℤ-+ℤ}
 use Rattle.canvas_plane.specs.declared.Point.{Point}
 use Rattle.canvas_plane.specs.Motion.{not_same}
 use Rattle.canvas_shape.specs.Edges.{side_of, is_right_of, crosses_row, counts, is_odd_along, last_of, is_in_polygon}
-use Rattle.canvas_shape.proofs.Edge.{times-add, times-neg, times-positive, times-negative, in-parts, lt-lt_test, le-lt_test}
+use Rattle.canvas_shape.proofs.Edge.{times-add, times-neg, times-positive, times-negative, in-parts, lt-lt_test, le-lt_test, le_test-true, le_test-false}
 
 times-zero : (a : ℤ) → a *ℤ pos 0 ≡ pos 0
 times-zero a = omega (arith, ints)
@@ -154,12 +154,6 @@ up-past p q x y a b h g =
     let en = nat_of (pos 2 *ℤ p.y -ℤ pos 2 *ℤ y -ℤ pos 1) (omega (arith, ints)) in
     let fn = nat_of (pos 2 *ℤ y +ℤ pos 1 -ℤ pos 2 *ℤ q.y) (omega (arith, ints)) in
     up-past-at p q x y dn.0 en.0 fn.0 dn.1 en.1 fn.1 a b h g
-
-le_test-true : (a b : ℤ) → int_le a b ≡ true → a ≤ℤ b
-le_test-true a b h = grind (arith, ints)
-
-le_test-false : (a b : ℤ) → int_le a b ≡ false → b <ℤ a
-le_test-false a b h = grind (arith, ints)
 
 sides : (s t : Bool) → not_same s t ≡ true → ((s ≡ true) × (t ≡ false)) ⊎ ((s ≡ false) × (t ≡ true))
 sides true true e = absurd (false≢true e)

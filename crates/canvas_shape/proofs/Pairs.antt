@@ -9,7 +9,7 @@ use Rattle.std.proofs.Math.ListN.{drop_of_length-le}
 use Rattle.std.specs.List.Sorted.{IsSorted}
 use Rattle.std.specs.Ordering.{nat_cmp}
 use Rattle.std.proofs.lemmas.List.Elements.{All-head, All-tail, All-push}
-use Rattle.std.proofs.lemmas.List.{take-append-le}
+use Rattle.std.proofs.lemmas.List.{append-nil, length-append, take-append-le}
 use Rattle.std.proofs.lemmas.Int.{ints}
 use Rattle.std.proofs.lemmas.Bool.{cases_Bool, cases_lt, lt-ltb, le-ltb, ltb-true, and_parts, eq-eqb, ne_eqb}
 use Rattle.canvas_plane.specs.Motion.{not_same}
@@ -18,7 +18,7 @@ use Rattle.canvas_shape.specs.Spans.{is_from_to, covers, AreRising, StartsFrom, 
 use Rattle.canvas_shape.specs.Cuts.{is_odd, is_odd_above, piece, spans_of, AreRisingFrom, AreWithin, AreCuts, AddsCut}
 use Rattle.canvas_shape.specs.Edges.{is_odd_along, counts, is_in_polygon, last_of}
 use Rattle.canvas_plane.specs.declared.Point.{Point}
-use Rattle.canvas_shape.proofs.Edge.{lt-lt_test, le-lt_test, lt_test-true, lt_test-false}
+use Rattle.canvas_shape.proofs.Edge.{lt-lt_test, le-lt_test, lt_test-true, lt_test-false, le_test-true, le-le_test}
 
 true≢false : true ≡ false → ⊥
 true≢false e = cc
@@ -74,9 +74,6 @@ and-lt i a b e = ltb-true a b (and_parts i (nat_lt a b) e).1
 
 le-not_lt : (a x : ℤ) → int_le a x ≡ not (int_lt x a)
 le-not_lt a x = grind (arith, ints)
-
-le-le_test : (a b : ℤ) → a ≤ℤ b → int_le a b ≡ true
-le-le_test a b h = grind (arith, ints)
 
 from-start : (left x : ℤ) (start c : ℕ) → start ≤ c → (left +ℤ pos c) ≤ℤ x → int_le (left +ℤ pos start) x ≡ true
 from-start left x start c h k = let e : (left +ℤ pos start) ≤ℤ x = omega (arith, ints) in le-le_test (left +ℤ pos start) x e
@@ -215,9 +212,6 @@ past-all left right x (c ∷ cs) w h =
 from-zero : (left x : ℤ) → int_le (left +ℤ pos 0) x ≡ int_le left x
 from-zero left x = grind (arith, ints)
 
-le_test-true : (a b : ℤ) → int_le a b ≡ true → a ≤ℤ b
-le_test-true a b h = grind (arith, ints)
-
 in-row : (left right x : ℤ) (cs : List ℕ) (test : ℤ → Bool) → AreCuts left right cs test → (int_le left x && is_odd_above left cs x) ≡ (is_from_to left x right && test x)
 in-row left right x cs test h = elim (cases_Bool (int_le left x)) [
   | inl e ↦ elim (cases_Bool (int_lt x right)) [
@@ -315,3 +309,20 @@ holds-step i c start p q d points k x y lt eq ec h =
 
 pub holds-done : (i start : Bool) (p : Point) (points : List Point) (k : ℕ) (x y : ℤ) → length points ≤ k → not_same i (is_odd_along p (drop k points) x y) ≡ start → i ≡ start
 holds-done i start p points k x y le h = sym (not_same-false i) ∙ ap (λ ps. not_same i (is_odd_along p ps x y)) (sym (drop_of_length-le points le)) ∙ h
+
+-- ---- spans between the cuts of a row, one by one
+pub cut-step : (left : ℤ) (inside : Bool) (start k d : ℕ) (cuts : List ℕ) (out new all : List Span) → k < length cuts → new ≡ out ++ piece left inside start (get_or cuts k d) → out ++ spans_of left inside start (drop k cuts) ≡ all → new ++ spans_of left (not inside) (get_or cuts k d) (drop (k + 1) cuts) ≡ all
+cut-step left inside start k d cuts out new all lt en h =
+    let cut = get_or cuts k d in
+    let e : drop k cuts ≡ cut ∷ drop (k + 1) cuts = drop-cons cuts k d lt ∙ ap (λ n. cut ∷ drop n cuts) (sym (add-one k)) in
+    ap (λ l. l ++ spans_of left (not inside) cut (drop (k + 1) cuts)) en
+    ∙ append_assoc out (piece left inside start cut) (spans_of left (not inside) cut (drop (k + 1) cuts))
+    ∙ ap (λ cs. out ++ spans_of left inside start cs) (sym e)
+    ∙ h
+
+pub cut-done : (left : ℤ) (inside first odd : Bool) (start k : ℕ) (cuts : List ℕ) (old out : List Span) → length cuts ≤ k → first ≡ odd → out ++ spans_of left inside start (drop k cuts) ≡ old ++ spans_of left first 0 cuts → out ≡ old ++ spans_of left odd 0 cuts
+cut-done left inside first odd start k cuts old out le e h =
+    sym (append-nil out) ∙ ap (λ cs. out ++ spans_of left inside start cs) (sym (drop_of_length-le cuts le)) ∙ h ∙ ap (λ b. old ++ spans_of left b 0 cuts) e
+
+pub more-step : (old out new more : List Span) → new ≡ out ++ more → length old ≤ length out → length old ≤ length new
+more-step old out new more e le = subst (λ l. length old ≤ length l) (sym e) (omega (arith, le, length-append out more))

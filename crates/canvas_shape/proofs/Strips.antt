@@ -1,13 +1,14 @@
 -- Edge flags of many rows.
-use Rattle.std.proofs.Common.{◌≡◌, ℕ, suc, ◌+◌, ◌<◌, ◌≤◌, ◌≢◌, List, ◌∷◌, length, get_or, slice_set, drop, ℤ, pos, ◌+ℤ◌, ◌-ℤ◌, ◌≤ℤ◌, ◌<ℤ◌, Bool, true, false, ◌&&◌, refl, sym, ap, ◌∙◌, arith, inl, inr, drop-cons, add-one}
+use Rattle.canvas_shape.proofs.Sizes.{y-fits}
+use Rattle.std.proofs.Common.{◌≡◌, ℕ, suc, ◌+◌, ◌<◌, ◌≤◌, ◌≢◌, List, ◌∷◌, length, get_or, slice_set, drop, ℤ, pos, ◌+ℤ◌, ◌-ℤ◌, ◌≤ℤ◌, ◌<ℤ◌, Bool, true, false, ◌&&◌, refl, sym, ap, ◌∙◌, arith, inl, inr, drop-cons, add-one, ◌*◌, FitsSigned, to_z, of_z, lt_of_lt_of_le}
 use Rattle.std.specs.Prelude.{int_le, int_lt, nat_lt, cond}
-use Rattle.std.specs.Int.{int_min, int_max}
-use Rattle.std.proofs.lemmas.Int.{ints}
+use Rattle.std.specs.Int.{int_min, int_max, w64}
+use Rattle.std.proofs.lemmas.Int.{ints, to_z-of_z}
 use Rattle.std.proofs.lemmas.Bool.{cases_eq, cases_Bool, cases_lt, lt-ltb, le-ltb}
 use Rattle.std.proofs.lemmas.List.{get_or-set_same, get_or-set_other}
 use Rattle.std.proofs.Math.ListN.{drop_of_length-le}
 use Rattle.canvas_plane.specs.declared.Point.{Point}
-use Rattle.canvas_plane.specs.Motion.{not_same}
+use Rattle.canvas_plane.specs.Motion.{not_same, size_of}
 use Rattle.canvas_shape.specs.declared.edge_flags.EdgeFlags.{EdgeFlags}
 use Rattle.canvas_shape.specs.Edges.{counts, crosses_row, is_right_of, is_odd_along}
 use Rattle.canvas_shape.specs.Flags.{is_held}
@@ -126,3 +127,22 @@ edge-done a w b p points k x y le h =
 pub crosses-at : (p q : Point) (shown : ℕ → ℤ) (least most : ℤ) (start end count k : ℕ) → least ≡ int_min p.y q.y → most ≡ int_max p.y q.y → ((j : ℕ) → j < count → nat_lt j start ≡ int_lt (shown j) least) → ((j : ℕ) → j < count → nat_lt j end ≡ int_lt (shown j) most) → start ≤ k → k < end → k < count → crosses_row p q (shown k) ≡ true
 crosses-at p q shown least most start end count k el em above below le lt inside =
     crosses p q (shown k) least most el em (sym (above k inside) ∙ le-ltb k start le) (sym (below k inside) ∙ lt-ltb k end lt)
+
+min-words : (a b : ℤ) → FitsSigned w64 a → FitsSigned w64 b → int_min (to_z w64 (of_z w64 a)) (to_z w64 (of_z w64 b)) ≡ int_min a b
+min-words a b fa fb = ap (λ z. int_min z (to_z w64 (of_z w64 b))) (to_z-of_z w64 a fa) ∙ ap (int_min a) (to_z-of_z w64 b fb)
+
+max-words : (a b : ℤ) → FitsSigned w64 a → FitsSigned w64 b → int_max (to_z w64 (of_z w64 a)) (to_z w64 (of_z w64 b)) ≡ int_max a b
+max-words a b fa fb = ap (λ z. int_max z (to_z w64 (of_z w64 b))) (to_z-of_z w64 a fa) ∙ ap (int_max a) (to_z-of_z w64 b fb)
+
+-- the rows before a place that is read from a word
+pub rows-read : (shown : ℕ → ℤ) (m : ℤ) (start count : ℕ) → FitsSigned w64 m → ((j : ℕ) → j < count → nat_lt j start ≡ int_lt (shown j) (to_z w64 (of_z w64 m))) → (j : ℕ) → j < count → nat_lt j start ≡ int_lt (shown j) m
+rows-read shown m start count fits before j lt = before j lt ∙ ap (int_lt (shown j)) (to_z-of_z w64 m fits)
+
+pub crosses-words : (p q : Point) (shown : ℕ → ℤ) (least most : ℤ) (start end count k : ℕ) → size_of p ≤ 134217728 → size_of q ≤ 134217728 → FitsSigned w64 least → FitsSigned w64 most → least ≡ int_min (to_z w64 (of_z w64 p.y)) (to_z w64 (of_z w64 q.y)) → most ≡ int_max (to_z w64 (of_z w64 p.y)) (to_z w64 (of_z w64 q.y)) → ((j : ℕ) → j < count → nat_lt j start ≡ int_lt (shown j) (to_z w64 (of_z w64 least))) → ((j : ℕ) → j < count → nat_lt j end ≡ int_lt (shown j) (to_z w64 (of_z w64 most))) → start ≤ k → k < end → end ≤ count → crosses_row p q (shown k) ≡ true
+crosses-words p q shown least most start end count k np nq fl fm el em above below le lt within =
+    crosses-at p q shown least most start end count k (el ∙ min-words p.y q.y (y-fits p np) (y-fits q nq)) (em ∙ max-words p.y q.y (y-fits p np) (y-fits q nq))
+    (rows-read shown least start count fl above) (rows-read shown most end count fm below) le lt (lt_of_lt_of_le lt within)
+
+-- how far a line's place has gone
+pub here-next : (w n k : ℕ) → w ≤ n + 68719476736 → n ≤ 4611686018427387904 + k * 68719476736 → w ≤ 4611686018427387904 + (k + 1) * 68719476736
+here-next w n k h le = omega (arith, h, le)

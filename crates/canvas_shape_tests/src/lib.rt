@@ -1,10 +1,18 @@
-//! Tests of shapes, by what `canvas_shape` offers to callers.
+//! Tests of codes, keys, the plane and shapes, by what these crates offer to callers.
 #![tactic(auto)]
 
 #[cfg(test)]
 mod asserts;
 #[cfg(test)]
+mod codes;
+#[cfg(test)]
+mod key_rows;
+#[cfg(test)]
+mod keys;
+#[cfg(test)]
 mod memory;
+#[cfg(test)]
+mod plane;
 #[cfg(test)]
 mod random_leaves;
 #[cfg(test)]

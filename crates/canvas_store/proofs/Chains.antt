@@ -5,7 +5,7 @@ use Rattle.serde_json.specs.Data.{Data}
 use Rattle.serde_json.specs.Find.{as_bool}
 use Rattle.canvas_plane.specs.declared.Pose.{Pose}
 use Rattle.canvas_shape.specs.declared.Kind.{Kind}
-use Rattle.canvas_doc.specs.declared.records.Place.{Place}
+use Rattle.canvas_record.specs.declared.records.Place.{Place}
 use Rattle.canvas_store.specs.declared.formats.Format.{Format}
 use Rattle.canvas_store.specs.Json.{i32_of, u32_of, u8_of, required, has_others}
 use Rattle.canvas_store.specs.Records.{place_at, pose_members, pose_of, record_members, record_of}

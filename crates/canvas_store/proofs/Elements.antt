@@ -5,7 +5,7 @@ use Rattle.std.proofs.lemmas.Bool.Decides.{nat_tests}
 use Rattle.serde_json.specs.View.{view, items_view}
 use Rattle.serde_json.specs.declared.value.Value.{Value}
 use Rattle.serde_json.proofs.Views.{items_len-items_view}
-use Rattle.canvas_doc.specs.declared.records.Record.{Record}
+use Rattle.canvas_record.specs.declared.records.Record.{Record}
 use Rattle.canvas_store.specs.declared.fault.StoreFault.{StoreFault}
 use Rattle.canvas_store.specs.declared.fault.StoreFault.TheVariants.{BadRecord}
 use Rattle.canvas_store.specs.declared.formats.Head.{Head}

@@ -1,6 +1,7 @@
 pub mod Chains
 pub mod Elements
 pub mod Json
+pub mod Members
 pub mod Keys
 pub mod Opens
 pub mod Plain

@@ -15,11 +15,11 @@ use Rattle.canvas_shape.specs.declared.Kind.TheVariants.{Group, Frame, Rect, Ell
 use Rattle.canvas_shape.specs.Box.{AreSides}
 use Rattle.canvas_shape.specs.Inside.{IsSound, AreVertices}
 use Rattle.canvas_shape.specs.Names.{colour_text}
-use Rattle.canvas_doc.specs.declared.records.Parent.{Parent}
-use Rattle.canvas_doc.specs.declared.records.Parent.TheVariants.{Page, Shape}
-use Rattle.canvas_doc.specs.declared.records.Record.{Record}
-use Rattle.canvas_doc.specs.Contents.{Contents, IsWellFormed}
-use Rattle.canvas_doc.specs.Tree.{IsInLimits}
+use Rattle.canvas_record.specs.declared.records.Parent.{Parent}
+use Rattle.canvas_record.specs.declared.records.Parent.TheVariants.{Page, Shape}
+use Rattle.canvas_record.specs.declared.records.Record.{Record}
+use Rattle.canvas_record.specs.Contents.{Contents, IsWellFormed}
+use Rattle.canvas_record.specs.Tree.{IsInLimits}
 use Rattle.canvas_store.specs.declared.formats.Format.TheVariants.{One}
 use Rattle.canvas_store.specs.Kept.{FitsParent, HasText, IsKept}
 use Rattle.canvas_store.specs.Saved.{fill_data, point_data, sided_data, polygon_data, shape_data, pose_data, parent_data, record_data, data_in}

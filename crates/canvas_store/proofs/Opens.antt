@@ -1,22 +1,24 @@
 -- A document's JSON value opens as that document.
-use Rattle.std.proofs.Common.{◌≡◌, ℕ, suc, ◌+◌, ◌^◌, ◌<◌, ◌≤◌, true, List, [], ◌∷◌, map, length, Some, Ok, refl, sym, ap, arith, All, Bor, get_or, take, subst}
+use Rattle.std.proofs.Common.{◌≡◌, ℕ, suc, ◌+◌, ◌^◌, ◌<◌, ◌≤◌, true, List, [], ◌∷◌, ◌++◌, ◌∙◌, map, length, Some, Ok, refl, sym, ap, arith, All, Bor, get_or, take, subst}
 use Rattle.std.specs.Prelude.{nat_lt, nat_le, ◌&&◌, Result, Err, IfOk, IsUtf8}
 use Rattle.serde_json.specs.Read.{read}
 use Rattle.std.specs.List.{AllByRecursion}
 use Rattle.std.proofs.lemmas.Bool.{lt-ltb, le-leb, and_from}
+use Rattle.std.proofs.lemmas.List.{map-append, map_more}
 use Rattle.std.proofs.lemmas.List.Elements.{recursion_from_All, All-nil, All-cons, All-head, All-tail, All-weaker, All-same, All-map, All-more}
 use Rattle.serde_json.specs.Data.{Data, number, unsigned}
 use Rattle.serde_json.specs.Events.{items_len}
-use Rattle.serde_json.specs.View.{items_of}
+use Rattle.serde_json.specs.View.{items_of, view}
+use Rattle.serde_json.specs.declared.value.Value.{Value}
 use Rattle.canvas_plane.specs.Limits.{is_pose}
 use Rattle.canvas_plane.specs.Motion.{reach_of}
 use Rattle.canvas_shape.specs.Limits.{has_sides, has_vertices}
 use Rattle.canvas_shape.proofs.Limits.{sound-sides, sound-vertices}
-use Rattle.canvas_doc.specs.declared.records.Record.{Record}
-use Rattle.canvas_doc.specs.Contents.{Contents, IsWellFormed}
-use Rattle.canvas_doc.specs.Restored.{is_record}
-use Rattle.canvas_doc.specs.Tree.{IsInLimits}
-use Rattle.canvas_doc.proofs.Saved.{restoration_of-same}
+use Rattle.canvas_record.specs.declared.records.Record.{Record}
+use Rattle.canvas_record.specs.Contents.{Contents, IsWellFormed}
+use Rattle.canvas_record.specs.Restored.{is_record}
+use Rattle.canvas_record.specs.Tree.{IsInLimits}
+use Rattle.canvas_record.proofs.Saved.{restoration_of-same}
 use Rattle.canvas_store.specs.declared.formats.Format.{Format}
 use Rattle.canvas_store.specs.declared.formats.Format.TheVariants.{One, Two}
 use Rattle.canvas_store.specs.declared.formats.Head.{Head}
@@ -117,3 +119,13 @@ pub kept-more : (rs : List (Bor Record)) (i : ℕ) (x : Bor Record) → i < leng
 kept-more rs i x within is kept here =
     let P : Bor Record → Type 0 = λ r. IsKept r.now in
     All-more P rs i x within kept (subst P is here)
+
+-- the value of one more record
+pub seen-more : (rs : List (Bor Record)) (values more : List Value) (value : Value) (i : ℕ) (x : Bor Record) → i < length rs → x ≡ get_or rs i x
+    → map view values ≡ map (record_data Two) (map (λ r. r.now) (take i rs)) → more ≡ values ++ value ∷ [] → view value ≡ record_data Two x.now
+    → map view more ≡ map (record_data Two) (map (λ r. r.now) (take (i + 1) rs))
+seen-more rs values more value i x within is seen grown read =
+    let before : List Record = map (λ r. r.now) (take i rs) in
+    let taken : map (λ r. r.now) (take (i + 1) rs) ≡ before ++ x.now ∷ [] = map_more (λ r. r.now) rs i x within ∙ ap (λ (r : Bor Record). before ++ r.now ∷ []) (sym is) in
+    let known : map (record_data Two) (map (λ r. r.now) (take (i + 1) rs)) ≡ map (record_data Two) before ++ record_data Two x.now ∷ [] = ap (map (record_data Two)) taken ∙ map-append (record_data Two) before (x.now ∷ []) in
+    ap (map view) grown ∙ map-append view values (value ∷ []) ∙ ap (λ ds. ds ++ view value ∷ []) seen ∙ ap (λ d. map (record_data Two) before ++ d ∷ []) read ∙ sym known

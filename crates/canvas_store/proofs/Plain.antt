@@ -8,10 +8,10 @@ use Rattle.canvas_plane.specs.declared.Point.{Point}
 use Rattle.canvas_shape.specs.declared.Colour.{Colour}
 use Rattle.canvas_shape.specs.declared.Kind.{Kind}
 use Rattle.canvas_shape.specs.declared.Kind.TheVariants.{Group, Frame, Rect, Ellipse, Polygon}
-use Rattle.canvas_doc.specs.declared.records.Parent.{Parent}
-use Rattle.canvas_doc.specs.declared.records.Parent.TheVariants.{Page, Shape}
-use Rattle.canvas_doc.specs.declared.records.Record.{Record}
-use Rattle.canvas_doc.specs.Contents.{Contents}
+use Rattle.canvas_record.specs.declared.records.Parent.{Parent}
+use Rattle.canvas_record.specs.declared.records.Parent.TheVariants.{Page, Shape}
+use Rattle.canvas_record.specs.declared.records.Record.{Record}
+use Rattle.canvas_record.specs.Contents.{Contents}
 use Rattle.canvas_store.specs.declared.formats.Format.{Format}
 use Rattle.canvas_store.specs.declared.formats.Format.TheVariants.{One, Two}
 use Rattle.canvas_store.specs.Saved.{fill_data, point_data, shape_data, parent_data, record_data, data_in}

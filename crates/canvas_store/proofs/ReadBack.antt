@@ -18,9 +18,9 @@ use Rattle.canvas_shape.specs.declared.Kind.TheVariants.{Group, Frame, Rect, Ell
 use Rattle.canvas_shape.specs.Box.{AreSides}
 use Rattle.canvas_shape.specs.Inside.{IsSound, AreVertices}
 use Rattle.canvas_shape.specs.Names.{colour_named, colour_text}
-use Rattle.canvas_doc.specs.declared.records.Parent.{Parent}
-use Rattle.canvas_doc.specs.declared.records.Parent.TheVariants.{Page, Shape}
-use Rattle.canvas_doc.specs.declared.records.Record.{Record}
+use Rattle.canvas_record.specs.declared.records.Parent.{Parent}
+use Rattle.canvas_record.specs.declared.records.Parent.TheVariants.{Page, Shape}
+use Rattle.canvas_record.specs.declared.records.Record.{Record}
 use Rattle.canvas_store.specs.declared.formats.Format.{Format}
 use Rattle.canvas_store.specs.declared.formats.Format.TheVariants.{One, Two}
 use Rattle.canvas_store.specs.Json.{i32_of, u32_of, u8_of, has_others}

@@ -1,6 +1,6 @@
 -- The formats of saved documents.
 use Rattle.std.specs.Prelude.{ℕ, ◌==◌, Option, Some, None, if◌then◌else◌}
-use Rattle.canvas_doc.specs.Contents.{most_records}
+use Rattle.canvas_record.specs.Contents.{most_records}
 use Rattle.canvas_store.specs.declared.formats.Format.{Format}
 use Rattle.canvas_store.specs.declared.formats.Format.TheVariants.{One, Two}
 

@@ -3,9 +3,9 @@ use Rattle.std.specs.Prelude.{◌≡◌, ◌<◌, ◌^◌, Some, IfSome, IsUtf8}
 use Rattle.canvas_shape.specs.declared.Kind.{Kind}
 use Rattle.canvas_shape.specs.declared.Kind.TheVariants.{Group, Frame, Rect, Ellipse, Polygon}
 use Rattle.canvas_shape.specs.Names.{colour_text}
-use Rattle.canvas_doc.specs.declared.records.Parent.{Parent}
-use Rattle.canvas_doc.specs.declared.records.Parent.TheVariants.{Page, Shape}
-use Rattle.canvas_doc.specs.declared.records.Record.{Record}
+use Rattle.canvas_record.specs.declared.records.Parent.{Parent}
+use Rattle.canvas_record.specs.declared.records.Parent.TheVariants.{Page, Shape}
+use Rattle.canvas_record.specs.declared.records.Record.{Record}
 use Rattle.canvas_store.specs.declared.formats.Format.{Format}
 use Rattle.canvas_store.specs.Records.{record_of}
 use Rattle.canvas_store.specs.Saved.{record_data}

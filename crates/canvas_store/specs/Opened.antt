@@ -3,11 +3,11 @@ use Rattle.std.specs.Prelude.{ℕ, ◌+◌, nat_le, List, [], ◌∷◌, codes, 
 use Rattle.serde_json.specs.Data.{Data, Items, no_items, item}
 use Rattle.serde_json.specs.Events.{items_len}
 use Rattle.serde_json.specs.Find.{as_array}
-use Rattle.canvas_doc.specs.declared.records.Record.{Record}
-use Rattle.canvas_doc.specs.declared.restored.TreeFault.{TreeFault}
-use Rattle.canvas_doc.specs.declared.restored.TreeFault.TheVariants as tree
-use Rattle.canvas_doc.specs.Contents.{Contents}
-use Rattle.canvas_doc.specs.Restored.{restoration_of}
+use Rattle.canvas_record.specs.declared.records.Record.{Record}
+use Rattle.canvas_record.specs.declared.tree_faults.TreeFault.{TreeFault}
+use Rattle.canvas_record.specs.declared.tree_faults.TreeFault.TheVariants as tree
+use Rattle.canvas_record.specs.Contents.{Contents}
+use Rattle.canvas_record.specs.Restored.{restoration_of}
 use Rattle.canvas_store.specs.declared.fault.StoreFault.{StoreFault}
 use Rattle.canvas_store.specs.declared.fault.StoreFault.TheVariants.{BadJson, BadFormat, BadRecord, BadTree, OutOfMemory}
 use Rattle.canvas_store.specs.declared.formats.Format.{Format}

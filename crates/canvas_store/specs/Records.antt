@@ -5,11 +5,11 @@ use Rattle.serde_json.specs.Data.{Data}
 use Rattle.serde_json.specs.Find.{as_bool, as_null, as_str}
 use Rattle.canvas_key.specs.Text.{key_fault}
 use Rattle.canvas_plane.specs.declared.Pose.{Pose}
-use Rattle.canvas_doc.specs.declared.records.Parent.{Parent}
-use Rattle.canvas_doc.specs.declared.records.Parent.TheVariants.{Page, Shape}
-use Rattle.canvas_doc.specs.declared.records.Place.{Place}
-use Rattle.canvas_doc.specs.declared.records.Record.{Record}
-use Rattle.canvas_doc.specs.Restored.{is_record}
+use Rattle.canvas_record.specs.declared.records.Parent.{Parent}
+use Rattle.canvas_record.specs.declared.records.Parent.TheVariants.{Page, Shape}
+use Rattle.canvas_record.specs.declared.records.Place.{Place}
+use Rattle.canvas_record.specs.declared.records.Record.{Record}
+use Rattle.canvas_record.specs.Restored.{is_record}
 use Rattle.canvas_store.specs.declared.formats.Format.{Format}
 use Rattle.canvas_store.specs.declared.formats.Format.TheVariants.{One, Two}
 use Rattle.canvas_store.specs.declared.formats.Head.{Head}

@@ -1,6 +1,6 @@
 //! The formats of saved documents.
 ghost use Rattle.std.specs.Prelude.{◌≡◌, ◌≤◌};
-ghost use Rattle.canvas_doc.specs.Contents.{most_records};
+ghost use Rattle.canvas_record.specs.Contents.{most_records};
 ghost use Rattle.canvas_store.specs.Formats.{format_numbered, most_of};
 
 use canvas_doc::MOST_RECORDS;

@@ -5,7 +5,7 @@ ghost use Rattle.serde_json.specs.View.{view, items_view};
 ghost use Rattle.canvas_store.specs.Faults.{Gives, GivesSeen, or_fault};
 ghost use Rattle.canvas_store.specs.Json.{json_of, required};
 ghost use Rattle.canvas_store.specs.Opened.{format_of, head_of, if_few, shapes_of, records_from, opened_data, opened};
-ghost use Rattle.canvas_doc.specs.Contents.{most_records};
+ghost use Rattle.canvas_record.specs.Contents.{most_records};
 ghost use Rattle.canvas_store.specs.declared.fault.StoreFault.TheVariants.{BadJson};
 
 use crate::extra::has_others;

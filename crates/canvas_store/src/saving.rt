@@ -3,8 +3,8 @@ ghost use Rattle.std.specs.Prelude.{◌≡◌, ◌<◌, ◌≤◌, ◌^◌, leng
 ghost use Rattle.serde_json.specs.View.{view, items_view, items_of};
 ghost use Rattle.canvas_shape.specs.Inside.{IsSound};
 ghost use Rattle.canvas_shape.specs.declared.Kind.TheVariants.{Group};
-ghost use Rattle.canvas_doc.specs.Tree.{IsInLimits};
-ghost use Rattle.canvas_doc.specs.Contents.{IsWellFormed};
+ghost use Rattle.canvas_record.specs.Tree.{IsInLimits};
+ghost use Rattle.canvas_record.specs.Contents.{IsWellFormed};
 ghost use Rattle.canvas_store.specs.declared.formats.Format.TheVariants.{One, Two};
 ghost use Rattle.canvas_store.specs.Formats.{most_of};
 ghost use Rattle.canvas_store.specs.Kept.{HasText, IsKept};
@@ -41,8 +41,11 @@ fn sided_value(alloc: Global, kind: &str, w: u32, h: u32, fill: Value) -> Result
 fn polygon_value(alloc: Global, points: &[Point], fill: Value) -> Result<Value, AllocError>
     ensures { IfOk result (λ value. view value ≡ polygon_data points.now (view fill)) }
 {
-    let points = Value::Array(point_values(alloc, points)?);
-    json!(in alloc; {"fill": fill, "kind": "polygon", "points": points})
+    json!(in alloc; {
+        "fill": fill,
+        "kind": "polygon",
+        "points": Value::Array(point_values(alloc, points)?)
+    })
 }
 
 fn group_value(alloc: Global) -> Result<Value, AllocError>
@@ -80,15 +83,12 @@ fn record_value(alloc: Global, shape: &Record) -> Result<Value, AllocError>
     ensures value { IfOk result (λ value. view value ≡ record_data Two shape.now) }
     ensures kept { IfOk result (λ _. IsKept shape.now) }
 {
-    let place = place_value(alloc, &shape.place)?;
-    let pose = pose_value(alloc, &shape.pose)?;
-    let kind = shape_value(alloc, &shape.kind)?;
     json!(in alloc; {
         "hidden": shape.hidden,
         "id": shape.id,
-        "place": place,
-        "pose": pose,
-        "shape": kind
+        "place": place_value(alloc, &shape.place)?,
+        "pose": pose_value(alloc, &shape.pose)?,
+        "shape": shape_value(alloc, &shape.kind)?
     })
 }
 

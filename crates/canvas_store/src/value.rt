@@ -75,9 +75,10 @@ pub(crate) fn place_value(alloc: Global, place: &Place) -> Result<Value, AllocEr
     ensures value { IfOk result (λ value. view value ≡ place_data place.now) }
     ensures fits { IfOk result (λ _. FitsParent place.now.parent) }
 {
-    let index = index_value(alloc, &place.index)?;
-    let parent = parent_value(place.parent);
-    json!(in alloc; {"index": index, "parent": parent})
+    json!(in alloc; {
+        "index": index_value(alloc, &place.index)?,
+        "parent": parent_value(place.parent)
+    })
 }
 
 pub(crate) fn pose_value(alloc: Global, pose: &Pose) -> Result<Value, AllocError>

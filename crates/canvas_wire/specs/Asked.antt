@@ -2,9 +2,9 @@
 use Rattle.std.specs.Prelude.{false, codes, Option, Some}
 use Rattle.serde_json.specs.Data.{Data}
 use Rattle.serde_json.specs.Find.{as_bool}
-use Rattle.canvas_doc.specs.declared.records.Parent.TheVariants.{Page}
-use Rattle.canvas_doc.specs.declared.edits.Spot.TheVariants.{Front}
-use Rattle.canvas_doc.specs.declared.edits.Edit.TheVariants as edit
+use Rattle.canvas_record.specs.declared.records.Parent.TheVariants.{Page}
+use Rattle.canvas_record.specs.declared.edits.Spot.TheVariants.{Front}
+use Rattle.canvas_record.specs.declared.edits.Edit.TheVariants as edit
 use Rattle.canvas_wire.specs.declared.request.Request.{Request}
 use Rattle.canvas_wire.specs.declared.request.Request.TheVariants as request
 use Rattle.canvas_wire.specs.declared.verb.Verb.{Verb}

@@ -5,10 +5,10 @@ use Rattle.std.specs.Str.{bytes_eq}
 use Rattle.serde_json.specs.Data.{Data}
 use Rattle.serde_json.specs.Find.{get, as_null, as_str}
 use Rattle.canvas_key.specs.Text.{key_fault}
-use Rattle.canvas_doc.specs.declared.records.Parent.{Parent}
-use Rattle.canvas_doc.specs.declared.records.Parent.TheVariants.{Page, Shape}
-use Rattle.canvas_doc.specs.declared.edits.Spot.{Spot}
-use Rattle.canvas_doc.specs.declared.edits.Spot.TheVariants.{Back, Front, Over, At}
+use Rattle.canvas_record.specs.declared.records.Parent.{Parent}
+use Rattle.canvas_record.specs.declared.records.Parent.TheVariants.{Page, Shape}
+use Rattle.canvas_record.specs.declared.edits.Spot.{Spot}
+use Rattle.canvas_record.specs.declared.edits.Spot.TheVariants.{Back, Front, Over, At}
 use Rattle.canvas_wire.specs.Json.{u32_of, required}
 
 -- a parent: null is the page, and a number the shape with this id

@@ -13,7 +13,7 @@ use crate::request::Request;
 use crate::shape::shape_at;
 use crate::verb::Verb;
 use canvas_code::OutOfMemory;
-use canvas_doc::Edit;
+use canvas_record::Edit;
 use canvas_shape::Kind;
 use std::alloc::Global;
 

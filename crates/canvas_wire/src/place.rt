@@ -1,7 +1,7 @@
 //! Parents, spots and poses: where a shape goes.
 ghost use Rattle.std.specs.Prelude.{◌≡◌, codes};
-ghost use Rattle.canvas_doc.specs.declared.records.Parent.TheVariants.{Page};
-ghost use Rattle.canvas_doc.specs.declared.edits.Spot.TheVariants.{Front};
+ghost use Rattle.canvas_record.specs.declared.records.Parent.TheVariants.{Page};
+ghost use Rattle.canvas_record.specs.declared.edits.Spot.TheVariants.{Front};
 ghost use Rattle.canvas_wire.specs.Given.{view};
 ghost use Rattle.canvas_wire.specs.Json.{required, optional};
 ghost use Rattle.canvas_wire.specs.Places.{parent_of, spot_named, spot_over, spot_at_key, spot_in, spot_of};
@@ -9,9 +9,9 @@ ghost use Rattle.canvas_wire.specs.Poses.{pose_of, still};
 
 use crate::field::{bool_or_false, i32_or_zero, u8_or_zero, u32_of};
 use crate::given::Given;
-use canvas_doc::{Parent, Spot};
 use canvas_key::Key;
 use canvas_plane::Pose;
+use canvas_record::{Parent, Spot};
 
 #[tactic(auto, unfolding(crate::specs::Places::parent_of))]
 fn parent_of(value: Given<'_, '_>) -> Option<Parent>

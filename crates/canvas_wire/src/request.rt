@@ -1,5 +1,5 @@
 //! What a line asks for.
-use canvas_doc::Edit;
+use canvas_record::Edit;
 
 /// What a line asks for.
 #[derive(Drop)]

@@ -7,17 +7,17 @@ use Rattle.std.specs.BTreeMap.{BTreeMap, get, is_at, Updates}
 use Rattle.std.proofs.lemmas.Bool.Decides.{nat_tests}
 use Rattle.std.proofs.lemmas.List.{take_all, take-append-le}
 use Rattle.canvas_plane.specs.declared.windows.Window.{Window}
-use Rattle.canvas_doc.specs.declared.edits.Change.{Change}
-use Rattle.canvas_doc.specs.declared.edits.Edit.{Edit}
-use Rattle.canvas_doc.specs.declared.refusals.Refusal.{Refusal}
-use Rattle.canvas_doc.specs.Contents.{Contents}
-use Rattle.canvas_doc.specs.declared.refusals.Refusal.TheVariants.{OutOfMemory}
-use Rattle.canvas_doc.specs.Decision.{decision_of, IsAnswer}
-use Rattle.canvas_doc.specs.Effect.{effect_of, Fits, new_id}
-use Rattle.canvas_doc.specs.History.{AllFit, replay_of}
-use Rattle.canvas_doc.specs.Picture.{colour}
-use Rattle.canvas_doc.specs.Refused.{refusal_code}
-use Rattle.canvas_doc.proofs.Histories.{all_fit-snoc, replay-snoc}
+use Rattle.canvas_record.specs.declared.edits.Change.{Change}
+use Rattle.canvas_record.specs.declared.edits.Edit.{Edit}
+use Rattle.canvas_record.specs.declared.refusals.Refusal.{Refusal}
+use Rattle.canvas_record.specs.Contents.{Contents}
+use Rattle.canvas_record.specs.declared.refusals.Refusal.TheVariants.{OutOfMemory}
+use Rattle.canvas_record.specs.Decision.{decision_of, IsAnswer}
+use Rattle.canvas_record.specs.Effect.{effect_of, Fits, new_id}
+use Rattle.canvas_record.specs.History.{AllFit, replay_of}
+use Rattle.canvas_record.specs.Picture.{colour}
+use Rattle.canvas_record.specs.Refused.{refusal_code}
+use Rattle.canvas_record.proofs.Histories.{all_fit-snoc, replay-snoc}
 use Rattle.canvas_scene.specs.Pictures.{picture_of}
 use Rattle.canvas_world.specs.declared.cut.Cut.{Cut}
 use Rattle.canvas_world.specs.declared.event.Event.{Event}

@@ -1,8 +1,8 @@
 -- Painted strips, and what the work at one picture is seen as.
 use Rattle.std.specs.Prelude.{ℕ, ◌≡◌, ◌<◌, ◌+◌, List, All, map}
 use Rattle.canvas_plane.specs.declared.windows.Window.{Window}
-use Rattle.canvas_doc.specs.Contents.{Contents}
-use Rattle.canvas_doc.specs.Picture.{colour}
+use Rattle.canvas_record.specs.Contents.{Contents}
+use Rattle.canvas_record.specs.Picture.{colour}
 use Rattle.canvas_scene.specs.Pictures.{rows_of}
 use Rattle.canvas_paint.specs.Strips.{strip_start}
 use Rattle.canvas_world.specs.declared.cut.Cut.{Cut}

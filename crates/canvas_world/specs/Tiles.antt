@@ -1,9 +1,9 @@
 -- What the tiles of a transcript show, and which versions its entries name.
 use Rattle.std.specs.Prelude.{ℕ, ◌≡◌, ◌≤◌, ◌+◌, ◌==◌, List, [], ◌∷◌, length, take, All, if◌then◌else◌}
-use Rattle.canvas_doc.specs.declared.edits.Change.{Change}
-use Rattle.canvas_doc.specs.Contents.{Contents}
-use Rattle.canvas_doc.specs.History.{AllFit, replay_of}
-use Rattle.canvas_doc.specs.Picture.{colour}
+use Rattle.canvas_record.specs.declared.edits.Change.{Change}
+use Rattle.canvas_record.specs.Contents.{Contents}
+use Rattle.canvas_record.specs.History.{AllFit, replay_of}
+use Rattle.canvas_record.specs.Picture.{colour}
 use Rattle.canvas_scene.specs.Pictures.{picture_of}
 use Rattle.canvas_world.specs.declared.event.Event.{Event}
 use Rattle.canvas_world.specs.declared.event.Event.TheVariants.{Look}

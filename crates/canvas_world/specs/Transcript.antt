@@ -1,14 +1,14 @@
 -- The transcript of a list of events: the entry of each event looks back over all steps before it.
 use Rattle.std.specs.Prelude.{ℕ, zero, suc, ◌+◌, ◌==◌, ◌&&◌, not, nat_le, nat_lt, List, [], ◌∷◌, take, Option, Some, None, Bool, true, false, if◌then◌else◌, Result, Ok, Err}
 use Rattle.std.specs.List.{list_all, list_any}
-use Rattle.canvas_doc.specs.declared.edits.Change.{Change}
-use Rattle.canvas_doc.specs.declared.refusals.Refusal.{Refusal}
-use Rattle.canvas_doc.specs.Contents.{Contents}
-use Rattle.canvas_doc.specs.Decision.{decision_of}
-use Rattle.canvas_doc.specs.Effect.{new_id}
-use Rattle.canvas_doc.specs.History.{replay_of}
-use Rattle.canvas_doc.specs.Picture.{colour}
-use Rattle.canvas_doc.specs.Refused.{refusal_code}
+use Rattle.canvas_record.specs.declared.edits.Change.{Change}
+use Rattle.canvas_record.specs.declared.refusals.Refusal.{Refusal}
+use Rattle.canvas_record.specs.Contents.{Contents}
+use Rattle.canvas_record.specs.Decision.{decision_of}
+use Rattle.canvas_record.specs.Effect.{new_id}
+use Rattle.canvas_record.specs.History.{replay_of}
+use Rattle.canvas_record.specs.Picture.{colour}
+use Rattle.canvas_record.specs.Refused.{refusal_code}
 use Rattle.canvas_scene.specs.Pictures.{picture_of}
 use Rattle.canvas_world.specs.declared.event.Event.{Event}
 use Rattle.canvas_world.specs.declared.event.Event.TheVariants.{Edit, Look, Strip, Answer}

@@ -2,11 +2,11 @@
 use Rattle.std.specs.Prelude.{ℕ, ◌≡◌, ◌≤◌, ◌∷◌, List, length, take, Option, Some, None}
 use Rattle.std.specs.Ordering.{nat_cmp}
 use Rattle.std.specs.BTreeMap.{get}
-use Rattle.canvas_doc.specs.declared.edits.Change.{Change}
-use Rattle.canvas_doc.specs.Contents.{Contents}
-use Rattle.canvas_doc.specs.History.{AllFit, replay_of}
+use Rattle.canvas_record.specs.declared.edits.Change.{Change}
+use Rattle.canvas_record.specs.Contents.{Contents}
+use Rattle.canvas_record.specs.History.{AllFit, replay_of}
 use Rattle.canvas_world.specs.declared.cut.Cut.{Cut}
-use Rattle.canvas_doc.specs.declared.edits.Edit.{Edit}
+use Rattle.canvas_record.specs.declared.edits.Edit.{Edit}
 use Rattle.canvas_world.specs.declared.event.Event.{Event}
 use Rattle.canvas_world.specs.declared.event.Event.TheVariants as event
 use Rattle.canvas_world.specs.declared.entry.Entry.{Entry}

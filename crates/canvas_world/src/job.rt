@@ -1,7 +1,7 @@
 //! The work at one picture: from a look to its answer.
 
 ghost use Rattle.std.specs.Prelude.{◌≡◌, ◌<◌, ◌++◌, ◌∷◌, [], Some, None, IfOk, OnOk, if◌then◌else◌};
-ghost use Rattle.canvas_doc.specs.Picture.{colour};
+ghost use Rattle.canvas_record.specs.Picture.{colour};
 ghost use Rattle.canvas_scene.specs.Pictures.{picture_of};
 ghost use Rattle.canvas_world.specs.Transcript.{is_whole, may_paint};
 

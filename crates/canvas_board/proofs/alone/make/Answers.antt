@@ -1,5 +1,5 @@
 use Rattle.std.proofs.Common.{refl}
-use Rattle.canvas_doc.proofs.NeverMemory.{decision-change}
+use Rattle.canvas_record.proofs.NeverMemory.{decision-change}
 use Rattle.canvas_board.proofs.alone.make.Goals as goal
 
 pub returns-in-Err-OutOfMemory : goal.returns-in-Err-OutOfMemory

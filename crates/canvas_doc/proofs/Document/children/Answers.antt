@@ -1,11 +1,11 @@
 use Rattle.std.proofs.Common.{◌≡◌, ◌∙◌, All, Bor, List, ap, map, subst, sym}
 use Rattle.std.proofs.lemmas.Result.{IfOk-weaker}
-use Rattle.canvas_doc.specs.declared.records.Record.{Record}
-use Rattle.canvas_doc.specs.Children.{children}
-use Rattle.canvas_doc.specs.Contents.{Contents}
-use Rattle.canvas_doc.specs.Tree.{IsInLimits}
-use Rattle.canvas_doc.proofs.ChildrenInOrder.{children-are}
-use Rattle.canvas_doc.proofs.Sorting.{all-by_reference, all-children, record_of}
+use Rattle.canvas_record.specs.declared.records.Record.{Record}
+use Rattle.canvas_record.specs.Children.{children}
+use Rattle.canvas_record.specs.Contents.{Contents}
+use Rattle.canvas_record.specs.Tree.{IsInLimits}
+use Rattle.canvas_record.proofs.ChildrenInOrder.{children-are}
+use Rattle.canvas_record.proofs.Sorting.{all-by_reference, all-children, record_of}
 use Rattle.canvas_doc.proofs.Document.children.Goals as goal
 
 pub returns-clause-children : goal.returns-clause-children

@@ -1,17 +1,18 @@
 use Rattle.std.proofs.Common.{◌≡◌, ◌<◌, ◌≤◌, ◌∙◌, ◌+◌, ◌-◌, ◌++◌, [], ◌∷◌, ℕ, All, List, arith, ap, drop, length, map, refl, subst, sym, take}
 use Rattle.std.proofs.lemmas.List.{map-append}
-use Rattle.canvas_doc.specs.declared.bounds.Bounds.{Bounds}
+use Rattle.canvas_record.specs.declared.bounds.Bounds.{Bounds}
 use Rattle.canvas_doc.specs.declared.placed_shapes.PlacedShape.{PlacedShape}
-use Rattle.canvas_doc.specs.declared.records.Record.{Record}
-use Rattle.canvas_doc.specs.Children.{children}
-use Rattle.canvas_doc.specs.Contents.{Contents}
+use Rattle.canvas_record.specs.declared.records.Record.{Record}
+use Rattle.canvas_record.specs.Children.{children}
+use Rattle.canvas_record.specs.Contents.{Contents}
 use Rattle.canvas_doc.specs.Placements.{Placements}
-use Rattle.canvas_doc.specs.PlaceOrder.{IsKeptInOrder}
-use Rattle.canvas_doc.specs.Tree.{IsInLimits}
+use Rattle.canvas_record.specs.PlaceOrder.{IsKeptInOrder}
+use Rattle.canvas_record.specs.Tree.{IsInLimits}
+use Rattle.canvas_doc.proofs.InPlace.{room-next}
 use Rattle.canvas_doc.proofs.InSight.{AreInSight, StandsThere, children-in_sight, none-seen, one-seen, part-all, read-below, read-upto, stands-there}
 use Rattle.canvas_doc.proofs.PassedOver.{sight-kept}
 use Rattle.canvas_doc.proofs.Placements.{shape_of}
-use Rattle.canvas_doc.proofs.Sorting.{all-by_reference, all-children, record_of}
+use Rattle.canvas_record.proofs.Sorting.{all-by_reference, all-children, record_of}
 use Rattle.canvas_doc.proofs.Document.children_meeting.Goals as goal
 
 less : (a b : ℕ) → a < b → a ≤ b
@@ -138,3 +139,6 @@ walk-smaller g c = closer c.walk.at c.next_meeting-at.result c.children_of-start
 
 pub walk-smaller-then-at-end : goal.walk-smaller-then-at-end
 walk-smaller-then-at-end g c = nearer c.walk.at c.next_meeting-at.result c.children_of-start.result.end c.next_meeting-at.ensures.from c.if-at-end.true
+
+pub overflow_add-at : goal.overflow_add-at
+overflow_add-at g c = room-next c.self.inside.order.shapes c.self.inside.records c.next_meeting-at.result c.children_of-start.result.end c.self.invariant.in_order.long c.self.invariant.well_formed.few c.children_of-start.ensures.children.bound c.if-at-end.true

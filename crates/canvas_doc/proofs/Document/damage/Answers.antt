@@ -2,14 +2,14 @@ use Rattle.std.proofs.Common.{◌≡◌, ◌∙◌, ℤ, false, sym, ap, subst}
 use Rattle.canvas_plane.specs.declared.PageBox.{PageBox}
 use Rattle.canvas_plane.specs.Motion.{carry}
 use Rattle.canvas_plane.specs.Page.{empty_box, hull_of, is_in}
-use Rattle.canvas_doc.specs.declared.edits.Change.{Change}
-use Rattle.canvas_doc.specs.declared.edits.Change.TheVariants as change
-use Rattle.canvas_doc.specs.Contents.{Contents, IsWellFormed}
-use Rattle.canvas_doc.specs.Damage.{damage_of, own_extent, to_page}
-use Rattle.canvas_doc.specs.Effect.{effect_of, Fits}
-use Rattle.canvas_doc.specs.Picture.{colour}
-use Rattle.canvas_doc.proofs.BothExtents.{create-damage, delete-damage, kind-sound, move-damage, pose-damage, pose-limits, reshape-damage, respace-damage, show-damage}
-use Rattle.canvas_doc.proofs.Damaged.{damage-keeps}
+use Rattle.canvas_record.specs.declared.edits.Change.{Change}
+use Rattle.canvas_record.specs.declared.edits.Change.TheVariants as change
+use Rattle.canvas_record.specs.Contents.{Contents, IsWellFormed}
+use Rattle.canvas_record.specs.Damage.{damage_of, own_extent, to_page}
+use Rattle.canvas_record.specs.Effect.{effect_of, Fits}
+use Rattle.canvas_record.specs.Picture.{colour}
+use Rattle.canvas_record.proofs.BothExtents.{create-damage, delete-damage, kind-sound, move-damage, pose-damage, pose-limits, reshape-damage, respace-damage, show-damage}
+use Rattle.canvas_record.proofs.Damaged.{damage-keeps}
 use Rattle.canvas_doc.proofs.Document.damage.Goals as goal
 
 -- outside a box that is the damage

@@ -1,13 +1,13 @@
-use Rattle.std.proofs.Common.{◌≡◌, ◌∙◌, ◌<◌, List, arith, cond, length, refl, subst}
-use Rattle.std.specs.List.{insert, remove}
+use Rattle.std.proofs.Common.{◌<◌, List, arith, length, refl, subst}
+use Rattle.std.specs.List.{remove}
 use Rattle.std.proofs.lemmas.List.Edits.{length-remove}
-use Rattle.canvas_doc.specs.declared.bounds.Bounds.{Bounds}
-use Rattle.canvas_doc.specs.declared.records.Record.{Record}
-use Rattle.canvas_doc.specs.Bounds.{HaveOneShape, IsHeldAbove}
-use Rattle.canvas_doc.specs.Contents.{Contents}
-use Rattle.canvas_doc.specs.PlaceOrder.{IsPlaceOf}
+use Rattle.canvas_record.specs.declared.bounds.Bounds.{Bounds}
+use Rattle.canvas_record.specs.declared.records.Record.{Record}
+use Rattle.canvas_record.specs.Bounds.{HaveOneShape, IsHeldAbove}
+use Rattle.canvas_record.specs.Contents.{Contents}
+use Rattle.canvas_record.specs.PlaceOrder.{IsPlaceOf}
 use Rattle.canvas_doc.proofs.InPlace.{moved-if, one-if, one-shape, one-well, widened-kept}
-use Rattle.canvas_doc.proofs.Reordered.{seen-at}
+use Rattle.canvas_record.proofs.Reordered.{seen-at}
 use Rattle.canvas_doc.proofs.Document.move_in_place.Goals as goal
 
 pub position_without-to-requires-clause-from : goal.position_without-to-requires-clause-from
@@ -20,13 +20,13 @@ bounds_at-requires c =
     (seen-at c.self.inside.order.shapes c.self.inside.records c.self.inside.records c.in-Some.found.shape.now c.in-Some.found.shape.now c.in-Some.found.at c.position_in-from.result
     c.self.invariant.in_order refl c.in-Some.ensures.there.there c.in-Some.ensures.is refl c.position_in-from.ensures).within
 
-pub move_both-requires-clause-from : goal.move_both-requires-clause-from
-move_both-requires-clause-from c =
+pub move_to-requires-clause-from : goal.move_to-requires-clause-from
+move_to-requires-clause-from c =
     (seen-at c.self.inside.order.shapes c.self.inside.records c.self.inside.records c.in-Some.found.shape.now c.in-Some.found.shape.now c.in-Some.found.at c.position_in-from.result
     c.self.invariant.in_order refl c.in-Some.ensures.there.there c.in-Some.ensures.is refl c.position_in-from.ensures).within
 
-pub move_both-requires-clause-to : goal.move_both-requires-clause-to
-move_both-requires-clause-to c =
+pub move_to-requires-clause-to : goal.move_to-requires-clause-to
+move_to-requires-clause-to c =
     let within : c.position_in-from.result < length c.self.inside.order.shapes =
     (seen-at c.self.inside.order.shapes c.self.inside.records c.self.inside.records c.in-Some.found.shape.now c.in-Some.found.shape.now c.in-Some.found.at c.position_in-from.result
     c.self.invariant.in_order refl c.in-Some.ensures.there.there c.in-Some.ensures.is refl c.position_in-from.ensures).within in
@@ -42,12 +42,11 @@ invariant_of-self-2 c =
     let at = c.in-Some.found.at in
     let k = c.position_in-from.result in
     let to = c.position_without-to.result in
-    let made = c.move_both.result in
+    let made = c.move_to.result in
     let shape : HaveOneShape r s = one-shape c.args.change.now d c.args.self.now at r r s c.self.view_is c.requires.one c.in-Some.ensures.there c.in-Some.ensures.is refl c.in-Ok.ensures c.requires.shape in
-    moved-if d order bounds c.self.invariant c.move_both.new.records c.move_both.new.self.shapes c.move_both.new.self.bounds made r s c.bounds_at.result.now at k to
-    c.move_both.ensures.other
-    (subst (λ (x : Record). c.move_both.new.self.shapes ≡ cond made (insert (remove order k) to x) order) (c.new-placed.ensures.shape ∙ c.in-Ok-shared.ensures) c.move_both.ensures.shapes)
-    (subst (λ (b : Bounds). c.move_both.new.self.bounds ≡ cond made (insert (remove bounds k) to b) bounds) c.new-placed.ensures.bounds c.move_both.ensures.bounds)
+    moved-if d order bounds c.self.invariant c.move_to.new.records c.move_to.new.self.shapes c.move_to.new.self.bounds made r s c.bounds_at.result.now at k to
+    c.move_to.ensures.other
+    c.move_to.ensures.shapes c.move_to.ensures.bounds
     (one-well c.args.change.now d c.args.self.now at r r s c.self.view_is c.requires.one c.in-Some.ensures.there c.in-Some.ensures.is refl c.in-Ok.ensures c.requires.fits.left)
     c.in-Some.ensures.there.there c.in-Some.ensures.is shape c.position_in-from.ensures
     (subst (λ (x : Record). IsPlaceOf x.place (remove order k) to) c.value.ensures c.position_without-to.ensures)
@@ -57,8 +56,8 @@ invariant_of-self-2 c =
 pub returns : goal.returns
 returns c =
     one-if c.args.change.now (record { records = c.self.inside.records; next = c.self.inside.next }) c.args.self.now c.in-Some.found.at c.in-Some.found.shape.now c.in-Some.found.shape.now c.in-Ok.new
-    c.self.view_is c.requires.one c.in-Some.ensures.there c.in-Some.ensures.is refl c.in-Ok.ensures c.move_both.result c.move_both.new.records
-    c.move_both.ensures.other
+    c.self.view_is c.requires.one c.in-Some.ensures.there c.in-Some.ensures.is refl c.in-Ok.ensures c.move_to.result c.move_to.new.records
+    c.move_to.ensures.other
 
 pub changed_record-requires : goal.changed_record-requires
 changed_record-requires c = c.self.invariant.well_formed.rising
@@ -109,8 +108,5 @@ invariant_of-self c =
 pub returns-then-not-is_held_above : goal.returns-then-not-is_held_above
 returns-then-not-is_held_above c = c.self.view_is
 
-pub returns-in_default-shared : goal.returns-in_default-shared
-returns-in_default-shared c = refl
-
-pub move_both-requires-clause-other : goal.move_both-requires-clause-other
-move_both-requires-clause-other c = c.in-Some.ensures.there.there
+pub move_to-requires-clause-other : goal.move_to-requires-clause-other
+move_to-requires-clause-other c = c.in-Some.ensures.there.there

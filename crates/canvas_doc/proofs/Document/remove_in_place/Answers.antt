@@ -1,5 +1,5 @@
 use Rattle.std.proofs.Common.{◌≡◌, cond, subst, sym}
-use Rattle.canvas_doc.specs.Contents.{Contents, IsWellFormed}
+use Rattle.canvas_record.specs.Contents.{Contents, IsWellFormed}
 use Rattle.canvas_doc.proofs.Document.remove_in_place.Goals as goal
 
 pub remove_at_in_place-requires-clause-well_formed : goal.remove_at_in_place-requires-clause-well_formed

@@ -1,13 +1,13 @@
-use Rattle.std.proofs.Common.{◌∙◌, ◌≤◌, List, ap, arith, cond, map, refl, subst, sym}
+use Rattle.std.proofs.Common.{◌∙◌, ◌+◌, ◌≤◌, ℕ, List, ap, arith, cond, length, map, refl, subst, sym}
 use Rattle.std.proofs.lemmas.List.{length-map}
 use Rattle.std.specs.Option.{unwrap_or}
-use Rattle.canvas_doc.specs.declared.records.Record.{Record}
+use Rattle.canvas_record.specs.declared.records.Record.{Record}
 use Rattle.canvas_list.specs.Changed.{replaced_run}
-use Rattle.canvas_doc.specs.Contents.{record_of, Contents, HaveIds}
-use Rattle.canvas_doc.specs.Effect.{respaced}
+use Rattle.canvas_record.specs.Contents.{record_of, Contents, HaveIds}
+use Rattle.canvas_record.specs.Effect.{respaced}
 use Rattle.canvas_doc.proofs.InPlace.{few-within, kept-is}
 use Rattle.canvas_doc.proofs.Placements.{bounds_of, shape_of}
-use Rattle.canvas_doc.proofs.Respacings.{kept-in-place, once, records-are, shapes-many, AreRespaced, AreToBeRespaced}
+use Rattle.canvas_doc.proofs.Respacings.{kept-in-place, many-within, once, records-are, shapes-many, AreRespaced, AreToBeRespaced}
 use Rattle.canvas_doc.proofs.Document.respace_in_place.Goals as goal
 
 pub with_each-requires-clause-once : goal.with_each-requires-clause-once
@@ -86,3 +86,13 @@ pub returns-else-made : goal.returns-else-made
 returns-else-made c =
     c.self.view_is
     ∙ ap (λ made. cond made (record { records = map (respaced c.args.parent c.args.self.now.records) c.args.self.now.records; next = c.args.self.now.next }) c.args.self.now) (sym c.if-made.false)
+
+pub replace_run-made-requires-clause-within : goal.replace_run-made-requires-clause-within
+replace_run-made-requires-clause-within c =
+    let d : Contents = record { records = c.self.inside.records; next = c.self.inside.next } in
+    let at : AreToBeRespaced d c.self.inside.order.shapes c.self.inside.order.bounds c.args.parent c.children_range-start.result.start c.children_range-start.result.end =
+    record { kept = c.self.invariant; children = c.children_range-start.ensures } in
+    let are : AreRespaced c.self.inside.order.shapes c.self.inside.order.bounds c.args.parent c.children_range-start.result.start c.children_range-start.result.end (map shape_of c.in-Ok.children.items) (map bounds_of c.in-Ok.children.items) =
+    record { shapes_are = c.in-Ok.ensures.shapes; boxes_are = c.in-Ok.ensures.bounds } in
+    subst (λ (n : ℕ). c.children_range-start.result.start + n ≤ length c.self.inside.order.shapes) (length-map c.in-Ok.children.items shape_of)
+    (many-within d c.self.inside.order.shapes c.self.inside.order.bounds c.args.parent c.children_range-start.result.start c.children_range-start.result.end at (map shape_of c.in-Ok.children.items) (map bounds_of c.in-Ok.children.items) are)

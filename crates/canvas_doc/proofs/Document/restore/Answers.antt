@@ -1,10 +1,10 @@
-use Rattle.std.proofs.Common.{rules, All, ◌≡◌, ◌∙◌, ◌<◌, ◌≤◌, ◌^◌, List, None, length, subst, sym, arith}
+use Rattle.std.proofs.Common.{rules, All, ◌≡◌, ◌∙◌, ◌<◌, ◌≤◌, ◌^◌, List, None, length, subst, sym}
 use Rattle.canvas_key.specs.Text.{IsKey}
-use Rattle.canvas_doc.specs.declared.records.Record.{Record}
-use Rattle.canvas_doc.specs.Contents.{IsWellFormed, most_records}
-use Rattle.canvas_doc.specs.Restored.{record_fault, tree_fault}
-use Rattle.canvas_doc.proofs.Saved.{restoration_of-same}
-use Rattle.canvas_doc.proofs.RestoredWell.{length-by_id, restores-well}
+use Rattle.canvas_record.specs.declared.records.Record.{Record}
+use Rattle.canvas_record.specs.Contents.{IsWellFormed, most_records}
+use Rattle.canvas_record.specs.Restored.{record_fault, tree_fault}
+use Rattle.canvas_record.proofs.Saved.{restoration_of-same}
+use Rattle.canvas_record.proofs.RestoredWell.{length-by_id, restores-well}
 use Rattle.canvas_doc.proofs.Document.restore.Goals as goal
 
 pub shared-requires : goal.shared-requires
@@ -13,7 +13,7 @@ shared-requires c =
 
 pub of_sorted-requires : goal.of_sorted-requires
 of_sorted-requires c =
-    let fits : c.args.next < 2 ^ 32 = omega arith in
+    let fits : c.args.next < 2 ^ 32 = c.ranges.next.fits in
     let none : c.in_ok-position.field-0 ≡ None = search rules in
     let keys : All (λ (r : Record). IsKey r.place.index) c.args.records.items = subst (All (λ (r : Record). IsKey r.place.index)) c.deref-2.ensures.value (c.in_ok-position.ensures.keys none) in
     let records : record_fault c.args.next c.args.records.items ≡ None = search rules in

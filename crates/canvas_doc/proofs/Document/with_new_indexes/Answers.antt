@@ -1,11 +1,12 @@
-use Rattle.std.proofs.Common.{◌∙◌, List, ap, map, subst, sym}
+use Rattle.std.proofs.Common.{◌∙◌, ◌+◌, ◌<◌, ◌^◌, ℕ, List, ap, length, map, subst, sym}
+use Rattle.std.proofs.lemmas.List.{length-map}
 use Rattle.std.specs.Option.{unwrap_or}
-use Rattle.canvas_doc.specs.declared.records.Record.{Record}
-use Rattle.canvas_doc.specs.Contents.{record_of, Contents, HaveIds}
-use Rattle.canvas_doc.specs.Effect.{respaced}
+use Rattle.canvas_record.specs.declared.records.Record.{Record}
+use Rattle.canvas_record.specs.Contents.{record_of, Contents, HaveIds}
+use Rattle.canvas_record.specs.Effect.{respaced}
 use Rattle.canvas_doc.proofs.InPlace.{few-within}
 use Rattle.canvas_doc.proofs.Placements.{bounds_of, shape_of}
-use Rattle.canvas_doc.proofs.Respacings.{kept-respaced, once, records-are, AreRespaced, AreToBeRespaced}
+use Rattle.canvas_doc.proofs.Respacings.{kept-respaced, many-more, once, records-are, AreRespaced, AreToBeRespaced}
 use Rattle.canvas_doc.proofs.Document.with_new_indexes.Goals as goal
 
 pub with_each-requires-clause-once : goal.with_each-requires-clause-once
@@ -61,3 +62,13 @@ with_spliced-requires-clause-order c = c.children_range-start.ensures.from
 
 pub with_spliced-requires-clause-within : goal.with_spliced-requires-clause-within
 with_spliced-requires-clause-within c = c.children_range-start.ensures.bound
+
+pub with_spliced-requires-clause-few : goal.with_spliced-requires-clause-few
+with_spliced-requires-clause-few c =
+    let d : Contents = record { records = c.self.inside.records; next = c.self.inside.next } in
+    let at : AreToBeRespaced d c.self.inside.order.shapes c.self.inside.order.bounds c.args.parent c.children_range-start.result.start c.children_range-start.result.end =
+    record { kept = c.self.invariant; children = c.children_range-start.ensures } in
+    let are : AreRespaced c.self.inside.order.shapes c.self.inside.order.bounds c.args.parent c.children_range-start.result.start c.children_range-start.result.end (map shape_of c.in_ok-children.children.items) (map bounds_of c.in_ok-children.children.items) =
+    record { shapes_are = c.in_ok-children.ensures.shapes; boxes_are = c.in_ok-children.ensures.bounds } in
+    subst (λ (n : ℕ). length c.self.inside.order.shapes + n < 2 ^ 32) (length-map c.in_ok-children.children.items shape_of)
+    (many-more d c.self.inside.order.shapes c.self.inside.order.bounds c.args.parent c.children_range-start.result.start c.children_range-start.result.end at (map shape_of c.in_ok-children.children.items) (map bounds_of c.in_ok-children.children.items) are)

@@ -1,13 +1,13 @@
-use Rattle.std.proofs.Common.{◌≡◌, ◌∙◌, ℕ, List, IfOk, ap, map, subst, sym, get_or, refl}
+use Rattle.std.proofs.Common.{◌≡◌, ◌∙◌, ◌<◌, ℕ, List, IfOk, ap, length, map, subst, sym, get_or, refl}
 use Rattle.std.proofs.lemmas.List.{get_or-map}
-use Rattle.canvas_doc.specs.declared.records.Record.{Record}
-use Rattle.canvas_doc.specs.declared.edits.Change.{Change}
-use Rattle.canvas_doc.specs.declared.edits.Change.TheVariants.{Move}
-use Rattle.canvas_doc.specs.Bounds.{AreBounds, HaveOneShape}
-use Rattle.canvas_doc.specs.Contents.{Contents, IsWellFormed}
-use Rattle.canvas_doc.specs.Effect.{changed_by, effect_of}
-use Rattle.canvas_doc.specs.PlaceOrder.{IsInPlaceOrder}
-use Rattle.canvas_doc.proofs.OneChanged.{made-whole, one-effect, place-kept, shape-kept, whole-is}
+use Rattle.canvas_record.specs.declared.records.Record.{Record}
+use Rattle.canvas_record.specs.declared.edits.Change.{Change}
+use Rattle.canvas_record.specs.declared.edits.Change.TheVariants.{Move}
+use Rattle.canvas_record.specs.Bounds.{AreBounds, HaveOneShape}
+use Rattle.canvas_record.specs.Contents.{Contents, IsWellFormed}
+use Rattle.canvas_record.specs.Effect.{changed_by, effect_of}
+use Rattle.canvas_record.specs.PlaceOrder.{IsInPlaceOrder}
+use Rattle.canvas_record.proofs.OneChanged.{made-whole, one-effect, place-kept, shape-kept, whole-is}
 use Rattle.canvas_doc.proofs.Document.with_one_changed.Goals as goal
 use Rattle.canvas_doc.proofs.Document.with_one_changed.Goals.{in-Move+in_ok-order-in-Move, in_default-change+in_ok-order-in_default-change}
 
@@ -102,3 +102,9 @@ returns c =
     let whole : record { records = c.in_ok-records.records; next = inside.next } ≡ effect_of c.args.change.now c.args.self.now =
     whole-is c.args.change.now inside c.args.self.now c.in_ok-records.records c.self.view_is c.requires.one made in
     whole
+
+pub replaced-requires-clause-there : goal.replaced-requires-clause-there
+replaced-requires-clause-there c = subst (λ (d : Contents). c.in-Some.found.at < length d.records) c.self.view_is c.in-Some.ensures.there.there
+
+pub moved-requires-clause-there : goal.moved-requires-clause-there
+moved-requires-clause-there c = subst (λ (d : Contents). c.in-Some.found.at < length d.records) c.self.view_is c.in-Some.ensures.there.there

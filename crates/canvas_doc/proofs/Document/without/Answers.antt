@@ -1,5 +1,5 @@
 use Rattle.std.proofs.Common.{◌≡◌, IfOk, subst, sym}
-use Rattle.canvas_doc.specs.Contents.{Contents, IsWellFormed}
+use Rattle.canvas_record.specs.Contents.{Contents, IsWellFormed}
 use Rattle.canvas_doc.proofs.Document.without.Goals as goal
 
 pub without_one-requires-clause-well_formed : goal.without_one-requires-clause-well_formed

@@ -1,9 +1,10 @@
 use Rattle.std.proofs.Common.{◌≡◌, ◌∙◌, ◌∷◌, ◌==◌, [], Bool, List, ap, filter, not, subst, sym}
-use Rattle.canvas_doc.specs.declared.records.Record.{Record}
-use Rattle.canvas_doc.specs.Contents.{Contents, IsWellFormed}
-use Rattle.canvas_doc.specs.Deletion.{holders_below, is_held}
-use Rattle.canvas_doc.specs.Effect.{is_in_subtree}
-use Rattle.canvas_doc.proofs.HeldBelow.{subtree-gone}
+use Rattle.canvas_record.specs.declared.records.Record.{Record}
+use Rattle.canvas_record.specs.Contents.{Contents, IsWellFormed}
+use Rattle.canvas_record.specs.Deletion.{holders_below, is_held}
+use Rattle.canvas_record.specs.Effect.{is_in_subtree}
+use Rattle.canvas_record.proofs.HeldBelow.{subtree-gone}
+use Rattle.canvas_doc.proofs.InPlace.{lists-kept}
 use Rattle.canvas_doc.proofs.Document.without_subtree.Goals as goal
 use Rattle.canvas_doc.proofs.Document.without_subtree.Goals.{In_ok-left}
 
@@ -37,3 +38,6 @@ pub returns : goal.returns
 returns c =
     ap (λ (l : List Record). record { records = l; next = c.self.inside.next }) (gone c)
     ∙ ap (λ (d : Contents). record { records = filter (λ r. not (is_in_subtree c.args.id d.records r)) d.records; next = d.next }) c.self.view_is
+
+pub without_below-requires-clause-lists : goal.without_below-requires-clause-lists
+without_below-requires-clause-lists c = lists-kept (record { records = c.self.inside.records; next = c.self.inside.next }) c.self.inside.order c.self.invariant c.in_ok-try_clone.field-0 c.in_ok-try_clone-2.field-0 c.in_ok-try_clone.ensures c.in_ok-try_clone-2.ensures

@@ -1,15 +1,15 @@
-use Rattle.std.proofs.Common.{◌≡◌, ◌∙◌, ◌+◌, ◌-◌, ◌∷◌, ℕ, List, false, suc, sym, ap, subst, arith, drop, map, max, rules, take}
+use Rattle.std.proofs.Common.{◌≡◌, ◌≤◌, ◌∙◌, ◌+◌, ◌-◌, ◌∷◌, ℕ, List, false, suc, sym, ap, subst, arith, drop, map, max, rules, take}
 use Rattle.std.specs.List.{drop-map, take-map}
 use Rattle.canvas_doc.specs.declared.placed_shapes.PlacedShape.{PlacedShape}
-use Rattle.canvas_doc.specs.declared.records.Parent.TheVariants.{Shape}
-use Rattle.canvas_doc.specs.declared.records.Record.{Record}
-use Rattle.canvas_doc.specs.Contents.{Contents, IsWellFormed}
-use Rattle.canvas_doc.specs.Depth.{greatest}
-use Rattle.canvas_doc.specs.Heights.{tallest}
+use Rattle.canvas_record.specs.declared.records.Parent.TheVariants.{Shape}
+use Rattle.canvas_record.specs.declared.records.Record.{Record}
+use Rattle.canvas_record.specs.Contents.{Contents, IsWellFormed}
+use Rattle.canvas_record.specs.Depth.{greatest}
+use Rattle.canvas_record.specs.Heights.{tallest}
 use Rattle.canvas_doc.specs.Placements.{Placements, placements_of}
-use Rattle.canvas_doc.specs.PlaceOrder.{IsInPlaceOrder}
-use Rattle.canvas_doc.proofs.Heights.{children-listed, greatest-end, greatest-init, greatest-next, next-found, rest-listed, tallest-done, tallest-leaf, tallest-none}
-use Rattle.canvas_doc.proofs.Placements.{shape_of, shapes-are}
+use Rattle.canvas_record.specs.PlaceOrder.{IsInPlaceOrder}
+use Rattle.canvas_record.proofs.Heights.{children-listed, greatest-end, greatest-init, greatest-next, next-found, rest-listed, tallest-done, tallest-leaf, tallest-none}
+use Rattle.canvas_doc.proofs.Placements.{long, shape_of, shapes-are}
 use Rattle.canvas_doc.proofs.ancestry.+levels_below.Goals as goal
 
 pub returns-then-levels-eq0-clause-value : goal.returns-then-levels-eq0-clause-value
@@ -63,3 +63,6 @@ returns-clause-value t c =
     let in_order : IsInPlaceOrder order c.args.document.now.records = subst (λ (e : Contents). IsInPlaceOrder order e.records) c.document.view_is c.document.invariant.in_order in
     tallest-done c.args.levels order c.args.document.now.records (Shape c.args.shape.now.id) c.children_range-start.result.start c.children_range-start.result.end c.loop-placed.tallest (omega (arith, c.if-levels-eq0.false)) in_order c.children_range-start.ensures
     (greatest-end f (map shape_of c.loop-placed.placed-iterator) c.loop-placed.tallest _ (ap (map shape_of) c.in-None.ensures.steps.0) c.loop-placed.invariant.value ∙ ap (greatest f) (walked c.order.inside.list c.into_iter-placed-iterator.result c.document.inside.order c.children_range-start.result.start c.children_range-start.result.end c.order.view_is (c.into_iter-placed-iterator.ensures.into_iter_gives ∙ c.iter_range-placed-items.ensures.items)))
+
+pub iter_range-placed-items-requires-clause-within : goal.iter_range-placed-items-requires-clause-within
+iter_range-placed-items-requires-clause-within t c = subst (λ n. c.children_range-start.result.end ≤ n) (sym (long c.order.inside.list c.document.inside.order c.order.view_is)) c.children_range-start.ensures.bound

@@ -1,9 +1,9 @@
 use Rattle.std.proofs.Common.{◌≡◌, ◌∙◌, ◌+◌, List, None, Some, ap, subst, suc, sym, arith}
-use Rattle.canvas_doc.specs.declared.records.Parent.TheVariants.{Shape}
-use Rattle.canvas_doc.specs.declared.records.Record.{Record}
-use Rattle.canvas_doc.specs.Contents.{Contents, IsWellFormed, record_of}
-use Rattle.canvas_doc.specs.Heights.{tallest}
-use Rattle.canvas_doc.proofs.Heights.{found-own, height-found, height-none}
+use Rattle.canvas_record.specs.declared.records.Parent.TheVariants.{Shape}
+use Rattle.canvas_record.specs.declared.records.Record.{Record}
+use Rattle.canvas_record.specs.Contents.{Contents, IsWellFormed, record_of}
+use Rattle.canvas_record.specs.Heights.{tallest}
+use Rattle.canvas_record.proofs.Heights.{found-own, height-found, height-none}
 use Rattle.canvas_doc.proofs.ancestry.height_of.Goals as goal
 
 pub levels_below-requires : goal.levels_below-requires

@@ -1,25 +1,16 @@
-use Rattle.std.proofs.Common.{◌≡◌, ◌∙◌, ◌++◌, [], ◌∷◌, Bor, List, ap, append-nil, append_assoc, map, sym}
-use Rattle.std.proofs.lemmas.List.{map-append}
-use Rattle.canvas_doc.specs.declared.records.Record.{Record}
-use Rattle.canvas_doc.proofs.Sorting.{record_of}
+use Rattle.std.proofs.Common.{◌∙◌, ◌++◌, Bor, List, ap, append-nil, map, sym}
+use Rattle.canvas_record.specs.declared.records.Record.{Record}
+use Rattle.canvas_record.proofs.Sorting.{record_of}
+use Rattle.canvas_doc.proofs.Listing.{one-more}
 use Rattle.canvas_doc.proofs.copies.in_order.Goals as goal
 
 pub loop-shape-init : goal.loop-shape-init
 loop-shape-init c =
     ap (λ (bs : List (Bor Record)). map record_of bs ++ c.into_iter-shape-iterator.result) c.in_ok-all.ensures.items ∙ c.into_iter-shape-iterator.ensures.into_iter_gives ∙ c.iter-shape-items.ensures.items
 
-one-more : (before after : List (Bor Record)) (b : Bor Record) (r : Record) (old new all : List Record) → b.now ≡ r → after ≡ before ++ b ∷ [] → old ≡ r ∷ new → map record_of before ++ old ≡ all → map record_of after ++ new ≡ all
-one-more before after b r old new all e f g h =
-    ap (λ (bs : List (Bor Record)). map record_of bs ++ new) f
-    ∙ ap (λ (rs : List Record). rs ++ new) (map-append record_of before (b ∷ []))
-    ∙ append_assoc (map record_of before) (b.now ∷ []) new
-    ∙ ap (λ x. map record_of before ++ x ∷ new) e
-    ∙ ap (λ (rs : List Record). map record_of before ++ rs) (sym g)
-    ∙ h
-
 pub loop-shape-preserved : goal.loop-shape-preserved
 loop-shape-preserved c =
-    one-more c.loop-shape.all.items c.push.new.self.items c.value.result c.in-Some.shape.now c.loop-shape.shape-iterator c.next.new.self c.args.records.now
+    one-more record_of c.loop-shape.all.items c.push.new.self.items c.value.result c.in-Some.shape.now c.loop-shape.shape-iterator c.next.new.self c.args.records.now
     c.value.ensures c.in_ok-push.ensures.items c.in-Some.ensures.steps c.loop-shape.invariant
 
 pub returns : goal.returns

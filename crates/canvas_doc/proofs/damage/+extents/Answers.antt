@@ -1,16 +1,16 @@
 use Rattle.std.proofs.Common.{◌≡◌, ◌∙◌, ℕ, List, Some, sym, ap, subst, arith, rules, ◌-◌, ◌<◌, get_or, length, drop, map, take}
 use Rattle.canvas_plane.specs.declared.PageBox.{PageBox}
 use Rattle.canvas_plane.specs.Motion.{carry}
-use Rattle.canvas_doc.specs.declared.records.Record.{Record}
-use Rattle.canvas_doc.specs.Children.{children}
-use Rattle.canvas_doc.specs.Contents.{Contents, record_of, IsWellFormed}
-use Rattle.canvas_doc.specs.Damage.{extent_of, hull_round}
-use Rattle.canvas_doc.specs.PlaceOrder.{IsInPlaceOrder}
-use Rattle.canvas_doc.specs.Tree.{IsInLimits}
-use Rattle.canvas_doc.proofs.ChildrenInOrder.{children-are}
-use Rattle.canvas_doc.proofs.AfterChange.{extent-childless, leaf-childless}
-use Rattle.canvas_doc.proofs.Extents.{extent-by, extent-children, extent-none, order-there, round-more}
-use Rattle.canvas_doc.proofs.Fit.{found-all}
+use Rattle.canvas_record.specs.declared.records.Record.{Record}
+use Rattle.canvas_record.specs.Children.{children}
+use Rattle.canvas_record.specs.Contents.{Contents, record_of, IsWellFormed}
+use Rattle.canvas_record.specs.Damage.{extent_of, hull_round}
+use Rattle.canvas_record.specs.PlaceOrder.{IsInPlaceOrder}
+use Rattle.canvas_record.specs.Tree.{IsInLimits}
+use Rattle.canvas_record.proofs.ChildrenInOrder.{children-are}
+use Rattle.canvas_record.proofs.AfterChange.{extent-childless, leaf-childless}
+use Rattle.canvas_record.proofs.Extents.{extent-by, extent-children, extent-none, order-there, round-more}
+use Rattle.canvas_record.proofs.Fit.{found-all}
 use Rattle.canvas_doc.proofs.damage.+extents.Goals as goal
 
 pub extent_among-returns-then-levels-eq0 : goal.extent_among-returns-then-levels-eq0

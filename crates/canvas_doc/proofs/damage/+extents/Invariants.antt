@@ -1,6 +1,6 @@
 use Rattle.std.proofs.Common.{◌≡◌, ◌≤◌, ◌*◌, ◌+◌, ◌-◌, drop, map, take}
 use Rattle.canvas_plane.specs.Motion.{carry}
-use Rattle.canvas_doc.specs.Damage.{extent_of, hull_round}
+use Rattle.canvas_record.specs.Damage.{extent_of, hull_round}
 use Rattle.canvas_doc.proofs.damage.+extents.Given as goal
 
 abbrev pub decreases-extent_among : goal.decreases-extent_among

@@ -1,16 +1,19 @@
-use Rattle.std.proofs.Common.{◌≡◌, ◌∙◌, ◌<◌, List, Some, ap, length, refl, subst, sym}
+use Rattle.std.proofs.Common.{◌≡◌, ◌≢◌, ◌∙◌, ◌<◌, ◌-◌, arith, ℕ, List, Some, ap, length, refl, subst, sym}
 use Rattle.std.specs.List.{slice_get}
 use Rattle.std.proofs.lemmas.Option.{slice_get_within}
-use Rattle.canvas_doc.specs.declared.records.Record.{Record}
-use Rattle.canvas_doc.specs.Bounds.{AreBounds}
+use Rattle.canvas_record.specs.declared.records.Record.{Record}
+use Rattle.canvas_record.specs.Bounds.{AreBounds}
 use Rattle.canvas_doc.specs.Placements.{Placements}
-use Rattle.canvas_doc.specs.PlaceOrder.{IsInPlaceOrder}
-use Rattle.canvas_doc.proofs.Neighbours.{found-contained}
-use Rattle.canvas_doc.proofs.Rebounded.{no-own_child}
-use Rattle.canvas_doc.proofs.Widened.{group-at, group-limits}
-use Rattle.canvas_doc.proofs.WidenedAbove.{wider-if}
+use Rattle.canvas_record.specs.PlaceOrder.{IsInPlaceOrder}
+use Rattle.canvas_record.proofs.Neighbours.{found-contained}
+use Rattle.canvas_record.proofs.Rebounded.{no-own_child}
+use Rattle.canvas_record.proofs.Widened.{group-at, group-limits}
+use Rattle.canvas_record.proofs.WidenedAbove.{wider-if}
 use Rattle.canvas_doc.proofs.kept_bounds.+widen_above.Goals as goal
 use Rattle.canvas_doc.proofs.kept_bounds.+widen_above.Goals.{then-not-is_held_above, else-not-is_held_above}
+
+fewer : (steps t : ℕ) → steps ≢ 0 → steps ≡ t → steps - 1 < t
+fewer steps t some is = omega (arith, some, is)
 
 pub bounds_at-requires : goal.bounds_at-requires
 bounds_at-requires t c = slice_get_within c.args.order.now.shapes c.position_in-up.result c.in-Some.group.now (group-at c.args.order.now.shapes c.args.records.now c.requires.in_order c.requires.rising c.args.parent c.in-Some.group.now c.position_in-up.result c.in-Some.ensures c.position_in-up.ensures)
@@ -122,3 +125,6 @@ returns-then-contains-clause-shapes t c =
       | else-not-is_held_above w ↦ ap (λ (p : Placements). p.shapes) w.order-is
     ] in
     c.change_bounds.ensures.shapes ∙ same
+
+pub widen_above-requires : goal.widen_above-requires
+widen_above-requires t c = (fewer c.args.steps t c.if-steps-eq0.false c.decreases, (c.requires.in_order, (c.requires.rising, (c.requires.limits, (c.requires.grounded, c.requires.bounded)))))

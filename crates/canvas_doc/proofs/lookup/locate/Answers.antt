@@ -2,8 +2,8 @@ use Rattle.std.proofs.Common.{◌≡◌, ◌∙◌, rules, None, Some, ap, sym}
 use Rattle.std.specs.Option.{option_copied}
 use Rattle.std.proofs.lemmas.List.Sorted.{IsPartitionPoint-from_clause}
 use Rattle.std.proofs.lemmas.Option.{same_Some}
-use Rattle.canvas_doc.specs.declared.records.Record.{Record}
-use Rattle.canvas_doc.proofs.Searched.{is-standing, is_less, less-parted, stands-nowhere}
+use Rattle.canvas_record.specs.declared.records.Record.{Record}
+use Rattle.canvas_record.proofs.Searched.{is-standing, is_less, less-parted, stands-nowhere}
 use Rattle.canvas_doc.proofs.lookup.locate.Goals as goal
 use Rattle.canvas_doc.proofs.lookup.locate.Goals.{in_default-via-in-Some+else-id, in_default-via-in_default}
 

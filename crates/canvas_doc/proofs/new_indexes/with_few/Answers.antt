@@ -1,17 +1,22 @@
-use Rattle.std.proofs.Common.{◌≡◌, ◌<◌, ◌∙◌, ◌+◌, ℕ, List, [], ◌∷◌, IfOk, None, ap, arith, get_or, length, map, rules, set, subst, suc, sym}
+use Rattle.std.proofs.Common.{◌≡◌, ◌<◌, ◌≤◌, ◌∙◌, ◌+◌, ℕ, List, [], ◌∷◌, IfOk, None, ap, arith, get_or, length, map, rules, set, subst, suc, sym, take}
 use Rattle.std.specs.Option.{unwrap_or}
-use Rattle.std.proofs.lemmas.List.{length-map, nil_from_length}
+use Rattle.std.proofs.lemmas.List.{length-map, nil_from_length, take_all}
 use Rattle.canvas_doc.specs.declared.placed_shapes.PlacedShape.{PlacedShape}
-use Rattle.canvas_doc.specs.declared.records.Record.{Record}
-use Rattle.canvas_doc.specs.Contents.{record_of, StandsAt}
+use Rattle.canvas_record.specs.declared.records.Record.{Record}
+use Rattle.canvas_record.specs.Contents.{record_of, StandsAt}
 use Rattle.canvas_doc.proofs.Placements.{map-read, shape_of}
-use Rattle.canvas_doc.proofs.Respacing.{none-put, nothing-put, one-put}
+use Rattle.canvas_record.proofs.Respacing.{none-put, nothing-put, one-put}
 use Rattle.canvas_doc.proofs.new_indexes.with_few.Goals as goal
 use Rattle.canvas_doc.proofs.new_indexes.with_few.Goals.{in-Some-position_of+in_ok-put, in_default-position_of}
 
 -- a position of the records is one of a list that came of them
 within-map : (rs all : List Record) (f : Record → Record) (at : ℕ) → all ≡ map f rs → at < length rs → at < length all
 within-map rs all f at e within = omega (arith, ap length e, length-map rs f)
+
+-- all are put where as many were gone over as there are
+all-put : (rs : List Record) (others : List PlacedShape) (first : PlacedShape) (rest : List PlacedShape) (all : List Record) (i : ℕ) → others ≡ first ∷ rest → length rest ≤ i → all ≡ map (λ r. unwrap_or (record_of r.id (take (i + 1) (map shape_of others))) r) rs → all ≡ map (λ r. unwrap_or (record_of r.id (map shape_of others)) r) rs
+all-put rs others first rest all i whole gone is =
+    is ∙ ap (λ (l : List Record). map (λ (r : Record). unwrap_or (record_of r.id l) r) rs) (take_all (i + 1) (map shape_of others) (omega (arith, gone, length-map others shape_of, ap length whole)))
 
 pub returns-in_default : goal.returns-in_default
 returns-in_default c =
@@ -24,7 +29,7 @@ pub loop-other-preserved : goal.loop-other-preserved
 loop-other-preserved c =
     let rs : List Record = c.args.records.now in
     let rest : List PlacedShape = c.in-Some.rest.now in
-    let whole : c.args.others.now ≡ c.in-Some.first.now ∷ rest = search rules in
+    let whole : c.args.others.now ≡ c.in-Some.first.now ∷ rest = c.in-Some.ensures.cases.0 in
     let others : List Record = map shape_of c.args.others.now in
     let j : ℕ = c.loop-other.other-index in
     let next : suc j ≡ j + 1 = omega arith in
@@ -51,3 +56,6 @@ position_of-requires c = c.requires.rising
 
 pub put-requires : goal.put-requires
 put-requires c = within-map c.args.records.now c.loop-other.all _ c.in-Some-position_of.at c.loop-other.invariant c.in-Some-position_of.ensures.0
+
+pub returns : goal.returns
+returns c = all-put c.args.records.now c.args.others.now c.in-Some.first.now c.in-Some.rest.now c.loop-other.all c.loop-other.other-index c.in-Some.ensures.cases.0 c.loop-other-test.false c.loop-other.invariant

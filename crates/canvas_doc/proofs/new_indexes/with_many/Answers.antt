@@ -2,12 +2,12 @@ use Rattle.std.proofs.Common.{◌≡◌, ◌<◌, ◌≤◌, ◌∙◌, ℕ, Lis
 use Rattle.std.specs.List.{take-map}
 use Rattle.std.specs.Option.{unwrap_or}
 use Rattle.std.proofs.lemmas.List.{length-map, take_all}
-use Rattle.canvas_doc.specs.declared.records.Record.{Record}
-use Rattle.canvas_doc.specs.Contents.{record_of, StandsAt, most_records}
+use Rattle.canvas_record.specs.declared.records.Record.{Record}
+use Rattle.canvas_record.specs.Contents.{record_of, StandsAt, most_records}
 use Rattle.canvas_doc.proofs.Placements.{map-read, shape_of}
-use Rattle.canvas_doc.proofs.Respacing.{none-put, nothing-put, one-put}
+use Rattle.canvas_record.proofs.Respacing.{none-put, nothing-put, one-put}
 use Rattle.canvas_doc.proofs.new_indexes.with_many.Goals as goal
-use Rattle.canvas_doc.proofs.new_indexes.with_many.Goals.{in-Some+in_ok-share, in_default}
+use Rattle.canvas_doc.proofs.new_indexes.with_many.Goals.{in-Some+in_ok-try_clone, in_default}
 
 pub loop-other-init : goal.loop-other-init
 loop-other-init c = c.in_ok-all.ensures ∙ nothing-put c.args.records.now (map shape_of c.args.others.now)
@@ -21,9 +21,9 @@ loop-other-preserved c =
     let within : k < length others = subst (λ n. k < n) (sym (length-map c.args.others.now shape_of)) c.loop-other-test.true in
     let is : o ≡ get_or others k o = map-read shape_of c.args.others.now k c.other-item.result c.other-item.is in
     elim c.match-position_of.branch [
-      | in-Some+in_ok-share w ↦
+      | in-Some+in_ok-try_clone w ↦
           ap (λ l. l.items) w.all-is
-          ∙ ap (set c.loop-other.all.items w.in-Some.at) (w.of.ensures ∙ w.in_ok-share.ensures)
+          ∙ ap (set c.loop-other.all.items w.in-Some.at) (w.of.ensures ∙ w.in_ok-try_clone.ensures)
           ∙ ap (λ (l : List Record). set l w.in-Some.at o) c.loop-other.invariant
           ∙ one-put rs others k w.in-Some.at o c.requires.rising c.requires.once within is (subst (λ (x : Record). StandsAt rs x.id w.in-Some.at) c.value.ensures w.in-Some.ensures)
       | in_default w ↦ ap (λ l. l.items) w.all-is ∙ c.loop-other.invariant ∙ none-put rs others k o c.requires.once within is (subst (λ (x : Record). record_of x.id rs ≡ None) c.value.ensures w.in_default.ensures)

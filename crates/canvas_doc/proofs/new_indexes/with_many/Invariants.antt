@@ -1,6 +1,6 @@
 use Rattle.std.proofs.Common.{◌≡◌, map, take}
 use Rattle.std.specs.Option.{unwrap_or}
-use Rattle.canvas_doc.specs.Contents.{record_of}
+use Rattle.canvas_record.specs.Contents.{record_of}
 use Rattle.canvas_doc.proofs.Placements.{shape_of}
 use Rattle.canvas_doc.proofs.new_indexes.with_many.Given as goal
 

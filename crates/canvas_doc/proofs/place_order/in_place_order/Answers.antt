@@ -3,10 +3,10 @@ use Rattle.std.specs.List.Sorted.{IsPermutation}
 use Rattle.std.specs.Ordering.{is_lt}
 use Rattle.std.proofs.lemmas.Fn.{always_returns_same}
 use Rattle.std.proofs.lemmas.List.Sorted.{ranks_by}
-use Rattle.canvas_doc.specs.declared.records.Record.{Record}
-use Rattle.canvas_doc.specs.PlaceOrder.{comes_first}
-use Rattle.canvas_doc.proofs.ByPlace.{comes_first-total}
-use Rattle.canvas_doc.proofs.PlaceSorted.{sorted-in_order}
+use Rattle.canvas_record.specs.declared.records.Record.{Record}
+use Rattle.canvas_record.specs.PlaceOrder.{comes_first}
+use Rattle.canvas_record.proofs.ByPlace.{comes_first-total}
+use Rattle.canvas_record.proofs.PlaceSorted.{sorted-in_order}
 use Rattle.canvas_doc.proofs.place_order.in_place_order.Goals as goal
 
 pub returns-clause-order : goal.returns-clause-order

@@ -1,12 +1,13 @@
-use Rattle.std.proofs.Common.{◌≡◌, ◌∙◌, false, true, refl, sym, subst, take}
+use Rattle.std.proofs.Common.{◌≡◌, ◌∙◌, false, true, length, refl, sym, subst, take}
 use Rattle.std.specs.List.{list_any}
 use Rattle.std.proofs.lemmas.List.Elements.{All-nil, All-more}
+use Rattle.std.proofs.lemmas.Option.{slice_get_read}
 use Rattle.canvas_key.specs.Text.{IsKey}
-use Rattle.canvas_doc.specs.declared.records.Record.{Record}
-use Rattle.canvas_doc.specs.Listed.{has_place}
-use Rattle.canvas_doc.specs.Restored.{is_misplaced, same_place}
-use Rattle.canvas_doc.proofs.Placed.{none-placed}
-use Rattle.canvas_doc.proofs.Misplaced.{fault-here, fault-later, places-more, misplaced-repeats, misplaced-hangs, misplaced-taken, well-placed, taken-from, free-from}
+use Rattle.canvas_record.specs.declared.records.Record.{Record}
+use Rattle.canvas_record.specs.Listed.{has_place}
+use Rattle.canvas_record.specs.Restored.{is_misplaced, same_place}
+use Rattle.canvas_record.proofs.Placed.{none-placed}
+use Rattle.canvas_record.proofs.Misplaced.{fault-here, fault-later, places-more, misplaced-repeats, misplaced-hangs, misplaced-taken, well-placed, taken-from, free-from}
 use Rattle.canvas_doc.proofs.restored.tree_fault.Goals as goal
 use Rattle.canvas_doc.proofs.restored.tree_fault.Goals.{then-repeats_id-via-then-repeats_id, then-repeats_id-via-else-repeats_id+then-not-hangs_in, then-repeats_id-via-else-repeats_id+else-not-hangs_in+in_ok-takes_place+then-not-branch}
 
@@ -41,3 +42,6 @@ returns-then-repeats_id-clause-value c =
       | then-repeats_id-via-else-repeats_id+else-not-hangs_in+in_ok-takes_place+then-not-branch w ↦ here (misplaced-taken all (take i all) r
           (taken-from (has_place c.loop-position.places r) (list_any (same_place r) (take i all)) w.in_ok-takes_place.field-0 w.in_ok-takes_place.ensures.free (kept.places r) w.if-not-branch.true))
     ]
+
+pub repeats_id-requires-clause-at : goal.repeats_id-requires-clause-at
+repeats_id-requires-clause-at c = slice_get_read c.args.records.now (length c.args.records.now) c.loop-position.position c.index-records-position.result refl c.loop-position-test.true c.index-records-position.is

@@ -1,4 +1,4 @@
-use Rattle.canvas_doc.proofs.NeverMemory.{decision-change}
+use Rattle.canvas_record.proofs.NeverMemory.{decision-change}
 use Rattle.canvas_line.proofs.next.decided.Goals as goal
 
 pub returns-in-Err-OutOfMemory : goal.returns-in-Err-OutOfMemory

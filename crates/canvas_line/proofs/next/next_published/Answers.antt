@@ -2,9 +2,9 @@ use Rattle.std.proofs.Common.{◌≡◌, ◌+◌, ◌<◌, ap, sym, length, ◌�
 use Rattle.std.specs.Arc.{arc_value}
 use Rattle.std.proofs.lemmas.List.{length_push}
 use Rattle.logbook.specs.Pages.{Book}
-use Rattle.canvas_doc.specs.Contents.{Contents}
-use Rattle.canvas_doc.specs.Decision.{decision_of}
-use Rattle.canvas_doc.specs.History.{replay_of}
+use Rattle.canvas_record.specs.Contents.{Contents}
+use Rattle.canvas_record.specs.Decision.{decision_of}
+use Rattle.canvas_record.specs.History.{replay_of}
 use Rattle.canvas_line.specs.Standing.{Shown}
 use Rattle.canvas_line.specs.Trails.{Facts, Trail}
 use Rattle.canvas_line.specs.declared.version.Version.{Version}

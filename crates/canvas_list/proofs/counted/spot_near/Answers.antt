@@ -1,5 +1,5 @@
 use Rattle.std.proofs.Common.{length, refl}
-use Rattle.canvas_list.proofs.Counts.{counted-one, one-behind}
+use Rattle.canvas_list.proofs.Counts.{counted-one, few-and-one, one-behind}
 use Rattle.canvas_list.proofs.counted.spot_near.Goals as goal
 
 pub pass-init : goal.pass-init
@@ -16,3 +16,6 @@ returns-after-pass g c = record { within = c.pass.invariant.within; start = c.pa
 
 pub returns-else-is_before : goal.returns-else-is_before
 returns-else-is_before g c = record { within = c.pass.invariant.within; start = c.pass.invariant.passed }
+
+pub overflow_add-start : goal.overflow_add-start
+overflow_add-start g c = few-and-one g.P.Counted.size c.args.parts.now c.pass.chunk c.pass.start c.count-start.result c.index-parts-chunk-in-pass.result c.pass.invariant.within c.pass.invariant.passed c.count-start.ensures.count c.index-parts-chunk-in-pass.is c.requires.few

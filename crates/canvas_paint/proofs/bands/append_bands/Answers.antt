@@ -1,5 +1,5 @@
 use Rattle.std.proofs.Common.{arith, ap, length}
-use Rattle.canvas_doc.specs.Picture.{or_white}
+use Rattle.canvas_record.specs.Picture.{or_white}
 use Rattle.canvas_paint.specs.Blocks.{shown}
 use Rattle.canvas_paint.specs.Columns.{blocks_in, shown_in}
 use Rattle.canvas_paint.proofs.Banding.{band-after, begins-kept}

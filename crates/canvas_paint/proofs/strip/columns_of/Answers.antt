@@ -1,8 +1,10 @@
 use Rattle.std.proofs.Common.{◌≡◌, ◌<◌, All, ap, arith, length, sym, subst, vec_len, ◌∙◌}
-use Rattle.canvas_doc.specs.Picture.{or_else}
+use Rattle.canvas_record.specs.Picture.{or_else}
 use Rattle.canvas_plane.specs.Window.{column_shown, row_shown}
 use Rattle.canvas_paint.specs.Blocks.{block_fill, cut_fill}
 use Rattle.canvas_paint.specs.Columns.{IsNew, blocks_in, fill_in}
+use Rattle.std.proofs.lemmas.List.{take_all}
+use Rattle.canvas_scene.specs.Items.{last_fill}
 use Rattle.canvas_paint.proofs.Columns.{items-put}
 use Rattle.canvas_paint.proofs.Cutting.{cut-more}
 use Rattle.canvas_paint.proofs.strip.columns_of.Goals as goal
@@ -34,3 +36,8 @@ loop-item-preserved c =
             (ap (λ v. fill_in (blocks_in v.items) k j) u.columns-is ∙ sym (ap (λ o. or_else (cut_fill o k j) (fill_in (blocks_in c.loop-item.columns.items) k j)) u.in-None.is));
       }
     ]
+
+pub returns-clause-fills : goal.returns-clause-fills
+returns-clause-fills c = λ k j p q r.
+    let w = c.args.window.now in
+    c.loop-item.invariant.fills k j p q r ∙ ap (λ l. last_fill l (column_shown w k) (row_shown w j)) (take_all c.loop-item.item-index c.args.items.now c.loop-item-test.false)

@@ -3,7 +3,7 @@ use Rattle.canvas_plane.specs.Motion.{carry}
 use Rattle.canvas_plane.specs.Page.{is_in, meet_of}
 use Rattle.canvas_shape.specs.Edges.{is_in_polygon}
 use Rattle.canvas_shape.specs.Leaves.{carried_holds}
-use Rattle.canvas_doc.specs.Picture.{or_else}
+use Rattle.canvas_record.specs.Picture.{or_else}
 use Rattle.canvas_scene.specs.Nodes.{seen, shown_of}
 use Rattle.canvas_scene.specs.Trees.{clip_of}
 use Rattle.canvas_scene.proofs.Covering.{cut-by-box, swapped}

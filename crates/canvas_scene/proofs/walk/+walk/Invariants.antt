@@ -1,8 +1,8 @@
 use Rattle.std.proofs.Common.{◌≡◌, ◌*◌, ◌+◌, ◌-◌, All, ℤ}
 use Rattle.canvas_plane.specs.Motion.{carry}
 use Rattle.canvas_plane.specs.Page.{is_in}
-use Rattle.canvas_doc.specs.Children.{children}
-use Rattle.canvas_doc.specs.Picture.{answer_among, answer_of, first_answer, or_else}
+use Rattle.canvas_record.specs.Children.{children}
+use Rattle.canvas_record.specs.Picture.{answer_among, answer_of, first_answer, or_else}
 use Rattle.canvas_scene.specs.Clips.{IsClipped}
 use Rattle.canvas_scene.specs.Covers.{first_fill}
 use Rattle.canvas_scene.specs.Nodes.{AreShown, seen}

@@ -1,7 +1,7 @@
 use Rattle.std.proofs.Common.{◌∙◌, ap, refl, sym}
 use Rattle.canvas_plane.specs.Page.{is_in}
 use Rattle.canvas_shape.specs.Leaves.{carried_holds}
-use Rattle.canvas_doc.specs.Picture.{or_else}
+use Rattle.canvas_record.specs.Picture.{or_else}
 use Rattle.canvas_scene.specs.Covers.{first_fill}
 use Rattle.canvas_scene.specs.Nodes.{seen}
 use Rattle.canvas_scene.proofs.Covering.{hidden-part}
@@ -19,3 +19,6 @@ returns-in_default-clause-fills c = λ x y.
     let held = carried_holds c.args.leaf x y in
     or_else-none front
     ∙ ap (or_else front) (seen-none inside ∙ ap (seen inside) (seen-none held ∙ ap (seen held) (sym c.in_default.is)))
+
+pub returns-clause-items : goal.returns-clause-items
+returns-clause-items c = c.in_ok-item.ensures.items

@@ -1,6 +1,6 @@
 use Rattle.std.proofs.Common.{◌∙◌, None, ap, cond, sym}
 use Rattle.canvas_plane.specs.Page.{is_in}
-use Rattle.canvas_doc.specs.Picture.{or_else}
+use Rattle.canvas_record.specs.Picture.{or_else}
 use Rattle.canvas_scene.specs.Covers.{first_fill}
 use Rattle.canvas_scene.specs.Nodes.{seen, shown_of}
 use Rattle.canvas_scene.proofs.Covering.{hidden-box}

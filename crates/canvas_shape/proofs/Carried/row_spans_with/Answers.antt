@@ -28,3 +28,18 @@ returns-in-Polygon-clause-ok c =
     on_ok_weaker c.vertices_spans.result
     (of-leaf c.args.out.now.items c.vertices_spans.new.out.items c.args.left c.args.right c.args.y c.args.self.now (λ x. is_in_polygon c.in-Polygon.vertices.points.now x c.args.y) (λ x. ap (λ k. carried_holds k x c.args.y) (sym c.in-Polygon.is)))
     (simp to_z-of_z at c.vertices_spans.ensures.ok)
+
+pub returns-in-Rect-clause-want : goal.returns-in-Rect-clause-want
+returns-in-Rect-clause-want c =
+    let l = c.ranges.left in let r = c.ranges.right in
+    simp to_z-of_z at c.box_spans.ensures.want
+
+pub returns-in-Ellipse-clause-want : goal.returns-in-Ellipse-clause-want
+returns-in-Ellipse-clause-want c =
+    let l = c.ranges.left in let r = c.ranges.right in
+    simp to_z-of_z at c.ellipse_spans.ensures.want
+
+pub returns-in-Polygon-clause-want : goal.returns-in-Polygon-clause-want
+returns-in-Polygon-clause-want c =
+    let l = c.ranges.left in let r = c.ranges.right in
+    simp to_z-of_z at c.vertices_spans.ensures.want

@@ -11,3 +11,6 @@ loop-k-preserved c = record {
 
 pub returns-clause-ok : goal.returns-clause-ok
 returns-clause-ok c = row-done c.args.row.left c.loop-k.reached.inside c.args.width c.args.flags.now.words c.loop-k.k c.loop-k.reached.place c.loop-k.out.items _ c.loop-k-test.false c.loop-k.invariant.placed
+
+pub returns-in_err-reached-clause-kept : goal.returns-in_err-reached-clause-kept
+returns-in_err-reached-clause-kept c = kept-on c.args.out.now.items c.loop-k.out.items c.push_word.new.out.items c.loop-k.invariant.kept c.in_err-reached.ensures.kept

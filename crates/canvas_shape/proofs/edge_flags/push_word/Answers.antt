@@ -1,3 +1,4 @@
+use Rattle.canvas_shape.proofs.Held.{cut-inside}
 use Rattle.std.proofs.Common.{◌≡◌, suc, ◌+◌, length, length-append, ap, min, arith}
 use Rattle.canvas_shape.specs.declared.Span.{Span}
 use Rattle.canvas_shape.proofs.FlagCuts.{fewer-cuts, word-step, word-done}
@@ -19,3 +20,6 @@ loop-word-preserved c =
 
 pub returns-clause-ok : goal.returns-clause-ok
 returns-clause-ok c = word-done c.args.row.left c.loop-word.inside c.args.width c.loop-word.word c.args.base c.loop-word.place c.loop-word.out.items _ c.loop-word-test.false c.loop-word.invariant.placed
+
+pub push_piece-requires-clause-second : goal.push_piece-requires-clause-second
+push_piece-requires-clause-second c = cut-inside c.args.row.left c.args.row.right c.min-cut.result _ c.args.width c.min-cut.ensures c.requires.wide

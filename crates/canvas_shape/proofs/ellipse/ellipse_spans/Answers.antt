@@ -16,3 +16,6 @@ returns-clause-ok c =
     on_ok_weaker c.append_cut.result
     (AppendsSpans-same c.args.out.now.items c.append_cut.new.out.items (within c.args.left c.args.right (λ x. is_from_to c.row_ends-ends.result.from x c.row_ends-ends.result.to)) (within c.args.left c.args.right (λ x. is_in_ellipse c.args.shape.now x c.args.y)) (λ x. ap (λ t. is_from_to c.args.left x c.args.right && t) (same x)))
     (simp to_z-of_z at c.append_cut.ensures.ok)
+
+pub returns-clause-want : goal.returns-clause-want
+returns-clause-want c = let l = c.ranges.left in let r = c.ranges.right in simp to_z-of_z at c.append_cut.ensures.want

@@ -28,3 +28,8 @@ returns-else-is_in_rows-clause-ok c =
     let sb : FitsSigned w64 c.args.shape.now.bottom = search rules in
     let rows = simp to_z-of_z at (sym c.is_in_rows.ensures ∙ c.if-is_in_rows.false) in
     appends-nothing c.args.out.now.items c.args.left c.args.right (λ x. is_in (sides_of c.args.shape.now) x c.args.y) (λ x. off-box (sides_of c.args.shape.now) x c.args.y rows)
+
+pub returns-then-is_in_rows-clause-want : goal.returns-then-is_in_rows-clause-want
+returns-then-is_in_rows-clause-want c =
+    let l = c.ranges.left in let r = c.ranges.right in
+    simp to_z-of_z at c.append_cut.ensures.want

@@ -1,5 +1,8 @@
-use Rattle.std.proofs.Common.{IsTrue, refl}
+use Rattle.std.proofs.Common.{IsTrue, refl, ap, subst}
+use Rattle.std.proofs.lemmas.Bool.{false≢true}
 use Rattle.serde_json.specs.View.{view}
+use Rattle.canvas_store.specs.Faults.{or_fault}
+use Rattle.canvas_store.specs.declared.fault.StoreFault.TheVariants.{BadJson}
 use Rattle.canvas_store.proofs.Json.{json_some, json_none}
 use Rattle.canvas_store.proofs.opening.value_of.Goals as goal
 
@@ -8,4 +11,4 @@ returns-in-Ok c = rw (json_some c.args.text.now (view c.in-Ok.value) c.in-Ok.ens
 
 pub returns-else-is_memory : goal.returns-else-is_memory
 returns-else-is_memory c =
-    rw (json_none c.args.text.now (c.in-Err.ensures.err (λ m. let t : IsTrue c.is_memory.result = c.is_memory.ensures.1 m in cc))) refl
+    ap (or_fault BadJson) (json_none c.args.text.now (c.in-Err.ensures.err (λ m. false≢true (subst IsTrue c.if-is_memory.false (c.is_memory.ensures.1 m)))))

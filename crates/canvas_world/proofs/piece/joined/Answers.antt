@@ -1,5 +1,5 @@
 use Rattle.std.proofs.Common.{◌++◌, ◌∙◌, ap, arith}
-use Rattle.canvas_doc.specs.Picture.{colour}
+use Rattle.canvas_record.specs.Picture.{colour}
 use Rattle.canvas_scene.specs.Pictures.{picture_of}
 use Rattle.canvas_world.specs.Pieces.{cuts_of}
 use Rattle.canvas_world.proofs.Strips.{below-more, no-picture, rows-more, whole}

@@ -1,5 +1,5 @@
 use Rattle.std.proofs.Common.{◌≡◌, ℕ, ◌+◌, ◌≤◌, ◌∙◌, ap, arith}
-use Rattle.canvas_doc.specs.Picture.{colour}
+use Rattle.canvas_record.specs.Picture.{colour}
 use Rattle.canvas_scene.specs.Items.{last_colour}
 use Rattle.canvas_scene.specs.Pictures.{rows_of}
 use Rattle.canvas_scene.specs.Scenes.{display_list_of}

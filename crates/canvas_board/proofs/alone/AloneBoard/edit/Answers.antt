@@ -1,5 +1,5 @@
 use Rattle.std.proofs.Common.{◌≡◌, ◌+◌, List, [], ◌∷◌, ◌++◌, length, subst, arith, Err, ap, ◌∙◌, length-append}
-use Rattle.canvas_doc.specs.declared.edits.Change.{Change}
+use Rattle.canvas_record.specs.declared.edits.Change.{Change}
 use Rattle.canvas_board.specs.Alone.{alone_board}
 use Rattle.canvas_board.specs.Seen.{Seen}
 use Rattle.canvas_board.specs.Steps.{Accepts, Edits}

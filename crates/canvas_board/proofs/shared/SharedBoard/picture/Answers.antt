@@ -1,6 +1,6 @@
 use Rattle.std.proofs.Common.{true, ◌≡◌, rules, ap, sym, ◌∙◌, subst}
 use Rattle.std.specs.Arc.{arc_value}
-use Rattle.canvas_doc.specs.Contents.{Contents}
+use Rattle.canvas_record.specs.Contents.{Contents}
 use Rattle.canvas_paint.specs.Workers.{are_workers}
 use Rattle.canvas_line.specs.declared.version.Version.{Version}
 use Rattle.canvas_line.specs.Lines.{Sight}

@@ -1,8 +1,8 @@
 use Rattle.std.proofs.Common.{◌≡◌, ◌<◌, ◌∷◌, [], ◌++◌, List, ap, sym, length, ◌∙◌, subst}
-use Rattle.canvas_doc.specs.Contents.{Contents}
-use Rattle.canvas_doc.specs.Decision.{decision_of}
-use Rattle.canvas_doc.specs.History.{AllFit, replay_of}
-use Rattle.canvas_doc.specs.declared.edits.Change.{Change}
+use Rattle.canvas_record.specs.Contents.{Contents}
+use Rattle.canvas_record.specs.Decision.{decision_of}
+use Rattle.canvas_record.specs.History.{AllFit, replay_of}
+use Rattle.canvas_record.specs.declared.edits.Change.{Change}
 use Rattle.canvas_line.specs.Lines.{Line, with_front}
 use Rattle.canvas_line.proofs.perch.Perch.edit_at.Goals as goal
 

@@ -1,4 +1,4 @@
-use Rattle.std.proofs.Common.{◌≡◌, ◌∙◌, ◌<◌, ◌≤◌, ◌+◌, List, ap, length, subst, sym}
+use Rattle.std.proofs.Common.{◌≡◌, ◌∙◌, ◌<◌, List, ap, length, subst, sym}
 use Rattle.std.specs.List.{All}
 use Rattle.canvas_list.specs.declared.in_place.ItemChange.TheVariants.{Remove, Insert}
 use Rattle.canvas_list.specs.Changed.{changed_if, IsPositionOf}

@@ -1,11 +1,10 @@
-use Rattle.std.proofs.Common.{◌≡◌, ◌∙◌, ◌+◌, ◌-◌, ◌<◌, ◌≤◌, Global, List, Vec, ◌++◌, ap, arith, cond, length, subst, sym}
+use Rattle.std.proofs.Common.{rules, ◌≡◌, ◌∙◌, ◌+◌, ◌-◌, ◌<◌, ◌≤◌, Global, List, Vec, ◌++◌, ap, cond, length, subst, sym, take}
 use Rattle.std.specs.Arc.{arc_value}
 use Rattle.std.specs.List.{All}
-use Rattle.std.proofs.lemmas.List.{length-take-le}
 use Rattle.canvas_list.specs.Changed.{replaced_run}
 use Rattle.canvas_list.specs.Chunks.{joined, FitsChunk}
 use Rattle.canvas_list.specs.declared.sizes.TheConstants.{MOST_IN_CHUNK}
-use Rattle.canvas_list.proofs.Replaced.{all-behind, ends-here, goes-on}
+use Rattle.canvas_list.proofs.Replaced.{all-behind, all-fit, ends-here, first-fills, goes-on, rest-fits}
 use Rattle.canvas_list.proofs.chunk.Chunk.+replace_run.Goals as goal
 use Rattle.canvas_list.proofs.chunk.Chunk.+replace_run.Goals.{then-len-room+in-Ok+in-Some-split_first_mut+else-not-replace_run, else-len-room}
 
@@ -44,30 +43,24 @@ returns-clause-some g t c =
 pub returns-clause-items : goal.returns-clause-items
 returns-clause-items g t c =
     let own : c.in-Some.own.now.items ≡ c.args.self.now = ap (λ (v : Vec g.row.T.Denot Global). v.items) c.in-Some.ensures.value ∙ c.self.view_is in
-    let long : length c.in-Some.own.now.items ≡ c.in-Some.own.now.len = sym c.in-Some.own.now.ok.0 in
-    let low : c.args.at ≤ length c.in-Some.own.now.items = omega (arith, ap length own, c.requires.place) in
-    let fits : c.args.at + length c.if-len-room.first.items ≤ length c.in-Some.own.now.items =
-    elim c.if-len-room.branch [
-      | then-len-room+in-Ok+in-Some-split_first_mut+else-not-replace_run w ↦ omega (arith, low, long, c.len.ensures, c.len-2.ensures, c.args.items.ok.0, w.if-len-room.true, ap (λ (v : Vec g.row.T.Denot Global). length v.items) w.first-is, ap length w.in-Ok.ensures.items, length-take-le (c.len.result - c.args.at) c.args.items.items (omega (arith, c.len-2.ensures, c.args.items.ok.0, w.if-len-room.true)))
-      | else-len-room w ↦ omega (arith, low, long, c.len.ensures, c.len-2.ensures, c.args.items.ok.0, w.if-len-room.false, ap (λ (v : Vec g.row.T.Denot Global). length v.items) w.first-is)
-    ] in
+    let long : c.len.result ≡ length c.in-Some.own.now.items = c.len.ensures ∙ c.in-Some.own.now.ok.0 in
+    let many : c.len-2.result ≡ length c.args.items.items = c.len-2.ensures ∙ c.args.items.ok.0 in
     elim c.if-len-room.branch [
       | then-len-room+in-Ok+in-Some-split_first_mut+else-not-replace_run w ↦
+          (let front : c.if-len-room.first.items ≡ take (c.len.result - c.args.at) c.args.items.items = ap (λ (v : Vec g.row.T.Denot Global). v.items) w.first-is ∙ w.in-Ok.ensures.items in
           ap (λ (l : List (List g.row.T.Denot)). c.put_run.new.items.items ++ joined l) w.behind-is
           ∙ goes-on c.args.self.now c.in-Some.own.now.items c.put_run.new.items.items c.args.items.items c.if-len-room.first.items w.in-Ok.rest.items (joined c.args.behind.now) (w.replace_run.new.self ++ joined w.replace_run.new.behind) c.args.at (c.len.result - c.args.at)
-          c.put_run.ensures.items own
-          (ap (λ (v : Vec g.row.T.Denot Global). v.items) w.first-is ∙ w.in-Ok.ensures.items)
-          w.in-Ok.ensures.tail
-          (omega (arith, low, long, c.len.ensures, c.len-2.ensures, c.args.items.ok.0, w.if-len-room.true, ap (λ (v : Vec g.row.T.Denot Global). length v.items) w.first-is, ap length w.in-Ok.ensures.items, length-take-le (c.len.result - c.args.at) c.args.items.items (omega (arith, c.len-2.ensures, c.args.items.ok.0, w.if-len-room.true))))
+          c.put_run.ensures.items own front w.in-Ok.ensures.tail
+          (first-fills c.args.self.now c.in-Some.own.now.items c.args.items.items c.if-len-room.first.items c.args.at c.len.result c.len-2.result own c.requires.place long many w.if-len-room.true front)
           (w.replace_run.ensures.items
           ∙ ap (λ made. cond made (replaced_run 0 w.in-Ok.rest.items (w.in-Some-split_first_mut.next.now ++ joined w.in-Some-split_first_mut.others.now)) (w.in-Some-split_first_mut.next.now ++ joined w.in-Some-split_first_mut.others.now)) w.if-not-replace_run.false
-          ∙ ap (λ (l : List (List g.row.T.Denot)). replaced_run 0 w.in-Ok.rest.items (joined l)) (sym w.in-Some-split_first_mut.ensures.cases.0))
+          ∙ ap (λ (l : List (List g.row.T.Denot)). replaced_run 0 w.in-Ok.rest.items (joined l)) (sym w.in-Some-split_first_mut.ensures.cases.0)))
       | else-len-room w ↦
+          (let all : c.if-len-room.first.items ≡ c.args.items.items = ap (λ (v : Vec g.row.T.Denot Global). v.items) w.first-is in
           ap (λ (l : List (List g.row.T.Denot)). c.put_run.new.items.items ++ joined l) w.behind-is
           ∙ ends-here c.args.self.now c.in-Some.own.now.items c.put_run.new.items.items c.args.items.items c.if-len-room.first.items (joined c.args.behind.now) c.args.at
-          c.put_run.ensures.items own
-          (ap (λ (v : Vec g.row.T.Denot Global). v.items) w.first-is)
-          fits
+          c.put_run.ensures.items own all
+          (all-fit c.args.self.now c.in-Some.own.now.items c.args.items.items c.if-len-room.first.items c.args.at c.len.result c.len-2.result own c.requires.place long many w.if-len-room.false all))
     ]
 
 pub returns-clause-some_behind : goal.returns-clause-some_behind
@@ -129,3 +122,11 @@ returns-then-not-replace_run-clause-items g t c =
 
 pub returns-then-not-replace_run-clause-some : goal.returns-then-not-replace_run-clause-some
 returns-then-not-replace_run-clause-some g t c = subst (λ (v : Vec g.row.T.Denot Global). 0 < length v.items) (sym c.in-Some.ensures.value) c.self.invariant.0.some
+
+pub replace_run-requires : goal.replace_run-requires
+replace_run-requires g t c =
+    let own : c.in-Some.own.now.items ≡ c.args.self.now = ap (λ (v : Vec g.row.T.Denot Global). v.items) c.in-Some.ensures.value ∙ c.self.view_is in
+    let long : c.len.result ≡ length c.in-Some.own.now.items = c.len.ensures ∙ c.in-Some.own.now.ok.0 in
+    let fits : 0 + length c.in-Ok.rest.items ≤ length (c.in-Some-split_first_mut.next.now ++ joined c.in-Some-split_first_mut.others.now) =
+    rest-fits c.args.self.now c.in-Some.own.now.items c.args.items.items c.in-Ok.rest.items c.in-Some-split_first_mut.next.now c.args.behind.now c.in-Some-split_first_mut.others.now c.args.at c.len.result own long c.in-Some-split_first_mut.ensures.cases.0 c.in-Ok.ensures.tail c.requires.within in
+    search rules

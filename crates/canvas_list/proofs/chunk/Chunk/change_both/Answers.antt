@@ -1,4 +1,4 @@
-use Rattle.std.proofs.Common.{◌∙◌, Global, List, Vec, ap, length, refl, subst, sym}
+use Rattle.std.proofs.Common.{◌≡◌, ◌∙◌, Global, List, Vec, ap, length, refl, subst, sym}
 use Rattle.std.specs.Arc.{arc_value}
 use Rattle.std.specs.List.{All}
 use Rattle.canvas_list.specs.Changed.{changed, changed_if, IsPositionOf}
@@ -42,5 +42,13 @@ invariant_of-self-2 g c = (
 pub returns : goal.returns
 returns g c = record {
   items = c.change_items.ensures ∙ ap (λ (l : List g.row.T.Denot). changed c.args.change c.args.at l) (c.make_room.ensures.items ∙ ap (λ (v : Vec g.row.T.Denot Global). v.items) c.in-Some.ensures.value ∙ c.self.view_is);
-  other = c.change.ensures ∙ ap (λ m. changed_if m c.args.other_change c.args.other_at c.args.other.now) c.if-not-change.false;
+  other = c.change-made.ensures ∙ ap (λ m. changed_if m c.args.other_change c.args.other_at c.args.other.now) c.if-not-made.false;
 }
+
+pub invariant_of-self-then-not-make_room : goal.invariant_of-self-then-not-make_room
+invariant_of-self-then-not-make_room g c =
+    subst (λ (l : List g.row.T.Denot). FitsChunk (length l) × (c.self.inside.noted.count ≡ length l) × All (g.T.Share.covers c.self.inside.summary) l) (sym (c.make_room.ensures.items ∙ ap (λ (v : Vec g.row.T.Denot Global). v.items) c.in-Some.ensures.value)) c.self.invariant
+
+pub invariant_of-self-then-not-made : goal.invariant_of-self-then-not-made
+invariant_of-self-then-not-made g c =
+    subst (λ (l : List g.row.T.Denot). FitsChunk (length l) × (c.self.inside.noted.count ≡ length l) × All (g.T.Share.covers c.self.inside.summary) l) (sym (c.make_room.ensures.items ∙ ap (λ (v : Vec g.row.T.Denot Global). v.items) c.in-Some.ensures.value)) c.self.invariant

@@ -1,4 +1,4 @@
-use Rattle.std.proofs.Common.{◌≡◌, ◌<◌, ◌≤◌, ◌∙◌, ◌++◌, ◌^◌, List, IfOk, ap, arith, length, subst, sym}
+use Rattle.std.proofs.Common.{◌≡◌, ◌<◌, ◌≤◌, ◌∙◌, ◌++◌, ◌^◌, List, IfOk, ap, arith, length, refl, subst, sym}
 use Rattle.std.proofs.lemmas.Iterator.Adapters.{YieldsList-from_vec}
 use Rattle.std.proofs.lemmas.Iterator.Consumers.{YieldsList-end, YieldsList-turn}
 use Rattle.std.proofs.lemmas.List.{map-id}
@@ -12,24 +12,19 @@ loop-item-init g c = record {
   room = none-fewer c.in_ok-fresh.fresh.items c.args.per_chunk c.in_ok-fresh.ensures.items c.requires.chunk.some;
 }
 
-pub new-requires-clause-some : goal.new-requires-clause-some
-new-requires-clause-some g c =
-    subst (λ n. 0 < n) (sym (read-len c.push.new.self.items c.len-in-loop-item.result c.push.new.self.len c.args.per_chunk c.if-len-per_chunk.true c.len-in-loop-item.ensures c.push.new.self.ok.0)) c.requires.chunk.some
-
-pub new-requires-clause-few : goal.new-requires-clause-few
-new-requires-clause-few g c =
-    subst (λ n. n ≤ MOST_IN_CHUNK) (sym (read-len c.push.new.self.items c.len-in-loop-item.result c.push.new.self.len c.args.per_chunk c.if-len-per_chunk.true c.len-in-loop-item.ensures c.push.new.self.ok.0)) c.requires.chunk.few
-
-pub and-requires : goal.and-requires
-and-requires g c =
+pub and_one-requires : goal.and_one-requires
+and_one-requires g c =
     let given = YieldsList-turn (YieldsList-from_vec {s = c.into_iter-item-iterator.result} c.args.items.items c.into_iter-item-iterator.ensures.into_iter_gives.0 (c.into_iter-item-iterator.ensures.into_iter_gives.1 ∙ c.args.items.ok.0)) c.loop-item.yielded c.loop-item.item-iterator c.loop-item.yielded_by c.next.result c.next.new.self c.in-Some.item c.in-Some.is c.next.ensures.steps in
-    put-few c.loop-item.list c.loop-item.fresh.items c.push.new.self.items c.loop-item.yielded c.in_ok-new.field-0 _ c.in-Some.item (length c.args.items.items) (2 ^ 32) c.in_ok-push.ensures.items c.loop-item.invariant.same c.list-in-loop-item.view_is c.in_ok-new.ensures given.0 c.requires.few
+    record {
+      some = subst (λ n. 0 < n) (sym (read-len c.push.new.self.items c.len-in-loop-item.result c.push.new.self.len c.args.per_chunk c.if-len-per_chunk.true c.len-in-loop-item.ensures c.push.new.self.ok.0)) c.requires.chunk.some;
+      few = subst (λ n. n ≤ MOST_IN_CHUNK) (sym (read-len c.push.new.self.items c.len-in-loop-item.result c.push.new.self.len c.args.per_chunk c.if-len-per_chunk.true c.len-in-loop-item.ensures c.push.new.self.ok.0)) c.requires.chunk.few;
+      small = put-few c.loop-item.list c.loop-item.fresh.items c.push.new.self.items c.loop-item.yielded c.push.new.self.items c.loop-item.list c.in-Some.item (length c.args.items.items) (2 ^ 32) c.in_ok-push.ensures.items c.loop-item.invariant.same refl refl given.0 c.requires.few;
+    }
 
 pub loop-item-preserved-then-len-per_chunk : goal.loop-item-preserved-then-len-per_chunk
 loop-item-preserved-then-len-per_chunk g c =
-    let put = c.in_ok-list-2.ensures ∙ ap (λ (l : List g.row.T.Denot). l ++ c.in_ok-new.field-0) c.list-in-loop-item.view_is ∙ ap (λ (l : List g.row.T.Denot). c.loop-item.list ++ l) c.in_ok-new.ensures in
     record {
-      same = put-in c.loop-item.list c.loop-item.fresh.items c.push.new.self.items c.loop-item.yielded c.in_ok-list-2.list c.in_ok-fresh-2.fresh.items c.in-Some.item c.in_ok-push.ensures.items c.loop-item.invariant.same put c.in_ok-fresh-2.ensures.items;
+      same = put-in c.loop-item.list c.loop-item.fresh.items c.push.new.self.items c.loop-item.yielded c.in_ok-list-2.list c.in_ok-fresh-2.fresh.items c.in-Some.item c.in_ok-push.ensures.items c.loop-item.invariant.same c.in_ok-list-2.ensures c.in_ok-fresh-2.ensures.items;
       room = none-fewer c.in_ok-fresh-2.fresh.items c.args.per_chunk c.in_ok-fresh-2.ensures.items c.requires.chunk.some;
     }
 

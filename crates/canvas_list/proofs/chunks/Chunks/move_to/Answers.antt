@@ -1,5 +1,7 @@
-use Rattle.std.proofs.Common.{arith}
+use Rattle.std.proofs.Common.{◌∙◌, ◌<◌, List, ap, arith, length, subst, sym}
 use Rattle.canvas_list.specs.declared.in_place.ItemChange.TheVariants.{Remove, Insert}
+use Rattle.canvas_list.specs.Changed.{changed_if}
+use Rattle.canvas_list.proofs.Joined.{has-chunk, search-some}
 use Rattle.canvas_list.proofs.InPlace.{changed-part, items-after, less-is-some, part-more, place-in, some-after, table-kept, table-less, table-more}
 use Rattle.canvas_list.proofs.chunks.Chunks.move_to.Goals as goal
 
@@ -58,3 +60,31 @@ pub invariant_of-target-else-made : goal.invariant_of-target-else-made
 invariant_of-target-else-made g c =
     let p = changed-part c.target.inside.chunks.items c.deref-2.result.now c.args.target.now c.target.inside.count c.spot_of-goal.result.chunk c.spot_of-goal.result.start c.args.place c.index_mut.result.now (Insert c.args.item) c.target.invariant c.deref-2.ensures.value c.spot_of-goal.ensures c.target.view_is c.index_mut.ensures.value c.requires.place in
     table-kept c.target.inside.chunks.items c.args.target.now c.target.inside.count c.spot_of-goal.result.chunk c.spot_of-goal.result.start c.args.place c.index_mut.result.now c.move_to-made.result (Insert c.args.item) c.move_to-made.new.target p c.move_to-made.ensures.target c.if-made.false
+
+pub spot_of-spot-requires : goal.spot_of-spot-requires
+spot_of-spot-requires g c = search-some c.self.inside.chunks.items c.deref.result.now c.deref.ensures.value (has-chunk c.self.inside.chunks.items c.args.self.now c.args.from c.self.view_is c.requires.from)
+
+pub spot_of-goal-requires : goal.spot_of-goal-requires
+spot_of-goal-requires g c = search-some c.target.inside.chunks.items c.deref-2.result.now c.deref-2.ensures.value (has-chunk c.target.inside.chunks.items c.args.target.now 0 c.target.view_is c.requires.some)
+
+pub returns-else-made-clause-items : goal.returns-else-made-clause-items
+returns-else-made-clause-items g c =
+    let p = changed-part c.self.inside.chunks.items c.deref.result.now c.args.self.now c.self.inside.count c.spot_of-spot.result.chunk c.spot_of-spot.result.start c.args.from c.index_mut-chunk.result.now Remove c.self.invariant c.deref.ensures.value c.spot_of-spot.ensures c.self.view_is c.index_mut-chunk.ensures.value c.requires.from in
+    items-after c.self.inside.chunks.items c.args.self.now c.self.inside.count c.spot_of-spot.result.chunk c.spot_of-spot.result.start c.args.from c.index_mut-chunk.result.now c.move_to-made.result Remove c.move_to-made.new.self p c.move_to-made.ensures.items
+
+pub returns-else-made-clause-some : goal.returns-else-made-clause-some
+returns-else-made-clause-some g c =
+    let p = changed-part c.self.inside.chunks.items c.deref.result.now c.args.self.now c.self.inside.count c.spot_of-spot.result.chunk c.spot_of-spot.result.start c.args.from c.index_mut-chunk.result.now Remove c.self.invariant c.deref.ensures.value c.spot_of-spot.ensures c.self.view_is c.index_mut-chunk.ensures.value c.requires.from in
+    some-after c.self.inside.chunks.items c.args.self.now c.self.inside.count c.spot_of-spot.result.chunk c.spot_of-spot.result.start c.args.from c.index_mut-chunk.result.now c.move_to-made.result Remove c.move_to-made.new.self p c.move_to-made.ensures.some
+
+pub returns-else-made-clause-target : goal.returns-else-made-clause-target
+returns-else-made-clause-target g c =
+    let p = changed-part c.target.inside.chunks.items c.deref-2.result.now c.args.target.now c.target.inside.count c.spot_of-goal.result.chunk c.spot_of-goal.result.start c.args.place c.index_mut.result.now (Insert c.args.item) c.target.invariant c.deref-2.ensures.value c.spot_of-goal.ensures c.target.view_is c.index_mut.ensures.value c.requires.place in
+    items-after c.target.inside.chunks.items c.args.target.now c.target.inside.count c.spot_of-goal.result.chunk c.spot_of-goal.result.start c.args.place c.index_mut.result.now c.move_to-made.result (Insert c.args.item) c.move_to-made.new.target p c.move_to-made.ensures.target
+
+pub returns-else-made-clause-some_there : goal.returns-else-made-clause-some_there
+returns-else-made-clause-some_there g c =
+    let p = changed-part c.target.inside.chunks.items c.deref-2.result.now c.args.target.now c.target.inside.count c.spot_of-goal.result.chunk c.spot_of-goal.result.start c.args.place c.index_mut.result.now (Insert c.args.item) c.target.invariant c.deref-2.ensures.value c.spot_of-goal.ensures c.target.view_is c.index_mut.ensures.value c.requires.place in
+    subst (λ (l : List g.row.T.Denot). 0 < length l)
+    (sym (items-after c.target.inside.chunks.items c.args.target.now c.target.inside.count c.spot_of-goal.result.chunk c.spot_of-goal.result.start c.args.place c.index_mut.result.now c.move_to-made.result (Insert c.args.item) c.move_to-made.new.target p c.move_to-made.ensures.target ∙ ap (λ made. changed_if made (Insert c.args.item) c.args.place c.args.target.now) c.if-made.false))
+    c.requires.some

@@ -1,5 +1,6 @@
 use Rattle.std.proofs.Common.{◌∙◌, ◌<◌, List, ap, arith, length, subst, sym}
 use Rattle.canvas_list.specs.Chunks.{joined, IsTable}
+use Rattle.canvas_list.proofs.Joined.{has-chunk, search-some}
 use Rattle.canvas_list.proofs.Replaced.{cut-at, items-cut, place-there, run-there, some-long, table-cut, whole-cut}
 use Rattle.canvas_list.proofs.chunks.Chunks.replace_run.Goals as goal
 
@@ -32,3 +33,6 @@ returns-clause-some g c =
     subst (λ (l : List (List g.row.T.Denot)). 0 < length (joined l))
     (sym (whole-cut c.self.inside.chunks.items c.split_at_mut-part.result.0.now c.in-Some.chunk.now c.in-Some.behind.now c.args.self.now c.self.inside.count c.spot_of-spot.result.chunk c.spot_of-spot.result.start c.args.at cut c.self.inside.chunks.len c.replace_run.new.self c.replace_run.new.behind c.self.inside.chunks.ok.0 c.replace_run.auto.behind))
     (some-long c.split_at_mut-part.result.0.now c.replace_run.new.self c.replace_run.new.behind c.replace_run.ensures.some)
+
+pub spot_of-spot-requires : goal.spot_of-spot-requires
+spot_of-spot-requires g c = search-some c.self.inside.chunks.items c.deref.result.now c.deref.ensures.value (has-chunk c.self.inside.chunks.items c.args.self.now c.args.at c.self.view_is (omega (arith, c.requires.some, c.requires.within)))

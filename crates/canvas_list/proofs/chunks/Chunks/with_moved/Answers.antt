@@ -1,10 +1,11 @@
 use Rattle.std.proofs.Common.{◌≡◌, ◌∙◌, ◌-◌, ◌+◌, ◌<◌, ◌++◌, List, IfOk, refl, ap, subst, arith, length, take, drop}
 use Rattle.std.specs.List.{insert, remove}
-use Rattle.std.proofs.lemmas.List.Edits.{length-insert, length-remove}
+use Rattle.std.proofs.lemmas.List.Edits.{length-remove}
 use Rattle.canvas_list.specs.Chunks.{joined}
 use Rattle.canvas_list.proofs.Blocks.{of-block}
-use Rattle.canvas_list.proofs.Joined.{has-chunk, len-is, search-some}
-use Rattle.canvas_list.proofs.Spliced.{moved, sum-parts, IsOfSpot}
+use Rattle.canvas_list.proofs.Joined.{has-chunk, search-some}
+use Rattle.canvas_list.proofs.Moved.{moved-few}
+use Rattle.canvas_list.proofs.Spliced.{moved, IsOfSpot}
 use Rattle.canvas_list.proofs.Ends.{end-read, few-after, room-after}
 use Rattle.canvas_list.proofs.chunks.Chunks.with_moved.Goals as goal
 
@@ -25,18 +26,9 @@ pub spliced-requires-clause-small : goal.spliced-requires-clause-small
 spliced-requires-clause-small g c =
     let p : IsOfSpot c.self.inside.chunks.items c.args.self.now c.spot_of-spot.result.chunk c.spot_of-spot.result.start c.args.from c.index-chunk.result.now = of-block c.self.inside.chunks.items c.deref.result.now c.args.self.now c.self.inside.count c.spot_of-spot.result.chunk c.spot_of-spot.result.start c.args.from c.index-chunk.result.now c.index-chunk.result.now c.self.invariant c.deref.ensures.value c.spot_of-spot.ensures c.self.view_is c.index-chunk.ensures refl in
     let high : c.args.to - c.spot_of-spot.result.start < length c.index-chunk.result.now = omega (arith, c.count.ensures.count, c.if-to-spot-2.false) in
-    let left : List g.row.T.Denot = remove c.index-chunk.result.now (c.args.from - c.spot_of-spot.result.start) in
-    let fewer : length left + 1 ≡ length c.index-chunk.result.now = omega (arith, length-remove c.index-chunk.result.now (c.args.from - c.spot_of-spot.result.start) (p.place.before c.requires.from), p.place.before c.requires.from) in
-    omega (
-      arith,
-      fewer,
-      ap length c.in_ok-insert.ensures.items,
-      ap length c.in_ok-items.ensures,
-      length-insert c.in_ok-items.items.items (c.args.to - c.spot_of-spot.result.start) c.args.item (omega (arith, high, fewer, ap length c.in_ok-items.ensures)),
-      len-is c.self.inside.chunks.items c.self.inside.count c.args.self.now c.self.invariant c.self.view_is,
-      c.self.invariant.is_small,
-      sum-parts c.self.inside.chunks.items c.deref-2.result.now c.args.self.now c.spot_of-spot.result.chunk (c.spot_of-spot.result.chunk + 1) c.spot_of-spot.result.start c.index-chunk.result.now p.part c.deref-2.ensures.value,
-    )
+    moved-few c.self.inside.chunks.items c.deref-2.result.now c.args.self.now c.self.inside.count c.spot_of-spot.result.chunk c.spot_of-spot.result.start c.args.from c.args.to c.index-chunk.result.now c.insert.new.self.items c.args.item c.self.invariant c.deref-2.ensures.value p
+    (c.in_ok-insert.ensures.items ∙ ap (λ (l : List g.row.T.Denot). insert l (c.args.to - c.spot_of-spot.result.start) c.args.item) c.in_ok-items.ensures)
+    c.requires.from high
 
 pub returns : goal.returns
 returns g c =

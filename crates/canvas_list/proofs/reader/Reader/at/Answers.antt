@@ -1,5 +1,6 @@
-use Rattle.std.proofs.Common.{◌≡◌, ◌∙◌, ◌+◌, ◌-◌, ◌<◌, ◌≤◌, ℕ, List, ap, arith, get_or, length, subst, sym}
-use Rattle.canvas_list.specs.Chunks.{IsRun}
+use Rattle.canvas_list.specs.declared.reader.Reader.TheInside.{Inside}
+use Rattle.std.proofs.Common.{◌^◌, ◌≡◌, ◌∙◌, ◌+◌, ◌-◌, ◌<◌, ◌≤◌, ℕ, List, ap, arith, get_or, length, subst, sym}
+use Rattle.canvas_list.specs.Chunks.{joined, IsRun}
 use Rattle.canvas_list.proofs.reader.Reader.at.Goals as goal
 use Rattle.canvas_list.proofs.reader.Reader.at.Goals.{then-at-self, else-at-self+else-at-self-2}
 
@@ -47,3 +48,16 @@ returns-clause-item g c =
       | else-at-self+else-at-self-2 w ↦ held-one c.self.inside.list.now c.args.self.now c.if-at-self.self-inside.items.now c.self.inside.items.now c.if-at-self.self-inside.start c.self.inside.start c.args.at (ap (λ r. r.items.now) w.self-inside-is) (ap (λ r. r.start) w.self-inside-is) c.self.view_is c.self.invariant.1 w.if-at-self.false w.if-at-self-2.false
     ] in
     item-of c.args.self.now c.if-at-self.self-inside.items.now c.if-at-self.self-inside.start c.args.at c.index-self-at.result h ∙ ap (λ (x : g.row.T.Denot). get_or c.args.self.now c.args.at x) c.index-self-at.is
+
+pub invariant_of-self : goal.invariant_of-self
+invariant_of-self g c =
+    let holds : Inside g.row.T.Denot g.row.T-Summary.Denot → Type 0 = λ r. (length r.list.now < 2 ^ 32) × IsRun r.list.now r.items.now r.start × IsRun r.list.now (joined r.behind.now) (r.start + length r.items.now) in
+    elim c.if-at-self.branch [
+      | then-at-self w ↦
+          subst holds (sym w.self-inside-is) (
+            c.self.invariant.0,
+            subst (λ (l : List g.row.T.Denot). IsRun l w.stretch_at-found.result.items.now w.stretch_at-found.result.start) (sym c.self.view_is) w.stretch_at-found.ensures.run,
+            subst (λ (l : List g.row.T.Denot). IsRun l (joined w.stretch_at-found.result.behind.now) (w.stretch_at-found.result.start + length w.stretch_at-found.result.items.now)) (sym c.self.view_is) w.stretch_at-found.ensures.behind,
+          )
+      | else-at-self+else-at-self-2 w ↦ subst holds (sym w.self-inside-is) c.self.invariant
+    ]

@@ -2,7 +2,7 @@ use Rattle.std.proofs.Common.{◌∙◌, ◌-◌, ◌≤◌, ◌++◌, List, sym
 use Rattle.std.proofs.lemmas.List.{length-take-le}
 use Rattle.canvas_list.specs.Chunks.{joined}
 use Rattle.canvas_list.proofs.Joined.{found, len-is, search-some, IsFound}
-use Rattle.canvas_list.proofs.Visited.{items-before, not-empty, place-in}
+use Rattle.canvas_list.proofs.Visited.{none-before, none-there, items-before, not-empty, place-in}
 use Rattle.canvas_list.proofs.table.SharedList.iter_before.Goals as goal
 
 pub spot_of-spot-requires : goal.spot_of-spot-requires
@@ -36,3 +36,6 @@ returns-clause-items g c =
 pub returns-clause-few : goal.returns-clause-few
 returns-clause-few g c =
     omega (arith, ap length (returns-clause-items g c), length-take-le c.args.at c.args.self.now c.requires, len-is c.self.inside.blocks.items c.self.inside.count c.args.self.now c.self.invariant c.self.view_is, c.self.invariant.is_small)
+
+pub returns-then-is_empty-clause-items : goal.returns-then-is_empty-clause-items
+returns-then-is_empty-clause-items g c = none-before c.args.self.now c.iter.result c.args.at c.iter.ensures.items (none-there c.self.inside.blocks.items c.args.self.now c.self.inside.blocks.len c.if-is_empty.ensures c.self.inside.blocks.ok.0 c.self.view_is)

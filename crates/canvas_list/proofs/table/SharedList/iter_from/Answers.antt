@@ -2,7 +2,7 @@ use Rattle.std.proofs.Common.{◌∙◌, ◌+◌, ◌-◌, ◌≤◌, ◌++◌, 
 use Rattle.std.proofs.lemmas.List.{append-nil, length-drop, take_rest}
 use Rattle.canvas_list.specs.Chunks.{joined}
 use Rattle.canvas_list.proofs.Joined.{found, len-is, search-some, IsFound}
-use Rattle.canvas_list.proofs.Visited.{items-from, not-empty, place-in}
+use Rattle.canvas_list.proofs.Visited.{none-from, none-there, items-from, not-empty, place-in}
 use Rattle.canvas_list.proofs.table.SharedList.iter_from.Goals as goal
 
 pub spot_of-spot-requires : goal.spot_of-spot-requires
@@ -44,3 +44,6 @@ returns-clause-items g c =
 pub returns-clause-few : goal.returns-clause-few
 returns-clause-few g c =
     omega (arith, ap length (returns-clause-items g c), length-drop c.args.at c.args.self.now, len-is c.self.inside.blocks.items c.self.inside.count c.args.self.now c.self.invariant c.self.view_is, c.self.invariant.is_small)
+
+pub returns-then-is_empty-clause-items : goal.returns-then-is_empty-clause-items
+returns-then-is_empty-clause-items g c = none-from c.args.self.now c.iter.result c.args.at c.iter.ensures.items (none-there c.self.inside.blocks.items c.args.self.now c.self.inside.blocks.len c.if-is_empty.ensures c.self.inside.blocks.ok.0 c.self.view_is)

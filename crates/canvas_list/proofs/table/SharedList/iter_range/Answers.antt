@@ -1,8 +1,8 @@
-use Rattle.std.proofs.Common.{◌∙◌, ◌+◌, ◌-◌, ◌<◌, ◌≤◌, ◌++◌, [], List, ap, arith, length, take, drop}
+use Rattle.std.proofs.Common.{refl, sym, ◌∙◌, ◌+◌, ◌-◌, ◌<◌, ◌≤◌, ◌++◌, [], List, ap, arith, length, take, drop}
 use Rattle.std.proofs.lemmas.List.{append-nil}
 use Rattle.canvas_list.specs.Chunks.{joined}
 use Rattle.canvas_list.proofs.Joined.{found, len-is, IsFound}
-use Rattle.canvas_list.proofs.Visited.{chunks-rise, items-between, items-within, length-between, place-in, place-same}
+use Rattle.canvas_list.proofs.Visited.{none-before, none-from, none-there, chunks-rise, items-between, items-within, length-between, place-in, place-same}
 use Rattle.canvas_list.proofs.table.SharedList.iter_range.Goals as goal
 
 pub index-requires : goal.index-requires
@@ -79,3 +79,6 @@ returns-clause-items g c =
 pub returns-clause-few : goal.returns-clause-few
 returns-clause-few g c =
     omega (arith, ap length (returns-clause-items g c), length-between c.args.self.now c.args.from c.args.to c.requires.order c.requires.within, len-is c.self.inside.blocks.items c.self.inside.count c.args.self.now c.self.invariant c.self.view_is, c.self.invariant.is_small)
+
+pub returns-then-is_empty-clause-items : goal.returns-then-is_empty-clause-items
+returns-then-is_empty-clause-items g c = none-before (drop c.args.from c.args.self.now) c.iter.result (c.args.to - c.args.from) (none-from c.args.self.now c.iter.result c.args.from c.iter.ensures.items (none-there c.self.inside.blocks.items c.args.self.now c.self.inside.blocks.len c.if-is_empty.ensures c.self.inside.blocks.ok.0 c.self.view_is)) (sym (none-from c.args.self.now c.args.self.now c.args.from refl (none-there c.self.inside.blocks.items c.args.self.now c.self.inside.blocks.len c.if-is_empty.ensures c.self.inside.blocks.ok.0 c.self.view_is)) ∙ (none-there c.self.inside.blocks.items c.args.self.now c.self.inside.blocks.len c.if-is_empty.ensures c.self.inside.blocks.ok.0 c.self.view_is))

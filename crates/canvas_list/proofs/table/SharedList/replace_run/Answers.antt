@@ -2,6 +2,7 @@ use Rattle.std.proofs.Common.{◌∙◌, List, ap, arith, refl, subst, sym}
 use Rattle.canvas_list.specs.Chunks.{joined, IsTable}
 use Rattle.canvas_list.proofs.Blocks.{of-block}
 use Rattle.canvas_list.proofs.Ends.{chunk-unchanged}
+use Rattle.canvas_list.proofs.Joined.{has-chunk, search-some}
 use Rattle.canvas_list.proofs.Replaced.{items-run, table-run}
 use Rattle.canvas_list.proofs.table.SharedList.replace_run.Goals as goal
 
@@ -25,3 +26,6 @@ invariant_of-self g c = subst (λ (l : List (List g.row.T.Denot)). IsTable l c.s
 
 pub returns-then-count-place : goal.returns-then-count-place
 returns-then-count-place g c = ap joined (chunk-unchanged c.self.inside.blocks.items c.spot_of-spot.result.chunk c.index_mut-block.result.now c.index_mut-block.result.now refl c.index_mut-block.ensures.value) ∙ c.self.view_is
+
+pub spot_of-spot-requires : goal.spot_of-spot-requires
+spot_of-spot-requires g c = search-some c.self.inside.blocks.items c.deref.result.now c.deref.ensures.value (has-chunk c.self.inside.blocks.items c.args.self.now c.args.at c.self.view_is (omega (arith, c.requires.some, c.requires.within)))

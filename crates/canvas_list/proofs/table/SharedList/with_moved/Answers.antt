@@ -1,11 +1,11 @@
 use Rattle.std.proofs.Common.{◌≡◌, ◌-◌, ◌+◌, ◌<◌, ◌++◌, List, IfOk, ap, subst, arith, length, take, drop}
 use Rattle.std.specs.List.{insert, remove}
-use Rattle.std.proofs.lemmas.List.Edits.{length-insert, length-remove}
 use Rattle.canvas_list.specs.Chunks.{joined}
 use Rattle.canvas_list.proofs.Blocks.{of-block}
 use Rattle.canvas_list.proofs.Ends.{few-after, room-after}
-use Rattle.canvas_list.proofs.Joined.{has-chunk, len-is, search-some}
-use Rattle.canvas_list.proofs.Spliced.{moved, sum-parts, IsOfSpot}
+use Rattle.canvas_list.proofs.Joined.{has-chunk, search-some}
+use Rattle.canvas_list.proofs.Moved.{moved-few}
+use Rattle.canvas_list.proofs.Spliced.{moved, IsOfSpot}
 use Rattle.canvas_list.proofs.table.SharedList.with_moved.Goals as goal
 
 pub with_moved-requires-clause-from : goal.with_moved-requires-clause-from
@@ -17,17 +17,9 @@ pub spliced-requires-clause-small : goal.spliced-requires-clause-small
 spliced-requires-clause-small g c =
     let p : IsOfSpot c.self.inside.blocks.items c.args.self.now c.spot_of-spot.result.chunk c.spot_of-spot.result.start c.args.from c.chunks-old.result.now = of-block c.self.inside.blocks.items c.deref.result.now c.args.self.now c.self.inside.count c.spot_of-spot.result.chunk c.spot_of-spot.result.start c.args.from c.index.result.now c.chunks-old.result.now c.self.invariant c.deref.ensures.value c.spot_of-spot.ensures c.self.view_is c.index.ensures c.chunks-old.ensures.same in
     let high : c.args.to - c.spot_of-spot.result.start < length c.chunks-old.result.now = omega (arith, c.len.ensures.len, c.if-to-spot-2.false) in
-    let left : List g.row.T.Denot = remove c.chunks-old.result.now (c.args.from - c.spot_of-spot.result.start) in
-    let fewer : length left + 1 ≡ length c.chunks-old.result.now = omega (arith, length-remove c.chunks-old.result.now (c.args.from - c.spot_of-spot.result.start) (p.place.before c.requires.from), p.place.before c.requires.from) in
-    omega (
-      arith,
-      fewer,
-      ap length c.in_ok-new.ensures,
-      length-insert left (c.args.to - c.spot_of-spot.result.start) c.args.item (omega (arith, high, fewer)),
-      len-is c.self.inside.blocks.items c.self.inside.count c.args.self.now c.self.invariant c.self.view_is,
-      c.self.invariant.is_small,
-      sum-parts c.self.inside.blocks.items c.deref-2.result.now c.args.self.now c.spot_of-spot.result.chunk (c.spot_of-spot.result.chunk + 1) c.spot_of-spot.result.start c.chunks-old.result.now p.part c.deref-2.ensures.value,
-    )
+    moved-few c.self.inside.blocks.items c.deref-2.result.now c.args.self.now c.self.inside.count c.spot_of-spot.result.chunk c.spot_of-spot.result.start c.args.from c.args.to c.chunks-old.result.now c.in_ok-new.new c.args.item c.self.invariant c.deref-2.ensures.value p
+    c.in_ok-new.ensures
+    c.requires.from high
 
 pub returns : goal.returns
 returns g c =

@@ -1,6 +1,6 @@
 use Rattle.std.proofs.Common.{◌≡◌, ◌+◌, ◌-◌, cond, ap, sym, subst, ◌∙◌, arith, length, get_or, false}
 use Rattle.std.specs.Vec.{with_items}
-use Rattle.canvas_doc.specs.Picture.{or_white}
+use Rattle.canvas_record.specs.Picture.{or_white}
 use Rattle.canvas_shape.specs.Words.{has}
 use Rattle.canvas_paint.specs.declared.column.Column.{Column}
 use Rattle.canvas_paint.specs.Columns.{IsChosen, active_fill, masked, masked_fill}

@@ -1,11 +1,13 @@
-use Rattle.std.proofs.Common.{◌∙◌, All, ap, subst}
+use Rattle.std.proofs.Common.{◌∙◌, All, ap, subst, reverse}
 use Rattle.canvas_plane.specs.declared.PageBox.{PageBox}
 use Rattle.canvas_plane.specs.Page.{is_in}
-use Rattle.canvas_doc.specs.declared.records.Parent.TheVariants.{Page}
-use Rattle.canvas_doc.specs.Picture.{or_white}
+use Rattle.canvas_record.specs.declared.records.Parent.TheVariants.{Page}
+use Rattle.canvas_record.specs.Picture.{or_white}
 use Rattle.canvas_scene.specs.Clips.{IsClipped}
 use Rattle.canvas_scene.specs.Items.{last_colour}
 use Rattle.canvas_scene.specs.Trees.{AreNodesOf}
+use Rattle.std.proofs.lemmas.List.{reverse-reverse}
+use Rattle.canvas_scene.specs.Nodes.{items_along}
 use Rattle.canvas_scene.proofs.Covering.{last-is-first}
 use Rattle.canvas_scene.proofs.scenes.Scene.build.Goals as goal
 
@@ -23,3 +25,6 @@ pub returns-clause-tree : goal.returns-clause-tree
 returns-clause-tree c =
     let P : PageBox → Type 0 = λ b. AreNodesOf c.args.document.now.records Page (λ q. q) b c.in_ok-root.root.now in
     subst P c.covered.ensures c.in_ok-root.ensures.tree
+
+pub returns-clause-order : goal.returns-clause-order
+returns-clause-order c = c.into_list.ensures ∙ ap reverse c.in_ok-root.ensures.items ∙ reverse-reverse (items_along c.in_ok-root.root.now)

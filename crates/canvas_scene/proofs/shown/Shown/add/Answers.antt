@@ -1,8 +1,9 @@
-use Rattle.std.proofs.Common.{◌≡◌, ◌∙◌, ◌++◌, ◌∷◌, [], ap, refl, rules, sym}
+use Rattle.std.proofs.Common.{◌≡◌, ◌∙◌, ◌++◌, ◌∷◌, [], ap, refl, rules, sym, All, List, subst}
 use Rattle.canvas_plane.specs.Page.{is_in}
 use Rattle.canvas_shape.specs.Leaves.{carried_holds, page_box_of}
 use Rattle.canvas_scene.specs.declared.item.Item.{Item}
-use Rattle.canvas_scene.specs.Covers.{first_fill}
+use Rattle.canvas_scene.specs.Covers.{first_fill, AreCellsHidden, IsHidden}
+use Rattle.canvas_scene.proofs.shown.Shown.add.Goals.{in-Rect+in_ok-keep_cover, in_default}
 use Rattle.canvas_scene.proofs.Covering.{added-item, cells-still-hidden, more-cells-hidden, newly-hidden, rectangle-holds, still-hidden}
 use Rattle.canvas_scene.proofs.shown.Shown.add.Goals as goal
 
@@ -36,3 +37,19 @@ returns-clause-fills c = λ x y.
     let item : Item = record { leaf = c.args.leaf; clip = c.args.clip.now; fill = c.args.fill } in
     let more : c.match-leaf.self ≡ c.args.self.now ++ item ∷ [] = search rules in
     ap (λ l. first_fill l x y) more ∙ added-item c.args.self.now item (carried_holds c.args.leaf x y) (is_in c.args.clip.now x y) x y refl
+
+pub invariant_of-self : goal.invariant_of-self
+invariant_of-self c =
+    let P : List Item → Type 0 = λ l. All (IsHidden l) c.self.inside.covers.items in
+    let Q : List Item → Type 0 = λ l. AreCellsHidden l c.self.inside.cells in
+    let same = sym c.in_err-push.ensures.items in
+    (subst P same c.self.invariant.0, subst Q same c.self.invariant.1)
+
+pub returns-clause-items : goal.returns-clause-items
+returns-clause-items c =
+    let item : Item = record { leaf = c.args.leaf; clip = c.args.clip.now; fill = c.args.fill } in
+    let more : c.push.new.self.items ≡ c.args.self.now ++ item ∷ [] = c.in_ok-push.ensures.items ∙ ap (λ l. l ++ item ∷ []) c.self.view_is in
+    elim c.match-leaf.branch [
+      | in-Rect+in_ok-keep_cover w ↦ rw w.self-is more
+      | in_default w ↦ rw w.self-is more
+    ]

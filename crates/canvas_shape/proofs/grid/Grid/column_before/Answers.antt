@@ -1,4 +1,5 @@
-use Rattle.std.proofs.Common.{◌<◌, ◌≤◌, ◌≤ℤ◌, ap, ◌∙◌, sym, subst, FitsSigned, rules, arith, refl}
+use Rattle.canvas_plane.specs.Window.{column_shown}
+use Rattle.std.proofs.Common.{◌<◌, ◌≤◌, ◌≤ℤ◌, ap, ◌∙◌, sym, subst, FitsSigned, rules, arith, refl, ◌<ℤ◌, to_z, of_z}
 use Rattle.std.specs.Prelude.{int_lt}
 use Rattle.std.specs.Int.{w64}
 use Rattle.std.proofs.lemmas.Int.{to_z-of_z}
@@ -38,3 +39,10 @@ returns-clause-before c = λ k.
     let grid = c.args.self.now in
     let left : FitsSigned w64 grid.covered.left = search rules in
     (simp to_z-of_z at c.steps_before.ensures.before) k ∙ ap (λ z. int_lt z c.args.edge) (shown-from grid.covered.left grid.window.x k c.level.result grid.window.level (ap (λ b. b.left) grid.exact) c.level.ensures.value)
+
+pub steps_before-requires-clause-least : goal.steps_before-requires-clause-least
+steps_before-requires-clause-least c =
+    let grid = c.args.self.now in
+    let left : FitsSigned w64 grid.covered.left = search rules in
+    subst (λ z. z <ℤ to_z w64 (of_z w64 c.args.edge)) (sym (to_z-of_z w64 grid.covered.left left ∙ ap (λ b. b.left) grid.exact))
+    (subst (λ z. column_shown grid.window 0 <ℤ z) (sym (to_z-of_z w64 c.args.edge c.ranges.edge)) c.requires.least)

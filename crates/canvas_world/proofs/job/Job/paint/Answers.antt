@@ -1,5 +1,5 @@
 use Rattle.std.proofs.Common.{◌∙◌, ap}
-use Rattle.canvas_doc.specs.Contents.{Contents}
+use Rattle.canvas_record.specs.Contents.{Contents}
 use Rattle.canvas_world.specs.Pieces.{strip_of}
 use Rattle.canvas_world.proofs.Strips.{painted-more}
 use Rattle.canvas_world.proofs.job.Job.paint.Goals as goal

@@ -1,7 +1,7 @@
 use Rattle.std.proofs.Common.{◌≡◌, ◌∙◌, Err, Ok, ap, refl, subst, sym}
 use Rattle.std.proofs.lemmas.Bool.{true≢false}
-use Rattle.canvas_doc.specs.Decision.{decision_of}
-use Rattle.canvas_doc.specs.Effect.{effect_of, Fits}
+use Rattle.canvas_record.specs.Decision.{decision_of}
+use Rattle.canvas_record.specs.Effect.{effect_of, Fits}
 use Rattle.canvas_world.proofs.Events.{edited, refusal-decided, refused}
 use Rattle.canvas_world.proofs.world.World.edit.Goals as goal
 

@@ -1,7 +1,7 @@
 use Rattle.std.proofs.Common.{◌≡◌, ◌∙◌, [], Some, ap, refl, subst}
 use Rattle.std.specs.Ordering.{nat_cmp}
 use Rattle.std.specs.BTreeMap.{Updates}
-use Rattle.canvas_doc.specs.Contents.{Contents}
+use Rattle.canvas_record.specs.Contents.{Contents}
 use Rattle.canvas_world.specs.Pieces.{Work}
 use Rattle.canvas_world.proofs.Events.{looked}
 use Rattle.canvas_world.proofs.world.World.look.Goals as goal

@@ -1,0 +1,115 @@
+//! Kinds, records, edits and documents for tests.
+
+use canvas_code::OutOfMemory;
+use canvas_doc::{Document, Edit, MOST_RECORDS, Parent, Place, Record, Refusal, Spot, TreeFault};
+use canvas_key::{Key, KeyFault};
+use canvas_plane::{Point, Pose};
+use canvas_shape::{Colour, Kind, Points};
+use std::alloc::Global;
+
+pub(crate) const WHITE: Colour = Colour([255, 255, 255]);
+
+pub(crate) const RED: Colour = Colour([255, 0, 0]);
+
+pub(crate) const GREEN: Colour = Colour([0, 255, 0]);
+
+pub(crate) const BLUE: Colour = Colour([0, 0, 255]);
+
+/// A rectangle.
+pub(crate) fn rectangle(w: u32, h: u32, fill: Colour) -> Kind {
+    Kind::Rect { w, h, fill }
+}
+
+/// A frame without a fill.
+pub(crate) fn frame(w: u32, h: u32) -> Kind {
+    Kind::Frame { w, h, fill: None }
+}
+
+/// A red polygon.
+pub(crate) fn polygon(alloc: Global, vertices: &[(i64, i64)]) -> Result<Kind, OutOfMemory> {
+    let mut points = Points::new(alloc);
+    for (x, y) in vertices {
+        points.push(Point { x: *x, y: *y })?;
+    }
+    Ok(Kind::Polygon { points, fill: RED })
+}
+
+/// A pose that moves.
+pub(crate) fn moved(dx: i64, dy: i64) -> Pose {
+    Pose {
+        dx,
+        dy,
+        quarter: 0,
+        flip: false,
+    }
+}
+
+/// A record in front of nothing, without motion.
+pub(crate) fn record(id: u32, parent: Parent, index: Key, kind: Kind) -> Record {
+    Record {
+        id,
+        kind,
+        place: Place { parent, index },
+        pose: Pose::STILL,
+        hidden: false,
+    }
+}
+
+/// The index `a0`, 126 times `z`: nothing lies between it and `a1`.
+pub(crate) fn last_index_below_a1() -> Result<Key, KeyFault> {
+    let mut text = [b'z'; 128];
+    text[0] = b'a';
+    text[1] = b'0';
+    Key::read(&text)
+}
+
+/// A new shape without motion.
+pub(crate) fn create(kind: Kind, parent: Parent, spot: Spot) -> Edit {
+    Edit::Create {
+        kind,
+        pose: Pose::STILL,
+        hidden: false,
+        parent,
+        spot,
+    }
+}
+
+/// The document of records, where the conditions of `restore` hold.
+pub(crate) fn restored(
+    alloc: Global,
+    records: Vec<Record>,
+    next: u32,
+) -> Result<Document, TreeFault> {
+    if next == 0 || records.len() > MOST_RECORDS {
+        return Err(TreeFault::OutOfMemory);
+    }
+    Document::restore(alloc, records, next)
+}
+
+/// The document after an edit, or why it is refused.
+pub(crate) fn edited(alloc: Global, document: &Document, edit: &Edit) -> Result<Document, Refusal> {
+    let change = document.decide(alloc, edit)?;
+    let after = document.with(alloc, &change)?;
+    Ok(after)
+}
+
+/// The document after edits in turn.
+pub(crate) fn edited_by_all(
+    alloc: Global,
+    start: Document,
+    edits: &[Edit],
+) -> Result<Document, Refusal> {
+    let mut document = start;
+    for edit in edits {
+        document = edited(alloc, &document, edit)?;
+    }
+    Ok(document)
+}
+
+/// The index of a shape, or no byte where there is no such shape.
+pub(crate) fn index_of(document: &Document, id: u32) -> &[u8] {
+    match document.get(id) {
+        Some(shape) => shape.place.index.bytes(),
+        None => &[],
+    }
+}

@@ -1,7 +1,0 @@
-//! Worked examples of documents.
-#![tactic(auto)]
-
-#[cfg(test)]
-mod asserts;
-#[cfg(test)]
-mod examples;

@@ -1,0 +1,114 @@
+//! Why an edit is refused.
+
+ghost use Rattle.std.specs.Prelude.{◌≡◌};
+ghost use Rattle.canvas_code.specs.Names.{name_of};
+ghost use Rattle.canvas_record.specs.Refused.{refusal_code};
+
+use std::alloc::AllocError;
+use thiserror::Error;
+
+/// Why an edit is refused.
+///
+/// Where several causes stand, `Document::decide` answers the first in the order `NoSuchShape`,
+/// `NoSuchParent`, `NotAContainer`, `Cycle`, `TooDeep`, `TooMany`, `IdsSpent`, `WrongKind`, `BadSize`,
+/// `BadPose`, `BadPolygon`, `SpotNotSibling`, `IndexTaken`, `NoRoom`, `OutOfMemory`.
+#[derive(Clone, Copy, Debug, PartialEq, Eq, Drop, Error)]
+pub enum Refusal {
+    /// 1: a growth was refused.
+    #[error("OutOfMemory")]
+    OutOfMemory,
+    /// 2: no record has the id.
+    #[error("NoSuchShape")]
+    NoSuchShape,
+    /// 3: no record has the parent's id.
+    #[error("NoSuchParent")]
+    NoSuchParent,
+    /// 4: the parent is no group and no frame.
+    #[error("NotAContainer")]
+    NotAContainer,
+    /// 5: the new parent is the moved shape or lies below it.
+    #[error("Cycle")]
+    Cycle,
+    /// 6: a record would lie more than 32 deep.
+    #[error("TooDeep")]
+    TooDeep,
+    /// 7: 16,384 records are there already.
+    #[error("TooMany")]
+    TooMany,
+    /// 8: a side outside 1 to 65,536.
+    #[error("BadSize")]
+    BadSize,
+    /// 9: a translation above 2^20 in size, or more than 3 quarter turns.
+    #[error("BadPose")]
+    BadPose,
+    /// 10: a polygon of less than 3 or more than 256 vertices, or a coordinate above 2^20 in size.
+    #[error("BadPolygon")]
+    BadPolygon,
+    /// 11: the spot names no sibling.
+    #[error("SpotNotSibling")]
+    SpotNotSibling,
+    /// 12: a sibling has the index.
+    #[error("IndexTaken")]
+    IndexTaken,
+    /// 13: the index at the spot would be longer than a key may be.
+    #[error("NoRoom")]
+    NoRoom,
+    /// 14: the new kind is another variant.
+    #[error("WrongKind")]
+    WrongKind,
+    /// 15: the next id is 4,294,967,295.
+    #[error("IdsSpent")]
+    IdsSpent,
+}
+
+impl Refusal {
+    /// The number of the refusal, 1 to 15.
+    pub fn code(&self) -> u16
+        ensures { result ≡ refusal_code self.now }
+    {
+        match self {
+            Refusal::OutOfMemory => 1,
+            Refusal::NoSuchShape => 2,
+            Refusal::NoSuchParent => 3,
+            Refusal::NotAContainer => 4,
+            Refusal::Cycle => 5,
+            Refusal::TooDeep => 6,
+            Refusal::TooMany => 7,
+            Refusal::BadSize => 8,
+            Refusal::BadPose => 9,
+            Refusal::BadPolygon => 10,
+            Refusal::SpotNotSibling => 11,
+            Refusal::IndexTaken => 12,
+            Refusal::NoRoom => 13,
+            Refusal::WrongKind => 14,
+            Refusal::IdsSpent => 15,
+        }
+    }
+
+    /// The name of the refusal, as the table of codes gives it.
+    pub fn name(&self) -> &'static str
+        ensures { result.now ≡ name_of (refusal_code self.now) }
+    {
+        canvas_code::name_of(self.code())
+    }
+}
+
+impl From<AllocError> for Refusal {
+    ghost use Rattle.canvas_record.specs.declared.refusals.Refusal.TheVariants.{OutOfMemory};
+
+    ghost from_gives = { λ _ refusal. refusal ≡ OutOfMemory };
+
+    fn from(_: AllocError) -> Refusal {
+        Refusal::OutOfMemory
+    }
+}
+
+impl From<canvas_code::OutOfMemory> for Refusal {
+    ghost use Rattle.canvas_record.specs.declared.refusals.Refusal.TheVariants.{OutOfMemory};
+
+    ghost from_gives = { λ _ refusal. refusal ≡ OutOfMemory };
+
+    fn from(_: canvas_code::OutOfMemory) -> Refusal {
+        Refusal::OutOfMemory
+    }
+}

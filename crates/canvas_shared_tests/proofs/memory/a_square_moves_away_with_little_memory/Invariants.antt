@@ -1,5 +1,0 @@
-use Rattle.canvas_shared_tests.proofs.memory.a_square_moves_away_with_little_memory.Given as goal
-
--- the line that is opened
-abbrev pub ghosts-moves_away : goal.ghosts-moves_away
-ghosts-moves_away g a = record { line = λ _. record { book = a.opened.head.word.book; opening = a.document; limit = 10 } }

@@ -1,5 +1,0 @@
-use Rattle.canvas_shared_tests.proofs.table.play_at.Given as goal
-
--- the line that is opened
-abbrev pub ghosts-opened : goal.ghosts-opened
-ghosts-opened g a = record { line = λ _. record { book = a.opened.head.word.book; opening = a.document; limit = 4000 } }
