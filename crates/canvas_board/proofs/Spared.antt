@@ -16,7 +16,7 @@ use Rattle.canvas_record.specs.History.{replay_of, AllFit}
 use Rattle.canvas_record.specs.Picture.{colour}
 use Rattle.canvas_record.proofs.Histories.{all_fit-front, replay-append}
 use Rattle.canvas_ppm.specs.P6.{p6_of}
-use Rattle.canvas_scene.specs.Pictures.{raster_of}
+use Rattle.canvas_paint.specs.Pictures.{raster_of}
 use Rattle.canvas_paint.proofs.Joined.{joined-picture}
 use Rattle.canvas_line.proofs.Prefixes.{length_take_within}
 use Rattle.canvas_board.specs.Raster.{file_of}

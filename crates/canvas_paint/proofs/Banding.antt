@@ -4,8 +4,8 @@ use Rattle.std.proofs.lemmas.Bool.{cases_eq}
 use Rattle.std.proofs.lemmas.List.{get_or-map, take_more}
 use Rattle.canvas_shape.specs.declared.Colour.{Colour}
 use Rattle.canvas_record.specs.Picture.{or_else}
-use Rattle.canvas_scene.specs.Pictures.{raster_of}
-use Rattle.canvas_scene.proofs.Raster.{band-more, raster-agree}
+use Rattle.canvas_paint.specs.Pictures.{raster_of}
+use Rattle.canvas_paint.proofs.Raster.{band-more, raster-agree}
 use Rattle.canvas_paint.specs.declared.block.Block.{Block}
 use Rattle.canvas_paint.specs.declared.column.Column.{Column}
 use Rattle.canvas_paint.specs.Blocks.{block_fill, block_holds, last_block_fill}

@@ -7,8 +7,8 @@ use Rattle.std.proofs.lemmas.Bool.Decides.{nat_tests}
 use Rattle.std.proofs.lemmas.List.{get_or-map}
 use Rattle.canvas_shape.specs.Words.{has}
 use Rattle.canvas_record.specs.Picture.{or_else, or_white}
-use Rattle.canvas_scene.specs.Pictures.{raster_of}
-use Rattle.canvas_scene.proofs.Raster.{raster-agree}
+use Rattle.canvas_paint.specs.Pictures.{raster_of}
+use Rattle.canvas_paint.proofs.Raster.{raster-agree}
 use Rattle.canvas_paint.specs.declared.active.Active.{Active}
 use Rattle.canvas_paint.specs.declared.block.Block.{Block}
 use Rattle.canvas_paint.specs.declared.column.Column.{Column}

@@ -21,8 +21,8 @@ use Rattle.canvas_plane.specs.declared.windows.Window.{Window}
 use Rattle.canvas_shape.specs.declared.Colour.{Colour}
 use Rattle.canvas_shape.specs.Leaves.{carried_holds, page_box_of}
 use Rattle.canvas_record.specs.Picture.{or_else}
-use Rattle.canvas_scene.specs.Items.{fill_at, item_holds, last_fill}
-use Rattle.canvas_scene.specs.declared.item.Item.{Item}
+use Rattle.canvas_paint.specs.Items.{fill_at, item_holds, last_fill}
+use Rattle.canvas_paint.specs.declared.item.Item.{Item}
 use Rattle.canvas_paint.specs.declared.block.Block.{Block}
 use Rattle.canvas_plane.specs.Window.{column_shown, row_shown}
 use Rattle.canvas_paint.specs.Blocks.{block_fill, block_holds, form_holds, row_has}

@@ -11,10 +11,10 @@ use Rattle.canvas_plane.specs.Window.{column_shown, covered_by, row_shown}
 use Rattle.canvas_plane.proofs.Levels.{along, scale-least}
 use Rattle.canvas_shape.specs.Spans.{is_from_to}
 use Rattle.canvas_shape.specs.declared.Colour.{Colour}
-use Rattle.canvas_scene.specs.declared.item.Item.{Item}
-use Rattle.canvas_scene.specs.Items.{last_colour}
-use Rattle.canvas_scene.specs.Pictures.{bytes_at, picture_of, rows_of}
-use Rattle.canvas_scene.proofs.Raster.{band-more, rows-agree}
+use Rattle.canvas_paint.specs.declared.item.Item.{Item}
+use Rattle.canvas_paint.specs.Items.{last_colour}
+use Rattle.canvas_paint.specs.Pictures.{bytes_at, picture_of, rows_of}
+use Rattle.canvas_paint.proofs.Raster.{band-more, rows-agree}
 use Rattle.canvas_paint.specs.Strips.{IsStrip, strip_start}
 
 from-to : (a b c : ℤ) → a ≤ℤ b → b <ℤ c → is_from_to a b c ≡ true

@@ -7,5 +7,6 @@ pub mod Banding
 pub mod Cutting
 pub mod Fraying
 pub mod Filling
+pub mod Raster
 pub mod Joined
 pub mod RowWords

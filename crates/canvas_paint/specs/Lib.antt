@@ -1,3 +1,5 @@
+pub mod Items
+pub mod Pictures
 pub mod Words
 pub mod Blocks
 pub mod Columns

@@ -3,9 +3,9 @@ use Rattle.std.specs.Prelude.{◌≡◌, ℕ, ◌+◌, ◌*◌, ◌/◌, ◌<◌
 use Rattle.std.specs.Global.{Global}
 use Rattle.canvas_code.specs.declared.memory.OutOfMemory.{OutOfMemory}
 use Rattle.canvas_plane.specs.declared.windows.Window.{Window}
-use Rattle.canvas_scene.specs.declared.item.Item.{Item}
-use Rattle.canvas_scene.specs.Items.{last_colour}
-use Rattle.canvas_scene.specs.Pictures.{rows_of}
+use Rattle.canvas_paint.specs.declared.item.Item.{Item}
+use Rattle.canvas_paint.specs.Items.{last_colour}
+use Rattle.canvas_paint.specs.Pictures.{rows_of}
 
 -- where the k-th of n strips of h rows begins
 abbrev pub strip_start : ℕ → ℕ → ℕ → ℕ

@@ -2,19 +2,19 @@
 
 ghost use Rattle.std.specs.Prelude.{◌≡◌, ℕ, ◌-◌, ◌<◌, ◌≤◌, ◌++◌, length, IfOk, OnOk, take, All};
 ghost use Rattle.canvas_plane.specs.Window.{column_shown, row_shown};
-ghost use Rattle.canvas_scene.specs.Items.{last_colour, last_fill};
-ghost use Rattle.canvas_scene.specs.Pictures.{raster_of, rows_of};
+ghost use Rattle.canvas_paint.specs.Items.{last_colour, last_fill};
+ghost use Rattle.canvas_paint.specs.Pictures.{raster_of, rows_of};
 ghost use Rattle.canvas_paint.specs.Blocks.{last_block_fill, shown};
 ghost use Rattle.canvas_paint.specs.Columns.{IsNew, blocks_in, fill_in};
 
 use crate::block::Block;
 use crate::column::Column;
+use crate::item::Item;
 use crate::row::{Pixel, WHITE};
 use crate::strip::{add, append_rows, new_columns};
 use bumpalo::Bump;
 use canvas_code::OutOfMemory;
 use canvas_plane::Window;
-use canvas_scene::Item;
 use std::alloc::Global;
 
 /// How many rows a band has at least: fewer would not pay for going along all blocks once more.

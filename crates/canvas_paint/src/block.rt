@@ -4,17 +4,17 @@ ghost use Rattle.std.specs.Prelude.{◌≡◌, ℕ, ◌+◌, ◌-◌, ◌<◌, �
 ghost use Rattle.canvas_plane.specs.Page.{is_in};
 ghost use Rattle.canvas_plane.specs.Window.{column_shown, row_shown};
 ghost use Rattle.canvas_shape.specs.Leaves.{carried_holds, page_box_of};
-ghost use Rattle.canvas_scene.specs.Items.{fill_at};
+ghost use Rattle.canvas_paint.specs.Items.{fill_at};
 ghost use Rattle.canvas_paint.specs.Blocks.{cut_fill, form_holds};
 ghost use Rattle.canvas_shape.specs.Words.{has};
 ghost use Rattle.canvas_paint.specs.Words.{is_within};
 
+use crate::item::Item;
 use crate::leaf::{RowWords, ellipse_rows, polygon_rows};
 use crate::word::{PIXELS, both};
 use bumpalo::Bump;
 use canvas_code::OutOfMemory;
 use canvas_plane::{PageBox, Window};
-use canvas_scene::Item;
 use canvas_shape::{Carried, Colour};
 
 /// What of a block's columns and rows is held.

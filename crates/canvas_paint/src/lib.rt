@@ -1,4 +1,4 @@
-//! Pictures of display lists, row by row, each pixel written once.
+//! Display lists and their pictures, row by row, each pixel written once.
 #![tactic(auto)]
 
 mod active;
@@ -8,8 +8,8 @@ mod column;
 mod fault;
 mod free_row;
 mod gate;
+mod item;
 mod leaf;
-mod picture;
 mod row;
 mod strip;
 mod word;
@@ -19,6 +19,6 @@ mod worth;
 pub use fault::PaintFault;
 pub use free_row::FreeRow;
 pub use gate::{FreeGate, Gate};
-pub use picture::append_picture;
+pub use item::Item;
 pub use strip::{append_strip, paint_strip, strip_rows};
-pub use workers::paint;
+pub use workers::{append_raster, paint};

@@ -2,8 +2,8 @@
 
 ghost use Rattle.std.specs.Prelude.{◌≡◌, ℕ, ◌+◌, ◌-◌, ◌*◌, ◌/◌, ◌<◌, ◌≤◌, ◌++◌, List, length, false, slice_index_or, IfOk, OnOk, OnErr, take, vec_len, All};
 ghost use Rattle.canvas_plane.specs.Window.{column_shown, row_shown};
-ghost use Rattle.canvas_scene.specs.Items.{last_colour, last_fill};
-ghost use Rattle.canvas_scene.specs.Pictures.{raster_of, rows_of};
+ghost use Rattle.canvas_paint.specs.Items.{last_colour, last_fill};
+ghost use Rattle.canvas_paint.specs.Pictures.{raster_of, rows_of};
 ghost use Rattle.canvas_record.specs.Picture.{or_else};
 ghost use Rattle.canvas_paint.specs.Blocks.{block_fill};
 ghost use Rattle.canvas_paint.specs.Columns.{AreColumns, IsNew, blocks_in, fill_in, shown_in};
@@ -12,12 +12,12 @@ ghost use Rattle.canvas_paint.specs.Strips.{strip_start};
 use crate::bands::append_banded;
 use crate::block::Block;
 use crate::column::Column;
+use crate::item::Item;
 use crate::row::{Pixel, WHITE};
 use crate::word::PIXELS;
 use bumpalo::Bump;
 use canvas_code::OutOfMemory;
 use canvas_plane::Window;
-use canvas_scene::Item;
 use std::alloc::Global;
 
 /// How many words a row has.

@@ -1,18 +1,19 @@
 //! Pictures painted by several workers, a strip each.
 
 ghost use Rattle.std.specs.Prelude.{◌≡◌, ◌<◌, ◌++◌, ℕ, Err, IfErr, IfOk, MatchBool, OnErr, OnOk, length, take, true, vec_len};
-ghost use Rattle.canvas_scene.specs.Items.{last_colour};
-ghost use Rattle.canvas_scene.specs.Pictures.{rows_of};
+ghost use Rattle.canvas_paint.specs.Items.{last_colour};
+ghost use Rattle.canvas_paint.specs.Pictures.{picture_of, rows_of};
 ghost use Rattle.canvas_paint.specs.Strips.{AreStrips, IsStrip};
 ghost use Rattle.canvas_paint.specs.Workers.{are_workers};
 ghost use Rattle.canvas_paint.specs.declared.fault.PaintFault.TheVariants.{BadWorkers};
 
 use crate::fault::PaintFault;
-use crate::gate::Gate;
+use crate::gate::{FreeGate, Gate};
+use crate::item::Item;
 use crate::strip::{append_strip, paint_strip, strip_rows};
+use crate::worth::strips_worth;
 use canvas_code::OutOfMemory;
 use canvas_plane::Window;
-use canvas_scene::Item;
 use std::alloc::Global;
 use std::thread;
 use std::thread::Threads;
@@ -82,9 +83,9 @@ fn append_strips<R: Threads + Sync, G: Gate + Sync>(
     Ok(())
 }
 
-/// Appends the picture of items in a window, painted by so many workers, each a strip, after the
-/// gate. Without memory `out` is as it was.
-pub(crate) fn append_painted<R: Threads + Sync, G: Gate + Sync>(
+// Appends the picture of items in a window, painted by so many workers, each a strip, after the
+// gate. Without memory `out` is as it was.
+fn append_painted<R: Threads + Sync, G: Gate + Sync>(
     rt: &R,
     alloc: Global,
     items: &[Item<'_>],
@@ -138,4 +139,22 @@ pub fn paint<R: Threads + Sync, G: Gate + Sync>(
     let mut raster = Vec::new(alloc);
     append_painted(rt, alloc, items, window, workers, gate, &mut raster)?;
     Ok(raster)
+}
+
+/// Appends the picture of items in a window, the bytes of `paint`, painted by as many of 1 to 16
+/// workers as pay. Without memory `out` is as it was.
+pub fn append_raster<R: Threads + Sync>(
+    rt: &R,
+    alloc: Global,
+    items: &[Item<'_>],
+    window: &Window,
+    workers: u32,
+    out: &mut Vec<u8>,
+) -> Result<(), OutOfMemory>
+    requires { are_workers workers ≡ true }
+    ensures ok { OnOk result (out.new.items ≡ out.old.items ++ picture_of (last_colour items.now) window.now) }
+    ensures err { OnErr result (out.new.items ≡ out.old.items) }
+{
+    let strips = strips_worth(items, window, workers);
+    append_painted(rt, alloc, items, window, strips, &FreeGate, out)
 }

@@ -3,8 +3,8 @@
 ghost use Rattle.std.specs.Prelude.{◌≡◌, ◌≤◌, ◌<◌, length, true};
 ghost use Rattle.canvas_paint.specs.Workers.{are_workers};
 
+use crate::item::Item;
 use canvas_plane::{PageBox, Point, Window};
-use canvas_scene::Item;
 use canvas_shape::Carried;
 
 // About how many nanoseconds of painting pay for one more thread. This and the other costs are estimates, from what threads and

@@ -6,11 +6,9 @@ use crate::asserts::{equal, holds};
 use crate::shapes::{GREEN, RED, after, frame, nested, page_box, rect, red_rectangle, with};
 use bumpalo::Bump;
 use canvas_doc::{Document, Edit, Parent};
-use canvas_paint::{
-    FreeGate, FreeRow, Gate, PaintFault, append_picture, paint, paint_strip, strip_rows,
-};
+use canvas_paint::{FreeGate, FreeRow, Gate, PaintFault, paint, paint_strip, strip_rows};
 use canvas_plane::{PageBox, Pose, Window};
-use canvas_scene::Scene;
+use canvas_scene::{Scene, append_picture};
 use canvas_shape::Span;
 use std::alloc::Global;
 use std::process::Abort;

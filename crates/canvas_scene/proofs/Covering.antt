@@ -12,10 +12,10 @@ use Rattle.canvas_shape.specs.Leaves.{carried_holds, page_box_of}
 use Rattle.canvas_record.specs.declared.records.Record.{Record}
 use Rattle.canvas_record.specs.Picture.{first_answer, or_else}
 use Rattle.canvas_scene.specs.declared.cells.Cells.{Cells}
-use Rattle.canvas_scene.specs.declared.item.Item.{Item}
+use Rattle.canvas_paint.specs.declared.item.Item.{Item}
 use Rattle.canvas_scene.specs.Cells.{is_covered}
 use Rattle.canvas_scene.specs.Covers.{AreCellsHidden, first_fill, is_filled, IsHidden}
-use Rattle.canvas_scene.specs.Items.{fill_at, item_holds, last_fill}
+use Rattle.canvas_paint.specs.Items.{fill_at, item_holds, last_fill}
 use Rattle.canvas_scene.specs.Nodes.{seen}
 use Rattle.canvas_scene.proofs.Results.{on-ok}
 use Rattle.canvas_scene.proofs.Seen.{frame-cases, last_fill-append, or_else-assoc, or_else-none, seen-or_else, swap-seen}

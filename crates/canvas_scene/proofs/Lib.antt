@@ -6,7 +6,6 @@ pub mod Clipping
 pub mod Covering
 pub mod Marking
 pub mod Ordered
-pub mod Raster
 pub mod Results
 pub mod Seen
 pub mod Sides

@@ -16,7 +16,7 @@ use Rattle.canvas_record.specs.declared.records.Parent.TheVariants.{Shape}
 use Rattle.canvas_record.specs.declared.records.Record.{Record}
 use Rattle.canvas_record.specs.Children.{IsPartOf, children}
 use Rattle.canvas_record.specs.Contents.{is_container}
-use Rattle.canvas_scene.specs.declared.item.Item.{Item}
+use Rattle.canvas_paint.specs.declared.item.Item.{Item}
 use Rattle.canvas_scene.specs.declared.nodes.Node.{Node}
 use Rattle.canvas_scene.specs.Trees.{are_in_order, AreNodesOf, clip_of, is_back_of, is_branch_of, is_leaf_of, is_node_of, is_same_box, IsOneMore, Test}
 

@@ -3,8 +3,8 @@ use Rattle.std.proofs.Common.{◌≡◌, List, [], ◌∷◌, ◌++◌, Bool, tr
 use Rattle.std.proofs.lemmas.List.{reverse-append}
 use Rattle.canvas_shape.specs.declared.Colour.{Colour}
 use Rattle.canvas_record.specs.Picture.{or_else}
-use Rattle.canvas_scene.specs.declared.item.Item.{Item}
-use Rattle.canvas_scene.specs.Items.{fill_at, last_fill}
+use Rattle.canvas_paint.specs.declared.item.Item.{Item}
+use Rattle.canvas_paint.specs.Items.{fill_at, last_fill}
 use Rattle.canvas_scene.specs.declared.nodes.Node.{Node}
 use Rattle.canvas_scene.specs.Nodes.{back_item, items_along, items_of, seen}
 

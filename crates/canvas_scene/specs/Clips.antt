@@ -2,11 +2,11 @@
 use Rattle.std.specs.Prelude.{◌≡◌, List, [], ◌∷◌, Bool, true, false, ◌&&◌, ◌||◌, cond, Option, Some, None, ℤ}
 use Rattle.canvas_plane.specs.declared.PageBox.{PageBox}
 use Rattle.canvas_plane.specs.Page.{is_in}
-use Rattle.canvas_scene.specs.declared.item.Item.{Item}
+use Rattle.canvas_paint.specs.declared.item.Item.{Item}
 use Rattle.canvas_scene.specs.declared.nodes.Node.{Node}
 use Rattle.canvas_scene.specs.declared.nodes.Node.TheOpen.{Node-F, Leaf, Branch}
 use Rattle.canvas_scene.specs.declared.nodes.Node.TheFolds.{fold-Node}
-use Rattle.canvas_scene.specs.Items.{item_holds}
+use Rattle.canvas_paint.specs.Items.{item_holds}
 
 -- a node at a pixel: whether an item of it holds the pixel, and whether the clip of each branch in it does where an item of the branch's children does
 pub record AtPixel : Type 0 where

@@ -5,9 +5,9 @@ use Rattle.canvas_plane.specs.Page.{is_in}
 use Rattle.canvas_shape.specs.declared.Colour.{Colour}
 use Rattle.canvas_record.specs.Picture.{or_else}
 use Rattle.canvas_scene.specs.declared.cells.Cells.{Cells}
-use Rattle.canvas_scene.specs.declared.item.Item.{Item}
+use Rattle.canvas_paint.specs.declared.item.Item.{Item}
 use Rattle.canvas_scene.specs.Cells.{is_covered}
-use Rattle.canvas_scene.specs.Items.{fill_at}
+use Rattle.canvas_paint.specs.Items.{fill_at}
 
 -- the fill of the first item that holds the pixel
 abbrev pub first_fill : List Item → ℤ → ℤ → Option Colour

@@ -1,8 +1,6 @@
 pub mod Cells
 pub mod Clips
 pub mod Covers
-pub mod Items
-pub mod Pictures
 pub mod Nodes
 pub mod Places
 pub mod Scenes

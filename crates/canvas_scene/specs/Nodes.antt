@@ -6,7 +6,7 @@ use Rattle.canvas_shape.specs.declared.Colour.{Colour}
 use Rattle.canvas_shape.specs.declared.Kind.{Kind}
 use Rattle.canvas_shape.specs.Inside.{holds_of}
 use Rattle.canvas_record.specs.Picture.{kind_answer}
-use Rattle.canvas_scene.specs.declared.item.Item.{Item}
+use Rattle.canvas_paint.specs.declared.item.Item.{Item}
 use Rattle.canvas_scene.specs.declared.nodes.Node.{Node}
 use Rattle.canvas_scene.specs.declared.nodes.Node.TheOpen.{Node-F, Leaf, Branch}
 use Rattle.canvas_scene.specs.declared.nodes.Node.TheFolds.{fold-Node}

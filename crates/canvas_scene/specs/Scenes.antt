@@ -1,6 +1,6 @@
 -- What a scene is seen as.
 use Rattle.std.specs.Prelude.{List}
-use Rattle.canvas_scene.specs.declared.item.Item.{Item}
+use Rattle.canvas_paint.specs.declared.item.Item.{Item}
 use Rattle.canvas_scene.specs.declared.nodes.Node.{Node}
 use Rattle.canvas_scene.specs.declared.scenes.Scene.{Scene}
 

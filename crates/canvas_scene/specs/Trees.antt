@@ -13,7 +13,7 @@ use Rattle.canvas_record.specs.declared.records.Parent.TheVariants.{Shape}
 use Rattle.canvas_record.specs.declared.records.Record.{Record}
 use Rattle.canvas_record.specs.Children.{children}
 use Rattle.canvas_record.specs.Contents.{is_container}
-use Rattle.canvas_scene.specs.declared.item.Item.{Item}
+use Rattle.canvas_paint.specs.declared.item.Item.{Item}
 use Rattle.canvas_scene.specs.declared.nodes.Node.{Node}
 use Rattle.canvas_scene.specs.declared.nodes.Node.TheOpen.{Node-F, Leaf, Branch}
 use Rattle.canvas_scene.specs.declared.nodes.Node.TheFolds.{fold-Node}

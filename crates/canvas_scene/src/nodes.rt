@@ -6,9 +6,9 @@ ghost use Rattle.canvas_scene.specs.Clips.{at_pixel, branch_at, leaf_at};
 ghost use Rattle.canvas_scene.specs.Nodes.{items_of, items_along, back_item};
 ghost use Rattle.canvas_scene.specs.Trees.{is_branch_of, is_leaf_of, is_node_of};
 
-use crate::Item;
 use bumpalo::Bump;
 use canvas_code::OutOfMemory;
+use canvas_paint::Item;
 use canvas_plane::PageBox;
 
 /// A part of the tree of a scene, plain data in the arena.

@@ -6,17 +6,18 @@ ghost use Rattle.canvas_plane.specs.Window.{covered_by};
 ghost use Rattle.canvas_record.specs.Picture.{colour};
 ghost use Rattle.canvas_record.specs.declared.records.Parent.TheVariants.{Page};
 ghost use Rattle.canvas_scene.specs.Clips.{IsClipped};
-ghost use Rattle.canvas_scene.specs.Items.{last_colour};
+ghost use Rattle.canvas_paint.specs.Items.{last_colour};
 ghost use Rattle.canvas_scene.specs.Nodes.{items_along};
 ghost use Rattle.canvas_scene.specs.Scenes.{display_list_of, root_of};
 ghost use Rattle.canvas_scene.specs.Trees.{AreNodesOf};
 
+use crate::Node;
 use crate::shown::Shown;
 use crate::walk::nodes_of_page;
-use crate::{Item, Node};
 use bumpalo::Bump;
 use canvas_code::OutOfMemory;
 use canvas_doc::Document;
+use canvas_paint::Item;
 use canvas_plane::Window;
 
 /// What a document shows in a window: a tree in the caller's arena, and the items of its leaves

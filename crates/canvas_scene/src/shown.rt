@@ -4,15 +4,15 @@ ghost use Rattle.std.specs.Prelude.{◌≡◌, ◌++◌, ◌&&◌, [], ◌∷◌
 ghost use Rattle.canvas_plane.specs.Page.{is_in, IsWithin};
 ghost use Rattle.canvas_shape.specs.Leaves.{carried_holds};
 ghost use Rattle.canvas_record.specs.Picture.{or_else};
-ghost use Rattle.canvas_scene.specs.declared.item.Item.{Item};
+ghost use Rattle.canvas_paint.specs.declared.item.Item.{Item};
 ghost use Rattle.canvas_scene.specs.Covers.{first_fill, AreCellsHidden, IsHidden};
 ghost use Rattle.canvas_scene.specs.Nodes.{seen};
 
-use crate::Item;
 use crate::cells::Cells;
 use bumpalo::Bump;
 use bumpalo::collections::into_bump_slice;
 use canvas_code::OutOfMemory;
+use canvas_paint::Item;
 use canvas_plane::{PageBox, Window};
 use canvas_shape::{Carried, Colour};
 use std::marker::Model;

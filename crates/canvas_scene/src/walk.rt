@@ -15,16 +15,17 @@ ghost use Rattle.canvas_scene.specs.Clips.{IsClipped};
 ghost use Rattle.canvas_scene.specs.Covers.{first_fill};
 ghost use Rattle.canvas_scene.specs.Nodes.{AreShown, back_item, items_along, seen, shown_of};
 ghost use Rattle.canvas_scene.specs.Trees.{AreNodesOf, clip_of, IsOneMore, is_leaf_of, is_node_of};
-ghost use Rattle.canvas_scene.specs.declared.item.Item.{Item};
+ghost use Rattle.canvas_paint.specs.declared.item.Item.{Item};
 
+use crate::Node;
 use crate::bounds::part_of;
 use crate::nodes::{branch, keep, leaf};
 use crate::shown::Shown;
-use crate::{Item, Node};
 use bumpalo::Bump;
 use bumpalo::collections::into_bump_slice;
 use canvas_code::OutOfMemory;
 use canvas_doc::{Document, Parent, Record};
+use canvas_paint::Item;
 use canvas_plane::{PageBox, Point, Pose};
 use canvas_shape::{Carried, Colour, Kind};
 

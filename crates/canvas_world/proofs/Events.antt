@@ -18,7 +18,7 @@ use Rattle.canvas_record.specs.History.{AllFit, replay_of}
 use Rattle.canvas_record.specs.Picture.{colour}
 use Rattle.canvas_record.specs.Refused.{refusal_code}
 use Rattle.canvas_record.proofs.Histories.{all_fit-snoc, replay-snoc}
-use Rattle.canvas_scene.specs.Pictures.{picture_of}
+use Rattle.canvas_paint.specs.Pictures.{picture_of}
 use Rattle.canvas_world.specs.declared.cut.Cut.{Cut}
 use Rattle.canvas_world.specs.declared.event.Event.{Event}
 use Rattle.canvas_world.specs.declared.event.Event.TheVariants as event

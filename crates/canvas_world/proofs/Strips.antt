@@ -11,8 +11,8 @@ use Rattle.std.proofs.lemmas.List.Folds.{list_all_at, list_any_at}
 use Rattle.canvas_plane.specs.declared.windows.Window.{Window}
 use Rattle.canvas_shape.specs.declared.Colour.{Colour}
 use Rattle.canvas_record.specs.Contents.{Contents}
-use Rattle.canvas_scene.specs.Pictures.{bytes_at, picture_of, raster_of, rows_of}
-use Rattle.canvas_scene.proofs.Raster.{strip-more}
+use Rattle.canvas_paint.specs.Pictures.{bytes_at, picture_of, raster_of, rows_of}
+use Rattle.canvas_paint.proofs.Raster.{strip-more}
 use Rattle.canvas_paint.specs.Strips.{strip_start}
 use Rattle.canvas_world.specs.declared.cut.Cut.{Cut}
 use Rattle.canvas_world.specs.declared.piece.Piece.{Piece}

@@ -3,7 +3,7 @@ use Rattle.std.specs.Prelude.{ℕ, ◌≡◌, ◌<◌, ◌+◌, List, All, map}
 use Rattle.canvas_plane.specs.declared.windows.Window.{Window}
 use Rattle.canvas_record.specs.Contents.{Contents}
 use Rattle.canvas_record.specs.Picture.{colour}
-use Rattle.canvas_scene.specs.Pictures.{rows_of}
+use Rattle.canvas_paint.specs.Pictures.{rows_of}
 use Rattle.canvas_paint.specs.Strips.{strip_start}
 use Rattle.canvas_world.specs.declared.cut.Cut.{Cut}
 use Rattle.canvas_world.specs.declared.piece.Piece.{Piece}

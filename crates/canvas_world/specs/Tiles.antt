@@ -4,7 +4,7 @@ use Rattle.canvas_record.specs.declared.edits.Change.{Change}
 use Rattle.canvas_record.specs.Contents.{Contents}
 use Rattle.canvas_record.specs.History.{AllFit, replay_of}
 use Rattle.canvas_record.specs.Picture.{colour}
-use Rattle.canvas_scene.specs.Pictures.{picture_of}
+use Rattle.canvas_paint.specs.Pictures.{picture_of}
 use Rattle.canvas_world.specs.declared.event.Event.{Event}
 use Rattle.canvas_world.specs.declared.event.Event.TheVariants.{Look}
 use Rattle.canvas_world.specs.declared.entry.Entry.{Entry}

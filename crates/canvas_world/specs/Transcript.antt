@@ -9,7 +9,7 @@ use Rattle.canvas_record.specs.Effect.{new_id}
 use Rattle.canvas_record.specs.History.{replay_of}
 use Rattle.canvas_record.specs.Picture.{colour}
 use Rattle.canvas_record.specs.Refused.{refusal_code}
-use Rattle.canvas_scene.specs.Pictures.{picture_of}
+use Rattle.canvas_paint.specs.Pictures.{picture_of}
 use Rattle.canvas_world.specs.declared.event.Event.{Event}
 use Rattle.canvas_world.specs.declared.event.Event.TheVariants.{Edit, Look, Strip, Answer}
 use Rattle.canvas_world.specs.declared.entry.Entry.{Entry}

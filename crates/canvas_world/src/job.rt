@@ -2,7 +2,7 @@
 
 ghost use Rattle.std.specs.Prelude.{◌≡◌, ◌<◌, ◌++◌, ◌∷◌, [], Some, None, IfOk, OnOk, if◌then◌else◌};
 ghost use Rattle.canvas_record.specs.Picture.{colour};
-ghost use Rattle.canvas_scene.specs.Pictures.{picture_of};
+ghost use Rattle.canvas_paint.specs.Pictures.{picture_of};
 ghost use Rattle.canvas_world.specs.Transcript.{is_whole, may_paint};
 
 use crate::cut::Cut;

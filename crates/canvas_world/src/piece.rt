@@ -5,7 +5,7 @@ ghost use Rattle.std.specs.List.{list_all, list_any};
 ghost use Rattle.canvas_plane.specs.declared.windows.Window.{Window};
 ghost use Rattle.canvas_record.specs.Contents.{Contents};
 ghost use Rattle.canvas_record.specs.Picture.{colour};
-ghost use Rattle.canvas_scene.specs.Pictures.{picture_of};
+ghost use Rattle.canvas_paint.specs.Pictures.{picture_of};
 ghost use Rattle.canvas_world.specs.Pieces.{cuts_of, strip_of, ArePainted};
 ghost use Rattle.canvas_world.specs.Transcript.{has_below, is_beside, is_cut};
 

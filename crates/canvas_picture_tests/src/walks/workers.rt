@@ -7,8 +7,8 @@ use crate::walks::shapes::{
 use crate::walks::walk::{agrees, picture_number, random_window};
 use bumpalo::Bump;
 use canvas_doc::{Document, Edit, Parent};
-use canvas_paint::append_picture;
 use canvas_plane::Window;
+use canvas_scene::append_picture;
 use canvas_shape::{Colour, Kind};
 use std::alloc::Global;
 use std::process::Abort;

@@ -1,5 +1,5 @@
 use Rattle.std.proofs.Common.{◌≡◌, ◌-◌, ◌≤◌, ◌++◌, length}
-use Rattle.canvas_scene.specs.Pictures.{raster_of}
+use Rattle.canvas_paint.specs.Pictures.{raster_of}
 use Rattle.canvas_paint.specs.Blocks.{shown}
 use Rattle.canvas_paint.proofs.bands.append_bands.Given as goal
 

@@ -1,7 +1,7 @@
 use Rattle.std.proofs.Common.{ap, sym, ◌∙◌}
 use Rattle.std.proofs.lemmas.List.{take_all}
 use Rattle.canvas_record.specs.Picture.{or_else}
-use Rattle.canvas_scene.specs.Items.{last_fill}
+use Rattle.canvas_paint.specs.Items.{last_fill}
 use Rattle.canvas_plane.specs.Window.{column_shown, row_shown}
 use Rattle.canvas_paint.specs.Blocks.{block_fill, cut_fill, last_block_fill}
 use Rattle.canvas_paint.proofs.Cutting.{cut-more}

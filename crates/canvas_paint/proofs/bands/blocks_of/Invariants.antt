@@ -1,5 +1,5 @@
 use Rattle.std.proofs.Common.{◌≡◌, ℕ, ◌<◌, ◌≤◌, take}
-use Rattle.canvas_scene.specs.Items.{last_fill}
+use Rattle.canvas_paint.specs.Items.{last_fill}
 use Rattle.canvas_plane.specs.Window.{column_shown, row_shown}
 use Rattle.canvas_paint.specs.Blocks.{last_block_fill}
 use Rattle.canvas_paint.proofs.bands.blocks_of.Given as goal

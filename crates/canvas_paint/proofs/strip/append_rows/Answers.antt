@@ -1,6 +1,6 @@
 use Rattle.std.proofs.Common.{◌≡◌, ◌-◌, ◌++◌, arith, ap, length, ◌∙◌}
-use Rattle.canvas_scene.specs.Pictures.{raster_of}
-use Rattle.canvas_scene.proofs.Raster.{row-more}
+use Rattle.canvas_paint.specs.Pictures.{raster_of}
+use Rattle.canvas_paint.proofs.Raster.{row-more}
 use Rattle.canvas_paint.specs.Columns.{blocks_in, shown_in}
 use Rattle.canvas_paint.proofs.Columns.{later-columns}
 use Rattle.canvas_paint.proofs.Joined.{begins-same}

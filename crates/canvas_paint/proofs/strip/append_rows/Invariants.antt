@@ -1,5 +1,5 @@
 use Rattle.std.proofs.Common.{◌≡◌, ◌-◌, ◌++◌, length}
-use Rattle.canvas_scene.specs.Pictures.{raster_of}
+use Rattle.canvas_paint.specs.Pictures.{raster_of}
 use Rattle.canvas_paint.specs.Columns.{AreColumns, blocks_in, shown_in}
 use Rattle.canvas_paint.proofs.strip.append_rows.Given as goal
 

@@ -1,7 +1,7 @@
 use Rattle.std.proofs.Common.{◌-◌, ap, refl, ◌∙◌}
 use Rattle.canvas_record.specs.Picture.{or_white}
-use Rattle.canvas_scene.specs.Items.{last_colour}
-use Rattle.canvas_scene.specs.Pictures.{bytes_at}
+use Rattle.canvas_paint.specs.Items.{last_colour}
+use Rattle.canvas_paint.specs.Pictures.{bytes_at}
 use Rattle.canvas_paint.specs.Columns.{blocks_in, shown_in}
 use Rattle.canvas_paint.proofs.Columns.{before-end, strip-bytes}
 use Rattle.canvas_paint.proofs.Cutting.{take-most, width-taken}

@@ -4,7 +4,7 @@ use Rattle.canvas_plane.specs.Window.{column_shown, row_shown}
 use Rattle.canvas_paint.specs.Blocks.{block_fill, cut_fill}
 use Rattle.canvas_paint.specs.Columns.{IsNew, blocks_in, fill_in}
 use Rattle.std.proofs.lemmas.List.{take_all}
-use Rattle.canvas_scene.specs.Items.{last_fill}
+use Rattle.canvas_paint.specs.Items.{last_fill}
 use Rattle.canvas_paint.proofs.Columns.{items-put}
 use Rattle.canvas_paint.proofs.Cutting.{cut-more}
 use Rattle.canvas_paint.proofs.strip.columns_of.Goals as goal

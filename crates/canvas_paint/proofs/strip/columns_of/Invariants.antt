@@ -1,5 +1,5 @@
 use Rattle.std.proofs.Common.{◌≡◌, ℕ, ◌<◌, ◌≤◌, All, take, vec_len}
-use Rattle.canvas_scene.specs.Items.{last_fill}
+use Rattle.canvas_paint.specs.Items.{last_fill}
 use Rattle.canvas_plane.specs.Window.{column_shown, row_shown}
 use Rattle.canvas_paint.specs.Columns.{IsNew, blocks_in, fill_in}
 use Rattle.canvas_paint.proofs.strip.columns_of.Given as goal

@@ -1,6 +1,6 @@
 use Rattle.std.proofs.Common.{◌≡◌, ◌++◌}
-use Rattle.canvas_scene.specs.Items.{last_colour}
-use Rattle.canvas_scene.specs.Pictures.{rows_of}
+use Rattle.canvas_paint.specs.Items.{last_colour}
+use Rattle.canvas_paint.specs.Pictures.{rows_of}
 use Rattle.canvas_paint.specs.Strips.{strip_start}
 use Rattle.canvas_paint.proofs.workers.append_strips.Given as goal
 

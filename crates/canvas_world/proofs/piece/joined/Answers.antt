@@ -1,6 +1,6 @@
 use Rattle.std.proofs.Common.{◌++◌, ◌∙◌, ap, arith}
 use Rattle.canvas_record.specs.Picture.{colour}
-use Rattle.canvas_scene.specs.Pictures.{picture_of}
+use Rattle.canvas_paint.specs.Pictures.{picture_of}
 use Rattle.canvas_world.specs.Pieces.{cuts_of}
 use Rattle.canvas_world.proofs.Strips.{below-more, no-picture, rows-more, whole}
 use Rattle.canvas_world.proofs.piece.joined.Goals as goal

@@ -2,7 +2,7 @@ use Rattle.std.proofs.Common.{◌≡◌, true}
 use Rattle.canvas_plane.specs.declared.windows.Window.{Window}
 use Rattle.canvas_record.specs.Contents.{Contents}
 use Rattle.canvas_record.specs.Picture.{colour}
-use Rattle.canvas_scene.specs.Pictures.{rows_of}
+use Rattle.canvas_paint.specs.Pictures.{rows_of}
 use Rattle.canvas_paint.specs.Strips.{strip_start}
 use Rattle.canvas_world.specs.Pieces.{ArePainted, cuts_of}
 use Rattle.canvas_world.specs.Transcript.{has_below}

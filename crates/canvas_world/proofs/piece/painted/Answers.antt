@@ -1,9 +1,9 @@
 use Rattle.std.proofs.Common.{◌≡◌, ℕ, ◌+◌, ◌≤◌, ◌∙◌, ap, arith}
 use Rattle.canvas_record.specs.Picture.{colour}
-use Rattle.canvas_scene.specs.Items.{last_colour}
-use Rattle.canvas_scene.specs.Pictures.{rows_of}
+use Rattle.canvas_paint.specs.Items.{last_colour}
+use Rattle.canvas_paint.specs.Pictures.{rows_of}
 use Rattle.canvas_scene.specs.Scenes.{display_list_of}
-use Rattle.canvas_scene.proofs.Raster.{rows-agree}
+use Rattle.canvas_paint.proofs.Raster.{rows-agree}
 use Rattle.canvas_paint.specs.Strips.{strip_start}
 use Rattle.canvas_paint.proofs.Joined.{in-window}
 use Rattle.canvas_plane.specs.declared.windows.Window.{Window}

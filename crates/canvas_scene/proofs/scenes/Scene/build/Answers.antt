@@ -4,7 +4,7 @@ use Rattle.canvas_plane.specs.Page.{is_in}
 use Rattle.canvas_record.specs.declared.records.Parent.TheVariants.{Page}
 use Rattle.canvas_record.specs.Picture.{or_white}
 use Rattle.canvas_scene.specs.Clips.{IsClipped}
-use Rattle.canvas_scene.specs.Items.{last_colour}
+use Rattle.canvas_paint.specs.Items.{last_colour}
 use Rattle.canvas_scene.specs.Trees.{AreNodesOf}
 use Rattle.std.proofs.lemmas.List.{reverse-reverse}
 use Rattle.canvas_scene.specs.Nodes.{items_along}

@@ -1,7 +1,7 @@
 use Rattle.std.proofs.Common.{◌≡◌, ◌∙◌, ◌++◌, ◌∷◌, [], ap, refl, rules, sym, All, List, subst}
 use Rattle.canvas_plane.specs.Page.{is_in}
 use Rattle.canvas_shape.specs.Leaves.{carried_holds, page_box_of}
-use Rattle.canvas_scene.specs.declared.item.Item.{Item}
+use Rattle.canvas_paint.specs.declared.item.Item.{Item}
 use Rattle.canvas_scene.specs.Covers.{first_fill, AreCellsHidden, IsHidden}
 use Rattle.canvas_scene.proofs.shown.Shown.add.Goals.{in-Rect+in_ok-keep_cover, in_default}
 use Rattle.canvas_scene.proofs.Covering.{added-item, cells-still-hidden, more-cells-hidden, newly-hidden, rectangle-holds, still-hidden}

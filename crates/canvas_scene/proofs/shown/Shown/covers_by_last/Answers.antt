@@ -1,7 +1,7 @@
 use Rattle.std.proofs.Common.{All, List, subst, sym}
 use Rattle.canvas_plane.specs.declared.PageBox.{PageBox}
 use Rattle.canvas_scene.specs.Covers.{IsHidden}
-use Rattle.canvas_scene.specs.declared.item.Item.{Item}
+use Rattle.canvas_paint.specs.declared.item.Item.{Item}
 use Rattle.canvas_scene.proofs.shown.Shown.covers_by_last.Goals as goal
 
 pub returns-else-covers : goal.returns-else-covers

@@ -2,17 +2,15 @@
 
 ghost use Rattle.std.specs.Prelude.{◌≡◌, ◌++◌, OnOk, OnErr, true};
 ghost use Rattle.canvas_record.specs.Picture.{colour};
-ghost use Rattle.canvas_scene.specs.Pictures.{picture_of};
+ghost use Rattle.canvas_paint.specs.Pictures.{picture_of};
 ghost use Rattle.canvas_paint.specs.Workers.{are_workers};
 
-use crate::gate::FreeGate;
-use crate::workers::append_painted;
-use crate::worth::strips_worth;
+use crate::Scene;
 use bumpalo::Bump;
 use canvas_code::OutOfMemory;
 use canvas_doc::Document;
+use canvas_paint::append_raster;
 use canvas_plane::Window;
-use canvas_scene::Scene;
 use std::alloc::Global;
 use std::thread::Threads;
 
@@ -34,6 +32,5 @@ pub fn append_picture<R: Threads + Sync>(
 {
     let scene = Scene::build(bump, document, window)?;
     let items = scene.display_list();
-    let strips = strips_worth(items, window, workers);
-    append_painted(rt, alloc, items, window, strips, &FreeGate, out)
+    append_raster(rt, alloc, items, window, workers, out)
 }

@@ -6,7 +6,7 @@ use Rattle.std.specs.Prelude.{ℤ}
 use Rattle.canvas_plane.specs.declared.windows.Window.{Window}
 use Rattle.canvas_plane.specs.Window.{column_shown, row_shown}
 use Rattle.canvas_shape.specs.declared.Colour.{Colour}
-use Rattle.canvas_scene.specs.Pictures.{bytes_at, raster_of, row_of, rows_of}
+use Rattle.canvas_paint.specs.Pictures.{bytes_at, raster_of, row_of, rows_of}
 
 -- strips follow one another
 pub raster-join : (f : ℕ → ℕ → List ℕ) (w y m n : ℕ) → raster_of f w y (m + n) ≡ raster_of f w y m ++ raster_of f w (y + m) n

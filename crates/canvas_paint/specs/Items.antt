@@ -4,7 +4,7 @@ use Rattle.canvas_plane.specs.Page.{is_in}
 use Rattle.canvas_shape.specs.declared.Colour.{Colour}
 use Rattle.canvas_shape.specs.Leaves.{carried_holds}
 use Rattle.canvas_record.specs.Picture.{or_else, or_white}
-use Rattle.canvas_scene.specs.declared.item.Item.{Item}
+use Rattle.canvas_paint.specs.declared.item.Item.{Item}
 
 -- leaf and clip both hold the pixel
 abbrev pub item_holds : Item → ℤ → ℤ → Bool
