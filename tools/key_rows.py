@@ -1,5 +1,5 @@
 #!/usr/bin/env python3
-"""Index keys by the published algorithm, to make the rows that canvas_shape_tests compares with.
+"""Index keys by the published algorithm, to make the rows that canvas_wire_tests compares with.
 
 A reference implementation of `generateKeyBetween` of rocicorp's fractional-indexing
 (https://github.com/rocicorp/fractional-indexing), a function for each of the library's, with the profile of
@@ -9,7 +9,7 @@ Rattle code or its definitions.
     key_rows.py between LOW HIGH    one key ('-' stands for an end that is left out)
     key_rows.py read TEXT           'key' or the fault
     key_rows.py fresh N             the integer part of rank N
-    key_rows.py rows                the file crates/canvas_shape_tests/src/key_rows.rt, before `rt fmt` lays it out
+    key_rows.py rows                the file crates/canvas_wire_tests/src/key_rows.rt, before `rt fmt` lays it out
     key_rows.py insertions          how many keys fit between a0 and a1, each beside the one before
     key_rows.py check [COUNT]       the script against itself: order, and ranks counted one by one
 """

@@ -1,4 +1,4 @@
-//! Tests of requests, replies and saved documents, by their texts.
+//! Tests of saved documents, by their texts.
 #![tactic(auto)]
 
 #[cfg(test)]
@@ -7,8 +7,6 @@ mod asserts;
 mod memory;
 #[cfg(test)]
 mod refused;
-#[cfg(test)]
-mod requests;
 #[cfg(test)]
 mod saved;
 #[cfg(test)]

@@ -1,13 +1,10 @@
-//! Saved documents and requests for which memory may be refused: run with each allocation refused in turn, each call
+//! Saved documents for which memory may be refused: run with each allocation refused in turn, each call
 //! answers want of memory or what it answers with ample memory.
 
 use crate::asserts::holds;
 use canvas_code::OutOfMemory;
-use canvas_doc::{Document, Edit};
-use canvas_plane::Point;
-use canvas_shape::{Colour, Kind, Points};
+use canvas_doc::Document;
 use canvas_store::{StoreFault, export, import};
-use canvas_wire::{Request, WireFault, read_request};
 use std::alloc::Global;
 use std::test::Fail;
 
@@ -19,9 +16,6 @@ const OLDER_TWO: &[u8] =
 
 const NO_KEY: &[u8] =
     br#"{"format":2,"next":3,"shapes":[{"hidden":false,"id":1,"place":{"index":"a00","parent":null},"pose":{"dx":0,"dy":0,"flip":false,"quarter":0},"shape":{"kind":"group"}}]}"#;
-
-const TRIANGLE: &[u8] =
-    br#"{"verb":"create","shape":{"kind":"polygon","points":[[0,0],[4,0],[0,4]],"fill":"010203"}}"#;
 
 // Whether of two answers at most one is want of memory, and each other one is right.
 fn are_right(first: Result<bool, OutOfMemory>, again: Result<bool, OutOfMemory>) -> bool {
@@ -65,15 +59,6 @@ fn are_in_order(alloc: Global, document: &Document) -> Result<bool, OutOfMemory>
     })
 }
 
-// Whether a line is read as the edit that makes such a kind.
-fn is_read(alloc: Global, line: &[u8], wanted: &Kind) -> Result<bool, OutOfMemory> {
-    match read_request(alloc, line) {
-        Ok(Request::Edit(Edit::Create { kind, .. })) => Ok(kind == *wanted),
-        Err(WireFault::OutOfMemory) => Err(OutOfMemory),
-        _ => Ok(false),
-    }
-}
-
 #[test]
 fn saved_with_little_memory(rt: HostRuntime) -> Result<(), Fail> {
     let alloc = rt.alloc();
@@ -96,26 +81,5 @@ fn opened_with_little_memory(rt: HostRuntime) -> Result<(), Fail> {
     holds(&rt, "the older", are_right(first, opens(alloc, OLDER_TWO)));
     let first = is_refused(alloc, NO_KEY);
     holds(&rt, "refused", are_right(first, is_refused(alloc, NO_KEY)));
-    Ok(())
-}
-
-fn triangle(alloc: Global) -> Result<Kind, OutOfMemory> {
-    let mut points = Points::new(alloc);
-    for (x, y) in [(0, 0), (4, 0), (0, 4)] {
-        points.push(Point { x, y })?;
-    }
-    Ok(Kind::Polygon {
-        points,
-        fill: Colour([1, 2, 3]),
-    })
-}
-
-#[test]
-fn read_with_little_memory(rt: HostRuntime) -> Result<(), Fail> {
-    let alloc = rt.alloc();
-    let kind = triangle(alloc)?;
-    let first = is_read(alloc, TRIANGLE, &kind);
-    let again = is_read(alloc, TRIANGLE, &kind);
-    holds(&rt, "read", are_right(first, again));
     Ok(())
 }

@@ -1,11 +1,13 @@
-//! Spans and clones for which memory may be refused: run with each allocation refused in turn, they answer want of
+//! Spans, clones and requests for which memory may be refused: run with each allocation refused in turn, they answer want of
 //! memory and leave what was there, or answer what they answer with ample memory.
 
 use crate::asserts::{holds, holds_at};
 use crate::random_leaves::polygon;
 use canvas_code::OutOfMemory;
 use canvas_plane::Point;
+use canvas_record::Edit;
 use canvas_shape::{Carried, Colour, Kind, Points, Span};
+use canvas_wire::{Request, WireFault, read_request};
 use std::alloc::Global;
 use std::process::Abort;
 use std::test::Fail;
@@ -62,10 +64,14 @@ fn is_cloned(alloc: Global, kind: &Kind) -> Result<bool, OutOfMemory> {
     Ok(kind.try_clone(alloc)? == *kind)
 }
 
-fn assert_cloned(rt: &impl Abort, alloc: Global, kind: &Kind) {
-    let first = is_cloned(alloc, kind);
-    let again = is_cloned(alloc, kind);
-    holds(rt, "a clone", first.is_ok() || again.is_ok());
+// Of two answers one at least is no want of memory, and what is none is right.
+fn assert_right(
+    rt: &impl Abort,
+    what: &str,
+    first: Result<bool, OutOfMemory>,
+    again: Result<bool, OutOfMemory>,
+) {
+    holds(rt, what, first.is_ok() || again.is_ok());
     holds(rt, "the first", first.unwrap_or(true));
     holds(rt, "the second", again.unwrap_or(true));
 }
@@ -73,6 +79,29 @@ fn assert_cloned(rt: &impl Abort, alloc: Global, kind: &Kind) {
 #[test]
 fn clones_with_little_memory(rt: HostRuntime) -> Result<(), Fail> {
     let kind = triangle(rt.alloc())?;
-    assert_cloned(&rt, rt.alloc(), &kind);
+    let first = is_cloned(rt.alloc(), &kind);
+    let again = is_cloned(rt.alloc(), &kind);
+    assert_right(&rt, "a clone", first, again);
+    Ok(())
+}
+
+const TRIANGLE_MADE: &[u8] =
+    br#"{"verb":"create","shape":{"kind":"polygon","points":[[0,0],[4,0],[0,4]],"fill":"010203"}}"#;
+
+// Whether a line is read as the edit that makes such a kind.
+fn is_read(alloc: Global, line: &[u8], wanted: &Kind) -> Result<bool, OutOfMemory> {
+    match read_request(alloc, line) {
+        Ok(Request::Edit(Edit::Create { kind, .. })) => Ok(kind == *wanted),
+        Err(WireFault::OutOfMemory) => Err(OutOfMemory),
+        _ => Ok(false),
+    }
+}
+
+#[test]
+fn read_with_little_memory(rt: HostRuntime) -> Result<(), Fail> {
+    let kind = triangle(rt.alloc())?;
+    let first = is_read(rt.alloc(), TRIANGLE_MADE, &kind);
+    let again = is_read(rt.alloc(), TRIANGLE_MADE, &kind);
+    assert_right(&rt, "a request", first, again);
     Ok(())
 }

@@ -1,4 +1,4 @@
-//! Tests of codes, keys, the plane and shapes, by what these crates offer to callers.
+//! Tests of codes, keys, the plane, shapes, and requests and replies, by what these crates offer to callers.
 #![tactic(auto)]
 
 #[cfg(test)]
@@ -15,5 +15,7 @@ mod memory;
 mod plane;
 #[cfg(test)]
 mod random_leaves;
+#[cfg(test)]
+mod requests;
 #[cfg(test)]
 mod shapes;

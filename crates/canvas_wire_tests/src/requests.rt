@@ -3,9 +3,9 @@ ghost use Rattle.canvas_wire.specs.Replies.{IsNamed};
 
 use crate::asserts::reads;
 use canvas_code::name_of;
-use canvas_doc::{Edit, Parent, Spot};
 use canvas_key::Key;
 use canvas_plane::{Point, Pose};
+use canvas_record::{Edit, Parent, Spot};
 use canvas_shape::{Colour, Kind};
 use canvas_wire::{Reply, Request, RequestReader, WireFault, read_request, write_reply};
 use std::alloc::Global;

@@ -22,3 +22,8 @@ pub(crate) fn holds_for(rt: &impl Abort, what: &str, number: usize, is_so: bool)
 pub(crate) fn equal<T: PartialEq + Debug>(rt: &impl Abort, what: &str, left: &T, right: &T) {
     assert!(rt; left == right, "{what}: {left:?} is not {right:?}");
 }
+
+/// Ends the test with both texts, and the one that was read, unless they are equal.
+pub(crate) fn reads(rt: &impl Abort, text: &str, found: &str, wanted: &str) {
+    assert!(rt; found == wanted, "{found} is not {wanted} at {text}");
+}
