@@ -7,7 +7,7 @@
 ghost use Rattle.std.specs.Prelude.{◌≡◌};
 ghost use Rattle.canvas_board.specs.Fault.{board_fault_code};
 ghost use Rattle.canvas_session.specs.Cause.{cause_code};
-ghost use Rattle.canvas_store.specs.Faults.{fault_code as store_fault_code};
+ghost use Rattle.canvas_saved.specs.Faults.{fault_code as store_fault_code};
 ghost use Rattle.canvas.specs.declared.Fault.TheVariants.{Refused};
 ghost use Rattle.canvas_server.specs.Faults.{server_fault_code};
 ghost use Rattle.canvas.specs.Statuses.{fault_of_code, status_at};

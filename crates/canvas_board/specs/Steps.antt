@@ -11,7 +11,7 @@ use Rattle.canvas_board.specs.declared.answers.Picture.{Picture}
 use Rattle.canvas_board.specs.declared.answers.Dot.{Dot}
 use Rattle.canvas_board.specs.declared.answers.Saved.{Saved}
 use Rattle.canvas_paint.specs.Workers.{are_workers}
-use Rattle.canvas_store.specs.Saved.{saved_text_of}
+use Rattle.canvas_saved.specs.Saved.{saved_text_of}
 use Rattle.canvas_board.specs.declared.fault.BoardFault.{BoardFault}
 use Rattle.canvas_board.specs.declared.fault.BoardFault.TheVariants.{OutOfMemory, Refused, VersionsSpent, Behind, Strangers, BadWorkers, BadSetting, NoView}
 use Rattle.canvas_plane.specs.declared.windows.Window.{Window}

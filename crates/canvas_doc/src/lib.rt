@@ -24,15 +24,14 @@ mod records;
 mod restored;
 mod spots;
 
-pub use canvas_record::{Change, Edit, Parent, Place, Record, Refusal, Spot, TreeFault};
+pub use canvas_record::{
+    Change, Edit, MOST_RECORDS, Parent, Place, Record, Refusal, Spot, TreeFault,
+};
 use lookup::find;
 use placed_shapes::PlacedShapes;
 use records::Records;
 use std::alloc::Global;
 use std::marker::Model;
-
-/// The most records that a document has.
-pub const MOST_RECORDS: usize = 16_384;
 
 /// A design document: records in a page tree, and the next id. It is always well formed.
 #[derive(Drop)]

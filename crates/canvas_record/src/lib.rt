@@ -14,3 +14,6 @@ pub use edits::{Change, Edit, Spot};
 pub use records::{Parent, Place, Record, Standing};
 pub use refusals::Refusal;
 pub use tree_faults::TreeFault;
+
+/// The most records that a document has.
+pub const MOST_RECORDS: usize = 16_384;

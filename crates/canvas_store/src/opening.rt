@@ -1,128 +1,11 @@
 //! From a text to a document.
-ghost use Rattle.std.specs.Prelude.{◌≡◌, ◌≤◌, ◌∷◌, ◌++◌, [], codes, option_map, length, IfOk, IfSome, OnOk};
-ghost use Rattle.serde_json.specs.Find.{as_array};
-ghost use Rattle.serde_json.specs.View.{view, items_view};
-ghost use Rattle.canvas_store.specs.Faults.{Gives, GivesSeen, or_fault};
-ghost use Rattle.canvas_store.specs.Json.{json_of, required};
-ghost use Rattle.canvas_store.specs.Opened.{format_of, head_of, if_few, shapes_of, records_from, opened_data, opened};
-ghost use Rattle.canvas_record.specs.Contents.{most_records};
-ghost use Rattle.canvas_store.specs.declared.fault.StoreFault.TheVariants.{BadJson};
 
-use crate::extra::has_others;
-use crate::fault::StoreFault;
-use crate::field::{u32_at, u32_of};
-use crate::formats::{Format, Head};
-use crate::record::element_of;
-use canvas_code::OutOfMemory;
-use canvas_doc::{Document, Record};
-use serde_json::Value;
+ghost use Rattle.canvas_saved.specs.Faults.{Gives};
+ghost use Rattle.canvas_saved.specs.Opened.{opened};
+
+use canvas_doc::Document;
+use canvas_saved::{SavedRecords, StoreFault, read_records};
 use std::alloc::Global;
-
-// The value that a text is.
-fn value_of(alloc: Global, text: &[u8]) -> Result<Value, StoreFault>
-    ensures { GivesSeen view result (or_fault BadJson (json_of text.now)) }
-{
-    match Value::from_slice(alloc, text) {
-        Ok(value) => Ok(value),
-        Err(error) => {
-            if error.is_memory() {
-                Err(StoreFault::OutOfMemory)
-            } else {
-                Err(StoreFault::BadJson)
-            }
-        }
-    }
-}
-
-// The format that a number names.
-#[tactic(auto, unfolding(crate::specs::Opened::format_of))]
-fn format_of(value: &Value) -> Option<Format>
-    ensures { result ≡ format_of (view value.now) }
-{
-    u32_of(value).and_then(Format::numbered)
-}
-
-// The format, which has to be there.
-fn format_at(saved: &Value) -> Option<Format>
-    ensures { result ≡ required format_of (codes "format") (view saved.now) }
-{
-    saved.get("format").and_then(format_of)
-}
-
-// The format and the next id of a saved document.
-#[tactic(auto, unfolding(crate::specs::Opened::head_of))]
-fn head_of(saved: &Value) -> Option<Head>
-    ensures value { result ≡ head_of (view saved.now) }
-    ensures least { IfSome result (λ head. 1 ≤ head.next) }
-{
-    let format = format_at(saved)?;
-    let next = u32_at(saved, "next")?;
-    if next < 1 || has_others(&["format", "next", "shapes"], saved) {
-        return None;
-    }
-    Some(Head { format, next })
-}
-
-// The list of shapes, which has to be there.
-fn shapes_in(saved: &Value) -> Option<&Vec<Value>>
-    ensures { option_map (λ list. items_view list.now.items) result ≡ required as_array (codes "shapes") (view saved.now) }
-{
-    saved.get("shapes").and_then(Value::as_array)
-}
-
-// The elements of a list, if they are at most so many.
-fn few_of(most: usize, list: &Vec<Value>) -> Option<&[Value]>
-    ensures value { option_map (λ shapes. items_view shapes.now) result ≡ if_few most (items_view list.now.items) }
-    ensures few { IfSome result (λ shapes. length shapes.now ≤ most) }
-{
-    let shapes = list.as_slice();
-    if shapes.len() <= most {
-        Some(shapes)
-    } else {
-        None
-    }
-}
-
-// The elements of a saved document's list of shapes, at most as many as the format has.
-#[tactic(auto, unfolding(crate::specs::Opened::shapes_of))]
-fn shapes_of(format: Format, saved: &Value) -> Option<&[Value]>
-    ensures value { option_map (λ shapes. items_view shapes.now) result ≡ shapes_of format (view saved.now) }
-    ensures few { IfSome result (λ shapes. length shapes.now ≤ most_records) }
-{
-    few_of(format.most_records(), shapes_in(saved)?)
-}
-
-fn push(records: &mut Vec<Record>, shape: Record) -> Result<(), OutOfMemory>
-    ensures { OnOk result (records.new.items ≡ records.old.items ++ shape ∷ []) }
-{
-    Ok(records.push(shape)?)
-}
-
-// The records of the elements.
-fn records_of(alloc: Global, head: Head, shapes: &[Value]) -> Result<Vec<Record>, StoreFault>
-    ensures value { GivesSeen (λ records. records.items) result (records_from head 0 (items_view shapes.now)) }
-    ensures count { IfOk result (λ records. length records.items ≡ length shapes.now) }
-{
-    let mut records = Vec::with_capacity(alloc, shapes.len())?;
-    for (position, element) in shapes.iter().enumerate() {
-        match element_of(alloc, head, element)? {
-            Some(shape) => push(&mut records, shape)?,
-            None => return Err(StoreFault::BadRecord { position }),
-        }
-    }
-    Ok(records)
-}
-
-// The document of a JSON value.
-#[tactic(auto, unfolding(crate::specs::Opened::opened_data))]
-fn opened_data(alloc: Global, saved: &Value) -> Result<Document, StoreFault>
-    ensures { Gives result (opened_data (view saved.now)) }
-{
-    let head = head_of(saved).ok_or(StoreFault::BadFormat)?;
-    let shapes = shapes_of(head.format, saved).ok_or(StoreFault::BadFormat)?;
-    let records = records_of(alloc, head, shapes)?;
-    Ok(Document::restore(alloc, records, head.next)?)
-}
 
 /// The document of a saved text of format 1 or 2, by serde_json's reading of it.
 ///
@@ -132,10 +15,9 @@ fn opened_data(alloc: Global, saved: &Value) -> Result<Document, StoreFault>
 /// in format 1 or 16,384 in format 2; 61 with the least position whose element is no record of
 /// the text's own format within its limits; 62 with the least position whose record does not
 /// belong to a page tree. 1 is answered only where the allocator refused memory.
-#[tactic(auto, unfolding(crate::specs::Opened::opened))]
 pub fn import(alloc: Global, text: &[u8]) -> Result<Document, StoreFault>
     ensures { Gives result (opened text.now) }
 {
-    let saved = value_of(alloc, text)?;
-    opened_data(alloc, &saved)
+    let SavedRecords { records, next } = read_records(alloc, text)?;
+    Ok(Document::restore(alloc, records, next)?)
 }

@@ -1,127 +1,15 @@
 //! From a document to its text.
-ghost use Rattle.std.specs.Prelude.{◌≡◌, ◌<◌, ◌≤◌, ◌^◌, length, Some, Ok, IfOk, All, map};
-ghost use Rattle.serde_json.specs.View.{view, items_view, items_of};
-ghost use Rattle.canvas_shape.specs.Inside.{IsSound};
-ghost use Rattle.canvas_shape.specs.declared.Kind.TheVariants.{Group};
-ghost use Rattle.canvas_record.specs.Tree.{IsInLimits};
-ghost use Rattle.canvas_record.specs.Contents.{IsWellFormed};
-ghost use Rattle.canvas_store.specs.declared.formats.Format.TheVariants.{One, Two};
-ghost use Rattle.canvas_store.specs.Formats.{most_of};
-ghost use Rattle.canvas_store.specs.Kept.{HasText, IsKept};
-ghost use Rattle.canvas_store.specs.Opened.{opened};
-ghost use Rattle.canvas_store.specs.Saved.{point_data, sided_data, polygon_data, shape_data, record_data, document_data, data_in, text_in, saved_text_of};
-ghost use Rattle.canvas_store.specs.Shapes.{shape_of};
 
-use crate::value::{colour_value, fill_value, place_value, point_value, pose_value};
+ghost use Rattle.std.specs.Prelude.{◌≡◌, ◌≤◌, length, Ok, IfOk};
+ghost use Rattle.canvas_saved.specs.declared.formats.Format.TheVariants.{One};
+ghost use Rattle.canvas_saved.specs.Formats.{most_of};
+ghost use Rattle.canvas_saved.specs.Opened.{opened};
+ghost use Rattle.canvas_saved.specs.Saved.{saved_text_of, text_in};
+
 use canvas_code::OutOfMemory;
-use canvas_doc::{Document, Record};
-use canvas_plane::Point;
-use canvas_shape::Kind;
-use serde_json::{Value, json};
-use std::alloc::{AllocError, Global};
-
-// The list of the points.
-fn point_values(alloc: Global, points: &[Point]) -> Result<Vec<Value>, AllocError>
-    ensures { IfOk result (λ values. items_view values.items ≡ items_of (map point_data points.now)) }
-{
-    let mut values = Vec::with_capacity(alloc, points.len())?;
-    for point in points {
-        values.push(point_value(alloc, point)?)?;
-    }
-    Ok(values)
-}
-
-// A shape with sides.
-fn sided_value(alloc: Global, kind: &str, w: u32, h: u32, fill: Value) -> Result<Value, AllocError>
-    ensures { IfOk result (λ value. view value ≡ sided_data kind.now w h (view fill)) }
-{
-    json!(in alloc; {"fill": fill, "h": h, "kind": kind, "w": w})
-}
-
-fn polygon_value(alloc: Global, points: &[Point], fill: Value) -> Result<Value, AllocError>
-    ensures { IfOk result (λ value. view value ≡ polygon_data points.now (view fill)) }
-{
-    json!(in alloc; {
-        "fill": fill,
-        "kind": "polygon",
-        "points": Value::Array(point_values(alloc, points)?)
-    })
-}
-
-fn group_value(alloc: Global) -> Result<Value, AllocError>
-    ensures { IfOk result (λ value. view value ≡ shape_data Group) }
-{
-    json!(in alloc; {"kind": "group"})
-}
-
-fn shape_value(alloc: Global, kind: &Kind) -> Result<Value, AllocError>
-    requires { IsSound kind.now }
-    ensures value { IfOk result (λ value. view value ≡ shape_data kind.now) }
-    ensures reads { IfOk result (λ _. shape_of (shape_data kind.now) ≡ Some kind.now) }
-    ensures text { IfOk result (λ _. HasText kind.now) }
-{
-    match kind {
-        Kind::Group => group_value(alloc),
-        Kind::Frame { w, h, fill } => {
-            sided_value(alloc, "frame", *w, *h, fill_value(alloc, fill)?)
-        }
-        Kind::Rect { w, h, fill } => {
-            sided_value(alloc, "rect", *w, *h, colour_value(alloc, fill)?)
-        }
-        Kind::Ellipse { w, h, fill } => {
-            sided_value(alloc, "ellipse", *w, *h, colour_value(alloc, fill)?)
-        }
-        Kind::Polygon { points, fill } => {
-            polygon_value(alloc, points.as_slice(), colour_value(alloc, fill)?)
-        }
-    }
-}
-
-fn record_value(alloc: Global, shape: &Record) -> Result<Value, AllocError>
-    requires id { shape.now.id < 2 ^ 32 }
-    requires limits { IsInLimits shape.now }
-    ensures value { IfOk result (λ value. view value ≡ record_data Two shape.now) }
-    ensures kept { IfOk result (λ _. IsKept shape.now) }
-{
-    json!(in alloc; {
-        "hidden": shape.hidden,
-        "id": shape.id,
-        "place": place_value(alloc, &shape.place)?,
-        "pose": pose_value(alloc, &shape.pose)?,
-        "shape": shape_value(alloc, &shape.kind)?
-    })
-}
-
-fn record_values(alloc: Global, records: &[&Record]) -> Result<Vec<Value>, AllocError>
-    requires ids { All (λ shape. shape.now.id < 2 ^ 32) records.now }
-    requires limits { All (λ shape. IsInLimits shape.now) records.now }
-    ensures value { IfOk result (λ values. items_view values.items
-        ≡ items_of (map (record_data Two) (map (λ shape. shape.now) records.now))) }
-    ensures kept { IfOk result (λ _. All (λ shape. IsKept shape.now) records.now) }
-{
-    let mut values = Vec::with_capacity(alloc, records.len())?;
-    for shape in records {
-        values.push(record_value(alloc, shape)?)?;
-    }
-    Ok(values)
-}
-
-fn document_value(alloc: Global, document: &Document) -> Result<Value, OutOfMemory>
-    ensures value { IfOk result (λ value. view value ≡ data_in Two document.now) }
-    ensures kept { IfOk result (λ _. All IsKept document.now.records) }
-    ensures well_formed { IfOk result (λ _. IsWellFormed document.now) }
-{
-    let records = document.records_in_order(alloc)?;
-    let shapes = record_values(alloc, &records)?;
-    Ok(value_with(alloc, document.next_id(), shapes)?)
-}
-
-// A saved document with these records.
-fn value_with(alloc: Global, next: u32, shapes: Vec<Value>) -> Result<Value, AllocError>
-    ensures { IfOk result (λ value. view value ≡ document_data Two next (items_view shapes.items)) }
-{
-    json!(in alloc; {"format": 2, "next": next, "shapes": shapes})
-}
+use canvas_doc::Document;
+use canvas_saved::write_records;
+use std::alloc::Global;
 
 /// The text of a saved document of format 2: compact JSON, members in the order of their names,
 /// records by rising id, colours in lower case, and no line feed at the end.
@@ -133,6 +21,6 @@ pub fn export(alloc: Global, document: &Document) -> Result<Vec<u8>, OutOfMemory
     ensures older { IfOk result (λ _. length document.now.records ≤ most_of One
         → opened (text_in One document.now) ≡ Ok document.now) }
 {
-    let saved = document_value(alloc, document)?;
-    Ok(saved.to_vec(alloc)?)
+    let records = document.records_in_order(alloc)?;
+    write_records(alloc, document.next_id(), &records)
 }

@@ -1,7 +1,7 @@
 use Rattle.std.proofs.Common.{◌≡◌, ap, ◌∙◌, subst}
 use Rattle.std.specs.Arc.{arc_value}
 use Rattle.canvas_record.specs.Contents.{Contents}
-use Rattle.canvas_store.specs.Saved.{saved_text_of}
+use Rattle.canvas_saved.specs.Saved.{saved_text_of}
 use Rattle.canvas_line.specs.declared.version.Version.{Version}
 use Rattle.canvas_line.specs.Seats.{Looks}
 use Rattle.canvas_board.specs.Seen.{Seen, Grows, document_of}
