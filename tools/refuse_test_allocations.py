@@ -21,16 +21,14 @@ TESTS = {
     "canvas_list_tests": ["memory::changes_with_little_memory"],
     "canvas_doc_tests": [
         "memory::edits_with_little_memory", "memory::changes_in_place_with_little_memory", "memory::refusals_with_little_memory",
-        "memory::restored_with_little_memory",
+        "memory::restored_with_little_memory", "saved::memory::saved_with_little_memory", "saved::memory::opened_with_little_memory",
     ],
-    "canvas_line_tests": ["memory::an_edit_that_wanted_memory_is_made_again"],
     "canvas_wire_tests": ["memory::spans_with_little_memory", "memory::clones_with_little_memory", "memory::read_with_little_memory"],
     "canvas_picture_tests": [
         "memory::scenes_with_little_memory", "memory::three_workers_with_little_memory", "memory::strips_with_little_memory",
         "memory::rows_with_little_memory", "memory::images_with_little_memory", "memory::files_with_little_memory",
-        "walks::memory::events_with_little_memory",
+        "walks::memory::events_with_little_memory", "lines::memory::an_edit_that_wanted_memory_is_made_again",
     ],
-    "canvas_text_tests": ["memory::saved_with_little_memory", "memory::opened_with_little_memory"],
     "canvas_session_tests": [
         "alone::memory::an_edit_and_a_picture_with_little_memory", "alone::memory::an_export_with_little_memory",
         "memory::a_square_moves_away_with_little_memory",

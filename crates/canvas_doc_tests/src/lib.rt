@@ -1,5 +1,5 @@
 //! Tests of documents: worked examples, every refusal of every edit, lists of records, long histories and want of memory; random edits beside a slow,
-//! plain model, what walks leave out, and the damage of changes.
+//! plain model, what walks leave out, and the damage of changes; saved documents, by their texts.
 #![tactic(auto)]
 
 #[cfg(test)]
@@ -32,6 +32,8 @@ mod refused;
 mod restored;
 #[cfg(test)]
 mod samples;
+#[cfg(test)]
+mod saved;
 #[cfg(test)]
 mod sight;
 #[cfg(test)]

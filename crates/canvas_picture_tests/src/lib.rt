@@ -1,4 +1,4 @@
-//! Tests of scenes and pictures of small documents and of random ones, of images, and of lists of events.
+//! Tests of scenes and pictures of small documents and of random ones, of images, of lists of events, and of lines.
 #![tactic(auto)]
 
 #[cfg(test)]
@@ -7,6 +7,8 @@ mod asserts;
 mod gates;
 #[cfg(test)]
 mod images;
+#[cfg(test)]
+mod lines;
 #[cfg(test)]
 mod memory;
 #[cfg(test)]

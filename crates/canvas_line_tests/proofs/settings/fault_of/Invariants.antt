@@ -1,5 +1,0 @@
-use Rattle.canvas_line_tests.proofs.settings.fault_of.Given as goal
-
--- the line that is opened
-abbrev pub ghosts-refused : goal.ghosts-refused
-ghosts-refused g a = record { line = λ _. record { book = a.opened.head.word.book; opening = a.document; limit = a.limit } }
