@@ -10,7 +10,7 @@ const MOST_OF_FORMAT_ONE: usize = 4_096;
 
 /// A format of saved documents: how the members of a record stand, and how many records there are.
 #[derive(Clone, Copy, Debug, PartialEq, Eq, Drop)]
-pub(crate) enum Format {
+pub enum Format {
     /// A record's parent and index are two of its members; at most 4,096 records.
     One,
     /// A record's place is one member, with the parent and the index; at most `MOST_RECORDS` records.

@@ -12,5 +12,6 @@ mod shape;
 mod value;
 
 pub use fault::StoreFault;
+pub use formats::Format;
 pub use opening::{SavedRecords, read_records};
 pub use saving::write_records;

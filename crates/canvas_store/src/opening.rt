@@ -15,6 +15,7 @@ use std::alloc::Global;
 /// in format 1 or 16,384 in format 2; 61 with the least position whose element is no record of
 /// the text's own format within its limits; 62 with the least position whose record does not
 /// belong to a page tree. 1 is answered only where the allocator refused memory.
+#[tactic(auto, unfolding(canvas_saved::specs::Opened::opened))]
 pub fn import(alloc: Global, text: &[u8]) -> Result<Document, StoreFault>
     ensures { Gives result (opened text.now) }
 {
