@@ -8,7 +8,7 @@ use Rattle.canvas_record.specs.declared.records.Parent.TheVariants.{Page, Shape}
 use Rattle.canvas_record.specs.declared.records.Record.{Record}
 use Rattle.canvas_record.specs.Tree.{IsInLimits, HavePlaces}
 
--- the records in rising id, and the next id
+-- records and a next id; a document's records stand in rising id
 pub record Contents : Type 0 where
   pub records : List Record
   pub next : ℕ

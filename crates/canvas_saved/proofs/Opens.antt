@@ -91,10 +91,15 @@ pub IfOk-any : {X Y : Type 0} (r : Result X Y) (P : Type 0) → P → IfOk r (λ
 IfOk-any (Ok x) P h = h
 IfOk-any (Err y) P h = tt
 
--- the text that is written opens as the document
+-- the text that is written is read as the records
+pub text-read_back : (d : Contents) (v : Data) (text : List ℕ) → IsUtf8 text → read text ≡ Some v → records_in v ≡ Ok d → records_read text ≡ Ok d
+unfolding records_read
+text-read_back d v text utf8 e back = rw (json_some text v utf8 e) back
+
+-- it opens as the document
 pub text-opens : (d : Contents) (v : Data) (text : List ℕ) → IsUtf8 text → read text ≡ Some v → records_in v ≡ Ok d → IsWellFormed d → opened text ≡ Ok d
-unfolding opened records_read
-text-opens d v text utf8 e back well = rw (json_some text v utf8 e, back, restoration_of-same d well) refl
+unfolding opened
+text-opens d v text utf8 e back well = rw (text-read_back d v text utf8 e back, restoration_of-same d well) refl
 
 -- references to a document's records, in order
 pub ids-held : (d : Contents) (rs : List (Bor Record)) → map (λ r. r.now) rs ≡ d.records → IsWellFormed d → All (λ r. r.now.id < 2 ^ 32) rs

@@ -11,8 +11,8 @@ use Rattle.canvas_record.specs.Restored.{restoration_of}
 use Rattle.canvas_saved.specs.declared.fault.StoreFault.{StoreFault}
 use Rattle.canvas_saved.specs.declared.fault.StoreFault.TheVariants.{BadJson, BadFormat, BadRecord, BadTree, OutOfMemory}
 use Rattle.canvas_saved.specs.declared.formats.Format.{Format}
-use Rattle.canvas_saved.specs.declared.opening.SavedRecords.{SavedRecords}
 use Rattle.canvas_saved.specs.declared.formats.Head.{Head}
+use Rattle.canvas_saved.specs.declared.opening.SavedRecords.{SavedRecords}
 use Rattle.canvas_saved.specs.Faults.{or_fault, ◌>>=◌}
 use Rattle.canvas_saved.specs.Formats.{format_numbered, most_of}
 use Rattle.canvas_saved.specs.Json as json
@@ -73,7 +73,7 @@ records_in d = do
   records ← records_from head 0 shapes
   Ok (record { records = records; next = head.next })
 
--- those of a text
+-- the records of a text, in its order, and its next id
 unfoldable pub records_read : List ℕ → Result Contents StoreFault
 records_read text = do
   d ← or_fault BadJson (json.json_of text)

@@ -18,6 +18,15 @@ use canvas_record::Record;
 use serde_json::Value;
 use std::alloc::Global;
 
+/// What a saved text has. Its records need not make a document.
+#[derive(Drop)]
+pub struct SavedRecords {
+    /// The records, in the order of the text.
+    pub records: Vec<Record>,
+    /// The id that the next new shape gets, 1 at least.
+    pub next: u32,
+}
+
 // The value that a text is.
 fn value_of(alloc: Global, text: &[u8]) -> Result<Value, StoreFault>
     ensures { GivesSeen view result (or_fault BadJson (json_of text.now)) }
@@ -111,13 +120,6 @@ fn records_of(alloc: Global, head: Head, shapes: &[Value]) -> Result<Vec<Record>
         }
     }
     Ok(records)
-}
-
-/// What a saved text has: records, in its order, which need not make a document, and the next id.
-#[derive(Drop)]
-pub struct SavedRecords {
-    pub records: Vec<Record>,
-    pub next: u32,
 }
 
 // The records of a JSON value and its next id.

@@ -8,7 +8,7 @@ ghost use Rattle.canvas_record.specs.Contents.{IsWellFormed};
 ghost use Rattle.canvas_saved.specs.declared.formats.Format.TheVariants.{One, Two};
 ghost use Rattle.canvas_saved.specs.Formats.{most_of};
 ghost use Rattle.canvas_saved.specs.Kept.{HasText, IsKept};
-ghost use Rattle.canvas_saved.specs.Opened.{opened};
+ghost use Rattle.canvas_saved.specs.Opened.{opened, records_read};
 ghost use Rattle.canvas_saved.specs.Saved.{point_data, sided_data, polygon_data, shape_data, record_data, document_data, data_in, text_in, saved_text_of, contents_with};
 ghost use Rattle.canvas_saved.specs.Shapes.{shape_of};
 
@@ -123,14 +123,15 @@ fn value_with(alloc: Global, next: u32, shapes: Vec<Value>) -> Result<Value, All
     json!(in alloc; {"format": 2, "next": next, "shapes": shapes})
 }
 
-/// The text of a document of these records and this next id, of format 2: compact JSON, members in
-/// the order of their names, records as they come, colours in lower case, and no line feed at the end.
+/// The text of a document of these records, by rising id, and this next id, of format 2: compact JSON,
+/// members in the order of their names, colours in lower case, and no line feed at the end.
 ///
 /// `older` is a law: what format 1 was for the document, if it had room for it, opens as it too.
 pub fn write_records(alloc: Global, next: u32, records: &[&Record]) -> Result<Vec<u8>, OutOfMemory>
     requires { IsWellFormed (contents_with next records.now) }
     ensures saved { IfOk result (λ text. text.items ≡ saved_text_of (contents_with next records.now)) }
     ensures opens { IfOk result (λ text. opened text.items ≡ Ok (contents_with next records.now)) }
+    ensures reads { IfOk result (λ text. records_read text.items ≡ Ok (contents_with next records.now)) }
     ensures older { IfOk result (λ _. length (contents_with next records.now).records ≤ most_of One
         → opened (text_in One (contents_with next records.now)) ≡ Ok (contents_with next records.now)) }
 {

@@ -15,8 +15,8 @@ use std::alloc::Global;
 use std::thread::Threads;
 
 /// Appends the picture of a document in a window: row by row, for each pixel red, green and blue
-/// of the colour that the document has there, painted by as many of 1 to 16 workers as pay. The arena holds the
-/// scene until its next reset. Without memory `out` is as it was.
+/// of the colour that the document has there, painted by as many of 1 to 16 workers as pay. The
+/// arena holds the scene until its next reset. Without memory `out` is as it was.
 pub fn append_picture<R: Threads + Sync>(
     rt: &R,
     alloc: Global,

@@ -5,7 +5,7 @@ use Rattle.canvas_record.specs.Contents.{Contents}
 use Rattle.canvas_saved.specs.declared.formats.Format.TheVariants.{Two}
 use Rattle.canvas_saved.specs.Kept.{IsKept}
 use Rattle.canvas_saved.specs.Saved.{contents_with, data_in}
-use Rattle.canvas_saved.proofs.Opens.{data-back, kept-held, older-opens, text-opens}
+use Rattle.canvas_saved.proofs.Opens.{data-back, kept-held, older-opens, text-opens, text-read_back}
 use Rattle.canvas_saved.proofs.Plain.{data-whole, shallow-at}
 use Rattle.canvas_saved.proofs.saving.write_records.Goals as goal
 
@@ -22,6 +22,13 @@ returns-clause-opens c =
     let is : view c.in_ok-saved.saved ≡ data_in Two d = c.in_ok-saved.ensures.value in
     let kept : All IsKept d.records = kept-held d c.args.records.now refl c.in_ok-saved.ensures.kept in
     text-opens d (data_in Two d) c.in_ok-to_vec.field-0.items c.in_ok-to_vec.ensures.utf8 (c.in_ok-to_vec.ensures.reads_back (shallow-at (view c.in_ok-saved.saved) d is) ∙ ap Some is) (data-back d c.requires kept Two c.requires.few) c.requires
+
+pub returns-clause-reads : goal.returns-clause-reads
+returns-clause-reads c =
+    let d : Contents = contents_with c.args.next c.args.records.now in
+    let is : view c.in_ok-saved.saved ≡ data_in Two d = c.in_ok-saved.ensures.value in
+    let kept : All IsKept d.records = kept-held d c.args.records.now refl c.in_ok-saved.ensures.kept in
+    text-read_back d (data_in Two d) c.in_ok-to_vec.field-0.items c.in_ok-to_vec.ensures.utf8 (c.in_ok-to_vec.ensures.reads_back (shallow-at (view c.in_ok-saved.saved) d is) ∙ ap Some is) (data-back d c.requires kept Two c.requires.few)
 
 pub returns-clause-older : goal.returns-clause-older
 returns-clause-older c =
