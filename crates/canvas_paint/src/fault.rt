@@ -6,16 +6,15 @@ ghost use Rattle.canvas_paint.specs.Workers.{fault_code};
 ghost use Rattle.canvas_paint.specs.declared.fault.PaintFault.TheVariants.{OutOfMemory};
 
 use std::alloc::AllocError;
+use std::fmt::{Display, Formatter, Write};
 use thiserror::Error;
 
 /// Why a picture is not painted.
 #[derive(Clone, Copy, Debug, PartialEq, Eq, Drop, Error)]
 pub enum PaintFault {
     /// A number of workers outside 1 to 16.
-    #[error("BadWorkers")]
     BadWorkers,
     /// Memory could not be had.
-    #[error("OutOfMemory")]
     OutOfMemory,
 }
 
@@ -35,6 +34,13 @@ impl PaintFault {
         ensures { result.now ≡ name_of (fault_code self.now) }
     {
         canvas_code::name_of(self.code())
+    }
+}
+
+/// Writes the name.
+impl Display for PaintFault {
+    fn fmt<W: Write>(&self, formatter: &mut Formatter<W>) -> std::fmt::Result {
+        formatter.write_str(self.name())
     }
 }
 

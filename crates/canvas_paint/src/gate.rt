@@ -22,3 +22,17 @@ impl Gate for FreeGate {
 
     fn pass(&self, _strip: u32) {}
 }
+
+/// Lets each of so many workers pass at once, and has no others come.
+#[derive(Clone, Copy)]
+pub(crate) struct GateFor {
+    pub(crate) workers: u32,
+}
+
+impl Gate for GateFor {
+    ghost use Rattle.std.specs.Prelude.{◌<◌};
+
+    ghost admits = { λ gate strip. strip < gate.workers };
+
+    fn pass(&self, _strip: u32) {}
+}

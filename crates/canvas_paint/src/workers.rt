@@ -8,7 +8,7 @@ ghost use Rattle.canvas_paint.specs.Workers.{are_workers};
 ghost use Rattle.canvas_paint.specs.declared.fault.PaintFault.TheVariants.{BadWorkers};
 
 use crate::fault::PaintFault;
-use crate::gate::{FreeGate, Gate};
+use crate::gate::{Gate, GateFor};
 use crate::item::Item;
 use crate::strip::{append_strip, paint_strip, strip_rows};
 use crate::worth::strips_worth;
@@ -156,5 +156,6 @@ pub fn append_raster<R: Threads + Sync>(
     ensures err { OnErr result (out.new.items ≡ out.old.items) }
 {
     let strips = strips_worth(items, window, workers);
-    append_painted(rt, alloc, items, window, strips, &FreeGate, out)
+    let gate = GateFor { workers };
+    append_painted(rt, alloc, items, window, strips, &gate, out)
 }

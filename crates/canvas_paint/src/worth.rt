@@ -24,7 +24,8 @@ const CROSSING: u64 = 3;
 /// is needed to know that all the workers pay.
 pub(crate) fn strips_worth(items: &[Item<'_>], window: &Window, workers: u32) -> u32
     requires { are_workers workers ≡ true }
-    ensures { are_workers result ≡ true }
+    ensures some { are_workers result ≡ true }
+    ensures most { result ≤ workers }
 {
     let most = workers.min(window.h());
     let enough = STRIP * most as u64;
@@ -41,7 +42,8 @@ pub(crate) fn strips_worth(items: &[Item<'_>], window: &Window, workers: u32) ->
 // How many strips pay at a cost, 1 at least.
 fn strips_for(cost: u64, most: u32) -> u32
     requires { are_workers most ≡ true }
-    ensures { are_workers result ≡ true }
+    ensures some { are_workers result ≡ true }
+    ensures most { result ≤ most }
 {
     (cost / STRIP).min(most as u64).max(1) as u32
 }
