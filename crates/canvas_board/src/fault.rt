@@ -6,34 +6,27 @@ ghost use Rattle.canvas_board.specs.Fault.{board_fault_code};
 
 use canvas_doc::Refusal;
 use canvas_line::LineFault;
+use std::fmt::{Display, Formatter, Write};
 use thiserror::Error;
 
 /// Why a board does not answer. After any of them the document is as it was.
 #[derive(Clone, Copy, Debug, Drop, PartialEq, Eq, Error)]
 pub enum BoardFault {
     /// Memory could not be had.
-    #[error("OutOfMemory")]
     OutOfMemory,
     /// The document does not allow the edit.
-    #[error("{0}")]
     Refused(Refusal),
     /// As many changes are accepted as the board may accept.
-    #[error("VersionsSpent")]
     VersionsSpent,
     /// The seat has seen `front` changes, and the shared document has only `desk`.
-    #[error("Behind")]
     Behind { desk: u64, front: u64 },
     /// The seat is at the document named `own`, and was given one named `found`.
-    #[error("Strangers")]
     Strangers { own: u64, found: u64 },
     /// A number of workers outside 1 to 16.
-    #[error("BadWorkers")]
     BadWorkers,
     /// A board can't be made with such a setting.
-    #[error("BadSetting")]
     BadSetting,
     /// The shared document could not be entered.
-    #[error("NoView")]
     NoView,
 }
 
@@ -59,6 +52,13 @@ impl BoardFault {
         ensures { result.now ≡ name_of (board_fault_code self.now) }
     {
         canvas_code::name_of(self.code())
+    }
+}
+
+/// Writes the name.
+impl Display for BoardFault {
+    fn fmt<W: Write>(&self, formatter: &mut Formatter<W>) -> std::fmt::Result {
+        formatter.write_str(self.name())
     }
 }
 

@@ -20,6 +20,7 @@ use arrayvec::ArrayVec;
 use canvas_code::name_of;
 pub use gap::{between, defined_keys_lie_between};
 pub use spaced::{first_fresh, fresh, fresh_keys_rise, parts_are_in_order, ranks_number_the_parts};
+use std::fmt::{Display, Formatter, Write};
 use std::marker::Model;
 use text::{fault_of, text_of};
 use thiserror::Error;
@@ -50,25 +51,18 @@ impl Model for Key {
 #[derive(Clone, Copy, Debug, PartialEq, Eq, Drop, Error)]
 pub enum KeyFault {
     /// The key between the two would have more than 128 bytes.
-    #[error("NoRoom")]
     NoRoom,
     /// The first byte is no letter, or there is none.
-    #[error("BadHead")]
     BadHead,
     /// There are fewer bytes than the first one asks for.
-    #[error("TooShort")]
     TooShort,
     /// A byte behind the first is no digit of base 62.
-    #[error("BadDigit")]
     BadDigit,
     /// The last byte behind the integer part is `0`.
-    #[error("LastZero")]
     LastZero,
     /// It is `A` and 26 zeros, below which there would be no key.
-    #[error("LeastInteger")]
     LeastInteger,
     /// There are more than 128 bytes.
-    #[error("KeyTooLong")]
     KeyTooLong,
 }
 
@@ -93,6 +87,13 @@ impl KeyFault {
         ensures { result.now ≡ name_of (fault_code self.now) }
     {
         name_of(self.code())
+    }
+}
+
+/// Writes the name.
+impl Display for KeyFault {
+    fn fmt<W: Write>(&self, formatter: &mut Formatter<W>) -> std::fmt::Result {
+        formatter.write_str(self.name())
     }
 }
 

@@ -6,6 +6,7 @@ ghost use Rattle.canvas_line.specs.Fault.{line_fault_code};
 use canvas_code::OutOfMemory;
 use canvas_doc::Refusal;
 use std::alloc::AllocError;
+use std::fmt::{Display, Formatter, Write};
 use thiserror::Error;
 
 /// An edit that was accepted.
@@ -21,28 +22,20 @@ pub struct Edited {
 #[derive(Clone, Copy, Debug, Drop, PartialEq, Eq, Error)]
 pub enum LineFault {
     /// Memory could not be had.
-    #[error("OutOfMemory")]
     OutOfMemory,
     /// The document does not allow the edit.
-    #[error("{0}")]
     Refused(Refusal),
     /// As many changes are accepted as the line may accept.
-    #[error("VersionsSpent")]
     VersionsSpent,
     /// The seat has seen `front` changes, and the desk has only `desk`.
-    #[error("Behind")]
     Behind { desk: u64, front: u64 },
     /// The seat is at the line named `own`, and was given one named `found`.
-    #[error("Strangers")]
     Strangers { own: u64, found: u64 },
     /// No more seats could be had.
-    #[error("NoSeats")]
     NoSeats,
     /// A line can't be opened with such a setting.
-    #[error("BadSetting")]
     BadSetting,
     /// The published version could not be entered.
-    #[error("NoView")]
     NoView,
 }
 
@@ -68,6 +61,13 @@ impl LineFault {
         ensures { result.now ≡ name_of (line_fault_code self.now) }
     {
         canvas_code::name_of(self.code())
+    }
+}
+
+/// Writes the name.
+impl Display for LineFault {
+    fn fmt<W: Write>(&self, formatter: &mut Formatter<W>) -> std::fmt::Result {
+        formatter.write_str(self.name())
     }
 }
 

@@ -35,7 +35,6 @@ pub struct Pose {
 #[derive(Clone, Copy, Debug, PartialEq, Eq, Drop, Error)]
 pub enum PoseFault {
     /// dx or dy is above 2^20 in size, or quarter is above 3.
-    #[error("BadPose")]
     BadPose,
 }
 

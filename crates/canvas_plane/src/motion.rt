@@ -9,6 +9,7 @@ ghost use Rattle.canvas_plane.specs.Motion.{carry, flipped, turned, moved, negat
 ghost use Rattle.canvas_plane.specs.Limits.{is_pose, pose_fault, IsPose};
 
 use crate::{Point, Pose, PoseFault};
+use std::fmt::{Display, Formatter, Write};
 
 impl PoseFault {
     /// The number of the refusal.
@@ -25,6 +26,13 @@ impl PoseFault {
         ensures { result.now ≡ name_of 9 }
     {
         canvas_code::name_of(self.code())
+    }
+}
+
+/// Writes the name.
+impl Display for PoseFault {
+    fn fmt<W: Write>(&self, formatter: &mut Formatter<W>) -> std::fmt::Result {
+        formatter.write_str(self.name())
     }
 }
 

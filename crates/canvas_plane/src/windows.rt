@@ -7,6 +7,7 @@ ghost use Rattle.canvas_plane.specs.Sides.{is_near_enough, is_window, is_window_
 ghost use Rattle.canvas_plane.specs.Limits.{window_fault, window_fault_code};
 
 use crate::PageBox;
+use std::fmt::{Display, Formatter, Write};
 use thiserror::Error;
 
 /// 1 to 256 by 1 to 256 pixels of the page, each 2^level from the next, level 0 to 6. The edges are
@@ -28,10 +29,8 @@ pub struct Window {
 #[derive(Clone, Copy, Debug, PartialEq, Eq, Drop, Error)]
 pub enum WindowFault {
     /// The level is above 6.
-    #[error("BadLevel")]
     BadLevel,
     /// A side is outside 1 to 256, or an edge outside -2^21 to 2^21 of the page's pixels.
-    #[error("BadWindow")]
     BadWindow,
 }
 
@@ -51,6 +50,13 @@ impl WindowFault {
         ensures { result.now ≡ name_of (window_fault_code self.now) }
     {
         canvas_code::name_of(self.code())
+    }
+}
+
+/// Writes the name.
+impl Display for WindowFault {
+    fn fmt<W: Write>(&self, formatter: &mut Formatter<W>) -> std::fmt::Result {
+        formatter.write_str(self.name())
     }
 }
 

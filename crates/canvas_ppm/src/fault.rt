@@ -5,29 +5,25 @@ ghost use Rattle.canvas_code.specs.Names.{name_of};
 ghost use Rattle.canvas_ppm.specs.Fault.{fault_code};
 
 use std::alloc::AllocError;
+use std::fmt::{Display, Formatter, Write};
 use thiserror::Error;
 
 /// Why bytes were not read as an image.
 #[derive(Clone, Copy, Debug, PartialEq, Eq, Drop, Error)]
 pub enum PpmFault {
     /// They do not begin with `P6`.
-    #[error("NotP6")]
     NotP6,
 
     /// The header is cut off, lacks white space or a number, or has a number that is not accepted.
-    #[error("BadHeader")]
     BadHeader,
 
     /// There are fewer bytes than the sides ask for.
-    #[error("Truncated")]
     Truncated,
 
     /// There are more bytes than the sides ask for.
-    #[error("TooLong")]
     TooLong,
 
     /// The image is sound, and there was no memory for its raster.
-    #[error("OutOfMemory")]
     OutOfMemory,
 }
 
@@ -70,5 +66,12 @@ impl PpmFault {
         ensures { result.now ≡ name_of (fault_code self.now) }
     {
         canvas_code::name_of(self.code())
+    }
+}
+
+/// Writes the name.
+impl Display for PpmFault {
+    fn fmt<W: Write>(&self, formatter: &mut Formatter<W>) -> std::fmt::Result {
+        formatter.write_str(self.name())
     }
 }

@@ -5,6 +5,7 @@ ghost use Rattle.canvas_code.specs.Names.{name_of};
 ghost use Rattle.canvas_record.specs.Refused.{refusal_code};
 
 use std::alloc::AllocError;
+use std::fmt::{Display, Formatter, Write};
 use thiserror::Error;
 
 /// Why an edit is refused.
@@ -15,49 +16,34 @@ use thiserror::Error;
 #[derive(Clone, Copy, Debug, PartialEq, Eq, Drop, Error)]
 pub enum Refusal {
     /// 1: a growth was refused.
-    #[error("OutOfMemory")]
     OutOfMemory,
     /// 2: no record has the id.
-    #[error("NoSuchShape")]
     NoSuchShape,
     /// 3: no record has the parent's id.
-    #[error("NoSuchParent")]
     NoSuchParent,
     /// 4: the parent is no group and no frame.
-    #[error("NotAContainer")]
     NotAContainer,
     /// 5: the new parent is the moved shape or lies below it.
-    #[error("Cycle")]
     Cycle,
     /// 6: a record would lie more than 32 deep.
-    #[error("TooDeep")]
     TooDeep,
     /// 7: 16,384 records are there already.
-    #[error("TooMany")]
     TooMany,
     /// 8: a side outside 1 to 65,536.
-    #[error("BadSize")]
     BadSize,
     /// 9: a translation above 2^20 in size, or more than 3 quarter turns.
-    #[error("BadPose")]
     BadPose,
     /// 10: a polygon of less than 3 or more than 256 vertices, or a coordinate above 2^20 in size.
-    #[error("BadPolygon")]
     BadPolygon,
     /// 11: the spot names no sibling.
-    #[error("SpotNotSibling")]
     SpotNotSibling,
     /// 12: a sibling has the index.
-    #[error("IndexTaken")]
     IndexTaken,
     /// 13: the index at the spot would be longer than a key may be.
-    #[error("NoRoom")]
     NoRoom,
     /// 14: the new kind is another variant.
-    #[error("WrongKind")]
     WrongKind,
     /// 15: the next id is 4,294,967,295.
-    #[error("IdsSpent")]
     IdsSpent,
 }
 
@@ -90,6 +76,13 @@ impl Refusal {
         ensures { result.now ≡ name_of (refusal_code self.now) }
     {
         canvas_code::name_of(self.code())
+    }
+}
+
+/// Writes the name.
+impl Display for Refusal {
+    fn fmt<W: Write>(&self, formatter: &mut Formatter<W>) -> std::fmt::Result {
+        formatter.write_str(self.name())
     }
 }
 

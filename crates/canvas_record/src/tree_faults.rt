@@ -6,19 +6,17 @@ ghost use Rattle.canvas_record.specs.Restored.{tree_fault_code};
 
 use canvas_code::OutOfMemory;
 use std::alloc::AllocError;
+use std::fmt::{Display, Formatter, Write};
 use thiserror::Error;
 
 /// Why a list of records is no document.
 #[derive(Clone, Copy, Debug, PartialEq, Eq, Drop, Error)]
 pub enum TreeFault {
     /// There was no memory.
-    #[error("OutOfMemory")]
     OutOfMemory,
     /// The record at this position, counted from 0, is outside the limits of one record.
-    #[error("BadRecord")]
     BadRecord { position: usize },
     /// The record at this position, counted from 0, does not belong to a page tree.
-    #[error("BadTree")]
     BadTree { position: usize },
 }
 
@@ -39,6 +37,13 @@ impl TreeFault {
         ensures { result.now ≡ name_of (tree_fault_code self.now) }
     {
         canvas_code::name_of(self.code())
+    }
+}
+
+/// Writes the name.
+impl Display for TreeFault {
+    fn fmt<W: Write>(&self, formatter: &mut Formatter<W>) -> std::fmt::Result {
+        formatter.write_str(self.name())
     }
 }
 

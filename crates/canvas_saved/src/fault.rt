@@ -7,26 +7,22 @@ ghost use Rattle.canvas_saved.specs.declared.fault.StoreFault.TheVariants.{OutOf
 
 use canvas_record::TreeFault;
 use std::alloc::AllocError;
+use std::fmt::{Display, Formatter, Write};
 use thiserror::Error;
 
 /// Why a text is no saved document.
 #[derive(Clone, Copy, Debug, PartialEq, Eq, Drop, Error)]
 pub enum StoreFault {
     /// The text is not JSON.
-    #[error("BadJson")]
     BadJson,
     /// The text is JSON, but no object of format 1 or 2 with a next id and a list of at most as many
     /// shapes as the format has: 4,096 or 16,384.
-    #[error("BadFormat")]
     BadFormat,
     /// The element at this position, counted from 0, is no record within the limits of one.
-    #[error("BadRecord")]
     BadRecord { position: usize },
     /// The record at this position, counted from 0, does not belong to a page tree.
-    #[error("BadTree")]
     BadTree { position: usize },
     /// The allocator refused memory.
-    #[error("OutOfMemory")]
     OutOfMemory,
 }
 
@@ -49,6 +45,13 @@ impl StoreFault {
         ensures { result.now ≡ name_of (fault_code self.now) }
     {
         canvas_code::name_of(self.code())
+    }
+}
+
+/// Writes the name.
+impl Display for StoreFault {
+    fn fmt<W: Write>(&self, formatter: &mut Formatter<W>) -> std::fmt::Result {
+        formatter.write_str(self.name())
     }
 }
 

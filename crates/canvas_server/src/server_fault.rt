@@ -7,25 +7,21 @@ ghost use Rattle.canvas_server.specs.Faults.{server_fault_code, server_fault_nam
 use canvas_board::BoardFault;
 use canvas_code::{OutOfMemory, name_of};
 use std::alloc::AllocError;
+use std::fmt::{Display, Formatter, Write};
 use thiserror::Error;
 
 /// Why a server does not serve, or serves no longer.
 #[derive(Clone, Copy, Debug, Drop, PartialEq, Eq, Error)]
 pub enum ServerFault {
     /// A setting is outside its range.
-    #[error("BadSetting")]
     BadSetting,
     /// A number of workers outside 1 to 16.
-    #[error("BadWorkers")]
     BadWorkers,
     /// A reader of the line could not be had.
-    #[error("NoSeats")]
     NoSeats,
     /// Memory could not be had.
-    #[error("OutOfMemory")]
     OutOfMemory,
     /// No connection can be accepted any more. It has no number.
-    #[error("AcceptFault")]
     AcceptFault,
 }
 
@@ -51,6 +47,13 @@ impl ServerFault {
             Some(code) => name_of(code),
             None => "AcceptFault",
         }
+    }
+}
+
+/// Writes the name.
+impl Display for ServerFault {
+    fn fmt<W: Write>(&self, formatter: &mut Formatter<W>) -> std::fmt::Result {
+        formatter.write_str(self.name())
     }
 }
 

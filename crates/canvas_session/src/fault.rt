@@ -4,28 +4,23 @@ ghost use Rattle.std.specs.Prelude.{◌≡◌};
 ghost use Rattle.canvas_code.specs.Names.{name_of};
 ghost use Rattle.canvas_session.specs.Cause.{cause_code};
 
+use std::fmt::{Display, Formatter, Write};
 use thiserror::Error;
 
 /// What ends a session before its input does.
 #[derive(Clone, Copy, Debug, Drop, PartialEq, Eq, Error)]
 pub enum Cause {
     /// The line buffer could not be had. Nothing was read.
-    #[error("OutOfMemory")]
     OutOfMemory,
     /// 65,537 bytes came without an LF. A closing reply says so.
-    #[error("LineTooLong")]
     LineTooLong,
     /// A read failed.
-    #[error("ReadFault")]
     ReadFault,
     /// A write or a flush failed, or a write took nothing.
-    #[error("WriteFault")]
     WriteFault,
     /// Line 1,000,001 came. A closing reply says so.
-    #[error("TooManyRequests")]
     TooManyRequests,
     /// The input ended inside a line, for which nothing was written.
-    #[error("CutLine")]
     CutLine,
 }
 
@@ -49,6 +44,13 @@ impl Cause {
         ensures { result.now ≡ name_of (cause_code self.now) }
     {
         canvas_code::name_of(self.code())
+    }
+}
+
+/// Writes the name.
+impl Display for Cause {
+    fn fmt<W: Write>(&self, formatter: &mut Formatter<W>) -> std::fmt::Result {
+        formatter.write_str(self.name())
     }
 }
 

@@ -17,6 +17,7 @@ use crate::{Kind, KindFault};
 use canvas_code::OutOfMemory;
 use canvas_plane::{Point, Pose};
 use std::alloc::Global;
+use std::fmt::{Display, Formatter, Write};
 
 impl KindFault {
     /// The number of the refusal.
@@ -34,6 +35,13 @@ impl KindFault {
         ensures { result.now ≡ name_of (fault_code self.now) }
     {
         canvas_code::name_of(self.code())
+    }
+}
+
+/// Writes the name.
+impl Display for KindFault {
+    fn fmt<W: Write>(&self, formatter: &mut Formatter<W>) -> std::fmt::Result {
+        formatter.write_str(self.name())
     }
 }
 

@@ -79,10 +79,8 @@ pub enum Kind {
 #[derive(Clone, Copy, Debug, PartialEq, Eq, Drop, Error)]
 pub enum KindFault {
     /// A side is outside 1 to 65,536.
-    #[error("BadSize")]
     BadSize,
     /// There are fewer than 3 vertices or more than 256, or a coordinate is above 2^20 in size.
-    #[error("BadPolygon")]
     BadPolygon,
 }
 

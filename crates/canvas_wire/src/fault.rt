@@ -5,28 +5,23 @@ ghost use Rattle.canvas_wire.specs.Faults.{fault_code};
 ghost use Rattle.canvas_wire.specs.declared.fault.WireFault.TheVariants.{OutOfMemory};
 
 use std::alloc::AllocError;
+use std::fmt::{Display, Formatter, Write};
 use thiserror::Error;
 
 /// Why a line is no request.
 #[derive(Debug, Drop, Error)]
 pub enum WireFault {
     /// The line is not JSON.
-    #[error("BadJson")]
     BadJson,
     /// The line is JSON, but no object.
-    #[error("NotObject")]
     NotObject,
     /// The member `verb` is missing, or is no verb's name.
-    #[error("BadVerb")]
     BadVerb,
     /// A member is missing, or its value is of the wrong type or out of range.
-    #[error("BadField")]
     BadField,
     /// There is a member that the verb, or an object inside it, does not have.
-    #[error("ExtraField")]
     ExtraField,
     /// The allocator refused memory.
-    #[error("OutOfMemory")]
     OutOfMemory,
 }
 
@@ -50,6 +45,13 @@ impl WireFault {
         ensures { result.now ≡ name_of (fault_code self.now) }
     {
         canvas_code::name_of(self.code())
+    }
+}
+
+/// Writes the name.
+impl Display for WireFault {
+    fn fmt<W: Write>(&self, formatter: &mut Formatter<W>) -> std::fmt::Result {
+        formatter.write_str(self.name())
     }
 }
 
