@@ -17,7 +17,7 @@ fn told(rt: &impl Abort, alloc: Global, read: Result<Request, WireFault>) -> Str
     let mut text = String::new(alloc);
     match &read {
         Ok(request) => tell_request(rt, &mut text, request),
-        Err(fault) => tell_number(rt, &mut text, "", u32::from(fault.code())),
+        Err(fault) => tell_number(rt, &mut text, "", i64::from(fault.code())),
     }
     text
 }
@@ -25,23 +25,52 @@ fn told(rt: &impl Abort, alloc: Global, read: Result<Request, WireFault>) -> Str
 fn tell_request(rt: &impl Abort, text: &mut String, request: &Request) {
     match request {
         Request::Edit(edit) => tell_edit(rt, text, edit),
-        Request::Tile { level, col, row } => {
-            write!(text, "tile {col} {row} at {level}").expect(rt, "memory")
-        }
-        Request::Patch { level, x, y, w, h } => {
-            write!(text, "patch {x} {y} {w} {h} at {level}").expect(rt, "memory")
-        }
-        Request::Point { x, y } => write!(text, "point {x} {y}").expect(rt, "memory"),
+        Request::Tile { level, col, row } => tell_tile(rt, text, *level, *col, *row),
+        Request::Patch { level, x, y, w, h } => tell_patch(rt, text, *level, [*x, *y], [*w, *h]),
+        Request::Point { x, y } => tell_point(
+            rt,
+            text,
+            "point ",
+            " ",
+            i64::from(*x),
+            i64::from(*y),
+        ),
         Request::Export => tell(rt, text, "export"),
     }
+}
+
+fn tell_tile(rt: &impl Abort, text: &mut String, level: u8, col: i32, row: i32) {
+    tell_point(rt, text, "tile ", " ", i64::from(col), i64::from(row));
+    tell_number(rt, text, " at ", i64::from(level));
+}
+
+fn tell_patch(rt: &impl Abort, text: &mut String, level: u8, [x, y]: [i32; 2], [w, h]: [u32; 2]) {
+    tell_point(rt, text, "patch ", " ", i64::from(x), i64::from(y));
+    tell_sides(rt, text, "", w, h);
+    tell_number(rt, text, " at ", i64::from(level));
 }
 
 fn tell(rt: &impl Abort, text: &mut String, words: &str) {
     text.push_str(words).expect(rt, "memory");
 }
 
-fn tell_number(rt: &impl Abort, text: &mut String, words: &str, number: u32) {
+fn tell_number(rt: &impl Abort, text: &mut String, words: &str, number: i64) {
     write!(text, "{words}{number}").expect(rt, "memory");
+}
+
+fn tell_id(rt: &impl Abort, text: &mut String, words: &str, id: u32) {
+    tell_number(rt, text, words, i64::from(id));
+}
+
+fn tell_flag(rt: &impl Abort, text: &mut String, words: &str, flag: bool) {
+    tell(rt, text, words);
+    tell(rt, text, if flag { "true" } else { "false" });
+}
+
+// Two numbers, with words before them and between them.
+fn tell_point(rt: &impl Abort, text: &mut String, words: &str, between: &str, x: i64, y: i64) {
+    tell_number(rt, text, words, x);
+    tell_number(rt, text, between, y);
 }
 
 fn tell_edit(rt: &impl Abort, text: &mut String, edit: &Edit) {
@@ -56,97 +85,103 @@ fn tell_edit(rt: &impl Abort, text: &mut String, edit: &Edit) {
             tell_new(rt, text, kind, pose, *hidden);
             tell_place(rt, text, *parent, spot);
         }
-        Edit::Move { id, parent, spot } => {
-            tell_number(rt, text, "move ", *id);
-            tell_place(rt, text, *parent, spot);
-        }
-        Edit::Pose { id, pose } => {
-            tell_number(rt, text, "pose ", *id);
-            tell_pose(rt, text, pose);
-        }
-        Edit::Reshape { id, kind } => {
-            tell_number(rt, text, "reshape ", *id);
-            tell(rt, text, "; ");
-            tell_kind(rt, text, kind);
-        }
-        Edit::Show { id, hidden } => write!(text, "show {id} {hidden}").expect(rt, "memory"),
-        Edit::Delete { id } => tell_number(rt, text, "delete ", *id),
-        Edit::Respace { parent } => {
-            tell(rt, text, "respace ");
-            tell_parent(rt, text, *parent);
-        }
+        Edit::Move { id, parent, spot } => tell_move(rt, text, *id, *parent, spot),
+        Edit::Pose { id, pose } => tell_new_pose(rt, text, *id, pose),
+        Edit::Reshape { id, kind } => tell_new_kind(rt, text, *id, kind),
+        Edit::Show { id, hidden } => tell_show(rt, text, *id, *hidden),
+        Edit::Delete { id } => tell_id(rt, text, "delete ", *id),
+        Edit::Respace { parent } => tell_parent(rt, text, "respace ", *parent),
     }
 }
 
 // A new shape but for its place.
 fn tell_new(rt: &impl Abort, text: &mut String, kind: &Kind, pose: &Pose, hidden: bool) {
-    tell(rt, text, "create ");
-    tell_kind(rt, text, kind);
+    tell_kind(rt, text, "create ", kind);
     tell_pose(rt, text, pose);
-    tell(rt, text, if hidden { "; true" } else { "; false" });
+    tell_flag(rt, text, "; ", hidden);
+}
+
+fn tell_move(rt: &impl Abort, text: &mut String, id: u32, parent: Parent, spot: &Spot) {
+    tell_id(rt, text, "move ", id);
+    tell_place(rt, text, parent, spot);
+}
+
+fn tell_new_pose(rt: &impl Abort, text: &mut String, id: u32, pose: &Pose) {
+    tell_id(rt, text, "pose ", id);
+    tell_pose(rt, text, pose);
+}
+
+fn tell_new_kind(rt: &impl Abort, text: &mut String, id: u32, kind: &Kind) {
+    tell_id(rt, text, "reshape ", id);
+    tell_kind(rt, text, "; ", kind);
+}
+
+fn tell_show(rt: &impl Abort, text: &mut String, id: u32, hidden: bool) {
+    tell_id(rt, text, "show ", id);
+    tell_flag(rt, text, " ", hidden);
 }
 
 fn tell_place(rt: &impl Abort, text: &mut String, parent: Parent, spot: &Spot) {
-    tell(rt, text, "; ");
-    tell_parent(rt, text, parent);
+    tell_parent(rt, text, "; ", parent);
     tell_spot(rt, text, spot);
 }
 
-fn tell_kind(rt: &impl Abort, text: &mut String, kind: &Kind) {
+fn tell_kind(rt: &impl Abort, text: &mut String, words: &str, kind: &Kind) {
+    tell(rt, text, words);
     match kind {
         Kind::Group => tell(rt, text, "group"),
-        Kind::Frame { w, h, fill } => {
-            tell_sides(rt, text, "frame", *w, *h);
-            match fill {
-                Some(fill) => tell_colour(rt, text, *fill),
-                None => tell(rt, text, " clear"),
-            }
-        }
-        Kind::Rect { w, h, fill } => {
-            tell_sides(rt, text, "rect", *w, *h);
-            tell_colour(rt, text, *fill);
-        }
-        Kind::Ellipse { w, h, fill } => {
-            tell_sides(rt, text, "ellipse", *w, *h);
-            tell_colour(rt, text, *fill);
-        }
-        Kind::Polygon { points, fill } => {
-            tell_points(rt, text, points.as_slice());
-            tell_colour(rt, text, *fill);
-        }
+        Kind::Frame { w, h, fill } => tell_frame(rt, text, *w, *h, *fill),
+        Kind::Rect { w, h, fill } => tell_filled(rt, text, "rect", *w, *h, *fill),
+        Kind::Ellipse { w, h, fill } => tell_filled(rt, text, "ellipse", *w, *h, *fill),
+        Kind::Polygon { points, fill } => tell_polygon(rt, text, points.as_slice(), *fill),
     }
+}
+
+fn tell_frame(rt: &impl Abort, text: &mut String, w: u32, h: u32, fill: Option<Colour>) {
+    tell_sides(rt, text, "frame", w, h);
+    match fill {
+        Some(fill) => tell_colour(rt, text, fill),
+        None => tell(rt, text, " clear"),
+    }
+}
+
+fn tell_filled(rt: &impl Abort, text: &mut String, kind: &str, w: u32, h: u32, fill: Colour) {
+    tell_sides(rt, text, kind, w, h);
+    tell_colour(rt, text, fill);
 }
 
 fn tell_sides(rt: &impl Abort, text: &mut String, kind: &str, w: u32, h: u32) {
-    write!(text, "{kind} {w} {h}").expect(rt, "memory");
+    tell(rt, text, kind);
+    tell_id(rt, text, " ", w);
+    tell_id(rt, text, " ", h);
 }
 
-fn tell_points(rt: &impl Abort, text: &mut String, points: &[Point]) {
+fn tell_polygon(rt: &impl Abort, text: &mut String, points: &[Point], fill: Colour) {
     tell(rt, text, "polygon");
     for point in points {
-        write!(text, " {},{}", point.x, point.y).expect(rt, "memory");
+        tell_point(rt, text, " ", ",", point.x, point.y);
     }
+    tell_colour(rt, text, fill);
 }
 
 fn tell_colour(rt: &impl Abort, text: &mut String, colour: Colour) {
     let [red, green, blue] = colour.0;
-    write!(text, " ({red} {green} {blue})").expect(rt, "memory");
+    tell_point(rt, text, " (", " ", i64::from(red), i64::from(green));
+    tell_number(rt, text, " ", i64::from(blue));
+    tell(rt, text, ")");
 }
 
 fn tell_pose(rt: &impl Abort, text: &mut String, pose: &Pose) {
-    let Pose {
-        dx,
-        dy,
-        quarter,
-        flip,
-    } = pose;
-    write!(text, "; {dx} {dy} {quarter} {flip}").expect(rt, "memory");
+    tell_point(rt, text, "; ", " ", pose.dx, pose.dy);
+    tell_number(rt, text, " ", i64::from(pose.quarter));
+    tell_flag(rt, text, " ", pose.flip);
 }
 
-fn tell_parent(rt: &impl Abort, text: &mut String, parent: Parent) {
+fn tell_parent(rt: &impl Abort, text: &mut String, words: &str, parent: Parent) {
+    tell(rt, text, words);
     match parent {
         Parent::Page => tell(rt, text, "page"),
-        Parent::Shape(id) => tell_number(rt, text, "in ", id),
+        Parent::Shape(id) => tell_id(rt, text, "in ", id),
     }
 }
 
@@ -154,7 +189,7 @@ fn tell_spot(rt: &impl Abort, text: &mut String, spot: &Spot) {
     match spot {
         Spot::Back => tell(rt, text, "; back"),
         Spot::Front => tell(rt, text, "; front"),
-        Spot::Over(id) => tell_number(rt, text, "; over ", *id),
+        Spot::Over(id) => tell_id(rt, text, "; over ", *id),
         Spot::At(key) => tell_key(rt, text, key),
     }
 }
@@ -166,7 +201,8 @@ fn tell_key(rt: &impl Abort, text: &mut String, key: &Key) {
 
 // Ends the test with these words and the line unless it says so.
 fn assert_words(rt: &impl Abort, line: &[u8], found: &str, wanted: &str) {
-    assert!(rt; found == wanted, "{found} is not {wanted} at {line:?}");
+    let text = str::from_utf8(line).unwrap_or("bytes that are no text");
+    reads(rt, text, found, wanted);
 }
 
 // A line says this to a reader.
@@ -340,9 +376,7 @@ fn every_member_of_each_verb(rt: HostRuntime) {
     assert_told(&rt, rt.alloc(), &EVERY_MEMBER_OF_EACH_VERB);
 }
 
-static MISSING_AND_WRONG_MEMBERS: [(&str, &str); 35] = [
-    (r#"{"verb":7}"#, "52"),
-    (r#"{"verb":"Delete","id":1}"#, "52"),
+static MISSING_AND_WRONG_MEMBERS_OF_NEW_SHAPES: [(&str, &str); 22] = [
     (r#"{"verb":"create"}"#, "53"),
     (r#"{"verb":"create","shape":{}}"#, "53"),
     (r#"{"verb":"create","shape":"group"}"#, "53"),
@@ -419,6 +453,16 @@ static MISSING_AND_WRONG_MEMBERS: [(&str, &str); 35] = [
         r#"{"verb":"create","shape":{"kind":"group"},"spot":{}}"#,
         "53",
     ),
+];
+
+#[test]
+fn missing_and_wrong_members_of_new_shapes(rt: HostRuntime) {
+    assert_told(&rt, rt.alloc(), &MISSING_AND_WRONG_MEMBERS_OF_NEW_SHAPES);
+}
+
+static MISSING_AND_WRONG_MEMBERS: [(&str, &str); 13] = [
+    (r#"{"verb":7}"#, "52"),
+    (r#"{"verb":"Delete","id":1}"#, "52"),
     (r#"{"verb":"move","id":1,"spot":"front"}"#, "53"),
     (r#"{"verb":"move","id":1,"parent":null}"#, "53"),
     (r#"{"verb":"pose","id":1}"#, "53"),
