@@ -1,6 +1,5 @@
 //! What tests assert. A call of these is quicker to prove than the branch of a macro.
 
-use std::fmt::Debug;
 use std::process::Abort;
 
 /// Ends the test with these words unless it is so.
@@ -16,11 +15,6 @@ pub(crate) fn holds_at(rt: &impl Abort, what: &str, number: i64, is_so: bool) {
 /// The same for a length or a rank.
 pub(crate) fn holds_for(rt: &impl Abort, what: &str, number: usize, is_so: bool) {
     assert!(rt; is_so, "{what} {number}");
-}
-
-/// Ends the test with these words and both values unless they are equal.
-pub(crate) fn equal<T: PartialEq + Debug>(rt: &impl Abort, what: &str, left: &T, right: &T) {
-    assert!(rt; left == right, "{what}: {left:?} is not {right:?}");
 }
 
 /// Ends the test with both texts, and the one that was read, unless they are equal.

@@ -2,18 +2,19 @@
 
 ghost use Rattle.std.specs.Prelude.{◌≡◌, ◌<◌, ◌≤◌, ◌↔◌, IsTrue, vec_len};
 
-use crate::asserts::{equal, holds, holds_for};
+use crate::asserts::{holds, holds_for};
 use crate::key_rows::{
-    FRESH, READ, carries, ends, heads, long_texts, midpoints, prefixes, whole_parts,
+    carries, ends, fresh_numbers, heads, long_texts, midpoints, prefixes, read_heads, read_long,
+    read_parts, whole_parts,
 };
 use canvas_key::{Key, KeyFault, between, first_fresh, fresh};
 use std::process::Abort;
 
 // The key between two texts, of which one that is no key is left out. Ends that are not in order get a
 // refusal that `between` never gives.
-fn between_texts(low: &[u8], high: &[u8]) -> Result<Key, KeyFault> {
-    let low = Key::read(low).ok();
-    let high = Key::read(high).ok();
+fn between_texts(low: &str, high: &str) -> Result<Key, KeyFault> {
+    let low = Key::read(low.as_bytes()).ok();
+    let high = Key::read(high.as_bytes()).ok();
     between_ends(low.as_ref(), high.as_ref())
 }
 
@@ -33,10 +34,10 @@ fn between_ends(low: Option<&Key>, high: Option<&Key>) -> Result<Key, KeyFault> 
 }
 
 // Whether an answer is the key with a text, or the fault with a name.
-fn is_answer(answer: &Result<Key, KeyFault>, want: &[u8]) -> bool {
+fn is_answer(answer: &Result<Key, KeyFault>, want: &str) -> bool {
     match answer {
-        Ok(key) => key.bytes() == want,
-        Err(fault) => fault.name().as_bytes() == want,
+        Ok(key) => key.bytes() == want.as_bytes(),
+        Err(fault) => fault.name() == want,
     }
 }
 
@@ -48,7 +49,7 @@ fn is_same(a: &Key, b: &Key) -> bool
 }
 
 // Each row has two ends, and the key between them or the fault.
-fn assert_between(rt: &impl Abort, rows: &[[&[u8]; 3]]) {
+fn assert_between(rt: &impl Abort, rows: &[[&str; 3]]) {
     for row in rows {
         let [low, high, want] = *row;
         let is_right = is_answer(&between_texts(low, high), want);
@@ -67,54 +68,94 @@ fn keys_between(rt: HostRuntime) {
     assert_between(&rt, long_texts());
 }
 
-#[test]
-fn texts_read(rt: HostRuntime) {
-    for (row, [text, fault]) in READ.iter().enumerate() {
-        let want = if fault.is_empty() { text } else { fault };
-        holds_for(&rt, "row", row, is_answer(&Key::read(text), want));
+// Whether a text is read as a key of its bytes, or has the fault.
+fn is_read(text: &str, fault: &str) -> bool {
+    let want = if fault.is_empty() { text } else { fault };
+    is_answer(&Key::read(text.as_bytes()), want)
+}
+
+fn assert_read(rt: &impl Abort, what: &str, rows: &[[&str; 2]]) {
+    let mut number: usize = 0;
+    for [text, fault] in rows {
+        holds_for(rt, what, number, is_read(text, fault));
+        number = number.saturating_add(1);
     }
 }
 
+#[test]
+fn texts_read(rt: HostRuntime) {
+    assert_read(&rt, "heads, row", read_heads());
+    assert_read(&rt, "whole parts, row", read_parts());
+    assert_read(&rt, "long texts, row", read_long());
+}
+
 // Whether a fresh key and its copy have a text.
-fn is_fresh(n: u32, want: &[u8]) -> bool {
+fn is_fresh(n: u32, want: &str) -> bool {
     let key = fresh(n);
-    key.bytes() == want && key.copy() == key
+    key.bytes() == want.as_bytes() && key.copy() == key
+}
+
+fn assert_fresh(rt: &impl Abort, rows: &[(u32, &str)]) {
+    for (n, want) in rows {
+        holds_for(rt, "fresh key", *n as usize, is_fresh(*n, want));
+    }
 }
 
 #[test]
 fn fresh_keys(rt: HostRuntime) {
-    for (n, want) in &FRESH {
-        holds_for(&rt, "fresh key", *n as usize, is_fresh(*n, want));
-    }
+    assert_fresh(&rt, fresh_numbers());
 }
 
-// Whether a text, where it is a key, is made the n-th fresh one.
-fn is_made_fresh(text: &[u8], n: u32, want: &[u8]) -> bool {
-    match Key::read(text) {
-        Ok(mut key) => {
-            key.make_fresh(n);
-            key.bytes() == want
-        }
+// Whether a key that is made the n-th fresh one has a text.
+fn is_made(key: &mut Key, n: u32, want: &str) -> bool {
+    key.make_fresh(n);
+    key.bytes() == want.as_bytes()
+}
+
+// The same of a text, where it is a key.
+fn is_made_fresh(text: &str, n: u32, want: &str) -> bool {
+    match Key::read(text.as_bytes()) {
+        Ok(mut key) => is_made(&mut key, n, want),
         Err(_) => true,
     }
 }
 
-fn assert_made_fresh(rt: &impl Abort, text: &[u8], n: u32, want: &[u8]) {
-    assert!(rt; is_made_fresh(text, n, want), "{n} over {}", text.len());
+fn assert_made_fresh(rt: &impl Abort, text: &str, n: u32, want: &str) {
+    assert!(rt; is_made_fresh(text, n, want), "{n} over {text}");
 }
 
-// Over keys of 2 to 128 bytes, and over the fresh key before it.
+fn assert_made_over(rt: &impl Abort, texts: &[[&str; 2]], n: u32, want: &str) {
+    for [text, _fault] in texts {
+        assert_made_fresh(rt, text, n, want);
+    }
+}
+
+// Over keys of 2 to 128 bytes.
+fn assert_made_over_texts(rt: &impl Abort, rows: &[(u32, &str)]) {
+    for (n, want) in rows {
+        assert_made_over(rt, read_heads(), *n, want);
+        assert_made_over(rt, read_parts(), *n, want);
+        assert_made_over(rt, read_long(), *n, want);
+    }
+}
+
+// Over the fresh key before it.
+fn assert_made_in_turn(rt: &impl Abort, rows: &[(u32, &str)]) {
+    let mut last = first_fresh();
+    for (n, want) in rows.iter().rev() {
+        holds_for(rt, "fresh key", *n as usize, is_made(&mut last, *n, want));
+    }
+}
+
+fn is_first(text: &str) -> bool {
+    first_fresh().bytes() == text.as_bytes()
+}
+
 #[test]
 fn keys_made_fresh(rt: HostRuntime) {
-    let mut last = first_fresh();
-    holds(&rt, "the first", last.bytes() == &b"a0"[..]);
-    for (n, want) in FRESH.iter().rev() {
-        last.make_fresh(*n);
-        holds_for(&rt, "fresh key", *n as usize, last.bytes() == *want);
-        for [text, _fault] in &READ {
-            assert_made_fresh(&rt, text, *n, want);
-        }
-    }
+    holds(&rt, "the first", is_first("a0"));
+    assert_made_over_texts(&rt, fresh_numbers());
+    assert_made_in_turn(&rt, fresh_numbers());
 }
 
 // Where the next key goes: below the last one, above it, or in turn.
@@ -145,9 +186,9 @@ fn insertions(side: Side) -> Option<u32> {
 
 #[test]
 fn until_there_is_no_room(rt: HostRuntime) {
-    equal(&rt, "below", &insertions(Side::Below), &Some(756));
-    equal(&rt, "above", &insertions(Side::Above), &Some(630));
-    equal(&rt, "in turn", &insertions(Side::InTurn), &Some(756));
+    holds(&rt, "below", insertions(Side::Below) == Some(756));
+    holds(&rt, "above", insertions(Side::Above) == Some(630));
+    holds(&rt, "in turn", insertions(Side::InTurn) == Some(756));
 }
 
 // Numbers in no order that a reader would guess, by a linear congruence.

@@ -18,10 +18,6 @@ static TRIANGLE: [Point; 3] = [
     Point { x: 0, y: 4 },
 ];
 
-fn span(from: i32, to: i32) -> Span {
-    Span { from, to }
-}
-
 // Whether the spans of a row are appended, at once or, where memory was wanted, to what was there before.
 fn is_appended(alloc: Global, leaf: &Carried<'_>, y: i32, out: &mut Vec<Span>) -> bool {
     let before = out.len();
@@ -31,20 +27,31 @@ fn is_appended(alloc: Global, leaf: &Carried<'_>, y: i32, out: &mut Vec<Span>) -
     }
 }
 
+// The spans of the four rows of the triangle, behind one that was there.
+static SPANS: [Span; 4] = [
+    Span { from: 7, to: 7 },
+    Span { from: 0, to: 3 },
+    Span { from: 0, to: 2 },
+    Span { from: 0, to: 1 },
+];
+
+fn are_all(spans: &[Span]) -> bool {
+    spans == SPANS.as_slice()
+}
+
 fn assert_appended(rt: &impl Abort, alloc: Global, out: &mut Vec<Span>) {
     let leaf = polygon(&TRIANGLE).expect(rt, "near vertices");
     for y in 0..4 {
-        holds_at(rt, "row", y as i64, is_appended(alloc, &leaf, y, out));
+        holds_at(rt, "row", i64::from(y), is_appended(alloc, &leaf, y, out));
     }
-    let wanted = [span(7, 7), span(0, 3), span(0, 2), span(0, 1)];
-    holds(rt, "all spans", out.as_slice() == wanted.as_slice());
 }
 
 #[test]
 fn spans_with_little_memory(rt: HostRuntime) -> Result<(), Fail> {
     let mut out = Vec::new(rt.alloc());
-    out.push(span(7, 7))?;
+    out.push(Span { from: 7, to: 7 })?;
     assert_appended(&rt, rt.alloc(), &mut out);
+    holds(&rt, "all spans", are_all(&out));
     Ok(())
 }
 
