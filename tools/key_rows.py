@@ -238,14 +238,20 @@ def between_rows():
 
 
 def read_rows():
-    return [
-        "a0", "Zz", "a00", "a0V0", "a0V", "0", "", "b1", "b", "a", "b12", "a-", "a0-", "a0 ", "-0", " a0", "[0", "`0", "@0", "{0",
-        "a/", "a:", "a@", "a[", "a`", "a{", "a9", "aA", "aZ", "aa", "az", "Z", "Z0", "Y0", "Y0z", "Y-", "z" + "0" * 25,
-        "z" + "0" * 26, "z" + "0" * 27, "A" + "0" * 25, LEAST, LEAST + "0", LEAST + "V", "A" + ZEROS + "1", "A" + ZEROS + "-",
-        "b-", "b--", "b-0", "b00", "b000", "0" * 128, "0" * 129, "a0" + "z" * 126, "a0" + "z" * 127, "a0" + "z" * 125 + "0",
-        "a0" + "z" * 126 + "0", "a0" + "z" * 125 + "-", "z" + "z" * 127, "A" + "0" * 126 + "1", "A" + "0" * 127,
-        "a\u0000", "\u0000", "a0\u007f",
-    ]
+    return {
+        ("read_heads", "Heads and digits"): [
+            "a0", "Zz", "a00", "a0V0", "a0V", "0", "", "b1", "b", "a", "b12", "a-", "a0-", "a0 ", "-0", " a0", "[0", "`0", "@0",
+            "{0", "a/", "a:", "a@", "a[", "a`", "a{",
+        ],
+        ("read_parts", "Whole parts and what follows them"): [
+            "a9", "aA", "aZ", "aa", "az", "Z", "Z0", "Y0", "Y0z", "Y-", "z" + "0" * 25, "z" + "0" * 26, "z" + "0" * 27,
+            "A" + "0" * 25, LEAST, LEAST + "0", LEAST + "V", "A" + ZEROS + "1", "A" + ZEROS + "-", "b-", "b--", "b-0", "b00", "b000",
+        ],
+        ("read_long", "Texts of 128 and more bytes, and bytes that are no printed ones"): [
+            "0" * 128, "0" * 129, "a0" + "z" * 126, "a0" + "z" * 127, "a0" + "z" * 125 + "0", "a0" + "z" * 126 + "0",
+            "a0" + "z" * 125 + "-", "z" + "z" * 127, "A" + "0" * 126 + "1", "A" + "0" * 127, "a\u0000", "\u0000", "a0\u007f",
+        ],
+    }
 
 
 def fresh_rows():
@@ -256,7 +262,7 @@ def fresh_rows():
 
 def quoted(text):
     """A text as Rattle source."""
-    return 'b"' + "".join(c if " " <= c <= "~" else f"\\x{ord(c):02x}" for c in text) + '"'
+    return '"' + "".join(c if " " <= c <= "~" else f"\\x{ord(c):02x}" for c in text) + '"'
 
 
 def answer(low, high):
@@ -267,23 +273,29 @@ def answer(low, high):
 
 
 def table(name, type_, comment, rows):
+    """A table, and the function that gives it: a function that names a table is the slower to prove the longer it is."""
     print(f"\n// {comment}")
-    print(f"{'pub(crate) ' if name in ('READ', 'FRESH') else ''}static {name}: [{type_}; {len(rows)}] = [")
+    print(f"static {name.upper()}: [{type_}; {len(rows)}] = [")
     for row in rows:
         print(f"    {row},")
     print("];")
+    lasting = type_.replace("&", "&'static ")
+    print(f"\npub(crate) fn {name}() -> &'static [{lasting}] {{\n    &{name.upper()}\n}}")
+
+
+def listed(texts):
+    return "[" + ", ".join(map(quoted, texts)) + "]"
 
 
 def print_rows():
     print("//! Rows by the published algorithm, as `tools/key_rows.py rows` makes them. A row of a key between two")
-    print("//! others has the two, of which an empty one is left out, and that key or the fault.")
+    print("//! others has the two, of which an empty one is left out, and that key or the fault. A row of a text")
+    print("//! that is read has the text, and its fault, if it has one.")
     for (name, comment), rows in between_rows().items():
-        table(name.upper(), "[&[u8]; 3]", comment + ".",
-              ["[" + ", ".join(map(quoted, (a or "", b or "", answer(a, b)))) + "]" for a, b in rows])
-        print(f"\npub(crate) fn {name}() -> &'static [[&'static [u8]; 3]] {{\n    &{name.upper()}\n}}")
-    table("READ", "[&[u8]; 2]", "A text, and its fault, if it has one.",
-          ["[" + ", ".join(map(quoted, (text, fault(text) or ""))) + "]" for text in read_rows()])
-    table("FRESH", "(u32, &[u8])", "A number, and the fresh key that has it.",
+        table(name, "[&str; 3]", comment + ".", [listed((a or "", b or "", answer(a, b))) for a, b in rows])
+    for (name, comment), texts in read_rows().items():
+        table(name, "[&str; 2]", comment + ".", [listed((text, fault(text) or "")) for text in texts])
+    table("fresh_numbers", "(u32, &str)", "A number, and the fresh key that has it.",
           [f"({n}, {quoted(fresh(n))})" for n in fresh_rows()])
 
 

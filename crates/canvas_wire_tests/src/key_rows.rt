@@ -1,5 +1,6 @@
 //! Rows by the published algorithm, as `tools/key_rows.py rows` makes them. A row of a key between two
-//! others has the two, of which an empty one is left out, and that key or the fault.
+//! others has the two, of which an empty one is left out, and that key or the fault. A row of a text
+//! that is read has the text, and its fault, if it has one.
 
 // The first keys, and whole integer parts.
 static WHOLE_PARTS: [[&str; 3]; 16] = [
@@ -325,8 +326,6 @@ pub(crate) fn long_texts() -> &'static [[&'static str; 3]] {
     &LONG_TEXTS
 }
 
-// Each of the next three has texts with their faults, of which a key has none.
-
 // Heads and digits.
 static READ_HEADS: [[&str; 2]; 26] = [
     ["a0", ""],
@@ -445,7 +444,7 @@ pub(crate) fn read_long() -> &'static [[&'static str; 2]] {
 }
 
 // A number, and the fresh key that has it.
-static FRESH: [(u32, &str); 31] = [
+static FRESH_NUMBERS: [(u32, &str); 31] = [
     (0, "a0"),
     (1, "a1"),
     (9, "a9"),
@@ -480,5 +479,5 @@ static FRESH: [(u32, &str); 31] = [
 ];
 
 pub(crate) fn fresh_numbers() -> &'static [(u32, &'static str)] {
-    &FRESH
+    &FRESH_NUMBERS
 }
