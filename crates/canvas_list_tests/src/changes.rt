@@ -6,9 +6,9 @@ ghost use Rattle.canvas_list.specs.Changed.{IsPositionOf};
 use crate::asserts::holds_at;
 use crate::dice::Dice;
 use crate::in_place::clone_of;
-use crate::moves::moved;
+use crate::moves::move_plain;
 use crate::numbers::{NumberItem, Numbers, has, number_item};
-use crate::picks::{MOST, Pick, change_plain, made_anew};
+use crate::picks::{MOST, Pick, change_plain, insert_plain, keep, made_anew, remove_plain};
 use crate::reader::reads_about;
 use canvas_list::{ItemChange, SharedList};
 use std::alloc::Global;
@@ -32,7 +32,8 @@ impl Both {
 
     /// The same, of what is not needed any more.
     pub(crate) fn check_last(self, rt: &impl Abort, what: &str, number: u32) {
-        holds_at(rt, what, number, has(&self.list, &self.plain));
+        self.check(rt, what, number);
+        drop(self);
     }
 
     /// Makes a change, by which the list is made anew.
@@ -40,7 +41,8 @@ impl Both {
         requires { IsPositionOf pick.change pick.at self.old.list }
     {
         change_plain(rt, &mut self.plain, &pick);
-        self.list = made_anew(rt, alloc, &self.list, pick.at, pick.change);
+        let made = made_anew(alloc, &self.list, pick.at, pick.change);
+        keep(rt, &mut self.list, made);
     }
 
     fn insert(&mut self, rt: &impl Abort, alloc: Global, at: usize, value: u32)
@@ -62,10 +64,10 @@ impl Both {
         requires from { from < length self.old.list }
         requires to { to < length self.old.list }
     {
-        self.plain = moved(rt, &self.plain, from, to, value);
+        move_plain(rt, &mut self.plain, from, to, value);
         let item = number_item(rt, alloc, value);
-        let list = self.list.with_moved(alloc, from, to, item);
-        self.list = list.expect(rt, "memory");
+        let made = self.list.with_moved(alloc, from, to, item);
+        keep(rt, &mut self.list, made);
     }
 
     // Puts a number so many times in the place of those from one position up to another.
@@ -82,10 +84,10 @@ impl Both {
         requires list { end ≤ length self.old.list }
         requires few { length self.old.list + count < 2 ^ 32 }
     {
-        self.plain = spliced(rt, alloc, &self.plain, first, end, count, value);
+        splice_plain(rt, &mut self.plain, first, end, count, value);
         let items = number_items(rt, alloc, count, value);
-        let list = self.list.with_spliced(alloc, first, end, items);
-        self.list = list.expect(rt, "memory");
+        let made = self.list.with_spliced(alloc, first, end, items);
+        keep(rt, &mut self.list, made);
     }
 }
 
@@ -102,27 +104,21 @@ fn number_items(rt: &impl Abort, alloc: Global, count: usize, value: u32) -> Vec
     items
 }
 
-// A plain list that has a number so many times in the place of those from one position up to another.
-fn spliced(
+// Puts a number so many times in the place of those of a plain list from one position up to another.
+fn splice_plain(
     rt: &impl Abort,
-    alloc: Global,
-    plain: &[u32],
+    plain: &mut Vec<u32>,
     first: usize,
     end: usize,
     count: usize,
     value: u32,
-) -> Vec<u32> {
-    let end = end.min(plain.len());
-    let first = first.min(end);
-    let mut after = Vec::new(alloc);
-    after
-        .extend_from_slice(&plain[..first])
-        .expect(rt, "memory");
-    for _ in 0..count {
-        after.push(value).expect(rt, "memory");
+) {
+    for _ in first..end {
+        remove_plain(plain, first);
     }
-    after.extend_from_slice(&plain[end..]).expect(rt, "memory");
-    after
+    for _ in 0..count {
+        insert_plain(rt, plain, first, value);
+    }
 }
 
 // A change at a place that the dice pick; `grows` of 16 times an insertion.

@@ -7,7 +7,7 @@ use crate::asserts::holds;
 use crate::changes::Both;
 use crate::dice::Dice;
 use crate::numbers::{Numbers, evens, plain_evens};
-use crate::picks::{Pick, again, change_plain, made_anew, some_change};
+use crate::picks::{Pick, again, change_plain, keep, made_anew, some_change};
 use canvas_list::SharedList;
 use std::alloc::Global;
 use std::process::Abort;
@@ -97,11 +97,13 @@ fn make(rt: &impl Abort, alloc: Global, list: &mut Numbers, pick: Pick) -> bool
     requires { IsPositionOf pick.change pick.at list.old }
 {
     let same = again(rt, &pick.change);
-    let is_in_place = list.change(pick.at, pick.change);
-    if !is_in_place {
-        *list = made_anew(rt, alloc, list, pick.at, same);
+    if list.change(pick.at, pick.change) {
+        drop(same);
+        return true;
     }
-    is_in_place
+    let made = made_anew(alloc, list, pick.at, same);
+    keep(rt, list, made);
+    false
 }
 
 /// A change at some place, in place where that can be: whether it is a replacement, and whether it was made in place.

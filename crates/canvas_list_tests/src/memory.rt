@@ -69,8 +69,8 @@ fn check_changes(rt: &impl Abort, alloc: Global, list: &Numbers, plain: &[u32])
 #[test]
 fn changes_with_little_memory(rt: HostRuntime) -> Result<(), Fail> {
     let alloc = rt.alloc();
-    let list = SharedList::from_vec(alloc, evens(alloc, COUNT)?)?;
     let plain = plain_evens(alloc, COUNT)?;
+    let list = SharedList::from_vec(alloc, evens(alloc, COUNT)?)?;
     check_changes(&rt, alloc, &list, &plain);
     Ok(())
 }

@@ -7,26 +7,27 @@ use crate::changes::Both;
 use crate::dice::Dice;
 use crate::in_place::{Counts, clone_of, first_evens, keep_if};
 use crate::numbers::number_item;
-use crate::picks::{plain_after, some_replacement};
+use crate::picks::{insert_plain, plain_after, remove_plain, some_replacement};
 use crate::together::check_both;
 use std::alloc::Global;
 use std::process::Abort;
 
-/// A plain list without the number at a position, and with another in front of what then stands at `to`.
-pub(crate) fn moved(
+/// Takes the number at a position away from a plain list, and puts another in front of what then stands at `to`.
+pub(crate) fn move_plain(
     rt: &impl Abort,
-    plain: &Vec<u32>,
+    plain: &mut Vec<u32>,
     from: usize,
     to: usize,
     number: u32,
-) -> Vec<u32> {
+) {
+    remove_plain(plain, from);
+    insert_plain(rt, plain, to, number);
+}
+
+// Another plain list, of which that is done.
+fn moved(rt: &impl Abort, plain: &Vec<u32>, from: usize, to: usize, number: u32) -> Vec<u32> {
     let mut after = plain.clone().expect(rt, "memory");
-    if from < after.len() {
-        after.remove(from);
-    }
-    if to <= after.len() {
-        after.insert(to, number).expect(rt, "memory");
-    }
+    move_plain(rt, &mut after, from, to, number);
     after
 }
 

@@ -150,22 +150,29 @@ pub(crate) fn plain_evens(alloc: Global, count: u32) -> Result<Vec<u32>, OutOfMe
 
 /// Whether a list has the numbers of a plain one, however it is read.
 pub(crate) fn has(list: &Numbers, plain: &[u32]) -> bool {
-    let len = plain.len();
-    if list.len() != len {
+    if list.len() != plain.len() {
         return false;
     }
-    let third = len / 3;
-    let end = len - third;
     let mut same = list.is_empty() == plain.is_empty();
     same &= reads(list, plain);
     same &= reads_on(list, plain);
     same &= meets(list, plain);
-    same &= gives(list.iter(), plain, 0, len);
-    same &= gives_back(list.iter(), plain, 0, len);
-    same &= gives(list.iter_from(third), plain, third, len);
-    same &= gives_back(list.iter_before(third), plain, 0, third);
-    same &= gives(list.iter_range(third, end), plain, third, end);
-    same &= gives_back(list.iter_range(third, end), plain, third, end);
+    same & iterates(list, plain)
+}
+
+// Whether a list and its parts give the numbers of a plain one, from the first to the last and back.
+fn iterates(list: &Numbers, plain: &[u32]) -> bool
+    requires { length list.now ≡ length plain.now }
+{
+    let third = plain.len() / 3;
+    let end = plain.len() - third;
+    let middle = &plain[third..end];
+    let mut same = gives(list.iter(), plain);
+    same &= gives_back(list.iter(), plain);
+    same &= gives(list.iter_from(third), &plain[third..]);
+    same &= gives_back(list.iter_before(third), &plain[..third]);
+    same &= gives(list.iter_range(third, end), middle);
+    same &= gives_back(list.iter_range(third, end), middle);
     same
 }
 
@@ -186,26 +193,20 @@ fn is_number(item: Option<&NumberItem>, value: u32) -> bool {
     }
 }
 
-// Whether items are the numbers of a part of a plain list.
-fn gives(mut items: Items<'_, NumberItem>, plain: &[u32], from: usize, end: usize) -> bool
-    requires order { from ≤ end }
-    requires plain { end ≤ length plain.now }
-{
+// Whether items are some numbers.
+fn gives(mut items: Items<'_, NumberItem>, numbers: &[u32]) -> bool {
     let mut same = true;
-    for at in from..end {
-        same &= is_number(items.next(), plain[at]);
+    for number in numbers {
+        same &= is_number(items.next(), *number);
     }
     same & items.next().is_none()
 }
 
 // The same, from the last to the first.
-fn gives_back(mut items: Items<'_, NumberItem>, plain: &[u32], from: usize, end: usize) -> bool
-    requires order { from ≤ end }
-    requires plain { end ≤ length plain.now }
-{
+fn gives_back(mut items: Items<'_, NumberItem>, numbers: &[u32]) -> bool {
     let mut same = true;
-    for passed in 0..end - from {
-        same &= is_number(items.next_back(), plain[end - 1 - passed]);
+    for number in numbers.iter().rev() {
+        same &= is_number(items.next_back(), *number);
     }
     same & items.next_back().is_none()
 }

@@ -5,6 +5,7 @@ ghost use Rattle.canvas_list.specs.Changed.{IsPositionOf};
 
 use crate::dice::Dice;
 use crate::numbers::{NumberItem, Numbers, number_item};
+use canvas_code::OutOfMemory;
 use canvas_list::{ItemChange, Share};
 use std::alloc::Global;
 use std::process::Abort;
@@ -87,20 +88,23 @@ pub(crate) fn again(rt: &impl Abort, change: &NumberChange) -> NumberChange
 
 /// Another list, which has the change.
 pub(crate) fn made_anew(
-    rt: &impl Abort,
     alloc: Global,
     list: &Numbers,
     at: usize,
     change: NumberChange,
-) -> Numbers
+) -> Result<Numbers, OutOfMemory>
     requires { IsPositionOf change at list.now }
 {
-    let made = match change {
+    match change {
         ItemChange::Replace(item) => list.with_replaced(alloc, at, item),
         ItemChange::Remove => list.without(alloc, at),
         ItemChange::Insert(item) => list.with_inserted(alloc, at, item),
-    };
-    made.expect(rt, "memory")
+    }
+}
+
+/// Keeps a list that was made in the place of one.
+pub(crate) fn keep(rt: &impl Abort, list: &mut Numbers, made: Result<Numbers, OutOfMemory>) {
+    *list = made.expect(rt, "memory");
 }
 
 /// A plain list after the same.
@@ -112,15 +116,29 @@ pub(crate) fn plain_after(rt: &impl Abort, plain: &Vec<u32>, pick: &Pick) -> Vec
 
 /// Changes a plain list, if it has the place of the change.
 pub(crate) fn change_plain(rt: &impl Abort, plain: &mut Vec<u32>, pick: &Pick) {
-    let at = pick.at;
     match &pick.change {
-        ItemChange::Replace(item) if at < plain.len() => plain[at] = item.value().value,
-        ItemChange::Remove if at < plain.len() => {
-            plain.remove(at);
-        }
-        ItemChange::Insert(item) if at <= plain.len() => {
-            plain.insert(at, item.value().value).expect(rt, "memory");
-        }
-        _ => {}
+        ItemChange::Replace(item) => replace_plain(plain, pick.at, item.value().value),
+        ItemChange::Remove => remove_plain(plain, pick.at),
+        ItemChange::Insert(item) => insert_plain(rt, plain, pick.at, item.value().value),
+    }
+}
+
+fn replace_plain(plain: &mut Vec<u32>, at: usize, number: u32) {
+    if at < plain.len() {
+        plain[at] = number;
+    }
+}
+
+/// Takes the number at a position away from a plain list, if there is one.
+pub(crate) fn remove_plain(plain: &mut Vec<u32>, at: usize) {
+    if at < plain.len() {
+        plain.remove(at);
+    }
+}
+
+/// Puts a number in front of the one at a position of a plain list or behind its last one, if there is such a place.
+pub(crate) fn insert_plain(rt: &impl Abort, plain: &mut Vec<u32>, at: usize, number: u32) {
+    if at <= plain.len() {
+        plain.insert(at, number).expect(rt, "memory");
     }
 }

@@ -41,6 +41,17 @@ fn has_run(list: &Numbers, at: usize, items: &Vec<NumberItem>) -> bool
     !items.is_empty() && at < list.len() && items.len() <= list.len() - at
 }
 
+// Puts items in the place of some that are there.
+fn replace_in_place(
+    rt: &impl Abort,
+    list: &mut Numbers,
+    at: usize,
+    items: Vec<NumberItem>,
+) -> bool {
+    assert!(rt; has_run(list, at, &items), "a run");
+    list.replace_run(at, items)
+}
+
 // Puts other numbers in the place of some that stand side by side, from a position on: all of them, or none.
 fn replace_run(
     rt: &impl Abort,
@@ -51,8 +62,7 @@ fn replace_run(
 ) -> bool {
     let mut plain = both.plain.clone().expect(rt, "memory");
     let items = other_numbers(rt, alloc, dice, &mut plain, at);
-    assert!(rt; has_run(&both.list, at, &items), "a run");
-    let made = both.list.replace_run(at, items);
+    let made = replace_in_place(rt, &mut both.list, at, items);
     keep_if(made, &mut both.plain, plain);
     made
 }
