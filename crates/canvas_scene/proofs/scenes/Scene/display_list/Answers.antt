@@ -1,0 +1,5 @@
+use Rattle.std.proofs.Common.{refl}
+use Rattle.canvas_scene.proofs.scenes.Scene.display_list.Goals as goal
+
+pub returns : goal.returns
+returns c = refl
