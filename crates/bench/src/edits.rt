@@ -44,13 +44,31 @@ pub fn time_all<R: Clock + Print>(rt: &R, alloc: Global) -> Result<(), Fault> {
     println!(rt;
         "layout, records, call: least of {ROUNDS} rounds until decided, made, and the new document dropped"
     )?;
-    for (name, layout, records) in DOCUMENTS {
-        time_edits(rt, alloc, name, layout, records)?;
-        if records == MANY {
-            time_restoring(rt, alloc, name, layout)?;
-        }
-    }
+    time_documents(rt, alloc)?;
     growth::time_all(rt, alloc)
+}
+
+fn time_documents<R: Clock + Print>(rt: &R, alloc: Global) -> Result<(), Fault> {
+    for (name, layout, records) in &DOCUMENTS {
+        time_document(rt, alloc, name, *layout, *records)?;
+    }
+    Ok(())
+}
+
+/// Times a document's edits, and its restoring where it is one of those of each layout.
+fn time_document<R: Clock + Print>(
+    rt: &R,
+    alloc: Global,
+    name: &str,
+    layout: Layout,
+    records: u32,
+) -> Result<(), Fault> {
+    time_edits(rt, alloc, name, layout, records)?;
+    if records == MANY {
+        time_restoring(rt, alloc, name, layout)
+    } else {
+        Ok(())
+    }
 }
 
 /// Times each edit of a document of so many records, `Create` of one with a record less.
@@ -61,12 +79,20 @@ fn time_edits<R: Clock + Print>(
     layout: Layout,
     records: u32,
 ) -> Result<(), Fault> {
-    let room = layouts::document(alloc, layout, records.saturating_sub(1))?;
-    let creation = ("Create", Sort::Create);
-    time_sort(rt, alloc, &room, (name, layout, records), creation)?;
-    drop(room);
+    time_creation(rt, alloc, (name, layout, records))?;
     let full = layouts::document(alloc, layout, records)?;
     time_others(rt, alloc, &full, (name, layout, records))
+}
+
+/// Times `Create` at a document of a record less.
+fn time_creation<R: Clock + Print>(
+    rt: &R,
+    alloc: Global,
+    (name, layout, records): (&str, Layout, u32),
+) -> Result<(), Fault> {
+    let room = layouts::document(alloc, layout, records.saturating_sub(1))?;
+    let creation = ("Create", Sort::Create);
+    time_sort(rt, alloc, &room, (name, layout, records), creation)
 }
 
 /// Times each edit but `Create` of a document.
@@ -76,8 +102,8 @@ fn time_others<R: Clock + Print>(
     document: &Document,
     layout: (&str, Layout, u32),
 ) -> Result<(), Fault> {
-    for sort in Sort::OTHERS {
-        time_sort(rt, alloc, document, layout, sort)?;
+    for sort in &Sort::OTHERS {
+        time_sort(rt, alloc, document, layout, *sort)?;
     }
     Ok(())
 }
@@ -109,17 +135,28 @@ fn time_edit<R: Clock + Print>(
         least = (least.0.min(decided), least.1.min(made));
         *time = time_in_turn(rt, alloc, document, edit)?;
     }
-    let (whole, middle) = least_and_middle(&mut times);
-    println!(rt;
-        "{:<9} {:>6} {:<7} {:?} {:?} {:?}, middle {:?}",
-        names.0,
-        document.count(),
-        names.1,
-        Duration::from_nanos(least.0),
-        Duration::from_nanos(least.1),
-        Duration::from_nanos(whole),
-        Duration::from_nanos(middle)
-    )?;
+    print_names(rt, names, document.count())?;
+    print_times(rt, least, &mut times)
+}
+
+fn print_names<R: Print>(rt: &R, names: (&str, &str), records: usize) -> Result<(), Fault> {
+    print!(rt; "{:<9} {records:>6} {:<7} ", names.0, names.1)?;
+    Ok(())
+}
+
+/// Prints the least times until decided and made, and the least and the middle of the whole ones.
+fn print_times<R: Print>(rt: &R, least: (u64, u64), times: &mut [u64]) -> Result<(), Fault> {
+    let decided = Duration::from_nanos(least.0);
+    let made = Duration::from_nanos(least.1);
+    print!(rt; "{decided:?} {made:?} ")?;
+    let (whole, middle) = least_and_middle(times);
+    print_least_and_middle(rt, whole, middle)
+}
+
+fn print_least_and_middle<R: Print>(rt: &R, least: u64, middle: u64) -> Result<(), Fault> {
+    let least = Duration::from_nanos(least);
+    let middle = Duration::from_nanos(middle);
+    println!(rt; "{least:?}, middle {middle:?}")?;
     Ok(())
 }
 
@@ -133,9 +170,10 @@ fn time_call<R: Clock>(
     let start = now(rt);
     let change = document.decide(alloc, edit)?;
     let decided = since(rt, start);
-    let after = document.with(alloc, &change)?;
+    let after = document.with(alloc, &change);
     let made = since(rt, start);
-    drop(after);
+    drop(change);
+    drop(after?);
     Ok((decided, made))
 }
 
@@ -163,13 +201,13 @@ fn time_restoring<R: Clock + Print>(
     for time in &mut times {
         *time = time_restoration(rt, alloc, layout)?;
     }
-    let (least, middle) = least_and_middle(&mut times);
-    println!(rt;
-        "{name:<9} {MANY:>6} restore {:?}, middle {:?}",
-        Duration::from_nanos(least),
-        Duration::from_nanos(middle)
-    )?;
-    Ok(())
+    print_restoring(rt, name, &mut times)
+}
+
+fn print_restoring<R: Print>(rt: &R, name: &str, times: &mut [u64]) -> Result<(), Fault> {
+    print!(rt; "{name:<9} {MANY:>6} restore ")?;
+    let (least, middle) = least_and_middle(times);
+    print_least_and_middle(rt, least, middle)
 }
 
 /// The time in which a document becomes one of its records, which come in the reverse of their order.

@@ -49,9 +49,9 @@ const SUBJECTS: [(&str, Subject); 7] = [
 
 // The subject of a word.
 fn named(word: &str) -> Option<Subject> {
-    for (name, subject) in SUBJECTS {
-        if name == word {
-            return Some(subject);
+    for (name, subject) in &SUBJECTS {
+        if *name == word {
+            return Some(*subject);
         }
     }
     None
@@ -59,8 +59,7 @@ fn named(word: &str) -> Option<Subject> {
 
 fn main(rt: HostRuntime) -> Result<(), Fault> {
     let Some(subject) = asked(&rt)? else {
-        println!(rt; "usage: bench spans|edits|scenes|painting|saving|seats|versions")?;
-        return Ok(());
+        return print_usage(&rt);
     };
     times::check_clock(&rt)?;
     match subject {
@@ -74,11 +73,15 @@ fn main(rt: HostRuntime) -> Result<(), Fault> {
     }
 }
 
+fn print_usage(rt: &HostRuntime) -> Result<(), Fault> {
+    println!(rt; "usage: bench spans|edits|scenes|painting|saving|seats|versions")?;
+    Ok(())
+}
+
 // The subject that the first word names.
 fn asked(rt: &HostRuntime) -> Result<Option<Subject>, Fault> {
-    let mut words = env::args(rt)?.skip(1);
-    Ok(match words.next() {
-        Some(word) => named(word.as_str()),
-        None => None,
-    })
+    match env::args(rt)?.nth(1) {
+        Some(word) => Ok(named(word.as_str())),
+        None => Ok(None),
+    }
 }

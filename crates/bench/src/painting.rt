@@ -16,7 +16,7 @@ use std::time::Clock;
 const TIMES: u32 = 5;
 
 /// How often each way is measured, the ways in turn, so that a slow moment of the machine meets all.
-const ROUNDS: u32 = 101;
+const ROUNDS: usize = 101;
 
 /// How a picture is painted.
 #[derive(Clone, Copy)]
@@ -29,45 +29,27 @@ enum Way {
     UpTo(u32),
 }
 
-/// A way that is timed, and its times.
-#[derive(Drop)]
-struct Timed {
-    name: &'static str,
-    way: Way,
-    times: Vec<u64>,
-}
+/// A way that is timed.
+type Named = (&'static str, Way);
 
-/// All ways. Those of a kind are told as parts of its first one.
-#[derive(Drop)]
-struct Ways {
-    items: [Timed; 4],
-    document: [Timed; 4],
-}
+/// The ways of painting items, all told as parts of the first one.
+const OF_ITEMS: [Named; 4] = [
+    ("one strip", Way::OneStrip),
+    ("workers 1", Way::Workers(1)),
+    ("workers 2", Way::Workers(2)),
+    ("workers 4", Way::Workers(4)),
+];
 
-impl Ways {
-    // The ways of painting items and a document, in the same order.
-    fn new(alloc: Global) -> Ways {
-        Ways {
-            items: [
-                untimed(alloc, "one strip", Way::OneStrip),
-                untimed(alloc, "workers 1", Way::Workers(1)),
-                untimed(alloc, "workers 2", Way::Workers(2)),
-                untimed(alloc, "workers 4", Way::Workers(4)),
-            ],
-            document: [
-                untimed(alloc, "picture by up to 1", Way::UpTo(1)),
-                untimed(alloc, "picture by up to 2", Way::UpTo(2)),
-                untimed(alloc, "picture by up to 4", Way::UpTo(4)),
-                untimed(alloc, "picture by up to 16", Way::UpTo(16)),
-            ],
-        }
-    }
-}
+/// The ways of painting a document, all told as parts of the first one.
+const OF_DOCUMENT: [Named; 4] = [
+    ("picture by up to 1", Way::UpTo(1)),
+    ("picture by up to 2", Way::UpTo(2)),
+    ("picture by up to 4", Way::UpTo(4)),
+    ("picture by up to 16", Way::UpTo(16)),
+];
 
-fn untimed(alloc: Global, name: &'static str, way: Way) -> Timed {
-    let times = Vec::new(alloc);
-    Timed { name, way, times }
-}
+/// The times of a way, each round's in its place.
+type Times = [u64; ROUNDS];
 
 /// The documents: the seed of their numbers, how many parts they have, what these are called, and the parts.
 const DOCUMENTS: [(u64, u32, &str, Part); 10] = [
@@ -110,18 +92,9 @@ const DOCUMENTS: [(u64, u32, &str, Part); 10] = [
 
 /// Times pictures of documents of each kind of leaf.
 pub fn time_all<R: Clock + Print + Threads + Sync>(rt: &R, alloc: Global) -> Result<(), Fault> {
-    let mut ways = Ways::new(alloc);
-    time_documents(rt, alloc, &mut ways)
-}
-
-fn time_documents<R: Clock + Print + Threads + Sync>(
-    rt: &R,
-    alloc: Global,
-    ways: &mut Ways,
-) -> Result<(), Fault> {
-    for (seed, count, name, part) in DOCUMENTS {
+    for (seed, count, name, part) in &DOCUMENTS {
         println!(rt; "{count} {name}")?;
-        measure(rt, alloc, ways, seed, part, count)?;
+        measure(rt, alloc, *seed, *part, *count)?;
     }
     Ok(())
 }
@@ -138,14 +111,13 @@ struct Sight<'a> {
 fn measure<R: Clock + Print + Threads + Sync>(
     rt: &R,
     alloc: Global,
-    ways: &mut Ways,
     seed: u64,
     part: Part,
     count: u32,
 ) -> Result<(), Fault> {
     let drawing = drawn(alloc, seed, part, count)?;
     let bump = Bump::new(alloc);
-    measure_in(rt, alloc, &bump, ways, &drawing.document)
+    measure_in(rt, alloc, &bump, &drawing.document)
 }
 
 /// The same with an arena for the scene.
@@ -153,20 +125,27 @@ fn measure_in<R: Clock + Print + Threads + Sync>(
     rt: &R,
     alloc: Global,
     bump: &Bump,
-    ways: &mut Ways,
     document: &Document,
 ) -> Result<(), Fault> {
     let window = Window::tile(0, 0)?;
     let scene = Scene::build(bump, document, &window)?;
-    let items = scene.display_list();
-    println!(rt; "    {} shown", items.len())?;
     let sight = Sight {
         document,
         window: &window,
-        items,
+        items: scene.display_list(),
     };
-    measure_rounds(rt, alloc, sight, &mut ways.items)?;
-    measure_rounds(rt, alloc, sight, &mut ways.document)
+    measure_sight(rt, alloc, sight)
+}
+
+/// Measures all ways.
+fn measure_sight<R: Clock + Print + Threads + Sync>(
+    rt: &R,
+    alloc: Global,
+    sight: Sight<'_>,
+) -> Result<(), Fault> {
+    println!(rt; "    {} shown", sight.items.len())?;
+    measure_rounds(rt, alloc, sight, &OF_ITEMS)?;
+    measure_rounds(rt, alloc, sight, &OF_DOCUMENT)
 }
 
 /// Measures each way in rounds, and prints what was measured.
@@ -174,12 +153,13 @@ fn measure_rounds<R: Clock + Print + Threads + Sync>(
     rt: &R,
     alloc: Global,
     sight: Sight<'_>,
-    ways: &mut [Timed],
+    ways: &[Named; 4],
 ) -> Result<(), Fault> {
-    for _ in 0..ROUNDS {
-        time_each(rt, alloc, sight, ways)?;
+    let mut times = [[0; ROUNDS]; 4];
+    for round in 0..ROUNDS {
+        time_each(rt, alloc, sight, ways, &mut times, round)?;
     }
-    report(rt, ways)
+    report(rt, ways, &mut times)
 }
 
 /// Times each way once.
@@ -187,29 +167,37 @@ fn time_each<R: Clock + Threads + Sync>(
     rt: &R,
     alloc: Global,
     sight: Sight<'_>,
-    ways: &mut [Timed],
+    ways: &[Named; 4],
+    times: &mut [Times; 4],
+    round: usize,
 ) -> Result<(), Fault> {
-    for timed in ways {
-        let time = time_way(rt, alloc, sight, timed.way)?;
-        timed.times.push(time)?;
+    for ((_name, way), times) in ways.iter().zip(times) {
+        let time = time_way(rt, alloc, sight, *way)?;
+        if let Some(place) = times.get_mut(round) {
+            *place = time;
+        }
     }
     Ok(())
 }
 
-/// Prints the least and the middle of the times of each way, and what part they are of the first one's; forgets them.
-fn report<R: Print>(rt: &R, ways: &mut [Timed]) -> Result<(), Fault> {
-    let mut first = None;
-    for timed in ways {
-        let (least, middle) = least_and_middle(&mut timed.times);
-        timed.times.clear();
-        let (whole_least, whole_middle) = *first.get_or_insert((least, middle));
-        println!(rt;
-            "    {}: middle {middle} ns ({} %), least {least} ns ({} %)",
-            timed.name,
-            percent(middle, whole_middle),
-            percent(least, whole_least)
-        )?;
+/// Prints the least and the middle of the times of each way, and what part they are of the first one's.
+fn report<R: Print>(rt: &R, ways: &[Named; 4], times: &mut [Times; 4]) -> Result<(), Fault> {
+    let whole = least_and_middle(&mut times[0]);
+    for ((name, _way), times) in ways.iter().zip(times) {
+        print_part(rt, name, least_and_middle(times), whole)?;
     }
+    Ok(())
+}
+
+fn print_part<R: Print>(
+    rt: &R,
+    name: &str,
+    (least, middle): (u64, u64),
+    (whole_least, whole_middle): (u64, u64),
+) -> Result<(), Fault> {
+    let (part, least_part) = (percent(middle, whole_middle), percent(least, whole_least));
+    print!(rt; "    {name}: middle {middle} ns ({part} %), ")?;
+    println!(rt; "least {least} ns ({least_part} %)")?;
     Ok(())
 }
 
@@ -227,12 +215,27 @@ fn time_way<R: Clock + Threads + Sync>(
 ) -> Result<u64, Fault> {
     let mut bump = Bump::new(alloc);
     let start = now(rt);
+    let painted = paint_times(rt, alloc, &mut bump, sight, way);
+    let took = since(rt, start) / u64::from(TIMES);
+    drop(bump);
+    painted?;
+    Ok(took)
+}
+
+/// Paints a picture some times.
+fn paint_times<R: Threads + Sync>(
+    rt: &R,
+    alloc: Global,
+    bump: &mut Bump,
+    sight: Sight<'_>,
+    way: Way,
+) -> Result<(), Fault> {
     for _ in 0..TIMES {
-        paint_once(rt, alloc, &bump, sight, way)?;
+        paint_once(rt, alloc, bump, sight, way)?;
         // Nothing borrows the arena any more, so a reset can't fail.
         let _ = bump.reset();
     }
-    Ok(since(rt, start) / u64::from(TIMES))
+    Ok(())
 }
 
 /// Paints a picture, with an arena for the scene of a document.
@@ -266,14 +269,12 @@ fn paint_document<R: Threads + Sync>(
 ) -> Result<(), Fault> {
     let mut out = Vec::new(alloc);
     let workers = workers.max(1).min(16);
-    append_picture(
-        rt,
-        alloc,
-        bump,
-        sight.document,
-        sight.window,
-        workers,
-        &mut out,
-    )?;
-    Ok(())
+    let Sight {
+        document,
+        window,
+        ..
+    } = sight;
+    let painted = append_picture(rt, alloc, bump, document, window, workers, &mut out);
+    drop(out);
+    Ok(painted?)
 }

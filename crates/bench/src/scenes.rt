@@ -6,20 +6,45 @@ use crate::drawings::{Part, drawn};
 use crate::fault::Fault;
 use crate::times::warm_up;
 use canvas_doc::Document;
-use tiles::{Memory, mean};
+use tiles::{Cost, Memory, mean};
+
+/// The documents: what each is called; its seed, its parts and how many they are; how far from the origin its tiles lie at
+/// most, and how many they are.
+const DOCUMENTS: [(&str, (u64, Part, u32), u32, u32); 5] = [
+    ("10 rectangles", (1, Part::Large, 10), 500, 400),
+    (
+        "1,000 mixed shapes in nested frames, some 30 of which meet a tile",
+        (2, Part::Nest(1_050), 40),
+        600,
+        60,
+    ),
+    (
+        "1,000 mixed shapes in nested frames, some 45 of which meet a tile",
+        (2, Part::Nest(900), 40),
+        600,
+        60,
+    ),
+    (
+        "200 polygons of 256 vertices",
+        (3, Part::Star, 200),
+        800,
+        20,
+    ),
+    (
+        "4,000 records in heavy overdraw",
+        (4, Part::Group, 400),
+        250,
+        4,
+    ),
+];
 
 /// Times the tiles of each document.
 pub fn time_all(rt: &HostRuntime) -> Result<(), Fault> {
     warm_up(rt);
-    time(rt, "10 rectangles", (1, Part::Large, 10), 500, 400)?;
-    let name = "1,000 mixed shapes in nested frames, some 30 of which meet a tile";
-    time(rt, name, (2, Part::Nest(1_050), 40), 600, 60)?;
-    let name = "1,000 mixed shapes in nested frames, some 45 of which meet a tile";
-    time(rt, name, (2, Part::Nest(900), 40), 600, 60)?;
-    let name = "200 polygons of 256 vertices";
-    time(rt, name, (3, Part::Star, 200), 800, 20)?;
-    let name = "4,000 records in heavy overdraw";
-    time(rt, name, (4, Part::Group, 400), 250, 4)
+    for (name, document, across, tiles) in &DOCUMENTS {
+        time(rt, name, *document, *across, *tiles)?;
+    }
+    Ok(())
 }
 
 // Times some tiles of a document, which is told by its seed, its parts and how many they are.
@@ -42,18 +67,34 @@ fn report(
     across: u32,
     tiles: u32,
 ) -> Result<(), Fault> {
+    let cost = cost_of(rt, document, across, tiles)?;
+    let (records, items) = (document.count(), cost.items);
+    print!(rt; "{name}: {records} records, {items} items a tile; ")?;
+    print_times(rt, cost)?;
+    print_ratios(rt, cost)
+}
+
+// The mean cost of tiles, with an arena of their own.
+fn cost_of(rt: &HostRuntime, document: &Document, across: u32, tiles: u32) -> Result<Cost, Fault> {
     let mut memory = Memory::new(rt.alloc());
-    let cost = mean(rt, &mut memory, document, across, tiles)?;
-    println!(rt;
-        "{name}: {} records, {} items a tile; filling {} ns, scene {} ns, painting {} ns; ratios {} of 1000, painting alone {}",
-        document.count(),
-        cost.items,
-        cost.filling,
-        cost.scene,
-        cost.painting,
-        share(cost.filling, cost.scene.saturating_add(cost.painting)),
-        share(cost.filling, cost.painting)
-    )?;
+    mean(rt, &mut memory, document, across, tiles)
+}
+
+fn print_times(rt: &HostRuntime, cost: Cost) -> Result<(), Fault> {
+    let Cost {
+        filling,
+        scene,
+        painting,
+        ..
+    } = cost;
+    print!(rt; "filling {filling} ns, scene {scene} ns, painting {painting} ns; ")?;
+    Ok(())
+}
+
+fn print_ratios(rt: &HostRuntime, cost: Cost) -> Result<(), Fault> {
+    let both = share(cost.filling, cost.scene.saturating_add(cost.painting));
+    let alone = share(cost.filling, cost.painting);
+    println!(rt; "ratios {both} of 1000, painting alone {alone}")?;
     Ok(())
 }
 

@@ -49,14 +49,22 @@ pub fn time_all<R: Clock + Print + Threads + Wait + Sync>(
     rt: &R,
     alloc: Global,
 ) -> Result<(), Fault> {
-    for records in [100, 4096] {
-        time_alone(rt, alloc, records)?;
-        time(rt, alloc, records, 1, Work::Edits)?;
-    }
-    for (seats, work) in WORKS {
-        time(rt, alloc, 100, seats, work)?;
+    time_edits(rt, alloc, 100)?;
+    time_edits(rt, alloc, 4096)?;
+    for (seats, work) in &WORKS {
+        time(rt, alloc, 100, *seats, *work)?;
     }
     Ok(())
+}
+
+/// Times edits of a document of so many records, at no line and through a seat.
+fn time_edits<R: Clock + Print + Threads + Wait + Sync>(
+    rt: &R,
+    alloc: Global,
+    records: u32,
+) -> Result<(), Fault> {
+    time_alone(rt, alloc, records)?;
+    time(rt, alloc, records, 1, Work::Edits)
 }
 
 /// Times edits of a document of so many records at no line.
@@ -78,6 +86,9 @@ fn time<R: Clock + Print + Threads + Wait + Sync>(
     seats: u32,
     work: Work,
 ) -> Result<(), Fault> {
+    if let Work::AtOnce(editors) = work {
+        println!(rt; "{seats:>2} seats, {editors} of which edit:")?;
+    }
     let Drawing { document, .. } = document(alloc, records)?;
     time_at::<Brand, R>(rt, alloc, Opened::new(), document, seats, work)
 }

@@ -9,7 +9,9 @@ use std::alloc::Global;
 /// The document after an edit.
 pub fn edited(alloc: Global, document: &Document, edit: &Edit) -> Result<Document, Fault> {
     let change = document.decide(alloc, edit)?;
-    Ok(document.with(alloc, &change)?)
+    let made = document.with(alloc, &change);
+    drop(change);
+    Ok(made?)
 }
 
 /// A document to which shapes are added, and numbers that look random, the same in each run.
@@ -74,7 +76,9 @@ impl Drawing {
             parent,
             spot: Spot::Front,
         };
-        self.document = edited(self.alloc, &self.document, &edit)?;
+        let made = edited(self.alloc, &self.document, &edit);
+        drop(edit);
+        self.document = made?;
         Ok(())
     }
 }

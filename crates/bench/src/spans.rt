@@ -19,6 +19,15 @@ const TURNS: u32 = 16;
 /// How many such times are taken.
 const SAMPLES: usize = 401;
 
+/// The polygons: what each is called, and its outline.
+const POLYGONS: [(&str, Outline); 5] = [
+    ("polygon round", Outline::Round),
+    ("polygon of 128 rays", Outline::Rays),
+    ("polygon of scattered vertices", Outline::Scattered),
+    ("polygon of crossing edges", Outline::Crossing),
+    ("polygon with frayed sides", Outline::Frayed),
+];
+
 /// Times the rows of leaves of each kind.
 pub fn time_all(rt: &HostRuntime) -> Result<(), Fault> {
     warm_up(rt);
@@ -47,16 +56,10 @@ fn time_boxes(rt: &HostRuntime, memory: &mut Memory) -> Result<(), Fault> {
 }
 
 fn time_polygons(rt: &HostRuntime, memory: &mut Memory) -> Result<(), Fault> {
-    time_polygon(rt, memory, "polygon round", Outline::Round)?;
-    time_polygon(rt, memory, "polygon of 128 rays", Outline::Rays)?;
-    time_polygon(
-        rt,
-        memory,
-        "polygon of scattered vertices",
-        Outline::Scattered,
-    )?;
-    time_polygon(rt, memory, "polygon of crossing edges", Outline::Crossing)?;
-    time_polygon(rt, memory, "polygon with frayed sides", Outline::Frayed)
+    for (name, outline) in &POLYGONS {
+        time_polygon(rt, memory, name, *outline)?;
+    }
+    Ok(())
 }
 
 fn time_polygon(
@@ -92,15 +95,21 @@ fn time(
         *time = sample(rt, memory, leaf, way)?;
     }
     let (least, median) = least_and_middle(&mut times);
-    println!(rt;
-        "{name}, {}: {}.{:02} microseconds, at least {}.{:02}; {} spans",
-        way.name(),
-        median / 1000,
-        median % 1000 / 10,
-        least / 1000,
-        least % 1000 / 10,
-        memory.out.len()
-    )?;
+    print!(rt; "{name}, {}: ", way.name())?;
+    print_times(rt, median, least, memory.out.len())
+}
+
+fn print_times(rt: &HostRuntime, median: u64, least: u64, spans: usize) -> Result<(), Fault> {
+    print_hundredths(rt, "", median)?;
+    print_hundredths(rt, " microseconds, at least ", least)?;
+    println!(rt; "; {spans} spans")?;
+    Ok(())
+}
+
+// Prints words, and nanoseconds as microseconds and their hundredths.
+fn print_hundredths(rt: &HostRuntime, words: &str, time: u64) -> Result<(), Fault> {
+    let (whole, hundredths) = (time / 1000, time % 1000 / 10);
+    print!(rt; "{words}{whole}.{hundredths:02}")?;
     Ok(())
 }
 

@@ -25,9 +25,9 @@ pub fn measure_all(rt: &HostRuntime) -> Result<(), Fault> {
 }
 
 fn measure_each(rt: &HostRuntime, versions: &mut Vec<Document>) -> Result<(), Fault> {
-    for records in SIZES {
-        versions.push(layouts::document(rt.alloc(), Layout::Flat, records)?)?;
-        measure(rt, versions, records)?;
+    for records in &SIZES {
+        versions.push(layouts::document(rt.alloc(), Layout::Flat, *records)?)?;
+        measure(rt, versions, *records)?;
     }
     Ok(())
 }

@@ -4,6 +4,7 @@ use crate::edits::layouts::{Layout, leaf};
 use crate::fault::Fault;
 use canvas_doc::{Edit, Parent, Spot};
 use canvas_plane::Pose;
+use canvas_shape::Kind;
 use std::alloc::Global;
 
 /// The sorts of edits.
@@ -34,48 +35,65 @@ impl Sort {
     pub fn edit(&self, alloc: Global, layout: Layout, records: u32) -> Result<Edit, Fault> {
         // A leaf of every layout.
         let id = records / 2 + 3;
-        // A parent with the most children.
-        let with_children = match layout {
-            Layout::Deep => Parent::Shape(32),
-            _ => Parent::Page,
-        };
-        // The root of a large subtree that can go elsewhere, and where.
-        let (root, elsewhere) = match layout {
-            Layout::Flat | Layout::Grown => (id, Parent::Page),
-            Layout::Deep => (32, Parent::Page),
-            _ => (66, Parent::Shape(2)),
-        };
-        Ok(match self {
-            Sort::Create => Edit::Create {
-                kind: leaf(alloc, layout, 7)?,
-                pose: Pose::STILL,
-                hidden: false,
-                parent: with_children,
-                spot: Spot::Front,
-            },
+        match self {
+            Sort::Create => Ok(creation(leaf(alloc, layout, 7)?, with_children(layout))),
+            Sort::Reshape => Ok(Edit::Reshape {
+                id,
+                kind: leaf(alloc, layout, 9)?,
+            }),
+            _ => Ok(self.edit_of(layout, id)),
+        }
+    }
+
+    // An edit of a sort that makes no leaf, where this is a leaf of every layout.
+    fn edit_of(&self, layout: Layout, id: u32) -> Edit {
+        let (root, elsewhere) = movable(layout, id);
+        match self {
             Sort::Move => Edit::Move {
                 id: root,
                 parent: elsewhere,
                 spot: Spot::Front,
             },
-            Sort::Pose => Edit::Pose {
-                id,
-                pose: Pose {
-                    dx: 3,
-                    dy: 4,
-                    quarter: 1,
-                    flip: false,
-                },
-            },
-            Sort::Reshape => Edit::Reshape {
-                id,
-                kind: leaf(alloc, layout, 9)?,
-            },
+            Sort::Pose => Edit::Pose { id, pose: TURNED },
             Sort::Show => Edit::Show { id, hidden: true },
             Sort::Delete => Edit::Delete { id: root },
-            Sort::Respace => Edit::Respace {
-                parent: with_children,
+            _ => Edit::Respace {
+                parent: with_children(layout),
             },
-        })
+        }
+    }
+}
+
+const TURNED: Pose = Pose {
+    dx: 3,
+    dy: 4,
+    quarter: 1,
+    flip: false,
+};
+
+fn creation(kind: Kind, parent: Parent) -> Edit {
+    Edit::Create {
+        kind,
+        pose: Pose::STILL,
+        hidden: false,
+        parent,
+        spot: Spot::Front,
+    }
+}
+
+// A parent with the most children.
+fn with_children(layout: Layout) -> Parent {
+    match layout {
+        Layout::Deep => Parent::Shape(32),
+        _ => Parent::Page,
+    }
+}
+
+// The root of a large subtree that can go elsewhere, and where; of a flat layout this leaf.
+fn movable(layout: Layout, leaf: u32) -> (u32, Parent) {
+    match layout {
+        Layout::Flat | Layout::Grown => (leaf, Parent::Page),
+        Layout::Deep => (32, Parent::Page),
+        _ => (66, Parent::Shape(2)),
     }
 }

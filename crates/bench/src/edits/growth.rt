@@ -17,12 +17,17 @@ const SIZES: [u32; 5] = [10, 100, 1_000, 4_096, 16_384];
 
 /// Times how documents grow.
 pub fn time_all<R: Clock + Print>(rt: &R, alloc: Global) -> Result<(), Fault> {
-    for records in SIZES {
-        let more = (records / 8).max(1);
-        let small = document(alloc, Layout::Grown, records.saturating_sub(more))?;
-        time_growth(rt, alloc, &small, records, more)?;
+    for records in &SIZES {
+        time_size(rt, alloc, *records)?;
     }
     Ok(())
+}
+
+/// Times how a document grows to so many records.
+fn time_size<R: Clock + Print>(rt: &R, alloc: Global, records: u32) -> Result<(), Fault> {
+    let more = (records / 8).max(1);
+    let small = document(alloc, Layout::Grown, records.saturating_sub(more))?;
+    time_growth(rt, alloc, &small, records, more)
 }
 
 /// Prints the least of some mean times of a new shape while a document grows to so many records by its last eighth. One
@@ -38,11 +43,12 @@ fn time_growth<R: Clock + Print>(
     for _ in 0..ROUNDS {
         least = least.min(time_round(rt, alloc, small, more)?);
     }
-    println!(rt;
-        "{:<9} {records:>6} growing {:?} a shape, the last {more}",
-        "grown",
-        Duration::from_nanos(least / u64::from(more.max(1)))
-    )?;
+    print_growth(rt, records, least / u64::from(more.max(1)), more)
+}
+
+fn print_growth<R: Print>(rt: &R, records: u32, each: u64, more: u32) -> Result<(), Fault> {
+    let each = Duration::from_nanos(each);
+    println!(rt; "grown     {records:>6} growing {each:?} a shape, the last {more}")?;
     Ok(())
 }
 
@@ -50,6 +56,9 @@ fn time_growth<R: Clock + Print>(
 fn time_round<R: Clock>(rt: &R, alloc: Global, small: &Document, more: u32) -> Result<u64, Fault> {
     let mut drawing = Drawing::of(alloc, small.try_clone(alloc)?);
     let start = now(rt);
-    extend(&mut drawing, SQUARE, more)?;
-    Ok(since(rt, start))
+    let grown = extend(&mut drawing, SQUARE, more);
+    let took = since(rt, start);
+    drop(drawing);
+    grown?;
+    Ok(took)
 }

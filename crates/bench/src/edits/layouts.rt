@@ -45,12 +45,12 @@ pub fn leaf(alloc: Global, layout: Layout, side: u32) -> Result<Kind, Fault> {
 }
 
 fn triangle(alloc: Global, side: i64) -> Result<Points, Fault> {
-    let corners = vec![in alloc;
+    let corners = [
         Point { x: 0, y: 0 },
         Point { x: side, y: 0 },
         Point { x: 0, y: side },
-    ]?;
-    Ok(Points::from_vec(corners))
+    ];
+    Ok(Points::from_vec(Vec::from_array(alloc, corners)?))
 }
 
 // The parent of the record of an id, and whether it is a group.

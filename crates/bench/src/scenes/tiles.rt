@@ -6,7 +6,7 @@ use bumpalo::Bump;
 use canvas_doc::Document;
 use canvas_paint::append_strip;
 use canvas_plane::Window;
-use canvas_scene::Scene;
+use canvas_scene::{Item, Scene};
 use std::alloc::Global;
 
 /// How often each tile is painted; its least times count.
@@ -94,8 +94,10 @@ impl Memory {
 // The bytes of a row, each another than the one before.
 fn ready_row() -> [u8; ROW] {
     let mut row = [0; ROW];
-    for column in 0..ROW {
-        row[column] = (column % 256) as u8;
+    let mut next = 0u8;
+    for byte in &mut row {
+        *byte = next;
+        next = next.wrapping_add(1);
     }
     row
 }
@@ -112,15 +114,26 @@ fn time_scene(
     let scene = Scene::build(bump, document, window)?;
     let built = since(rt, start);
     let list = scene.display_list();
-    out.clear();
-    let start = now(rt);
-    append_strip(rt.alloc(), list, window, 0, window.h(), out)?;
+    let painting = time_painting(rt, list, window, out)?;
     Ok(Cost {
         items: list.len() as u64,
         scene: built,
-        painting: since(rt, start),
+        painting,
         filling: 0,
     })
+}
+
+// The time of painting a tile.
+fn time_painting(
+    rt: &HostRuntime,
+    list: &[Item<'_>],
+    window: &Window,
+    out: &mut Vec<u8>,
+) -> Result<u64, Fault> {
+    out.clear();
+    let start = now(rt);
+    append_strip(rt.alloc(), list, window, 0, window.h(), out)?;
+    Ok(since(rt, start))
 }
 
 // The time of filling a tile with the ready row.

@@ -60,7 +60,6 @@ pub fn time_at_once<B: Lines + Send + Sync, R: Clock + Print + Threads + Wait + 
     seats: Vec<Seat<B>>,
     editors: usize,
 ) -> Result<(), Fault> {
-    println!(rt; "{:>2} seats, {editors} of which edit:", seats.len())?;
     let jobs = jobs(alloc, seats, editors)?;
     let done = thread::map_vec(rt, jobs, &|job: Job<B>| work(rt, job))?;
     print_done(rt, &done)
