@@ -1,7 +1,7 @@
 //! A server of one seat and its 1,001 connections, the first of which goes away in the middle of a picture.
 
 use crate::asserts::{equal, holds, holds_at};
-use crate::servers::{NO_SEATS, connected, listening, served, settings};
+use crate::servers::{NO_SEATS, ask, connected, listening, served, settings};
 use std::alloc::Global;
 use std::io::{Read, Write};
 use std::net::{Net, OpenStream, Shutdown, SocketAddr, TcpStream};
@@ -23,10 +23,7 @@ const OTHERS: u32 = 1_000;
 fn leave<H: Net<Stream = TcpStream> + Abort>(rt: &H, address: SocketAddr) -> [u8; 10] {
     let stream = connected(rt, address).expect(rt, "a client");
     let mut head = [0u8; 10];
-    (&stream)
-        .write_all(PICTURE.as_bytes())
-        .expect(rt, "a request");
-    (&stream).read_exact(&mut head).expect(rt, "ten bytes");
+    ask(rt, &stream, PICTURE, &mut head);
     head
 }
 
@@ -36,9 +33,9 @@ pub(crate) fn asking<H: Net<Stream = TcpStream>>(
     address: SocketAddr,
 ) -> io::Result<TcpStream> {
     let stream = connected(rt, address)?;
-    (&stream).write_all(POINT.as_bytes())?;
-    stream.shutdown(Shutdown::Write)?;
-    Ok(stream)
+    let written = (&stream).write_all(POINT.as_bytes());
+    let ended = stream.shutdown(Shutdown::Write);
+    written.and(ended).and(Ok(stream))
 }
 
 // What a connection that asks for a point reads until the server closes it.
@@ -49,8 +46,8 @@ fn asked<H: Net<Stream = TcpStream>>(
 ) -> io::Result<Vec<u8>> {
     let stream = asking(rt, address)?;
     let mut reply = Vec::new(alloc);
-    (&stream).read_to_end(&mut reply)?;
-    Ok(reply)
+    let read = (&stream).read_to_end(&mut reply);
+    read.and(Ok(reply))
 }
 
 fn is_told(answer: &io::Result<Vec<u8>>, line: &str) -> bool {

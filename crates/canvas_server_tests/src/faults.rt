@@ -14,13 +14,13 @@ fn assert_told(rt: &impl Abort, alloc: Global, fault: ServerFault, code: Option<
 
 #[test]
 fn faults_of_servers(rt: HostRuntime) {
-    for (fault, code, name) in [
+    for (fault, code, name) in &[
         (ServerFault::BadSetting, Some(32), "BadSetting"),
         (ServerFault::BadWorkers, Some(31), "BadWorkers"),
         (ServerFault::NoSeats, Some(19), "NoSeats"),
         (ServerFault::OutOfMemory, Some(1), "OutOfMemory"),
         (ServerFault::AcceptFault, None, "AcceptFault"),
     ] {
-        assert_told(&rt, rt.alloc(), fault, code, name);
+        assert_told(&rt, rt.alloc(), *fault, *code, name);
     }
 }

@@ -46,8 +46,15 @@ pub(crate) fn connected<H: Net<Stream = TcpStream>>(
     address: SocketAddr,
 ) -> io::Result<TcpStream> {
     let stream = TcpStream::connect(rt, address)?;
-    stream.set_read_timeout(Some(Duration::from_secs(20)))?;
-    Ok(stream)
+    let timed = stream.set_read_timeout(Some(Duration::from_secs(20)));
+    timed.and(Ok(stream))
+}
+
+/// Sends a line, and reads as many bytes of what is answered as the reply holds.
+pub(crate) fn ask(rt: &impl Abort, stream: &TcpStream, line: &str, reply: &mut [u8]) {
+    let mut stream = stream;
+    stream.write_all(line.as_bytes()).expect(rt, "a request");
+    stream.read_exact(reply).expect(rt, "its reply");
 }
 
 /// A listener on the loopback, and its address.
@@ -73,18 +80,15 @@ pub(crate) fn served<H: Threads + Wait + Clock + Sync>(
 fn edit<H: Net<Stream = TcpStream> + Abort>(rt: &H, address: SocketAddr, line: &str) -> [u8; 40] {
     let stream = connected(rt, address).expect(rt, "an editor");
     let mut reply = [0u8; 40];
-    (&stream).write_all(line.as_bytes()).expect(rt, "an edit");
-    (&stream).read_exact(&mut reply).expect(rt, "its reply");
+    ask(rt, &stream, line, &mut reply);
     reply
 }
 
 // The reply to a patch, asked for until it shows a version, at most 1,000 times.
 fn view(rt: &impl Abort, stream: &TcpStream, version: u8) -> [u8; 51] {
-    let mut stream = stream;
     let mut reply = [0u8; 51];
     for _ in 0..1000u32 {
-        stream.write_all(PATCH.as_bytes()).expect(rt, "a patch");
-        stream.read_exact(&mut reply).expect(rt, "its reply");
+        ask(rt, stream, PATCH, &mut reply);
         if reply[PATCH_VERSION] == version {
             break;
         }
@@ -123,12 +127,15 @@ fn a_viewer_sees_what_two_editors_made(rt: HostRuntime) {
 // What a second connection reads while the first, which was answered once, is still open.
 fn second<H: Net<Stream = TcpStream> + Abort>(rt: &H, address: SocketAddr) -> [u8; 49] {
     let first = connected(rt, address).expect(rt, "a first client");
-    let mut reply = [0u8; 51];
-    (&first).write_all(PATCH.as_bytes()).expect(rt, "a patch");
-    (&first).read_exact(&mut reply).expect(rt, "its reply");
-    let second = connected(rt, address).expect(rt, "a second client");
+    ask(rt, &first, PATCH, &mut [0u8; 51]);
+    refusal(rt, address)
+}
+
+// What a connection reads that asks nothing.
+fn refusal<H: Net<Stream = TcpStream> + Abort>(rt: &H, address: SocketAddr) -> [u8; 49] {
+    let stream = connected(rt, address).expect(rt, "a second client");
     let mut reply = [0u8; 49];
-    (&second).read_exact(&mut reply).expect(rt, "a refusal");
+    (&stream).read_exact(&mut reply).expect(rt, "a refusal");
     reply
 }
 
@@ -148,15 +155,15 @@ fn a_full_house_says_so(rt: HostRuntime) {
 #[test]
 fn bad_settings_come_first(rt: HostRuntime) {
     let (listener, _) = listening(&rt);
-    for (seats, workers, fault) in [
+    for (seats, workers, fault) in &[
         (0, 17, ServerFault::BadSetting),
         (65, 1, ServerFault::BadSetting),
         (1, 17, ServerFault::BadWorkers),
         (1, 0, ServerFault::BadWorkers),
     ] {
-        let settings = settings(seats, workers, 1);
+        let settings = settings(*seats, *workers, 1);
         let ended = served(&rt, rt.alloc(), &listener, &settings);
-        equal(&rt, "the end", &ended, &Err(fault));
+        equal(&rt, "the end", &ended, &Err(*fault));
     }
 }
 

@@ -12,13 +12,13 @@ fn check_read(rt: &impl Abort, words: &[&str], wanted: Option<Command>) {
 
 #[test]
 fn commands(rt: HostRuntime) {
-    for (word, workers) in [("1", 1), ("2", 2), ("9", 9), ("10", 10), ("16", 16)] {
-        let wanted = Command::Script { workers };
+    for (word, workers) in &[("1", 1), ("2", 2), ("9", 9), ("10", 10), ("16", 16)] {
+        let wanted = Command::Script { workers: *workers };
         check_read(&rt, &["script", word], Some(wanted));
     }
     let wanted = Command::Script { workers: 2 };
     check_read(&rt, &["script"], Some(wanted));
-    for word in [
+    for word in &[
         "0",
         "17",
         "02",
@@ -33,12 +33,12 @@ fn commands(rt: HostRuntime) {
     ] {
         check_read(&rt, &["script", word], None);
     }
-    for words in [
+    for words in &[
         ["script", "2", "3"],
         ["Serve", "a", "b"],
         ["Script", "", ""],
     ] {
-        check_read(&rt, &words, None);
+        check_read(&rt, words, None);
     }
     check_read(&rt, &[], None);
 }
@@ -68,7 +68,7 @@ fn servers(rt: HostRuntime) {
 
 #[test]
 fn statuses(rt: HostRuntime) {
-    for (code, status) in [
+    for row in &[
         (Some(61), 3),
         (Some(62), 3),
         (Some(50), 3),
@@ -81,7 +81,8 @@ fn statuses(rt: HostRuntime) {
         (Some(33), 5),
         (None, 4),
     ] {
+        let (code, _) = *row;
         let found = (code, exit_status(code));
-        equal(&rt, "code and status", &found, &(code, status));
+        equal(&rt, "code and status", &found, row);
     }
 }
