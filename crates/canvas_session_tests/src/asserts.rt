@@ -10,7 +10,8 @@ pub(crate) fn holds(rt: &impl Abort, what: &str, is_so: bool) {
 
 /// Ends the test with these words and both values unless they are equal.
 pub(crate) fn equal<T: PartialEq + Debug>(rt: &impl Abort, what: &str, left: &T, right: &T) {
-    assert!(rt; left == right, "{what}: {left:?} is not {right:?}");
+    let is_equal = left == right;
+    assert!(rt; is_equal, "{what}: {left:?} is not {right:?}");
 }
 
 /// Ends the test with these words and this number unless it is so.

@@ -329,11 +329,23 @@ fn refuses<B: Lines, H: Wait + Abort>(rt: &H, alloc: Global, opened: Opened, doc
     requires { B.line 1 ≡ record { book = opened.head.word.book; opening = document; limit = 10 } }
 {
     let mut seats = Line::open::<B, H>(rt, alloc, opened, 1, document, 1, 10).expect(rt, "a line");
-    let mut seat = seats.pop().expect(rt, "a seat");
+    let seat = edited(rt, seats.pop());
+    let seat = refused(rt, alloc, seat);
+    let mut board = board(rt, alloc, Some(seat), 256);
+    check_edit(rt, &mut board, square(1, 0), 2, Some(2));
+}
+
+// The seat, once it has made a shape.
+fn edited<B: Lines, H: Wait + Abort>(rt: &H, seat: Option<Seat<B>>) -> Seat<B> {
+    let mut seat = seat.expect(rt, "a seat");
     seat.edit(rt, &square(1, 0)).expect(rt, "an edit");
+    seat
+}
+
+// The seat, once a board that would keep too many pictures has given it back.
+fn refused<B: Lines>(rt: &impl Abort, alloc: Global, seat: Seat<B>) -> Seat<B> {
     let (fault, seat) = Shared::new(alloc, seat, 257).err().expect(rt, "a refusal");
     equal(rt, "the refusal", &fault.code(), &32);
     equal(rt, "the version", &seat.number(), &1);
-    let mut board = Shared::new(alloc, seat, 256).ok().expect(rt, "a board");
-    check_edit(rt, &mut board, square(1, 0), 2, Some(2));
+    seat
 }

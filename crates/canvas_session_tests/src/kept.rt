@@ -139,7 +139,7 @@ fn hidden_square() -> Edit {
 
 #[test]
 fn a_picture_is_answered_again_where_no_change_meets_it(rt: HostRuntime) {
-    let rows = [
+    let rows = &[
         (TEN, FAR, 1, 1),
         (TEN, FAR, 64, 1),
         (TEN, Act::Square { side: 10, dx: 16 }, 1, 1),
@@ -162,12 +162,12 @@ fn a_picture_is_answered_again_where_no_change_meets_it(rt: HostRuntime) {
         (TEN, Act::Delete { id: 9 }, 70, 1),
         (TEN, Act::Group, 0, 1),
     ];
-    play_rows(&rt, rt.alloc(), 4, &rows)
+    play_rows(&rt, rt.alloc(), 4, rows)
 }
 
 #[test]
 fn a_picture_that_a_change_meets_is_painted_anew(rt: HostRuntime) {
-    let rows = [
+    let rows = &[
         (TEN, Act::Square { side: 2, dx: 3 }, 1, 0),
         (TEN, Act::Square { side: 10, dx: 15 }, 1, 0),
         (TEN, Act::Square { side: 10, dx: -9 }, 1, 0),
@@ -179,13 +179,13 @@ fn a_picture_that_a_change_meets_is_painted_anew(rt: HostRuntime) {
         (TEN, FAR, 65, 0),
         (TEN, Act::Group, 65, 0),
     ];
-    play_rows(&rt, rt.alloc(), 4, &rows)
+    play_rows(&rt, rt.alloc(), 4, rows)
 }
 
 #[test]
 fn a_board_that_keeps_none_paints_each_picture(rt: HostRuntime) {
-    let rows = [(TEN, FAR, 1, 0), (TEN, Act::Group, 0, 0)];
-    play_rows(&rt, rt.alloc(), 0, &rows)
+    let rows = &[(TEN, FAR, 1, 0), (TEN, Act::Group, 0, 0)];
+    play_rows(&rt, rt.alloc(), 0, rows)
 }
 
 /// So many windows asked in turn, three times over, and how many pictures are answered as kept.
@@ -211,7 +211,7 @@ impl Play for InTurn {
 #[test]
 fn as_many_windows_as_are_kept(rt: HostRuntime) {
     let alloc = rt.alloc();
-    for (keep, windows, hits) in [
+    for (keep, windows, hits) in &[
         (0, 1, 0),
         (1, 1, 2),
         (1, 2, 0),
@@ -219,8 +219,11 @@ fn as_many_windows_as_are_kept(rt: HostRuntime) {
         (4, 5, 0),
         (256, 9, 18),
     ] {
-        let play = InTurn { windows, hits };
-        play_at(&rt, alloc, Document::empty(alloc), keep, &play);
+        let play = InTurn {
+            windows: *windows,
+            hits: *hits,
+        };
+        play_at(&rt, alloc, Document::empty(alloc), *keep, &play);
     }
 }
 
@@ -337,7 +340,8 @@ impl Play for KeptOn {
     fn play<B: Lines, H: Threads + Wait + Abort + Sync>(&self, rt: &H, table: &mut Table<B>) {
         let window = window_at(rt, 0, 0);
         let mut hits: u64 = 0;
-        for changes in [1, 64, 64, 40, 64, 65, 64] {
+        for changes in &[1u64, 64, 64, 40, 64, 65, 64] {
+            let changes = *changes;
             for _ in 0..changes {
                 table.check_edit(rt, false, square(1, 500));
             }
@@ -363,11 +367,18 @@ impl Play for Workers {
     fn play<B: Lines, H: Threads + Wait + Abort + Sync>(&self, rt: &H, table: &mut Table<B>) {
         let window = window_at(rt, 0, 0);
         table.check_edit(rt, true, square(10, 0));
-        for (workers, hits) in [(1, 0), (17, 0), (16, 1), (0, 1), (2, 2), (17, 2)] {
+        for wanted in &[
+            (1, false, 0),
+            (17, true, 0),
+            (16, false, 1),
+            (0, true, 1),
+            (2, false, 2),
+            (17, true, 2),
+        ] {
+            let (workers, _, _) = *wanted;
             let is_refused = refuses_workers(rt, table, &window, workers);
             let found = (workers, is_refused, table.viewer.hits());
-            let is_bad = workers == 0 || workers == 17;
-            equal(rt, "workers", &found, &(workers, is_bad, hits));
+            equal(rt, "workers", &found, wanted);
         }
     }
 }

@@ -10,6 +10,8 @@ mod boards;
 #[cfg(test)]
 mod dice;
 #[cfg(test)]
+mod fakes;
+#[cfg(test)]
 mod kept;
 #[cfg(test)]
 mod memory;

@@ -131,9 +131,12 @@ fn check_picture<B: Lines, H: Threads + Wait + Abort + Sync>(
 
 // Checks what a board answers after the three edits.
 fn check_the_end<B: Lines, R: Abort>(rt: &R, board: &mut Shared<B>) {
-    for (x, colour) in [(0, WHITE), (109, RED), (500, RED)] {
-        let wanted = Ok(Dot { version: 3, colour });
-        equal(rt, "a colour at the end", &seen(board, x), &wanted);
+    for (x, colour) in &[(0, WHITE), (109, RED), (500, RED)] {
+        let wanted = Ok(Dot {
+            version: 3,
+            colour: *colour,
+        });
+        equal(rt, "a colour at the end", &seen(board, *x), &wanted);
     }
     let saved = saved(board).expect(rt, "a saved document");
     equal(rt, "its version", &saved.version, &3);

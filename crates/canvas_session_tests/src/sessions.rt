@@ -4,13 +4,12 @@ ghost use Rattle.std.specs.Prelude.{◌≡◌};
 
 use crate::asserts::{equal, holds};
 use crate::boards::first_board;
+use crate::fakes::{Drip, Narrow};
 use canvas_board::Shared;
 use canvas_doc::Document;
 use canvas_line::{Lines, Opened};
 use canvas_session::{Served, SessionFault, serve};
 use std::alloc::Global;
-use std::io;
-use std::io::{Read, Write};
 use std::marker::Brand;
 use std::process::Abort;
 use std::sync::Wait;
@@ -91,46 +90,6 @@ fn answers(rt: &impl Abort, alloc: Global) -> Vec<u8> {
     out
 }
 
-/// A reader that gives one byte a read.
-#[derive(Drop)]
-struct Drip<'a> {
-    rest: &'a [u8],
-}
-
-impl Read for Drip<'_> {
-    fn read(&mut self, buf: &mut [u8]) -> io::Result<usize> {
-        if buf.is_empty() {
-            return Ok(0);
-        }
-        match self.rest {
-            [] => Ok(0),
-            [first, others @ ..] => {
-                buf[0] = *first;
-                self.rest = others;
-                Ok(1)
-            }
-        }
-    }
-}
-
-/// A writer that takes one byte a write.
-#[derive(Drop)]
-struct Narrow {
-    out: Vec<u8>,
-}
-
-impl Write for Narrow {
-    fn write(&mut self, buf: &[u8]) -> io::Result<usize> {
-        let n = buf.len().min(1);
-        self.out.extend_from_slice(&buf[..n])?;
-        Ok(n)
-    }
-
-    fn flush(&mut self) -> io::Result<()> {
-        Ok(())
-    }
-}
-
 #[test]
 fn a_session_in_one_piece(rt: HostRuntime) {
     let alloc = rt.alloc();
@@ -195,9 +154,14 @@ fn check_bytes<B: Lines, H: Threads + Wait + Abort + Sync>(
     alloc: Global,
     board: &mut Shared<B>,
 ) {
-    let mut drip = Drip { rest: requests() };
+    let mut drip = Drip {
+        rest: requests(),
+        reads_left: usize::MAX,
+    };
     let mut narrow = Narrow {
         out: Vec::new(alloc),
+        step: 1,
+        room: usize::MAX,
     };
     let served = serve(rt, alloc, board, 1, &mut drip, &mut narrow);
     check_answers(rt, alloc, served, &narrow.out);

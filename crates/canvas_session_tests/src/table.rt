@@ -7,7 +7,7 @@ use crate::asserts::{equal, holds};
 use crate::boards::board;
 use canvas_board::{Board, Picture, Shared};
 use canvas_doc::{Document, Edit};
-use canvas_line::{Line, Lines, Opened};
+use canvas_line::{Line, Lines, Opened, Seat};
 use canvas_plane::Window;
 use std::alloc::Global;
 use std::marker::Brand;
@@ -135,11 +135,23 @@ fn opened<B: Lines, P: Play, H: Threads + Wait + Abort + Sync>(
     requires line { B.line 1 ≡ record { book = opened.head.word.book; opening = document; limit = 4000 } }
 {
     let seats = Line::open::<B, H>(rt, alloc, opened, 1, document, 3, LIMIT);
-    let mut seats = seats.expect(rt, "a line");
-    let mut table = Table {
-        viewer: board(rt, alloc, seats.pop(), keep),
-        editor: board(rt, alloc, seats.pop(), 0),
-        witness: board(rt, alloc, seats.pop(), 0),
-    };
+    let mut table = seated(rt, alloc, seats.expect(rt, "a line"), keep);
     play.play(rt, &mut table)
+}
+
+// Boards of three seats, of which one keeps so many pictures.
+fn seated<B: Lines>(
+    rt: &impl Abort,
+    alloc: Global,
+    mut seats: Vec<Seat<B>>,
+    keep: u32,
+) -> Table<B> {
+    let viewer = board(rt, alloc, seats.pop(), keep);
+    let editor = board(rt, alloc, seats.pop(), 0);
+    let witness = board(rt, alloc, seats.pop(), 0);
+    Table {
+        viewer,
+        editor,
+        witness,
+    }
 }

@@ -1,6 +1,6 @@
 //! Edits, pictures and refusals of a board.
 
-use crate::alone::asserts::{equal, holds_at};
+use crate::asserts::{equal, holds_at};
 use canvas_board::{Alone, Board, BoardFault, Dot, Edited};
 use canvas_doc::{Document, Edit, Parent, Refusal, Spot};
 use canvas_plane::{Pose, Window};
@@ -68,7 +68,7 @@ fn check_picture<H: Abort + Threads + Wait + Sync>(
     let picture = board.picture(rt, window, workers).expect(rt, "a picture");
     equal(rt, "its version", &picture.version, &version);
     let is_painted = picture.bytes.as_slice() == want;
-    holds_at(rt, "its bytes by workers", workers as usize, is_painted);
+    holds_at(rt, "its bytes by workers", workers.into(), is_painted);
 }
 
 // Asserts that no board takes such a limit.
@@ -133,12 +133,11 @@ fn versions_are_spent_first(rt: HostRuntime) {
 
 // The picture of 256 by 2 pixels whose first two are red.
 fn red_corner(rt: &impl Abort, alloc: Global) -> Vec<u8> {
-    let white = vec![in alloc; 255u8; 1530].expect(rt, "memory");
     let mut bytes = Vec::new(alloc);
     bytes
         .extend_from_slice(b"P6\n256 2\n255\n\xff\x00\x00\xff\x00\x00")
         .expect(rt, "memory");
-    bytes.extend_from_slice(&white).expect(rt, "memory");
+    bytes.extend_from_slice(&[255; 1530]).expect(rt, "memory");
     bytes
 }
 
@@ -159,15 +158,30 @@ fn numbers_of_workers(rt: HostRuntime) {
     let mut board = board(&rt, alloc, 1);
     check_edit(&rt, &mut board, rectangle(RED), accepted(1, 1));
     let window = window(&rt, 256, 2);
-    check_no_picture(&rt, &mut board, &window, 0);
-    check_no_picture(&rt, &mut board, &window, 17);
-    check_no_picture(&rt, &mut board, &window, u32::MAX);
+    check_bad_workers(&rt, &mut board, &window);
     let fault = BoardFault::BadWorkers;
     let told = (fault.code(), fault.name());
     equal(&rt, "the refusal", &told, &(31, "BadWorkers"));
     let want = red_corner(&rt, alloc);
     equal(&rt, "bytes", &want.len(), &1_549);
-    check_picture(&rt, &mut board, &window, 1, 1, &want);
-    check_picture(&rt, &mut board, &window, 3, 1, &want);
-    check_picture(&rt, &mut board, &window, 16, 1, &want);
+    check_workers(&rt, &mut board, &window, &want);
+}
+
+// Asserts that no picture is painted by none, or by more than sixteen.
+fn check_bad_workers<H: Abort + Threads + Wait + Sync>(rt: &H, board: &mut Alone, window: &Window) {
+    check_no_picture(rt, board, window, 0);
+    check_no_picture(rt, board, window, 17);
+    check_no_picture(rt, board, window, u32::MAX);
+}
+
+// Asserts that one, three and sixteen workers paint these bytes.
+fn check_workers<H: Abort + Threads + Wait + Sync>(
+    rt: &H,
+    board: &mut Alone,
+    window: &Window,
+    want: &[u8],
+) {
+    check_picture(rt, board, window, 1, 1, want);
+    check_picture(rt, board, window, 3, 1, want);
+    check_picture(rt, board, window, 16, 1, want);
 }

@@ -1,9 +1,9 @@
 //! Sessions over readers and writers that are slow, fail, or end too early.
 
-use crate::alone::asserts::{equal, holds, holds_at};
-use crate::alone::fakes::{Counting, Drip, Flushed, Narrow, Same};
 use crate::alone::serving::{check, front, is_fault, lines_in, served};
 use crate::alone::sessions::{RED, RED_ANSWERS};
+use crate::asserts::{equal, holds, holds_at};
+use crate::fakes::{Counting, Drip, Flushed, Narrow, Same};
 use canvas_session::{Cause, Served, SessionFault};
 use std::alloc::Global;
 use std::process::Abort;
@@ -23,7 +23,7 @@ fn a_writer_that_fails(rt: HostRuntime) {
     equal(&rt, "bytes", &output.len(), &94);
     for room in 0..94usize {
         let is_full = fills(&rt, rt.alloc(), RED, output, room);
-        holds_at(&rt, "room for", room, is_full);
+        holds_at(&rt, "room for", room as u64, is_full);
     }
 }
 
@@ -91,7 +91,7 @@ fn an_input_that_is_cut(rt: HostRuntime) {
     for end in 0..=input.len() {
         let cut = front(input, end);
         let is_ended = ends_where_cut(&rt, rt.alloc(), cut, RED_ANSWERS);
-        holds_at(&rt, "cut at", end, is_ended);
+        holds_at(&rt, "cut at", end as u64, is_ended);
     }
 }
 
@@ -133,7 +133,7 @@ fn a_reader_that_fails(rt: HostRuntime) {
     let input = RED;
     for reads in 0..=input.len() {
         let is_ended = ends_unread(&rt, rt.alloc(), input, RED_ANSWERS, reads);
-        holds_at(&rt, "failed after", reads, is_ended);
+        holds_at(&rt, "failed after", reads as u64, is_ended);
     }
 }
 
@@ -234,15 +234,13 @@ fn a_writer_whose_second_flush_fails(rt: HostRuntime) {
 // The closing reply to a line that is too long is flushed too.
 #[test]
 fn a_writer_whose_last_flush_fails(rt: HostRuntime) {
-    let write = Cause::WriteFault;
-    let long = Cause::LineTooLong;
-    for (flushes, cause, code, written) in [
-        (0, write, 72, 0),
-        (1, write, 72, 53),
-        (2, long, 70, 53),
+    for (flushes, cause, code, written) in &[
+        (0usize, Cause::WriteFault, 72, 0),
+        (1, Cause::WriteFault, 72, 53),
+        (2, Cause::LineTooLong, 70, 53),
     ] {
-        let is_ended = flushes_out(&rt, rt.alloc(), flushes, cause, code, written);
-        holds_at(&rt, "flushes", flushes, is_ended);
+        let is_ended = flushes_out(&rt, rt.alloc(), *flushes, *cause, *code, *written);
+        holds_at(&rt, "flushes", *flushes as u64, is_ended);
     }
 }
 

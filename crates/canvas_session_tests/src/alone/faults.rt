@@ -1,6 +1,6 @@
 //! The number, the name and the text of each refusal, but for those of lines and of servers.
 
-use crate::alone::asserts::holds;
+use crate::asserts::holds;
 use canvas_board::BoardFault;
 use canvas_code::OutOfMemory;
 use canvas_doc::{Refusal, TreeFault};
@@ -24,14 +24,20 @@ fn assert_told<T: Display>(
     found: (u16, &str),
     wanted: (u16, &str),
 ) {
+    let (_, name) = wanted;
+    let is_told = found == wanted;
+    holds(rt, name, is_told && reads_as(rt, alloc, fault, name));
+}
+
+// Whether a fault reads as such a name.
+fn reads_as<T: Display>(rt: &impl Abort, alloc: Global, fault: &T, name: &str) -> bool {
     let text = format!(in alloc; "{fault}").expect(rt, "memory");
-    let name = wanted.1;
-    holds(rt, name, found == wanted && text.as_str() == name);
+    text.as_str() == name
 }
 
 #[test]
 fn faults_of_keys(rt: HostRuntime) {
-    for (fault, code, name) in [
+    for (fault, code, name) in &[
         (KeyFault::NoRoom, 13, "NoRoom"),
         (KeyFault::BadHead, 20, "BadHead"),
         (KeyFault::TooShort, 21, "TooShort"),
@@ -41,7 +47,7 @@ fn faults_of_keys(rt: HostRuntime) {
         (KeyFault::KeyTooLong, 25, "KeyTooLong"),
     ] {
         let found = (fault.code(), fault.name());
-        assert_told(&rt, rt.alloc(), &fault, found, (code, name));
+        assert_told(&rt, rt.alloc(), fault, found, (*code, *name));
     }
 }
 
@@ -58,25 +64,25 @@ fn faults_of_values(rt: HostRuntime) {
         (pose.code(), pose.name()),
         (9, "BadPose"),
     );
-    for (fault, code, name) in [
+    for (fault, code, name) in &[
         (WindowFault::BadLevel, 34, "BadLevel"),
         (WindowFault::BadWindow, 30, "BadWindow"),
     ] {
         let found = (fault.code(), fault.name());
-        assert_told(&rt, alloc, &fault, found, (code, name));
+        assert_told(&rt, alloc, fault, found, (*code, *name));
     }
-    for (fault, code, name) in [
+    for (fault, code, name) in &[
         (KindFault::BadSize, 8, "BadSize"),
         (KindFault::BadPolygon, 10, "BadPolygon"),
     ] {
         let found = (fault.code(), fault.name());
-        assert_told(&rt, alloc, &fault, found, (code, name));
+        assert_told(&rt, alloc, fault, found, (*code, *name));
     }
 }
 
 #[test]
 fn refusals_of_edits(rt: HostRuntime) {
-    for (fault, code, name) in [
+    for (fault, code, name) in &[
         (Refusal::OutOfMemory, 1, "OutOfMemory"),
         (Refusal::NoSuchShape, 2, "NoSuchShape"),
         (Refusal::NoSuchParent, 3, "NoSuchParent"),
@@ -95,16 +101,16 @@ fn refusals_of_edits(rt: HostRuntime) {
     ] {
         let alloc = rt.alloc();
         let found = (fault.code(), fault.name());
-        assert_told(&rt, alloc, &fault, found, (code, name));
-        let board = BoardFault::Refused(fault);
+        assert_told(&rt, alloc, fault, found, (*code, *name));
+        let board = BoardFault::Refused(*fault);
         let found = (board.code(), board.name());
-        assert_told(&rt, alloc, &board, found, (code, name));
+        assert_told(&rt, alloc, &board, found, (*code, *name));
     }
 }
 
 #[test]
 fn faults_of_boards(rt: HostRuntime) {
-    for (fault, code, name) in [
+    for (fault, code, name) in &[
         (BoardFault::OutOfMemory, 1, "OutOfMemory"),
         (BoardFault::VersionsSpent, 16, "VersionsSpent"),
         (BoardFault::Behind { desk: 1, front: 2 }, 17, "Behind"),
@@ -114,21 +120,21 @@ fn faults_of_boards(rt: HostRuntime) {
         (BoardFault::NoView, 33, "NoView"),
     ] {
         let found = (fault.code(), fault.name());
-        assert_told(&rt, rt.alloc(), &fault, found, (code, name));
+        assert_told(&rt, rt.alloc(), fault, found, (*code, *name));
     }
 }
 
 #[test]
 fn faults_of_pictures(rt: HostRuntime) {
     let alloc = rt.alloc();
-    for (fault, code, name) in [
+    for (fault, code, name) in &[
         (PaintFault::BadWorkers, 31, "BadWorkers"),
         (PaintFault::OutOfMemory, 1, "OutOfMemory"),
     ] {
         let found = (fault.code(), fault.name());
-        assert_told(&rt, alloc, &fault, found, (code, name));
+        assert_told(&rt, alloc, fault, found, (*code, *name));
     }
-    for (fault, code, name) in [
+    for (fault, code, name) in &[
         (PpmFault::NotP6, 40, "NotP6"),
         (PpmFault::BadHeader, 41, "BadHeader"),
         (PpmFault::Truncated, 42, "Truncated"),
@@ -136,22 +142,22 @@ fn faults_of_pictures(rt: HostRuntime) {
         (PpmFault::OutOfMemory, 1, "OutOfMemory"),
     ] {
         let found = (fault.code(), fault.name());
-        assert_told(&rt, alloc, &fault, found, (code, name));
+        assert_told(&rt, alloc, fault, found, (*code, *name));
     }
 }
 
 #[test]
 fn faults_of_saved_documents(rt: HostRuntime) {
     let alloc = rt.alloc();
-    for (fault, code, name) in [
+    for (fault, code, name) in &[
         (TreeFault::OutOfMemory, 1, "OutOfMemory"),
         (TreeFault::BadRecord { position: 3 }, 61, "BadRecord"),
         (TreeFault::BadTree { position: 3 }, 62, "BadTree"),
     ] {
         let found = (fault.code(), fault.name());
-        assert_told(&rt, alloc, &fault, found, (code, name));
+        assert_told(&rt, alloc, fault, found, (*code, *name));
     }
-    for (fault, code, name) in [
+    for (fault, code, name) in &[
         (StoreFault::OutOfMemory, 1, "OutOfMemory"),
         (StoreFault::BadJson, 50, "BadJson"),
         (StoreFault::BadFormat, 60, "BadFormat"),
@@ -159,7 +165,7 @@ fn faults_of_saved_documents(rt: HostRuntime) {
         (StoreFault::BadTree { position: 3 }, 62, "BadTree"),
     ] {
         let found = (fault.code(), fault.name());
-        assert_told(&rt, alloc, &fault, found, (code, name));
+        assert_told(&rt, alloc, fault, found, (*code, *name));
     }
 }
 
@@ -180,7 +186,7 @@ fn faults_of_requests(rt: HostRuntime) {
 
 #[test]
 fn causes_that_end_a_session(rt: HostRuntime) {
-    for (cause, code, name) in [
+    for (cause, code, name) in &[
         (Cause::OutOfMemory, 1, "OutOfMemory"),
         (Cause::LineTooLong, 70, "LineTooLong"),
         (Cause::ReadFault, 71, "ReadFault"),
@@ -190,13 +196,13 @@ fn causes_that_end_a_session(rt: HostRuntime) {
     ] {
         let alloc = rt.alloc();
         let found = (cause.code(), cause.name());
-        assert_told(&rt, alloc, &cause, found, (code, name));
+        assert_told(&rt, alloc, cause, found, (*code, *name));
         let fault = SessionFault {
-            cause,
+            cause: *cause,
             answered: 1,
             written: 2,
         };
         let found = (fault.code(), fault.name());
-        assert_told(&rt, alloc, &fault, found, (code, name));
+        assert_told(&rt, alloc, &fault, found, (*code, *name));
     }
 }

@@ -1,6 +1,6 @@
 //! A board's document after each refusal: it is as it was before.
 
-use crate::alone::asserts::{equal, holds};
+use crate::asserts::{equal, holds};
 use canvas_board::{Alone, Board, BoardFault};
 use canvas_doc::{Document, Edit, MOST_RECORDS, Parent, Place, Record, Refusal, Spot};
 use canvas_key::{Key, fresh};

@@ -1,9 +1,9 @@
 //! Sessions for which memory may be refused: run with each allocation refused in turn, nothing is read, or one line is answered by
 //! want of memory and all others as they should be; what was refused is asked again, and answered in full.
 
-use crate::alone::asserts::holds;
 use crate::alone::serving::board;
 use crate::alone::sessions::{RED, RED_ANSWERS};
+use crate::asserts::holds;
 use canvas_board::Alone;
 use canvas_doc::Document;
 use canvas_session::{Cause, Served, SessionFault, serve};

@@ -1,8 +1,8 @@
 //! Worked sessions, from the bytes of the requests to the bytes of the answers: each is served in one piece and byte by
 //! byte, with and without a CR before each LF.
 
-use crate::alone::asserts::holds;
 use crate::alone::serving::{answers, board, check};
+use crate::asserts::holds;
 use canvas_doc::Document;
 use std::alloc::Global;
 use std::process::Abort;
@@ -14,6 +14,10 @@ const RECTANGLE: &str = r#"{"verb":"create","shape":{"kind":"rect","w":2,"h":1,"
 const FOUR_PIXELS: &str = r#"{"verb":"patch","x":0,"y":0,"w":4,"h":1}"#;
 
 const FOUR_HEADER: &str = "P6\n4 1\n255\n";
+
+const TWELVE_PIXELS: &str = r#"{"verb":"patch","x":0,"y":0,"w":6,"h":2}"#;
+
+const TWELVE_HEADER: &str = "P6\n6 2\n255\n";
 
 /// A request of a session, and how it is answered.
 #[derive(Clone, Copy)]
@@ -88,6 +92,15 @@ impl Session {
             r#"{{"body":0,"id":{id},"ok":true,"version":{version}}}"#
         );
         self.line(rt, request, &answer.expect(rt, "memory"));
+    }
+
+    /// A request that makes a group below another, of the next id and version.
+    fn creates_below(&mut self, rt: &impl Abort, parent: u32) {
+        let request = format!(in self.alloc;
+            r#"{{"verb":"create","shape":{{"kind":"group"}},"parent":{parent}}}"#
+        ).expect(rt, "memory");
+        let id = parent.saturating_add(1);
+        self.creates(rt, &request, id, id);
     }
 
     /// A request that makes another edit.
@@ -225,17 +238,21 @@ fn lines_on_an_empty_document(rt: HostRuntime) {
 fn deep_nesting_is_no_json(rt: HostRuntime) {
     let alloc = rt.alloc();
     let mut line = String::new(alloc);
-    for bracket in ["[", "]"] {
-        for _ in 0..200 {
-            line.push_str(bracket).expect(&rt, "memory");
-        }
-    }
+    push_often(&rt, &mut line, "[");
+    push_often(&rt, &mut line, "]");
     check_steps(&rt, alloc, &[Step::Refuses(line.as_str(), 50, "BadJson")]);
+}
+
+// Puts a bracket behind a line, 200 times.
+fn push_often(rt: &impl Abort, line: &mut String, bracket: &str) {
+    for _ in 0..200u32 {
+        line.push_str(bracket).expect(rt, "memory");
+    }
 }
 
 #[test]
 fn lines_on_one_rectangle(rt: HostRuntime) {
-    let steps = [
+    let steps = &[
         Step::Creates(RECTANGLE, 1, 1),
         Step::Refuses(
             r#"{"verb":"create","shape":{"kind":"group"},"parent":1}"#,
@@ -268,7 +285,7 @@ fn lines_on_one_rectangle(rt: HostRuntime) {
             br#"{"format":2,"next":2,"shapes":[{"hidden":false,"id":1,"place":{"index":"a0","parent":null},"pose":{"dx":0,"dy":0,"flip":false,"quarter":0},"shape":{"fill":"ff0000","h":1,"kind":"rect","w":2}}]}"#,
         ),
     ];
-    check_steps(&rt, rt.alloc(), &steps);
+    check_steps(&rt, rt.alloc(), steps);
 }
 
 /// Windows that are refused by their level before all else.
@@ -322,7 +339,7 @@ fn levels_that_are_refused(rt: HostRuntime) {
 
 #[test]
 fn patches_of_a_level(rt: HostRuntime) {
-    let steps = [
+    let steps = &[
         Step::Creates(
             r#"{"verb":"create","shape":{"kind":"rect","w":10,"h":10,"fill":"ff0000"}}"#,
             1,
@@ -347,12 +364,12 @@ fn patches_of_a_level(rt: HostRuntime) {
             "w",
         ),
     ];
-    check_steps(&rt, rt.alloc(), &steps);
+    check_steps(&rt, rt.alloc(), steps);
 }
 
 #[test]
 fn a_pixel_between_those_of_a_level_is_not_seen(rt: HostRuntime) {
-    let steps = [
+    let steps = &[
         Step::Creates(
             r#"{"verb":"create","shape":{"kind":"rect","w":1,"h":1,"fill":"ff0000"},"pose":{"dx":1}}"#,
             1,
@@ -371,12 +388,12 @@ fn a_pixel_between_those_of_a_level_is_not_seen(rt: HostRuntime) {
             "wr",
         ),
     ];
-    check_steps(&rt, rt.alloc(), &steps);
+    check_steps(&rt, rt.alloc(), steps);
 }
 
 #[test]
 fn a_turned_frame_cuts_what_it_holds(rt: HostRuntime) {
-    let steps = [
+    let steps = &[
         Step::Creates(
             r#"{"verb":"create","shape":{"kind":"frame","w":2,"h":1},"pose":{"dx":1,"quarter":1}}"#,
             1,
@@ -394,13 +411,12 @@ fn a_turned_frame_cuts_what_it_holds(rt: HostRuntime) {
             "wwwwgwwgwwww",
         ),
     ];
-    check_steps(&rt, rt.alloc(), &steps);
+    check_steps(&rt, rt.alloc(), steps);
 }
 
 #[test]
 fn frames_in_frames_cut_and_hide(rt: HostRuntime) {
-    let patch = r#"{"verb":"patch","x":0,"y":0,"w":6,"h":2}"#;
-    let steps = [
+    let steps = &[
         Step::Creates(
             r#"{"verb":"create","shape":{"kind":"frame","w":4,"h":4}}"#,
             1,
@@ -416,16 +432,16 @@ fn frames_in_frames_cut_and_hide(rt: HostRuntime) {
             3,
             3,
         ),
-        Step::Paints(patch, 3, "P6\n6 2\n255\n", "ggggwwggggww"),
+        Step::Paints(TWELVE_PIXELS, 3, TWELVE_HEADER, "ggggwwggggww"),
         Step::Edits(r#"{"verb":"show","id":1,"hidden":true}"#, 4),
-        Step::Paints(patch, 4, "P6\n6 2\n255\n", "wwwwwwwwwwww"),
+        Step::Paints(TWELVE_PIXELS, 4, TWELVE_HEADER, "wwwwwwwwwwww"),
     ];
-    check_steps(&rt, rt.alloc(), &steps);
+    check_steps(&rt, rt.alloc(), steps);
 }
 
 #[test]
 fn no_shape_goes_below_itself(rt: HostRuntime) {
-    let steps = [
+    let steps = &[
         Step::Creates(
             r#"{"verb":"create","shape":{"kind":"frame","w":3,"h":1,"fill":"ff0000"}}"#,
             1,
@@ -449,7 +465,7 @@ fn no_shape_goes_below_itself(rt: HostRuntime) {
         ),
         Step::Paints(FOUR_PIXELS, 3, FOUR_HEADER, "bgrw"),
     ];
-    check_steps(&rt, rt.alloc(), &steps);
+    check_steps(&rt, rt.alloc(), steps);
 }
 
 #[test]
@@ -458,12 +474,9 @@ fn no_shape_lies_below_thirty_two(rt: HostRuntime) {
     let mut session = Session::new(alloc);
     session.creates(&rt, r#"{"verb":"create","shape":{"kind":"group"}}"#, 1, 1);
     for parent in 1..32u32 {
-        let request = format!(in alloc;
-            r#"{{"verb":"create","shape":{{"kind":"group"}},"parent":{parent}}}"#
-        ).expect(&rt, "memory");
-        session.creates(&rt, &request, parent + 1, parent + 1);
+        session.creates_below(&rt, parent);
     }
-    let steps = [
+    let steps = &[
         Step::Creates(RECTANGLE, 33, 33),
         Step::Refuses(
             r#"{"verb":"move","id":33,"parent":32,"spot":"front"}"#,
@@ -476,13 +489,13 @@ fn no_shape_lies_below_thirty_two(rt: HostRuntime) {
             "TooDeep",
         ),
     ];
-    session.add_all(&rt, &steps);
+    session.add_all(&rt, steps);
     session.check(&rt);
 }
 
 #[test]
 fn spots_among_siblings(rt: HostRuntime) {
-    let steps = [
+    let steps = &[
         Step::Creates(RECTANGLE, 1, 1),
         Step::Creates(RECTANGLE, 2, 2),
         Step::Creates(r#"{"verb":"create","shape":{"kind":"group"}}"#, 3, 3),
@@ -507,7 +520,7 @@ fn spots_among_siblings(rt: HostRuntime) {
             "SpotNotSibling",
         ),
     ];
-    check_steps(&rt, rt.alloc(), &steps);
+    check_steps(&rt, rt.alloc(), steps);
 }
 
 /// Shapes whose indexes are uneven, and then respaced: the indexes are taken anew, and the picture stays.

@@ -1,7 +1,7 @@
 //! How sessions are served, and what is asked of their ends.
 
-use crate::alone::asserts::holds;
-use crate::alone::fakes::{Drip, Narrow};
+use crate::asserts::holds;
+use crate::fakes::{Drip, Narrow};
 use canvas_board::Alone;
 use canvas_doc::Document;
 use canvas_session::{Cause, Served, SessionFault, serve};
@@ -104,10 +104,12 @@ pub(crate) fn is_fault(
     match served {
         Ok(_) => false,
         Err(fault) => {
-            fault.cause == cause
-                && fault.code() == code
-                && fault.answered == answered
-                && fault.written == written
+            let wanted = SessionFault {
+                cause,
+                answered,
+                written,
+            };
+            *fault == wanted && fault.code() == code
         }
     }
 }

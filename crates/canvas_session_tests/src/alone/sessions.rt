@@ -1,7 +1,7 @@
 //! Worked sessions.
 
-use crate::alone::asserts::holds;
 use crate::alone::serving::{answers, board, check};
+use crate::asserts::holds;
 use canvas_doc::Document;
 use canvas_session::answer_line;
 use std::alloc::Global;
