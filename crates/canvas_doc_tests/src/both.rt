@@ -3,7 +3,7 @@
 ghost use Rattle.canvas_record.specs.Effect.{Fits};
 
 use crate::plain::Plain;
-use crate::samples::{RED, frame, moved, record, rectangle, restored};
+use crate::samples::{RED, frame, moved, push, record, rectangle, restored};
 use canvas_doc::{Change, Document, Parent, Record};
 use canvas_key::fresh;
 use canvas_plane::Pose;
@@ -56,7 +56,7 @@ fn nested_document(rt: &impl Abort, alloc: Global, levels: u32) -> Document {
 fn nested(rt: &impl Abort, alloc: Global, levels: u32) -> Vec<Record> {
     let mut records = Vec::new(alloc);
     for above in 0..levels {
-        records.push(nested_record(above)).expect(rt, "memory");
+        push(rt, &mut records, nested_record(above));
     }
     records
 }
@@ -115,7 +115,7 @@ fn filled(rt: &impl Abort, alloc: Global, form: Form, count: u32) -> Vec<Record>
     let mut records = Vec::new(alloc);
     for below in 0..count {
         let shape = filled_record(form, below.saturating_add(1));
-        records.push(shape).expect(rt, "memory");
+        push(rt, &mut records, shape);
     }
     records
 }

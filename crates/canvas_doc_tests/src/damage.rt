@@ -7,7 +7,7 @@ use crate::both::Both;
 use crate::dice::Dice;
 use crate::plain::{Plain, position_in};
 use crate::random::{edit, id, pose};
-use crate::samples::{RED, create, edited, frame, moved, polygon, rectangle};
+use crate::samples::{RED, after, create, frame, moved, polygon, rectangle};
 use crate::viewed::{carried, corners};
 use canvas_doc::{Change, Document, Edit, Parent, Record, Spot};
 use canvas_plane::{PageBox, Point, Pose};
@@ -75,15 +75,9 @@ fn triangle(rt: &impl Abort, alloc: Global) -> Kind {
 fn drawing(rt: &impl Abort, alloc: Global) -> Document {
     let mut document = Document::empty(alloc);
     for id in 1..8u32 {
-        document = after(rt, alloc, &document, creation(rt, alloc, id));
+        document = after(rt, alloc, document, creation(rt, alloc, id));
     }
     document
-}
-
-fn after(rt: &impl Abort, alloc: Global, document: &Document, edit: Edit) -> Document {
-    let after = edited(alloc, document, &edit).expect(rt, "accepted");
-    drop(edit);
-    after
 }
 
 fn to_front(id: u32, parent: Parent) -> Edit {
@@ -120,7 +114,7 @@ fn check(
 fn a_rectangle_moves(rt: HostRuntime) {
     let alloc = rt.alloc();
     let red = create(rectangle(10, 10, RED), Parent::Page, Spot::Front);
-    let document = after(&rt, alloc, &Document::empty(alloc), red);
+    let document = after(&rt, alloc, Document::empty(alloc), red);
     let away = turn(1, moved(100, 0));
     let wanted = area(0, 0, 110, 10);
     check(&rt, alloc, &document, "away", away, wanted);
@@ -273,7 +267,7 @@ fn a_turned_and_flipped_group_carries_its_shapes(rt: HostRuntime) {
 fn round_points(plain: &Plain, path: &[u32], points: &[Point]) -> PageBox {
     let mut area: Option<PageBox> = None;
     for point in points {
-        let at = carried(plain, path, 0, *point);
+        let at = carried(plain, path, *point);
         let (left, top, right, bottom) = match area {
             Some(old) => (old.left, old.top, old.right, old.bottom),
             None => (at.x, at.y, at.x, at.y),
@@ -293,7 +287,7 @@ fn own_box(plain: &Plain, shape: &Record, path: &[u32]) -> PageBox {
     match &shape.kind {
         Kind::Group => NOTHING,
         Kind::Frame { w, h, .. } | Kind::Rect { w, h, .. } | Kind::Ellipse { w, h, .. } => {
-            let (first, last) = corners(plain, path, 0, *w, *h);
+            let (first, last) = corners(plain, path, *w, *h);
             area(first.x, first.y, last.x, last.y)
         }
         Kind::Polygon { points, .. } => round_points(plain, path, points.as_slice()),

@@ -4,7 +4,7 @@ use crate::looks::{
     assert_index, assert_leaves, assert_looks_like, assert_next_id, assert_refused, assert_same,
 };
 use crate::samples::{
-    BLUE, GREEN, RED, create, edited, frame, polygon, record, rectangle, restored,
+    BLUE, GREEN, RED, after, create, frame, polygon, push, record, rectangle, restored,
 };
 use canvas_doc::{Document, Edit, Parent, Record, Refusal, Spot};
 use canvas_key::{Key, fresh};
@@ -12,14 +12,6 @@ use canvas_plane::Pose;
 use canvas_shape::{Colour, Kind};
 use std::alloc::Global;
 use std::process::Abort;
-
-// The document after an edit.
-fn after(rt: &impl Abort, alloc: Global, document: Document, edit: Edit) -> Document {
-    let after = edited(alloc, &document, &edit).expect(rt, "an edit");
-    drop(edit);
-    drop(document);
-    after
-}
 
 // The document with a new shape in front of its siblings.
 fn with_shape(
@@ -223,10 +215,6 @@ fn spent_ids_are_refused(rt: HostRuntime) {
 fn rectangle_at(rt: &impl Abort, id: u32, index: &[u8], w: u32, fill: Colour) -> Record {
     let index = Key::read(index).expect(rt, "a key");
     record(id, Parent::Page, index, rectangle(w, 1, fill))
-}
-
-fn push(rt: &impl Abort, records: &mut Vec<Record>, shape: Record) {
-    records.push(shape).expect(rt, "memory");
 }
 
 // Three rectangles on the page, the second and the third with indexes close to one another.

@@ -2,8 +2,10 @@
 
 use crate::asserts::holds;
 use crate::dice::Dice;
-use crate::samples::{BLUE, GREEN, RED, create, edited, moved, record, rectangle, restored};
-use canvas_doc::{Document, Edit, Parent, Record, Refusal, Spot};
+use crate::samples::{
+    BLUE, GREEN, RED, create, edited_by, moved, push, record, rectangle, restored,
+};
+use canvas_doc::{Document, Edit, Parent, Record, Spot};
 use canvas_key::{Key, fresh};
 use canvas_plane::Pose;
 use canvas_shape::{Colour, Kind};
@@ -90,8 +92,7 @@ fn records_after(rt: &impl Abort, alloc: Global, made: u32) -> Vec<Record> {
     let mut records = Vec::new(alloc);
     for id in 1..204u32 {
         if is_there(made, id) {
-            let shape = record_after(made, id);
-            records.push(shape).expect(rt, "memory");
+            push(rt, &mut records, record_after(made, id));
         }
     }
     records
@@ -129,27 +130,21 @@ pub(crate) fn first_document(rt: &impl Abort, alloc: Global) -> Document {
     restored(alloc, records_after(rt, alloc, 0), 190).expect(rt, "a document")
 }
 
-/// The document after an edit, or why it is refused.
-pub(crate) fn edited_by(
-    alloc: Global,
-    document: &Document,
-    edit: Edit,
-) -> Result<Document, Refusal> {
-    let after = edited(alloc, document, &edit);
-    drop(edit);
-    after
-}
-
 fn next_document(rt: &impl Abort, alloc: Global, last: &Document, made: u32) -> Document {
     edited_by(alloc, last, edit_after(made)).expect(rt, "accepted")
 }
 
-// The documents with the one after so many edits.
-fn push_next(rt: &impl Abort, alloc: Global, documents: &mut Vec<Document>, made: u32) {
-    let next = match documents.last() {
+// The document after so many edits, made of the last one.
+fn next_of(rt: &impl Abort, alloc: Global, documents: &[Document], made: u32) -> Document {
+    match documents.last() {
         Some(last) => next_document(rt, alloc, last, made.saturating_sub(1)),
         None => first_document(rt, alloc),
-    };
+    }
+}
+
+// The documents with the one after so many edits.
+fn push_next(rt: &impl Abort, alloc: Global, documents: &mut Vec<Document>, made: u32) {
+    let next = next_of(rt, alloc, documents, made);
     documents.push(next).expect(rt, "memory");
 }
 
@@ -192,7 +187,7 @@ fn one_of_many(id: u32) -> Record {
 fn crowd(rt: &impl Abort, alloc: Global) -> Vec<Record> {
     let mut records = Vec::new(alloc);
     for id in 1..701u32 {
-        records.push(one_of_many(id)).expect(rt, "memory");
+        push(rt, &mut records, one_of_many(id));
     }
     records
 }
@@ -279,7 +274,8 @@ pub(crate) fn tell(rt: &impl Abort, alloc: Global, document: &Document) -> Told 
     }
 }
 
-fn all_of(rt: &impl Abort, alloc: Global, document: &Document) -> Vec<Record> {
+/// Copies of the records of a document, in their order.
+pub(crate) fn all_of(rt: &impl Abort, alloc: Global, document: &Document) -> Vec<Record> {
     let listed = document.records_in_order(alloc).expect(rt, "memory");
     copies(rt, alloc, &listed)
 }
@@ -292,8 +288,11 @@ fn page_of(rt: &impl Abort, alloc: Global, document: &Document) -> Vec<Record> {
 fn copies(rt: &impl Abort, alloc: Global, shapes: &[&Record]) -> Vec<Record> {
     let mut records = Vec::new(alloc);
     for shape in shapes {
-        let copy = shape.try_clone(alloc).expect(rt, "memory");
-        records.push(copy).expect(rt, "memory");
+        push(
+            rt,
+            &mut records,
+            shape.try_clone(alloc).expect(rt, "memory"),
+        );
     }
     records
 }

@@ -19,6 +19,12 @@ pub(crate) fn make(alloc: Global, document: &mut Document, edit: &Edit) -> Resul
     Ok(made?)
 }
 
+// Makes an edit by a new document in the place of the old one.
+fn make_anew(alloc: Global, document: &mut Document, edit: &Edit) -> Result<(), Refusal> {
+    *document = edited(alloc, document, edit)?;
+    Ok(())
+}
+
 fn clone_of(rt: &impl Abort, alloc: Global, document: &Document) -> Document {
     document.try_clone(alloc).expect(rt, "memory")
 }
@@ -66,21 +72,16 @@ struct Twice {
 impl Twice {
     // Makes an edit of both, or of none where it is refused.
     fn edit(&mut self, rt: &impl Abort, alloc: Global, edit: Edit) {
-        let is_made = make(alloc, &mut self.document, &edit).is_ok();
-        let is_made_anew = self.edit_anew(alloc, &edit);
+        let (is_made, is_made_anew) = self.are_made(alloc, &edit);
         drop(edit);
         holds(rt, "made", &is_made, is_made == is_made_anew);
     }
 
-    // Whether the edit was made.
-    fn edit_anew(&mut self, alloc: Global, edit: &Edit) -> bool {
-        match edited(alloc, &self.anew, edit) {
-            Ok(after) => {
-                self.anew = after;
-                true
-            }
-            Err(_) => false,
-        }
+    // Whether each of both made an edit.
+    fn are_made(&mut self, alloc: Global, edit: &Edit) -> (bool, bool) {
+        let is_made = make(alloc, &mut self.document, edit).is_ok();
+        let is_made_anew = make_anew(alloc, &mut self.anew, edit).is_ok();
+        (is_made, is_made_anew)
     }
 
     // Keeps the document as a version, and makes some edits of both.

@@ -1,7 +1,7 @@
 //! What the examples assert of documents. A call of these is quicker to prove than the branch of a macro.
 
 use crate::asserts::holds;
-use crate::samples::{BLUE, GREEN, RED, WHITE, edited, index_of};
+use crate::samples::{BLUE, GREEN, RED, WHITE, edited_by, index_of, refusal};
 use canvas_doc::{Document, Edit, Refusal};
 use canvas_shape::Colour;
 use std::alloc::Global;
@@ -57,8 +57,7 @@ pub(crate) fn assert_refused(
     edit: Edit,
     wanted: Refusal,
 ) {
-    let found = document.decide(alloc, &edit).err();
-    drop(edit);
+    let found = refusal(alloc, document, edit);
     holds(rt, "refusal", &(found, wanted), found == Some(wanted));
 }
 
@@ -70,8 +69,7 @@ pub(crate) fn assert_leaves(
     edit: Edit,
     id: u32,
 ) {
-    let after = edited(alloc, document, &edit).expect(rt, "an edit");
-    drop(edit);
+    let after = edited_by(alloc, document, edit).expect(rt, "an edit");
     assert_same(rt, &after, document, id);
     drop(after);
 }

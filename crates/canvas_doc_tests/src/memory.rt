@@ -3,7 +3,9 @@
 
 use crate::asserts::holds;
 use crate::in_place::make;
-use crate::samples::{BLUE, RED, create, edited, moved, polygon, record, rectangle, restored};
+use crate::samples::{
+    BLUE, RED, create, edited, edited_by, moved, polygon, record, rectangle, refusal, restored,
+};
 use canvas_code::OutOfMemory;
 use canvas_doc::{Document, Edit, Parent, Record, Refusal, Spot, TreeFault};
 use canvas_key::fresh;
@@ -30,10 +32,7 @@ fn square(alloc: Global) -> Result<Kind, OutOfMemory> {
 }
 
 fn after_first_edit(alloc: Global, document: &Document, number: u32) -> Result<Document, Refusal> {
-    let edit = first_edit(alloc, number)?;
-    let after = edited(alloc, document, &edit);
-    drop(edit);
-    after
+    edited_by(alloc, document, first_edit(alloc, number)?)
 }
 
 // A group with a triangle and a rectangle in it.
@@ -185,14 +184,19 @@ fn is_made_in_place_once_there_is_memory(
     document: &mut Document,
     step: Step<'_>,
 ) -> Result<bool, Refusal> {
-    match make(alloc, document, step.edit) {
-        Ok(()) => Ok(look_same(document, step.after)),
-        Err(Refusal::OutOfMemory) => {
-            let is_as_before = look_same(document, step.before);
-            make(alloc, document, step.edit)?;
-            Ok(is_as_before && look_same(document, step.after))
-        }
-        Err(refusal) => Err(refusal),
+    let answer = make(alloc, document, step.edit);
+    let is_right = is_as_answered(document, &answer, step);
+    if answer.is_err() {
+        make(alloc, document, step.edit)?;
+    }
+    Ok(is_right && look_same(document, step.after))
+}
+
+// Whether a document is as after the edit, or as before it where memory was wanted.
+fn is_as_answered(document: &Document, answer: &Result<(), Refusal>, step: Step<'_>) -> bool {
+    match answer {
+        Ok(()) => look_same(document, step.after),
+        Err(refusal) => *refusal == Refusal::OutOfMemory && look_same(document, step.before),
     }
 }
 
@@ -276,10 +280,7 @@ fn why_refused(
     document: &Document,
     number: u32,
 ) -> Result<Option<Refusal>, OutOfMemory> {
-    let edit = refused_edit(alloc, number)?;
-    let refusal = document.decide(alloc, &edit).err();
-    drop(edit);
-    Ok(refusal)
+    Ok(refusal(alloc, document, refused_edit(alloc, number)?))
 }
 
 #[test]
@@ -298,11 +299,9 @@ fn refusals_with_little_memory(rt: HostRuntime) -> Result<(), Fail> {
 
 // A group, listed behind its child.
 fn pair(alloc: Global) -> Result<Vec<Record>, AllocError> {
-    let mut records = Vec::new(alloc);
-    let leaf = rectangle(1, 1, RED);
-    records.push(record(2, Parent::Shape(1), fresh(0), leaf))?;
-    records.push(record(1, Parent::Page, fresh(0), Kind::Group))?;
-    Ok(records)
+    let leaf = record(2, Parent::Shape(1), fresh(0), rectangle(1, 1, RED));
+    let group = record(1, Parent::Page, fresh(0), Kind::Group);
+    Ok(Vec::from_array(alloc, [leaf, group])?)
 }
 
 fn restored_pair(alloc: Global) -> Result<Document, TreeFault> {

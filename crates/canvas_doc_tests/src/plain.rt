@@ -1,5 +1,6 @@
 //! A slow, plain model of documents: each question is answered by looking at every record.
 
+use crate::samples::push;
 use canvas_doc::{Change, Edit, Parent, Place, Record, Refusal, Spot};
 use canvas_key::{Key, between, fresh};
 use canvas_plane::Pose;
@@ -49,15 +50,9 @@ impl Plain {
         }
     }
 
-    /// How many steps a shape lies below another: none where it is that one.
-    pub(crate) fn steps_below(
-        &self,
-        rt: &impl Abort,
-        alloc: Global,
-        shape: &Record,
-        id: u32,
-    ) -> Option<usize> {
-        position_in(&self.path(rt, alloc, Parent::Shape(shape.id)), id)
+    // How many steps a parent lies below a shape: none where it is that one.
+    fn steps_below(&self, rt: &impl Abort, alloc: Global, from: Parent, id: u32) -> Option<usize> {
+        position_in(&self.path(rt, alloc, from), id)
     }
 
     /// What becomes of an edit.
@@ -75,8 +70,8 @@ impl Plain {
                 parent,
                 spot,
             } => {
-                let place = self.new_place(rt, alloc, kind, pose, *parent, spot)?;
-                Ok(self.created(rt, alloc, kind, *pose, *hidden, place))
+                let place = self.new_place(rt, alloc, kind, pose, *parent, spot);
+                self.created(rt, alloc, kind, *pose, *hidden, place)
             }
             Edit::Move { id, parent, spot } => self.moved(rt, alloc, *id, *parent, spot),
             Edit::Pose { id, pose } => self.posed(*id, *pose),
@@ -87,6 +82,7 @@ impl Plain {
         }
     }
 
+    // A new shape, where it has a place.
     fn created(
         &self,
         rt: &impl Abort,
@@ -94,15 +90,17 @@ impl Plain {
         kind: &Kind,
         pose: Pose,
         hidden: bool,
-        place: Place,
-    ) -> Change {
-        Change::Create {
+        place: Result<Place, Refusal>,
+    ) -> Result<Change, Refusal> {
+        let place = place?;
+        let kind = kind.try_clone(alloc).expect(rt, "memory");
+        Ok(Change::Create {
             id: self.next,
-            kind: kind.try_clone(alloc).expect(rt, "memory"),
+            kind,
             pose,
             hidden,
             place,
-        }
+        })
     }
 
     // The place of a new shape.
@@ -115,8 +113,8 @@ impl Plain {
         parent: Parent,
         spot: &Spot,
     ) -> Result<Place, Refusal> {
-        self.judge_parent(parent)?;
-        self.judge_new(rt, alloc, kind, pose, parent)?;
+        self.judge_parent(parent)
+            .and(self.judge_new(rt, alloc, kind, pose, parent))?;
         let index = self.index_at(rt, alloc, self.next, parent, spot)?;
         Ok(Place { parent, index })
     }
@@ -130,17 +128,16 @@ impl Plain {
         parent: Parent,
         spot: &Spot,
     ) -> Result<Change, Refusal> {
-        self.judge_shape(id)?;
-        self.judge_parent(parent)?;
-        self.judge_move(rt, alloc, id, parent)?;
+        self.judge_shape(id)
+            .and(self.judge_parent(parent))
+            .and(self.judge_move(rt, alloc, id, parent))?;
         let index = self.index_at(rt, alloc, id, parent, spot)?;
         let place = Place { parent, index };
         Ok(Change::Move { id, place })
     }
 
     fn posed(&self, id: u32, pose: Pose) -> Result<Change, Refusal> {
-        self.judge_shape(id)?;
-        judge_pose(&pose)?;
+        self.judge_shape(id).and(judge_pose(&pose))?;
         Ok(Change::Pose { id, pose })
     }
 
@@ -151,10 +148,10 @@ impl Plain {
         id: u32,
         kind: &Kind,
     ) -> Result<Change, Refusal> {
-        self.judge_shape(id)?;
-        self.judge_variant(id, kind)?;
-        judge_sides(kind)?;
-        judge_vertices(kind)?;
+        self.judge_shape(id)
+            .and(self.judge_variant(id, kind))
+            .and(judge_sides(kind))
+            .and(judge_vertices(kind))?;
         let kind = kind.try_clone(alloc).expect(rt, "memory");
         Ok(Change::Reshape { id, kind })
     }
@@ -202,6 +199,13 @@ impl Plain {
         pose: &Pose,
         parent: Parent,
     ) -> Result<(), Refusal> {
+        self.judge_room(rt, alloc, parent)
+            .and(judge_sides(kind))
+            .and(judge_pose(pose))
+            .and(judge_vertices(kind))
+    }
+
+    fn judge_room(&self, rt: &impl Abort, alloc: Global, parent: Parent) -> Result<(), Refusal> {
         if self.depth(rt, alloc, parent) >= 32 {
             return Err(Refusal::TooDeep);
         }
@@ -211,9 +215,7 @@ impl Plain {
         if self.next == 4_294_967_295 {
             return Err(Refusal::IdsSpent);
         }
-        judge_sides(kind)?;
-        judge_pose(pose)?;
-        judge_vertices(kind)
+        Ok(())
     }
 
     // How many levels a parent has with all above it.
@@ -228,7 +230,7 @@ impl Plain {
         id: u32,
         parent: Parent,
     ) -> Result<(), Refusal> {
-        if position_in(&self.path(rt, alloc, parent), id).is_some() {
+        if self.steps_below(rt, alloc, parent, id).is_some() {
             return Err(Refusal::Cycle);
         }
         let above = self.depth(rt, alloc, parent);
@@ -242,7 +244,8 @@ impl Plain {
     fn height(&self, rt: &impl Abort, alloc: Global, id: u32) -> usize {
         let mut height: usize = 0;
         for shape in &self.records {
-            if let Some(steps) = self.steps_below(rt, alloc, shape, id) {
+            let from = Parent::Shape(shape.id);
+            if let Some(steps) = self.steps_below(rt, alloc, from, id) {
                 height = height.max(steps.saturating_add(1));
             }
         }
@@ -260,7 +263,7 @@ impl Plain {
     fn indexes(&self, rt: &impl Abort, alloc: Global, own: u32, parent: Parent) -> Vec<&Key> {
         let mut keys = Vec::new(alloc);
         for shape in &self.records {
-            if shape.place.parent == parent && shape.id != own {
+            if is_other_child(shape, own, parent) {
                 keys.push(&shape.place.index).expect(rt, "memory");
             }
         }
@@ -307,14 +310,16 @@ impl Plain {
                 place,
             } => {
                 let kind = kind.try_clone(alloc).expect(rt, "memory");
+                let (id, place) = (*id, place.copy());
+                let (pose, hidden) = (*pose, *hidden);
                 self.add(
                     rt,
                     Record {
-                        id: *id,
+                        id,
                         kind,
-                        place: place.copy(),
-                        pose: *pose,
-                        hidden: *hidden,
+                        place,
+                        pose,
+                        hidden,
                     },
                 );
             }
@@ -334,9 +339,7 @@ impl Plain {
 
     fn change_one(&mut self, rt: &impl Abort, alloc: Global, id: u32, change: &Change) {
         for shape in self.records.iter_mut() {
-            if shape.id == id {
-                change_shape(rt, alloc, shape, change);
-            }
+            change_if_own(rt, alloc, shape, id, change);
         }
     }
 
@@ -348,9 +351,11 @@ impl Plain {
     fn all_but(&self, rt: &impl Abort, alloc: Global, id: u32) -> Vec<Record> {
         let mut kept = Vec::new(alloc);
         for shape in &self.records {
-            if self.steps_below(rt, alloc, shape, id).is_none() {
-                let copy = shape.try_clone(alloc).expect(rt, "memory");
-                kept.push(copy).expect(rt, "memory");
+            if self
+                .steps_below(rt, alloc, Parent::Shape(shape.id), id)
+                .is_none()
+            {
+                push(rt, &mut kept, shape.try_clone(alloc).expect(rt, "memory"));
             }
         }
         kept
@@ -358,22 +363,45 @@ impl Plain {
 
     // Gives the children of a parent the first fresh indexes, from back to front.
     fn respace(&mut self, rt: &impl Abort, alloc: Global, parent: Parent) {
-        let old = self.copied_indexes(rt, alloc, parent);
-        for shape in self.records.iter_mut() {
-            if shape.place.parent == parent {
-                shape.place.index = fresh(count_below(&old, &shape.place.index));
-            }
-        }
+        self.records = self.spaced(rt, alloc, parent);
     }
 
-    fn copied_indexes(&self, rt: &impl Abort, alloc: Global, parent: Parent) -> Vec<Key> {
-        let mut keys = Vec::new(alloc);
+    fn spaced(&self, rt: &impl Abort, alloc: Global, parent: Parent) -> Vec<Record> {
+        // No shape has the id 0.
+        let old = self.indexes(rt, alloc, 0, parent);
+        let mut spaced = Vec::new(alloc);
         for shape in &self.records {
-            if shape.place.parent == parent {
-                keys.push(shape.place.index.copy()).expect(rt, "memory");
-            }
+            let next = spaced_shape(rt, alloc, shape, parent, &old);
+            push(rt, &mut spaced, next);
         }
-        keys
+        spaced
+    }
+}
+
+// Whether a shape is a child of a parent, and not the one of an id.
+fn is_other_child(shape: &Record, own: u32, parent: Parent) -> bool {
+    shape.place.parent == parent && shape.id != own
+}
+
+// A copy of a shape, with a fresh index where it is a child of a parent whose children have these indexes.
+fn spaced_shape(
+    rt: &impl Abort,
+    alloc: Global,
+    shape: &Record,
+    parent: Parent,
+    indexes: &[&Key],
+) -> Record {
+    let mut copy = shape.try_clone(alloc).expect(rt, "memory");
+    if copy.place.parent == parent {
+        copy.place.index = fresh(count_below(indexes, &shape.place.index));
+    }
+    copy
+}
+
+// Makes a change of a shape where it is the one of an id.
+fn change_if_own(rt: &impl Abort, alloc: Global, shape: &mut Record, id: u32, change: &Change) {
+    if shape.id == id {
+        change_shape(rt, alloc, shape, change);
     }
 }
 
@@ -473,7 +501,7 @@ fn next_above<'a>(keys: &[&'a Key], low: &Key) -> Option<&'a Key> {
     None
 }
 
-fn count_below(keys: &[Key], index: &Key) -> u32 {
+fn count_below(keys: &[&Key], index: &Key) -> u32 {
     let mut count: u32 = 0;
     for key in keys {
         if key.is_before(index) {

@@ -1,9 +1,9 @@
 //! Every refusal of every edit, and each pair of refusals that can meet in one edit, in its order.
 
 use crate::asserts::holds;
-use crate::histories::edited_by;
 use crate::samples::{
-    RED, create, frame, last_index_below_a1, moved, polygon, record, rectangle, restored,
+    RED, after, create, edited_by, frame, last_index_below_a1, polygon, push, record, rectangle,
+    refusal, restored,
 };
 use canvas_doc::{Document, Edit, Parent, Record, Refusal, Spot};
 use canvas_key::{Key, fresh};
@@ -48,10 +48,6 @@ const POLYGON: u32 = 43;
 
 // One id above all of these.
 const NEXT: u32 = 44;
-
-fn push(rt: &impl Abort, records: &mut Vec<Record>, shape: Record) {
-    records.push(shape).expect(rt, "memory");
-}
 
 // Two leaves between which no index lies, the first with the id.
 fn push_pair(rt: &impl Abort, records: &mut Vec<Record>, id: u32, parent: u32) {
@@ -148,8 +144,7 @@ pub(crate) fn check(
     case: &impl Debug,
     expected: Option<Refusal>,
 ) {
-    let found = document.decide(alloc, &edit).err();
-    drop(edit);
+    let found = refusal(alloc, document, edit);
     holds(rt, "refusal", &(case, found, expected), found == expected);
 }
 
@@ -169,32 +164,39 @@ fn kind_with(rt: &impl Abort, alloc: Global, flaw: Flaw) -> Kind {
     }
 }
 
-fn refusal_of(flaw: Flaw) -> (Option<Refusal>, Option<Refusal>) {
-    match flaw {
-        Flaw::None => (None, None),
-        Flaw::Side => (Some(Refusal::BadSize), None),
-        Flaw::Vertices => (None, Some(Refusal::BadPolygon)),
+// A flaw, and what is refused of it before the pose and after it.
+const FLAWS: [(Flaw, Option<Refusal>, Option<Refusal>); 3] = [
+    (Flaw::None, None, None),
+    (Flaw::Side, Some(Refusal::BadSize), None),
+    (Flaw::Vertices, None, Some(Refusal::BadPolygon)),
+];
+
+// What is refused of the four kinds of spots under a parent with two leaves between which no index lies.
+const PLACED: [Option<Refusal>; 4] = [
+    None,
+    Some(Refusal::SpotNotSibling),
+    Some(Refusal::IndexTaken),
+    Some(Refusal::NoRoom),
+];
+
+// The spot of a kind, where the lower one of the two leaves has this id.
+fn spot(rt: &impl Abort, number: u32, low: u32) -> Spot {
+    match number {
+        0 => Spot::Front,
+        1 => Spot::Over(LEAF),
+        2 => Spot::At(Key::read(b"a1").expect(rt, "a key")),
+        _ => Spot::Over(low),
     }
 }
 
-// The four kinds of spots under a parent with two leaves between which no index lies, and what is
-// refused of each.
-fn spots(rt: &impl Abort, low: u32) -> [(Spot, Option<Refusal>); 4] {
-    let taken = Key::read(b"a1").expect(rt, "a key");
-    [
-        (Spot::Front, None),
-        (Spot::Over(LEAF), Some(Refusal::SpotNotSibling)),
-        (Spot::At(taken), Some(Refusal::IndexTaken)),
-        (Spot::Over(low), Some(Refusal::NoRoom)),
-    ]
-}
+const FAR: Pose = Pose {
+    dx: 0,
+    dy: -1_048_577,
+    quarter: 0,
+    flip: false,
+};
 
-fn poses() -> [(Pose, Option<Refusal>); 2] {
-    [
-        (Pose::STILL, None),
-        (moved(0, -1_048_577), Some(Refusal::BadPose)),
-    ]
-}
+const POSES: [(Pose, Option<Refusal>); 2] = [(Pose::STILL, None), (FAR, Some(Refusal::BadPose))];
 
 // New shapes with a flaw and a pose at every kind of spot under a parent, which are refused so before the spot is looked at.
 fn check_new_shapes_at_spots(
@@ -205,15 +207,17 @@ fn check_new_shapes_at_spots(
     (flaw, pose): (Flaw, Pose),
     first: Option<Refusal>,
 ) {
-    for (spot, placed) in spots(rt, 2) {
+    let mut number: u32 = 0;
+    for placed in &PLACED {
         let edit = Edit::Create {
             kind: kind_with(rt, alloc, flaw),
             pose,
             hidden: false,
             parent,
-            spot,
+            spot: spot(rt, number, 2),
         };
-        check(rt, alloc, document, edit, &parent, first.or(placed));
+        check(rt, alloc, document, edit, &parent, first.or(*placed));
+        number = number.saturating_add(1);
     }
 }
 
@@ -225,14 +229,22 @@ fn check_new_shapes(
     parent: Parent,
     first: Option<Refusal>,
 ) {
-    for flaw in [Flaw::None, Flaw::Side, Flaw::Vertices] {
-        let (side, vertices) = refusal_of(flaw);
-        for (pose, far) in poses() {
-            let before = first.or(side).or(far).or(vertices);
-            check_new_shapes_at_spots(rt, alloc, document, parent, (flaw, pose), before);
+    for (flaw, side, vertices) in &FLAWS {
+        for (pose, far) in &POSES {
+            let before = first.or(*side).or(*far).or(*vertices);
+            check_new_shapes_at_spots(rt, alloc, document, parent, (*flaw, *pose), before);
         }
     }
 }
+
+// Every sort of parent, and what is refused of it.
+const PARENTS: [(u32, Option<Refusal>); 5] = [
+    (GROUP, None),
+    (MISSING, Some(Refusal::NoSuchParent)),
+    (LEAF, Some(Refusal::NotAContainer)),
+    (DEEP_LEAF, Some(Refusal::NotAContainer)),
+    (LOWEST, Some(Refusal::TooDeep)),
+];
 
 // New shapes under every sort of parent in a document, of which `spent` is refused after the parent.
 fn check_creations(
@@ -243,15 +255,9 @@ fn check_creations(
     spent: Option<Refusal>,
 ) {
     let document = document(rt, alloc, is_full, next);
-    for (parent, hung) in [
-        (GROUP, None),
-        (MISSING, Some(Refusal::NoSuchParent)),
-        (LEAF, Some(Refusal::NotAContainer)),
-        (DEEP_LEAF, Some(Refusal::NotAContainer)),
-        (LOWEST, Some(Refusal::TooDeep)),
-    ] {
+    for (parent, hung) in &PARENTS {
         let first = hung.or(spent);
-        check_new_shapes(rt, alloc, &document, Parent::Shape(parent), first);
+        check_new_shapes(rt, alloc, &document, Parent::Shape(*parent), first);
     }
     drop(document);
 }
@@ -274,9 +280,7 @@ pub(crate) fn new_group() -> Edit {
 // A document whose last id went to a new group.
 fn spent(rt: &impl Abort, alloc: Global) -> Document {
     let last = restored(alloc, Vec::new(alloc), 4_294_967_294).expect(rt, "a document");
-    let spent = edited_by(alloc, &last, new_group()).expect(rt, "accepted");
-    drop(last);
-    spent
+    after(rt, alloc, last, new_group())
 }
 
 #[test]
@@ -292,6 +296,14 @@ fn ids_are_spent_last_of_all(rt: HostRuntime) {
     drop(spent);
 }
 
+fn move_to(id: u32, parent: u32, spot: Spot) -> Edit {
+    Edit::Move {
+        id,
+        parent: Parent::Shape(parent),
+        spot,
+    }
+}
+
 // Moves of a shape under a parent to every kind of spot, of which `first` is refused before.
 fn check_moves(
     rt: &impl Abort,
@@ -302,13 +314,12 @@ fn check_moves(
     low: u32,
     first: Option<Refusal>,
 ) {
-    for (spot, placed) in spots(rt, low) {
-        let edit = Edit::Move {
-            id,
-            parent: Parent::Shape(parent),
-            spot,
-        };
-        check(rt, alloc, document, edit, &(id, parent), first.or(placed));
+    let mut number: u32 = 0;
+    for placed in &PLACED {
+        let spot = spot(rt, number, low);
+        let edit = move_to(id, parent, spot);
+        check(rt, alloc, document, edit, &(id, parent), first.or(*placed));
+        number = number.saturating_add(1);
     }
 }
 
@@ -356,11 +367,7 @@ fn check_height(
     parent: u32,
     expected: Option<Refusal>,
 ) {
-    let edit = Edit::Move {
-        id: TALL,
-        parent: Parent::Shape(parent),
-        spot: Spot::Front,
-    };
+    let edit = move_to(TALL, parent, Spot::Front);
     check(rt, alloc, document, edit, &parent, expected);
 }
 
@@ -382,9 +389,9 @@ fn check_poses(
     id: u32,
     missing: Option<Refusal>,
 ) {
-    for (pose, far) in poses() {
-        let edit = Edit::Pose { id, pose };
-        check(rt, alloc, document, edit, &id, missing.or(far));
+    for (pose, far) in &POSES {
+        let edit = Edit::Pose { id, pose: *pose };
+        check(rt, alloc, document, edit, &id, missing.or(*far));
     }
 }
 

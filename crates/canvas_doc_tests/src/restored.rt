@@ -1,13 +1,14 @@
 //! Lists of records that are documents, and the positions of the faults of others.
 
 use crate::asserts::holds;
-use crate::histories::edited_by;
+use crate::histories::all_of;
+use crate::looks::assert_index;
 use crate::refused::{check as check_refusal, new_group};
-use crate::samples::{RED, frame, index_of, moved, polygon, record, rectangle, restored};
+use crate::samples::{RED, after, frame, moved, push, record, rectangle, restored};
 use canvas_doc::{Document, Edit, Parent, Record, Refusal, Spot, TreeFault};
 use canvas_key::fresh;
-use canvas_plane::Pose;
-use canvas_shape::Kind;
+use canvas_plane::{Point, Pose};
+use canvas_shape::{Kind, Points};
 use std::alloc::Global;
 use std::fmt::Debug;
 use std::process::Abort;
@@ -37,7 +38,7 @@ fn record_of(row: &Row) -> Record {
 fn records(rt: &impl Abort, alloc: Global, rows: &[Row]) -> Vec<Record> {
     let mut records = Vec::new(alloc);
     for row in rows {
-        records.push(record_of(row)).expect(rt, "memory");
+        push(rt, &mut records, record_of(row));
     }
     records
 }
@@ -61,13 +62,13 @@ fn chain(rt: &impl Abort, alloc: Global, levels: u32) -> Vec<Row> {
 }
 
 // Groups on the page with the ids 1 to `count`, the k-th from 0 with the `step * k`-th fresh index.
-fn row_of_groups(rt: &impl Abort, alloc: Global, count: u32, step: u32) -> Vec<Record> {
-    let mut records = Vec::new(alloc);
+fn row_of_groups(rt: &impl Abort, alloc: Global, count: u32, step: u32) -> Vec<Row> {
+    let mut rows = Vec::new(alloc);
     for rank in 0..count {
-        let group = record_of(&(rank + 1, 0, rank.wrapping_mul(step), GROUP));
-        records.push(group).expect(rt, "memory");
+        let row = (rank + 1, 0, rank.wrapping_mul(step), GROUP);
+        rows.push(row).expect(rt, "memory");
     }
-    records
+    rows
 }
 
 // Asserts what `restore` finds of rows.
@@ -109,7 +110,7 @@ fn check_second(
     expected: Option<TreeFault>,
 ) {
     let mut list = records(rt, alloc, &[(1, 0, 0, GROUP)]);
-    list.push(shape).expect(rt, "memory");
+    push(rt, &mut list, shape);
     let found = restored(alloc, list, 3).err();
     holds(rt, "second", &(case, found, expected), found == expected);
 }
@@ -155,11 +156,11 @@ fn sides_outside_their_limits(rt: HostRuntime) {
 
 // A polygon with so many vertices.
 fn polygon_of(rt: &impl Abort, alloc: Global, count: i64) -> Kind {
-    let mut vertices = Vec::new(alloc);
+    let mut points = Points::new(alloc);
     for x in 0..count {
-        vertices.push((x, 0i64)).expect(rt, "memory");
+        points.push(Point { x, y: 0 }).expect(rt, "memory");
     }
-    polygon(alloc, &vertices).expect(rt, "memory")
+    Kind::Polygon { points, fill: RED }
 }
 
 #[test]
@@ -262,21 +263,12 @@ fn unordered(rt: &impl Abort, alloc: Global) -> Document {
     restored(alloc, records(rt, alloc, &rows), 8).expect(rt, "a document")
 }
 
-fn ids_of(rt: &impl Abort, alloc: Global, document: &Document) -> Vec<u32> {
-    let listed = document.records_in_order(alloc).expect(rt, "memory");
-    copied_ids(rt, alloc, &listed)
-}
-
-fn copied_ids(rt: &impl Abort, alloc: Global, listed: &[&Record]) -> Vec<u32> {
-    let mut ids = Vec::new(alloc);
-    for shape in listed {
-        ids.push(shape.id).expect(rt, "memory");
+// Whether a document lists records of these ids.
+fn has_ids(rt: &impl Abort, alloc: Global, document: &Document, ids: [u32; 4]) -> bool {
+    match all_of(rt, alloc, document).as_slice() {
+        [a, b, c, d] => [a.id, b.id, c.id, d.id] == ids,
+        _ => false,
     }
-    ids
-}
-
-fn has_ids(rt: &impl Abort, alloc: Global, document: &Document) -> bool {
-    ids_of(rt, alloc, document).as_slice() == [2, 3, 5, 7].as_slice()
 }
 
 // Asserts that a document has the four records.
@@ -286,7 +278,8 @@ fn check_ordered(rt: &impl Abort, alloc: Global, document: &Document) {
     let parent = document.get(7).expect(rt, "the leaf").place.parent;
     holds(rt, "5 holds 7", &parent, parent == Parent::Shape(5));
     holds(rt, "red at", &(1, 0), document.colour_at(1, 0) == RED);
-    holds(rt, "ids in", &"order", has_ids(rt, alloc, document));
+    let are_so = has_ids(rt, alloc, document, [2, 3, 5, 7]);
+    holds(rt, "ids in", &"order", are_so);
 }
 
 fn check_copy(rt: &impl Abort, alloc: Global, document: &Document) {
@@ -306,12 +299,12 @@ fn any_order_is_restored_in_rising_id(rt: HostRuntime) {
 
 // A document with as many groups on the page as may be.
 fn full_page(rt: &impl Abort, alloc: Global, step: u32) -> Document {
-    let list = row_of_groups(rt, alloc, 16_384, step);
-    restored(alloc, list, 16_385).expect(rt, "a document")
+    let rows = row_of_groups(rt, alloc, 16_384, step);
+    restored(alloc, records(rt, alloc, &rows), 16_385).expect(rt, "a document")
 }
 
 fn count_in_order(rt: &impl Abort, alloc: Global, document: &Document) -> usize {
-    ids_of(rt, alloc, document).len()
+    all_of(rt, alloc, document).len()
 }
 
 #[test]
@@ -325,13 +318,6 @@ fn as_many_as_may_be(rt: HostRuntime) {
     let expected = Some(Refusal::TooMany);
     check_refusal(&rt, alloc, &full, new_group(), &"full", expected);
     drop(full);
-}
-
-// The document after an edit.
-fn after(rt: &impl Abort, alloc: Global, document: Document, edit: Edit) -> Document {
-    let after = edited_by(alloc, &document, edit).expect(rt, "accepted");
-    drop(document);
-    after
 }
 
 // The full page without its first group, and with a new one.
@@ -351,17 +337,13 @@ fn room_for_one_after_a_deletion(rt: HostRuntime) {
     drop(again);
 }
 
-fn check_index(rt: &impl Abort, document: &Document, id: u32, index: &[u8]) {
-    holds(rt, "index", &id, index_of(document, id) == index);
-}
-
 #[test]
 fn a_full_page_is_respaced(rt: HostRuntime) {
     let alloc = rt.alloc();
     let full = full_page(&rt, alloc, 3);
     let parent = Parent::Page;
     let spaced = after(&rt, alloc, full, Edit::Respace { parent });
-    check_index(&rt, &spaced, 1, b"a0");
-    check_index(&rt, &spaced, 16_384, b"c3FF");
+    assert_index(&rt, &spaced, 1, b"a0");
+    assert_index(&rt, &spaced, 16_384, b"c3FF");
     drop(spaced);
 }

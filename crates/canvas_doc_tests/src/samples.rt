@@ -6,6 +6,7 @@ use canvas_key::{Key, KeyFault};
 use canvas_plane::{Point, Pose};
 use canvas_shape::{Colour, Kind, Points};
 use std::alloc::Global;
+use std::process::Abort;
 
 pub(crate) const WHITE: Colour = Colour([255, 255, 255]);
 
@@ -28,10 +29,15 @@ pub(crate) fn frame(w: u32, h: u32) -> Kind {
 /// A red polygon.
 pub(crate) fn polygon(alloc: Global, vertices: &[(i64, i64)]) -> Result<Kind, OutOfMemory> {
     let mut points = Points::new(alloc);
+    push_all(&mut points, vertices)?;
+    Ok(Kind::Polygon { points, fill: RED })
+}
+
+fn push_all(points: &mut Points, vertices: &[(i64, i64)]) -> Result<(), OutOfMemory> {
     for (x, y) in vertices {
         points.push(Point { x: *x, y: *y })?;
     }
-    Ok(Kind::Polygon { points, fill: RED })
+    Ok(())
 }
 
 /// A pose that moves.
@@ -89,21 +95,39 @@ pub(crate) fn restored(
 /// The document after an edit, or why it is refused.
 pub(crate) fn edited(alloc: Global, document: &Document, edit: &Edit) -> Result<Document, Refusal> {
     let change = document.decide(alloc, edit)?;
-    let after = document.with(alloc, &change)?;
-    Ok(after)
+    let after = document.with(alloc, &change);
+    drop(change);
+    Ok(after?)
 }
 
-/// The document after edits in turn.
-pub(crate) fn edited_by_all(
+/// The same of an edit that is given away.
+pub(crate) fn edited_by(
     alloc: Global,
-    start: Document,
-    edits: &[Edit],
+    document: &Document,
+    edit: Edit,
 ) -> Result<Document, Refusal> {
-    let mut document = start;
-    for edit in edits {
-        document = edited(alloc, &document, edit)?;
-    }
-    Ok(document)
+    let after = edited(alloc, document, &edit);
+    drop(edit);
+    after
+}
+
+/// The document after an edit that is accepted.
+pub(crate) fn after(rt: &impl Abort, alloc: Global, document: Document, edit: Edit) -> Document {
+    let after = edited_by(alloc, &document, edit).expect(rt, "accepted");
+    drop(document);
+    after
+}
+
+/// Why an edit is refused, if it is.
+pub(crate) fn refusal(alloc: Global, document: &Document, edit: Edit) -> Option<Refusal> {
+    let refusal = document.decide(alloc, &edit).err();
+    drop(edit);
+    refusal
+}
+
+/// Puts one more record at the end.
+pub(crate) fn push(rt: &impl Abort, records: &mut Vec<Record>, shape: Record) {
+    records.push(shape).expect(rt, "memory");
 }
 
 /// The index of a shape, or no byte where there is no such shape.

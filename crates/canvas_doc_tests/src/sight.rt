@@ -32,13 +32,19 @@ fn then(pose: &Pose, next: &Pose) -> Option<Pose> {
 
 // What carries the points of a parent, from which a path leads to the page.
 fn pose_of(plain: &Plain, path: &[u32]) -> Option<Pose> {
-    let mut out = Pose::STILL;
+    let mut out = Some(Pose::STILL);
     for id in path {
-        if let Some(shape) = plain.find(*id) {
-            out = then(&out, &shape.pose)?;
-        }
+        out = further(plain, out, *id);
     }
-    Some(out)
+    out
+}
+
+// What carries points through a shape too, where it is there.
+fn further(plain: &Plain, out: Option<Pose>, id: u32) -> Option<Pose> {
+    match (&out, plain.find(id)) {
+        (Some(pose), Some(shape)) => then(pose, &shape.pose),
+        _ => out,
+    }
 }
 
 // What carries the points of a parent to the page, where it is near.
@@ -86,17 +92,24 @@ fn meeting<'a>(
 fn are_in_order(plain: &Plain, parent: Parent, records: &[&Record]) -> bool {
     let mut last: Option<&Key> = None;
     for shape in records {
-        let is_behind = match last {
-            Some(key) => shape.place.index.is_before(key),
-            None => true,
-        };
-        let is_child = shape.place.parent == parent && plain.find(shape.id) == Some(*shape);
-        if !is_behind || !is_child {
+        if !is_child(plain, parent, shape) || !is_behind(shape, last) {
             return false;
         }
         last = Some(&shape.place.index);
     }
     true
+}
+
+fn is_child(plain: &Plain, parent: Parent, shape: &Record) -> bool {
+    shape.place.parent == parent && plain.find(shape.id) == Some(shape)
+}
+
+// Whether a shape lies behind the index of another, if there is another.
+fn is_behind(shape: &Record, index: Option<&Key>) -> bool {
+    match index {
+        Some(key) => shape.place.index.is_before(key),
+        None => true,
+    }
 }
 
 fn has_id(records: &[&Record], id: u32) -> bool {
@@ -106,6 +119,11 @@ fn has_id(records: &[&Record], id: u32) -> bool {
         }
     }
     false
+}
+
+// Whether a shape is a child of a parent, and not among the records.
+fn is_left_out(shape: &Record, parent: Parent, records: &[&Record]) -> bool {
+    shape.place.parent == parent && !has_id(records, shape.id)
 }
 
 // The children of a parent that are not among the records.
@@ -118,7 +136,7 @@ fn left_out(
 ) -> Vec<u32> {
     let mut ids = Vec::new(alloc);
     for shape in &plain.records {
-        if shape.place.parent == parent && !has_id(records, shape.id) {
+        if is_left_out(shape, parent, records) {
             ids.push(shape.id).expect(rt, "memory");
         }
     }

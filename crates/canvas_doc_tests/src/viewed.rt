@@ -124,38 +124,51 @@ fn is_seen_below(
 
 // Whether of so many shapes of a path none is hidden, and each but a group holds the pixel.
 fn is_seen(plain: &Plain, path: &[u32], count: usize, at: Pixel) -> bool {
-    let mut from: usize = 0;
-    for id in path.iter().take(count) {
-        if let Some(shape) = plain.find(*id) {
-            if shape.hidden || !holds(plain, shape, path, from, at) {
-                return false;
-            }
+    for from in 0..count {
+        if !is_first_seen(plain, from_on(path, from), at) {
+            return false;
         }
-        from = from.saturating_add(1);
     }
     true
 }
 
-// Whether a shape, whose poses are those of a path from a position on, holds a pixel.
-fn holds(plain: &Plain, shape: &Record, path: &[u32], from: usize, at: Pixel) -> bool {
-    match &shape.kind {
-        Kind::Group => true,
-        Kind::Frame { w, h, .. } | Kind::Rect { w, h, .. } => {
-            let (first, last) = corners(plain, path, from, *w, *h);
-            first.x <= at.x && at.x < last.x && first.y <= at.y && at.y < last.y
-        }
-        Kind::Ellipse { w, h, .. } => {
-            let (first, last) = corners(plain, path, from, *w, *h);
-            is_round(first, last, at)
-        }
-        Kind::Polygon { points, .. } => is_odd(plain, points.as_slice(), path, from, at),
+// A path from a position on.
+fn from_on(path: &[u32], from: usize) -> &[u32] {
+    path.get(from..).unwrap_or(&[])
+}
+
+// Whether the first shape of a path is not hidden, and holds the pixel unless it is a group. One that is not there hides
+// nothing.
+fn is_first_seen(plain: &Plain, path: &[u32], at: Pixel) -> bool {
+    let Some(id) = path.first() else {
+        return true;
+    };
+    match plain.find(*id) {
+        Some(shape) => !shape.hidden && holds(plain, shape, path, at),
+        None => true,
     }
 }
 
-/// A point carried to the page by the poses of a path from a position on.
-pub(crate) fn carried(plain: &Plain, path: &[u32], from: usize, point: Point) -> Point {
+// Whether a shape, from which a path leads to the page, holds a pixel.
+fn holds(plain: &Plain, shape: &Record, path: &[u32], at: Pixel) -> bool {
+    match &shape.kind {
+        Kind::Group => true,
+        Kind::Frame { w, h, .. } | Kind::Rect { w, h, .. } => {
+            let (first, last) = corners(plain, path, *w, *h);
+            first.x <= at.x && at.x < last.x && first.y <= at.y && at.y < last.y
+        }
+        Kind::Ellipse { w, h, .. } => {
+            let (first, last) = corners(plain, path, *w, *h);
+            is_round(first, last, at)
+        }
+        Kind::Polygon { points, .. } => is_odd(plain, points.as_slice(), path, at),
+    }
+}
+
+/// A point carried to the page by the poses of a path.
+pub(crate) fn carried(plain: &Plain, path: &[u32], point: Point) -> Point {
     let mut place = point;
-    for id in path.iter().skip(from) {
+    for id in path {
         if let Some(shape) = plain.find(*id) {
             place = posed(&shape.pose, place);
         }
@@ -181,17 +194,10 @@ fn posed(pose: &Pose, point: Point) -> Point {
 }
 
 /// The corners of a carried box with the least and the greatest coordinates.
-pub(crate) fn corners(plain: &Plain, path: &[u32], from: usize, w: u32, h: u32) -> (Point, Point) {
-    let a = carried(plain, path, from, Point { x: 0, y: 0 });
-    let b = carried(
-        plain,
-        path,
-        from,
-        Point {
-            x: w as i64,
-            y: h as i64,
-        },
-    );
+pub(crate) fn corners(plain: &Plain, path: &[u32], w: u32, h: u32) -> (Point, Point) {
+    let a = carried(plain, path, Point { x: 0, y: 0 });
+    let (x, y) = (w as i64, h as i64);
+    let b = carried(plain, path, Point { x, y });
     let first = Point {
         x: a.x.min(b.x),
         y: a.y.min(b.y),
@@ -228,14 +234,14 @@ fn squared(x: i64) -> i64 {
 }
 
 // Whether an odd number of edges cross the centre line of the row to the right of the centre.
-fn is_odd(plain: &Plain, points: &[Point], path: &[u32], from: usize, at: Pixel) -> bool {
+fn is_odd(plain: &Plain, points: &[Point], path: &[u32], at: Pixel) -> bool {
     let Some(last) = points.last() else {
         return false;
     };
     let mut odd = false;
-    let mut a = carried(plain, path, from, *last);
+    let mut a = carried(plain, path, *last);
     for point in points {
-        let b = carried(plain, path, from, *point);
+        let b = carried(plain, path, *point);
         if crosses(a, b, at) {
             odd = !odd;
         }
