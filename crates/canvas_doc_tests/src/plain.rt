@@ -128,9 +128,8 @@ impl Plain {
         parent: Parent,
         spot: &Spot,
     ) -> Result<Change, Refusal> {
-        self.judge_shape(id)
-            .and(self.judge_parent(parent))
-            .and(self.judge_move(rt, alloc, id, parent))?;
+        self.judge_shape(id).and(self.judge_parent(parent))?;
+        self.judge_move(rt, alloc, id, parent)?;
         let index = self.index_at(rt, alloc, id, parent, spot)?;
         let place = Place { parent, index };
         Ok(Change::Move { id, place })
