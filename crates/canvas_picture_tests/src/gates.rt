@@ -1,11 +1,10 @@
 //! Strips at a gate: each strip of a picture passes it once, whatever the window's rows.
 
 use crate::asserts::equal;
-use bumpalo::Bump;
+use crate::pictures::painted;
 use canvas_doc::Document;
-use canvas_paint::{FreeGate, Gate, paint};
+use canvas_paint::{FreeGate, Gate};
 use canvas_plane::Window;
-use canvas_scene::Scene;
 use std::alloc::Global;
 use std::process::Abort;
 use std::sync::atomic::{AtomicU64, Ordering};
@@ -22,10 +21,8 @@ impl Gate for Counting {
     ghost admits = { λ _ _. Unit {0} };
 
     fn pass(&self, strip: u32) {
-        match self.passed.get(strip as usize) {
-            Some(passed) => passed.fetch_add(1, Ordering::SeqCst),
-            None => self.others.fetch_add(1, Ordering::SeqCst),
-        };
+        let passed = self.passed.get(strip as usize).unwrap_or(&self.others);
+        passed.fetch_add(1, Ordering::SeqCst);
     }
 }
 
@@ -54,7 +51,7 @@ fn passes(gate: &Counting) -> ([u64; 4], u64) {
 }
 
 // The picture of an empty document in a window of so many rows, by so many workers who pass a gate.
-fn painted<R: Threads + Sync + Abort>(
+fn counted<R: Threads + Sync + Abort>(
     rt: &R,
     alloc: Global,
     rows: u32,
@@ -63,20 +60,14 @@ fn painted<R: Threads + Sync + Abort>(
 ) -> Vec<u8> {
     let document = Document::empty(alloc);
     let window = Window::new(0, 0, 4, rows).expect(rt, "a window");
-    let bump = Bump::new(alloc);
-    let scene = Scene::build(&bump, &document, &window).expect(rt, "memory");
-    let raster = paint(rt, alloc, scene.display_list(), &window, workers, gate);
-    raster.expect(rt, "a picture")
+    painted(rt, alloc, &document, &window, workers, gate).expect(rt, "a picture")
 }
 
 // The same picture by one worker through a gate that lets all pass.
 fn alone<R: Threads + Sync + Abort>(rt: &R, alloc: Global, rows: u32) -> Vec<u8> {
     let document = Document::empty(alloc);
     let window = Window::new(0, 0, 4, rows).expect(rt, "a window");
-    let bump = Bump::new(alloc);
-    let scene = Scene::build(&bump, &document, &window).expect(rt, "memory");
-    let raster = paint(rt, alloc, scene.display_list(), &window, 1, &FreeGate);
-    raster.expect(rt, "a picture")
+    painted(rt, alloc, &document, &window, 1, &FreeGate).expect(rt, "a picture")
 }
 
 // Asserts that so many workers paint a picture of so many rows as one does, and that so often each strip passes.
@@ -88,7 +79,7 @@ fn check<R: Threads + Sync + Abort>(
     wanted: [u64; 4],
 ) {
     let gate = nobody_passed();
-    let raster = painted(rt, alloc, rows, workers, &gate);
+    let raster = counted(rt, alloc, rows, workers, &gate);
     let found = (rows, workers, passes(&gate));
     equal(rt, "passes", &found, &(rows, workers, (wanted, 0)));
     let same = (rows, workers, alone(rt, alloc, rows));

@@ -14,6 +14,8 @@ mod memory;
 #[cfg(test)]
 mod painting;
 #[cfg(test)]
+mod pictures;
+#[cfg(test)]
 mod rows;
 #[cfg(test)]
 mod shapes;

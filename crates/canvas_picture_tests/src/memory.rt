@@ -3,7 +3,7 @@
 
 ghost use Rattle.std.specs.Prelude.{◌≤ℤ◌};
 
-use crate::asserts::{equal, holds};
+use crate::asserts::{equal, holds, holds_at};
 use crate::painting::span;
 use crate::shapes::{nested, page_box, red_rectangle};
 use bumpalo::Bump;
@@ -21,8 +21,11 @@ use std::test::Fail;
 use std::thread::{self, Threads};
 use std::time::{Clock, Duration};
 
-// Whether of two answers at most one is want of memory, and each other one is right.
-fn are_right(first: Result<bool, OutOfMemory>, again: Result<bool, OutOfMemory>) -> bool {
+/// Whether of two answers at most one is want of memory, and each other one is right.
+pub(crate) fn are_right(
+    first: Result<bool, OutOfMemory>,
+    again: Result<bool, OutOfMemory>,
+) -> bool {
     match (first, again) {
         (Ok(right), Ok(too)) => right && too,
         (Ok(right), Err(OutOfMemory)) => right,
@@ -102,10 +105,8 @@ fn check_three<R: Threads + Clock + Sync + Abort>(
     };
     let first = is_painted(paint(rt, alloc, items, window, 3, &gate));
     let passed = gate.passed.load(Ordering::SeqCst);
-    assert!(rt;
-        passed == 3 || passed == 0 && first.is_err(),
-        "{passed} passed"
-    );
+    let is_so = passed == 3 || passed == 0 && first.is_err();
+    holds_at(rt, "strips that passed:", passed, is_so);
     let again = is_painted(paint(rt, alloc, items, window, 3, &FreeGate));
     holds(rt, "two pictures", are_right(first, again));
 }
@@ -115,9 +116,21 @@ fn three_workers_with_little_memory(rt: HostRuntime) -> Result<(), Fail> {
     let alloc = rt.alloc();
     let window = Window::new(0, 0, 256, 2)?;
     let document = red_rectangle(alloc)?;
+    let checked = check_scene(&rt, alloc, &document, &window);
+    drop(document);
+    checked?;
+    Ok(())
+}
+
+fn check_scene<R: Threads + Clock + Sync + Abort>(
+    rt: &R,
+    alloc: Global,
+    document: &Document,
+    window: &Window,
+) -> Result<(), OutOfMemory> {
     let bump = Bump::new(alloc);
-    let scene = Scene::build(&bump, &document, &window)?;
-    check_three(&rt, alloc, scene.display_list(), &window);
+    let scene = Scene::build(&bump, document, window)?;
+    check_three(rt, alloc, scene.display_list(), window);
     Ok(())
 }
 
@@ -132,13 +145,20 @@ fn strips_with_little_memory(rt: HostRuntime) -> Result<(), Fail> {
     let alloc = rt.alloc();
     let window = Window::new(0, 0, 256, 2)?;
     let document = red_rectangle(alloc)?;
-    let bump = Bump::new(alloc);
-    let scene = Scene::build(&bump, &document, &window)?;
-    let items = scene.display_list();
-    let first = is_strip(alloc, items, &window);
-    let again = is_strip(alloc, items, &window);
-    holds(&rt, "two strips", are_right(first, again));
+    let are_so = are_strips(alloc, &document, &window);
+    drop(document);
+    holds(&rt, "two strips", are_so?);
     Ok(())
+}
+
+// Whether the first row is painted twice, or once where memory is refused.
+fn are_strips(alloc: Global, document: &Document, window: &Window) -> Result<bool, OutOfMemory> {
+    let bump = Bump::new(alloc);
+    let scene = Scene::build(&bump, document, window)?;
+    let items = scene.display_list();
+    let first = is_strip(alloc, items, window);
+    let again = is_strip(alloc, items, window);
+    Ok(are_right(first, again))
 }
 
 // Asserts that a span is taken, at the second time where memory was wanted: then nothing had been taken. All spans that were

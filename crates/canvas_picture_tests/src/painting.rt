@@ -3,12 +3,13 @@
 ghost use Rattle.std.specs.Prelude.{◌≤ℤ◌};
 
 use crate::asserts::{equal, holds};
+use crate::pictures::{painted, picture};
 use crate::shapes::{GREEN, RED, after, frame, nested, page_box, rect, red_rectangle, with};
 use bumpalo::Bump;
 use canvas_doc::{Document, Edit, Parent};
-use canvas_paint::{FreeGate, FreeRow, Gate, PaintFault, paint, paint_strip, strip_rows};
+use canvas_paint::{FreeGate, FreeRow, Gate, PaintFault, paint_strip, strip_rows};
 use canvas_plane::{PageBox, Pose, Window};
-use canvas_scene::{Scene, append_picture};
+use canvas_scene::Scene;
 use canvas_shape::Span;
 use std::alloc::Global;
 use std::process::Abort;
@@ -16,19 +17,6 @@ use std::sync::atomic::{AtomicU64, Ordering};
 use std::thread;
 use std::thread::Threads;
 use std::time::{Clock, Duration};
-
-// The picture of a document by one worker.
-fn picture<R: Threads + Sync + Abort>(
-    rt: &R,
-    alloc: Global,
-    document: &Document,
-    window: &Window,
-) -> Vec<u8> {
-    let bump = Bump::new(alloc);
-    let mut out = Vec::new(alloc);
-    append_picture(rt, alloc, &bump, document, window, 1, &mut out).expect(rt, "memory");
-    out
-}
 
 // The colours of the pixels of four columns and rows from the origin on.
 fn walk(rt: &impl Abort, alloc: Global, document: &Document) -> Vec<u8> {
@@ -47,7 +35,7 @@ fn check_walk<R: Threads + Sync + Abort>(
     document: &Document,
     window: &Window,
 ) {
-    let bytes = picture(rt, alloc, document, window);
+    let bytes = picture(rt, alloc, document, window, 1);
     equal(rt, "the picture", &bytes, &walk(rt, alloc, document));
 }
 
@@ -121,7 +109,7 @@ fn frames_in_frames_cut_by_both(rt: HostRuntime) {
     let alloc = rt.alloc();
     let window = Window::new(0, 0, 6, 2).expect(&rt, "a window");
     let document = nested(alloc).expect(&rt, "memory");
-    let bytes = picture(&rt, alloc, &document, &window);
+    let bytes = picture(&rt, alloc, &document, &window, 1);
     equal(&rt, "the picture", &bytes, &green_and_white(&rt, alloc));
 }
 
@@ -142,7 +130,7 @@ fn strips_joined_are_the_picture(rt: HostRuntime) {
     let alloc = rt.alloc();
     let document = red_rectangle(alloc).expect(&rt, "memory");
     let window = Window::new(0, 0, 256, 2).expect(&rt, "a window");
-    let whole = picture(&rt, alloc, &document, &window);
+    let whole = picture(&rt, alloc, &document, &window, 1);
     equal(&rt, "its length", &whole.len(), &1536);
     equal(&rt, "both strips", &joined(&rt, alloc, &document), &whole);
     equal(&rt, "the first rows", &strip_rows(2, 0, 2), &(0, 1));
@@ -158,9 +146,7 @@ fn by_workers<R: Threads + Sync + Abort>(
 ) -> Result<Vec<u8>, PaintFault> {
     let document = red_rectangle(alloc).expect(rt, "memory");
     let window = Window::new(0, 0, columns, 2).expect(rt, "a window");
-    let bump = Bump::new(alloc);
-    let scene = Scene::build(&bump, &document, &window).expect(rt, "memory");
-    paint(rt, alloc, scene.display_list(), &window, workers, &FreeGate)
+    painted(rt, alloc, &document, &window, workers, &FreeGate)
 }
 
 // Two red pixels, and the others of a window of 256 by 2.
@@ -229,9 +215,7 @@ fn by_two_that_meet<R: Threads + Clock + Sync + Abort>(
 ) -> Vec<u8> {
     let document = red_rectangle(alloc).expect(rt, "memory");
     let window = Window::new(0, 0, 4, 2).expect(rt, "a window");
-    let bump = Bump::new(alloc);
-    let scene = Scene::build(&bump, &document, &window).expect(rt, "memory");
-    paint(rt, alloc, scene.display_list(), &window, 2, gate).expect(rt, "a picture")
+    painted(rt, alloc, &document, &window, 2, gate).expect(rt, "a picture")
 }
 
 #[test]

@@ -2,6 +2,7 @@
 //! has no more than one cell here.
 
 use crate::asserts::equal;
+use crate::pictures::count;
 use crate::shapes::{BLUE, GREEN, RED, frame, page_box, rect, right, with};
 use bumpalo::Bump;
 use canvas_doc::{Document, Parent};
@@ -27,9 +28,7 @@ fn after(
 // Asserts that a document has so many shapes, and makes so many items in the window 0, 0, 4, 4.
 fn check_counts(rt: &impl Abort, alloc: Global, document: &Document, wanted: (usize, usize)) {
     let window = Window::new(0, 0, 4, 4).expect(rt, "a window");
-    let bump = Bump::new(alloc);
-    let scene = Scene::build(&bump, document, &window).expect(rt, "memory");
-    let found = (document.count(), scene.display_list().len());
+    let found = (document.count(), count(rt, alloc, document, &window));
     equal(rt, "shapes and items", &found, &wanted);
 }
 

@@ -45,10 +45,13 @@ pub(crate) fn after(
     document: Document,
     edit: &Edit,
 ) -> Result<Document, OutOfMemory> {
-    match document.decide(alloc, edit) {
-        Ok(change) => Ok(document.with(alloc, &change)?),
-        Err(_) => Ok(document),
-    }
+    let Ok(change) = document.decide(alloc, edit) else {
+        return Ok(document);
+    };
+    let after = document.with(alloc, &change);
+    drop(change);
+    drop(document);
+    after
 }
 
 /// The document with a shape in front of a parent's children.

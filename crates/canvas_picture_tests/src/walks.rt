@@ -1,6 +1,5 @@
 //! Pictures of random documents: each shows at each pixel what `Document::colour_at` tells. Lists of events.
 
-mod asserts;
 mod bands;
 mod cells;
 mod events;

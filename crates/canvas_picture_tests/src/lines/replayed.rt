@@ -1,5 +1,5 @@
 //! Documents that the test makes of the edits' answers.
-use crate::asserts::holds;
+use crate::asserts::{holds, holds_at};
 use crate::lines::editor::Accepted;
 use crate::lines::viewer::{Sight, raster};
 use canvas_doc::Document;
@@ -66,21 +66,17 @@ pub(crate) fn check_sights<R: Threads + Sync + Abort>(
         let document = document.expect(rt, "a version that edits made");
         check_same(rt, alloc, number, document, &sight.version.document);
         let is_so = raster(rt, alloc, document) == sight.raster;
-        holds_of(rt, "the raster", number, is_so);
+        holds_at(rt, "the raster of version", number, is_so);
     }
 }
 
 // Asserts that two documents of a version have the same records and the same next id.
 fn check_same<R: Abort>(rt: &R, alloc: Global, number: u64, one: &Document, other: &Document) {
     let is_so = one.next_id() == other.next_id();
-    holds_of(rt, "the next id", number, is_so);
-    holds_of(rt, "the count", number, one.count() == other.count());
+    holds_at(rt, "the next id of version", number, is_so);
+    let is_so = one.count() == other.count();
+    holds_at(rt, "the count of version", number, is_so);
     let ours = one.records_in_order(alloc).expect(rt, "memory");
     let theirs = other.records_in_order(alloc).expect(rt, "memory");
-    holds_of(rt, "the records", number, ours == theirs);
-}
-
-// Ends the test with these words of a version unless it is so.
-fn holds_of(rt: &impl Abort, what: &str, number: u64, is_so: bool) {
-    assert!(rt; is_so, "{what} of version {number}");
+    holds_at(rt, "the records of version", number, ours == theirs);
 }

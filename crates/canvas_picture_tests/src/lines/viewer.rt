@@ -1,10 +1,9 @@
 //! A thread that looks and paints.
 use crate::asserts::holds;
-use bumpalo::Bump;
+use crate::pictures::picture;
 use canvas_doc::Document;
 use canvas_line::{Lines, Seat, Version};
 use canvas_plane::Window;
-use canvas_scene::append_picture;
 use std::alloc::Global;
 use std::process::Abort;
 use std::sync::Arc;
@@ -48,8 +47,5 @@ pub(crate) fn raster<R: Threads + Sync + Abort>(
     document: &Document,
 ) -> Vec<u8> {
     let window = Window::new(0, 0, 64, 4).expect(rt, "a window");
-    let bump = Bump::new(alloc);
-    let mut out = Vec::new(alloc);
-    append_picture(rt, alloc, &bump, document, &window, 1, &mut out).expect(rt, "memory");
-    out
+    picture(rt, alloc, document, &window, 1)
 }

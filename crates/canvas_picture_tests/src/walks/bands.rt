@@ -1,6 +1,6 @@
 //! Pictures of more shapes than are painted at once, compared with the walk pixel by pixel.
 
-use crate::walks::asserts::{equal, holds};
+use crate::asserts::{equal, holds_at};
 use crate::walks::levels::random_kind;
 use crate::walks::shapes::{Dice, away, rect, with};
 use crate::walks::walk::agrees;
@@ -81,10 +81,10 @@ fn compare(rt: &impl Abort, alloc: Global, level: u8) {
     let scene = Scene::build(&bump, &document, &window).expect(rt, "memory");
     let items = scene.display_list();
     let count = items.len() as u64;
-    holds(rt, "items", count, count > 128);
+    holds_at(rt, "items", count, count > 128);
     let whole = in_two(rt, alloc, items, &window, 0);
     let is_right = agrees(&document, &window, whole.as_slice());
-    holds(rt, "level", number, is_right);
+    holds_at(rt, "level", number, is_right);
     compare_strips(rt, alloc, items, &window, whole.as_slice());
 }
 

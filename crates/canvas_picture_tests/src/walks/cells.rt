@@ -1,12 +1,11 @@
 //! What several rectangles hide together: the cells of 8 by 8 pixels of the window that lie in one of them each.
 
-use crate::walks::asserts::{equal, holds};
+use crate::asserts::{equal, holds_at};
+use crate::pictures::count;
 use crate::walks::shapes::{Dice, away, ellipse, frame, rect, small_polygon, with};
 use crate::walks::walk::check_walk;
-use bumpalo::Bump;
 use canvas_doc::{Document, Parent};
 use canvas_plane::Window;
-use canvas_scene::Scene;
 use canvas_shape::{Colour, Kind};
 use std::alloc::Global;
 use std::process::Abort;
@@ -46,13 +45,6 @@ fn behind(rt: &impl Abort, alloc: Global) -> Document {
     at(rt, alloc, document, polygon, 120, 120)
 }
 
-// How many items a window has.
-fn count(rt: &impl Abort, alloc: Global, document: &Document, window: &Window) -> usize {
-    let bump = Bump::new(alloc);
-    let scene = Scene::build(&bump, document, window).expect(rt, "memory");
-    scene.display_list().len()
-}
-
 // How many items a window has of the shapes behind, with four rectangles in front that tile so many pixels.
 fn count_tiled(rt: &impl Abort, alloc: Global, window: &Window, w: u32, h: u32) -> usize {
     let document = tiled(rt, alloc, behind(rt, alloc), w, h);
@@ -77,7 +69,7 @@ fn cells_at_the_right_and_bottom_edges_are_cut(rt: HostRuntime) {
     let all = count_tiled(&rt, alloc, &window, 201, 131);
     equal(&rt, "items", &all, &4);
     let some = count_tiled(&rt, alloc, &window, 200, 131);
-    holds(&rt, "items", some as u64, some > 4);
+    holds_at(&rt, "items", some as u64, some > 4);
 }
 
 // How many items a window has of one rectangle with four in front that tile so many pixels.

@@ -1,11 +1,11 @@
 //! Worked lists of events, told in words.
 
-use crate::walks::asserts::equal;
+use crate::asserts::equal;
 use canvas_code::OutOfMemory;
 use canvas_doc::{Document, Edit, Parent, Spot};
 use canvas_plane::{Pose, Window};
 use canvas_shape::{Colour, Kind};
-use canvas_world::{Entry, Event, run};
+use canvas_world::{Entry, Event, Transcript, run};
 use std::alloc::{AllocError, Global};
 use std::process::Abort;
 
@@ -56,29 +56,64 @@ fn events_of(alloc: Global, steps: &[Step], window: Window) -> Result<Vec<Event>
     Ok(events)
 }
 
-// An entry in words.
+// An entry in words, with a semicolon behind them.
 fn told(alloc: Global, entry: &Entry) -> Result<String, AllocError> {
     match entry {
         Entry::Edited {
             version,
             id: Some(id),
-        } => format!(in alloc; "edited {version} {id}"),
-        Entry::Edited { version, id: None } => format!(in alloc; "edited {version}"),
-        Entry::Refused { code } => format!(in alloc; "refused {code}"),
-        Entry::Looked { version } => format!(in alloc; "looked {version}"),
-        Entry::Painted => format!(in alloc; "painted"),
+        } => format!(in alloc; "edited {version} {id}; "),
+        Entry::Edited { version, id: None } => told_number(alloc, "edited", *version),
+        Entry::Refused { code } => told_number(alloc, "refused", u64::from(*code)),
+        Entry::Looked { version } => told_number(alloc, "looked", *version),
+        Entry::Painted => told_word(alloc, "painted"),
         Entry::Tile {
             version,
             window,
             raster,
-        } => format!(in alloc;
-            "tile {version} {} {} {:?}",
-            window.w(),
-            window.h(),
-            raster.bytes()
-        ),
-        Entry::Skipped => format!(in alloc; "skipped"),
+        } => told_tile(alloc, *version, window, raster.bytes()),
+        Entry::Skipped => told_word(alloc, "skipped"),
     }
+}
+
+fn told_word(alloc: Global, word: &str) -> Result<String, AllocError> {
+    format!(in alloc; "{word}; ")
+}
+
+fn told_number(alloc: Global, word: &str, number: u64) -> Result<String, AllocError> {
+    format!(in alloc; "{word} {number}; ")
+}
+
+fn told_tile(
+    alloc: Global,
+    version: u64,
+    window: &Window,
+    bytes: &[u8],
+) -> Result<String, AllocError> {
+    let (w, h) = (window.w(), window.h());
+    format!(in alloc; "tile {version} {w} {h} {bytes:?}; ")
+}
+
+// The text with an entry in words behind it.
+fn tell(alloc: Global, text: &mut String, entry: &Entry) -> Result<(), OutOfMemory> {
+    let words = told(alloc, entry)?;
+    let told = text.push_str(words.as_str());
+    drop(words);
+    Ok(told?)
+}
+
+fn tell_all(alloc: Global, entries: &[Entry]) -> Result<String, OutOfMemory> {
+    let mut text = String::new(alloc);
+    for entry in entries {
+        tell(alloc, &mut text, entry)?;
+    }
+    Ok(text)
+}
+
+/// The transcript of a list of events over an empty document. (A call of this tells a proof nothing, which keeps tests quick
+/// to prove.)
+pub(crate) fn ran(alloc: Global, seats: u32, events: &[Event]) -> Result<Transcript, OutOfMemory> {
+    run(alloc, &Document::empty(alloc), seats, events)
 }
 
 /// The transcript of a list of events over an empty document, in words.
@@ -89,14 +124,10 @@ pub(crate) fn transcript(
     steps: &[Step],
 ) -> Result<String, OutOfMemory> {
     let events = events_of(alloc, steps, window)?;
-    let transcript = run(alloc, &Document::empty(alloc), seats, events.as_slice())?;
-    let mut text = String::new(alloc);
-    for entry in transcript.entries() {
-        let words = told(alloc, entry)?;
-        text.push_str(words.as_str())?;
-        text.push_str("; ")?;
-    }
-    Ok(text)
+    let transcript = ran(alloc, seats, events.as_slice());
+    drop(events);
+    let transcript = transcript?;
+    tell_all(alloc, transcript.entries())
 }
 
 // Asserts what the transcript of a list of events is in words.

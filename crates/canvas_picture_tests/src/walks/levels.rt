@@ -1,12 +1,11 @@
 //! Pictures of windows of each level: worked ones, and random documents compared with the walk, pixel by pixel.
 
-use crate::walks::asserts::equal;
+use crate::asserts::equal;
+use crate::pictures::picture;
 use crate::walks::shapes::{Dice, away, ellipse, frame, polygon, rect, with};
 use crate::walks::walk::check_walk;
-use bumpalo::Bump;
 use canvas_doc::{Document, Parent};
 use canvas_plane::Window;
-use canvas_scene::append_picture;
 use canvas_shape::{Colour, Kind};
 use std::alloc::Global;
 use std::process::Abort;
@@ -29,10 +28,8 @@ fn check_picture<R: Abort + Threads + Sync>(
     window: &Window,
     wanted: &[u8],
 ) {
-    let bump = Bump::new(alloc);
-    let mut out = Vec::new(alloc);
-    append_picture(rt, alloc, &bump, document, window, 1, &mut out).expect(rt, "memory");
-    equal(rt, "the picture", &out.as_slice(), &wanted);
+    let found = picture(rt, alloc, document, window, 1);
+    equal(rt, "the picture", &found.as_slice(), &wanted);
 }
 
 #[test]

@@ -1,22 +1,13 @@
 //! Lists of events for which memory may be refused: run with each allocation refused in turn, a list answers want of
 //! memory, or what it answers with ample memory.
 
-use crate::walks::asserts::equal;
+use crate::asserts::equal;
+use crate::memory::are_right;
 use crate::walks::events::{A_TILE, A_TILE_TOLD, transcript};
 use canvas_code::OutOfMemory;
 use canvas_plane::Window;
 use std::alloc::Global;
 use std::test::Fail;
-
-// Whether of two answers at most one is want of memory, and each other one is right.
-fn are_right(first: Result<bool, OutOfMemory>, again: Result<bool, OutOfMemory>) -> bool {
-    match (first, again) {
-        (Ok(right), Ok(too)) => right && too,
-        (Ok(right), Err(OutOfMemory)) => right,
-        (Err(OutOfMemory), Ok(right)) => right,
-        (Err(OutOfMemory), Err(OutOfMemory)) => false,
-    }
-}
 
 fn is_told(alloc: Global, window: Window) -> Result<bool, OutOfMemory> {
     Ok(transcript(alloc, 1, window, &A_TILE)?.as_str() == A_TILE_TOLD)

@@ -1,6 +1,6 @@
 //! Pictures of random deep documents, compared with the walk pixel by pixel.
 
-use crate::walks::asserts::{equal, holds};
+use crate::asserts::{equal, holds_at};
 use crate::walks::shapes::{
     Dice, after, create_anyhow, ellipse, far_groups, frame, rect, small_polygon,
 };
@@ -79,7 +79,7 @@ fn deep_pictures_are_the_walk(rt: HostRuntime) {
     let alloc = rt.alloc();
     equal(&rt, "windows", &compared(&rt, alloc, 11, 0, 0, 0), &120);
     let count = compared(&rt, alloc, 12, 1_048_576, 2_097_062, -2_097_152);
-    holds(&rt, "windows", u64::from(count), count > 20);
+    holds_at(&rt, "windows", u64::from(count), count > 20);
     let count = compared(&rt, alloc, 13, -1_048_576, -2_097_152, 2_097_112);
-    holds(&rt, "windows", u64::from(count), count > 20);
+    holds_at(&rt, "windows", u64::from(count), count > 20);
 }

@@ -1,10 +1,12 @@
 //! Random lists of events, with each entry compared with what is found by looking back over the list.
 
-use crate::walks::asserts::holds;
+use crate::asserts::holds_at;
+use crate::shapes::after;
+use crate::walks::events::ran;
 use canvas_doc::{Change, Document, Edit, Parent, Refusal, Spot};
 use canvas_plane::{Pose, Window};
 use canvas_shape::{Colour, Kind};
-use canvas_world::{Entry, Event, Transcript, run};
+use canvas_world::{Entry, Event, Transcript};
 use std::alloc::Global;
 use std::process::Abort;
 
@@ -98,19 +100,30 @@ fn random_events(rt: &impl Abort, alloc: Global, dice: &mut Dice) -> Vec<Event> 
     events
 }
 
-// The document after the first so many accepted edits, judged anew from the empty one.
-fn replayed(
+// An event, and the entry that it came to.
+type Pair<'a> = (&'a Event, &'a Entry);
+
+// Each event with its entry.
+fn pairs_of<'a>(
     rt: &impl Abort,
     alloc: Global,
-    events: &[Event],
-    entries: &[Entry],
-    many: u64,
-) -> Document {
+    events: &'a [Event],
+    entries: &'a [Entry],
+) -> Vec<Pair<'a>> {
+    let mut steps = Vec::new(alloc);
+    for step in events.iter().zip(entries) {
+        steps.push(step).expect(rt, "memory");
+    }
+    steps
+}
+
+// The document after the first so many accepted edits, judged anew from the empty one.
+fn replayed(rt: &impl Abort, alloc: Global, past: &[Pair<'_>], many: u64) -> Document {
     let mut document = Document::empty(alloc);
     let mut left = many;
-    for (event, entry) in events.iter().zip(entries) {
+    for (event, entry) in past {
         if let Some(edit) = next_accepted(event, entry, &mut left) {
-            document = after(rt, alloc, document, edit);
+            document = after(alloc, document, edit).expect(rt, "memory");
         }
     }
     document
@@ -127,61 +140,51 @@ fn next_accepted<'a>(event: &'a Event, entry: &Entry, left: &mut u64) -> Option<
     }
 }
 
-// The document after an edit, or as it was where the edit is refused.
-fn after(rt: &impl Abort, alloc: Global, document: Document, edit: &Edit) -> Document {
-    match document.decide(alloc, edit) {
-        Ok(change) => document.with(alloc, &change).expect(rt, "memory"),
-        Err(_) => document,
-    }
-}
-
-fn edits_in(entries: &[Entry]) -> u64 {
+fn edits_in(past: &[Pair<'_>]) -> u64 {
     let mut many = 0u64;
-    for entry in entries {
-        if let Entry::Edited { .. } = entry {
-            many = many.wrapping_add(1);
-        }
+    for (_, entry) in past {
+        many = many.wrapping_add(u64::from(matches!(*entry, Entry::Edited { .. })));
     }
     many
 }
 
 // The place of a seat's latest look, if no tile of it stands after.
-fn latest_look(events: &[Event], entries: &[Entry], own: u32) -> Option<usize> {
+fn latest_look(past: &[Pair<'_>], own: u32) -> Option<usize> {
     let mut found = None;
     let mut at = 0usize;
-    for (event, entry) in events.iter().zip(entries) {
+    for (event, entry) in past {
         if event.seat() == own {
-            match entry {
-                Entry::Looked { .. } => found = Some(at),
-                Entry::Tile { .. } => found = None,
-                _ => {}
-            }
+            found = look_after(found, at, entry);
         }
         at = at.wrapping_add(1);
     }
     found
 }
 
-// How often a seat painted strip k of n, and how many strips in all, since a place.
-fn painted(
-    events: &[Event],
-    entries: &[Entry],
-    own: u32,
-    since: usize,
-    wanted: (u32, u32),
-) -> (u32, u32) {
+// The place of the latest look, once an entry of the same seat stands at a place.
+fn look_after(before: Option<usize>, at: usize, entry: &Entry) -> Option<usize> {
+    match entry {
+        Entry::Looked { .. } => Some(at),
+        Entry::Tile { .. } => None,
+        _ => before,
+    }
+}
+
+// Which strip a seat painted by an event, if it did: k of n.
+fn strip_of(event: &Event, entry: &Entry, own: u32) -> Option<(u32, u32)> {
+    match (event, entry) {
+        (Event::Strip { seat, k, n }, Entry::Painted) if *seat == own => Some((*k, *n)),
+        _ => None,
+    }
+}
+
+// How often a seat painted strip k of n, and how many strips in all.
+fn painted(steps: &[Pair<'_>], own: u32, wanted: (u32, u32)) -> (u32, u32) {
     let (mut same, mut all) = (0u32, 0u32);
-    let mut at = 0usize;
-    for (event, entry) in events.iter().zip(entries) {
-        if let (Event::Strip { seat, k, n }, Entry::Painted) = (event, entry) {
-            if *seat == own && since < at {
-                all = all.wrapping_add(1);
-                if (*k, *n) == wanted {
-                    same = same.wrapping_add(1);
-                }
-            }
-        }
-        at = at.wrapping_add(1);
+    for (event, entry) in steps {
+        let strip = strip_of(event, entry, own);
+        same = same.wrapping_add(u32::from(strip == Some(wanted)));
+        all = all.wrapping_add(u32::from(strip.is_some()));
     }
     (same, all)
 }
@@ -213,17 +216,16 @@ fn new_id(change: &Change) -> Option<u32> {
     }
 }
 
-// Whether an edit came to the right entry after the events before it.
+// Whether an edit came to the right entry after the steps before it.
 fn edited_right(
     rt: &impl Abort,
     alloc: Global,
-    events: &[Event],
-    entries: &[Entry],
+    past: &[Pair<'_>],
     edit: &Edit,
     entry: &Entry,
 ) -> bool {
-    let many = edits_in(entries);
-    let document = replayed(rt, alloc, events, entries, many);
+    let many = edits_in(past);
+    let document = replayed(rt, alloc, past, many);
     is_decided(&document.decide(alloc, edit), many, entry)
 }
 
@@ -238,22 +240,24 @@ fn is_decided(decided: &Result<Change, Refusal>, many: u64, entry: &Entry) -> bo
     }
 }
 
+// Whether a look came to the right entry.
+fn looked_right(past: &[Pair<'_>], entry: &Entry) -> bool {
+    match entry {
+        Entry::Looked { version } => *version == edits_in(past),
+        _ => false,
+    }
+}
+
 // Whether a strip came to the right entry after a look at a place.
-fn painted_right(
-    events: &[Event],
-    entries: &[Entry],
-    own: u32,
-    since: usize,
-    strip: (u32, u32),
-    entry: &Entry,
-) -> bool {
+fn painted_right(past: &[Pair<'_>], own: u32, at: usize, strip: (u32, u32), entry: &Entry) -> bool {
+    let steps = past.get(at.saturating_add(1)..).unwrap_or(&[]);
     let (k, n) = strip;
     let mut of_this_number = 0u32;
     for other in 0..n.min(17) {
-        let (same, _) = painted(events, entries, own, since, (other, n));
+        let (same, _) = painted(steps, own, (other, n));
         of_this_number = of_this_number.wrapping_add(same);
     }
-    let (same, all) = painted(events, entries, own, since, (k, n));
+    let (same, all) = painted(steps, own, (k, n));
     let may = 1 <= n && n <= 16 && k < n && same == 0 && of_this_number == all;
     match entry {
         Entry::Painted => may,
@@ -262,42 +266,47 @@ fn painted_right(
     }
 }
 
-// The number of strips of which the first strip since a place was one, none where there is no strip.
-fn strips_of(events: &[Event], entries: &[Entry], own: u32, since: usize) -> u32 {
-    let mut at = 0usize;
-    for (event, entry) in events.iter().zip(entries) {
-        if let (Event::Strip { seat, n, .. }, Entry::Painted) = (event, entry) {
-            if *seat == own && since < at {
-                return *n;
-            }
+// The number of strips of which the first strip was one, none where there is no strip.
+fn strips_of(steps: &[Pair<'_>], own: u32) -> u32 {
+    for (event, entry) in steps {
+        if let Some((_, n)) = strip_of(event, entry, own) {
+            return n;
         }
-        at = at.wrapping_add(1);
     }
     0
 }
 
 // Whether there are strips since a place, and all of them.
-fn is_whole(events: &[Event], entries: &[Entry], own: u32, since: usize) -> bool {
-    let n = strips_of(events, entries, own, since);
+fn is_whole(past: &[Pair<'_>], own: u32, at: usize) -> bool {
+    let steps = past.get(at.saturating_add(1)..).unwrap_or(&[]);
+    let n = strips_of(steps, own);
     let mut there = 0u32;
     for k in 0..n {
-        let (same, _) = painted(events, entries, own, since, (k, n));
+        let (same, _) = painted(steps, own, (k, n));
         there = there.wrapping_add(same.min(1));
     }
     0 < n && there == n
+}
+
+// The version and the window of the look at a place.
+fn look_at(past: &[Pair<'_>], at: usize) -> Option<(u64, Window)> {
+    let (event, entry) = past.get(at)?;
+    match (*event, *entry) {
+        (Event::Look { window, .. }, Entry::Looked { version }) => Some((*version, *window)),
+        _ => None,
+    }
 }
 
 // Whether the bytes are the colours of the document after the first so many accepted edits.
 fn shows_replay(
     rt: &impl Abort,
     alloc: Global,
-    events: &[Event],
-    entries: &[Entry],
+    past: &[Pair<'_>],
     many: u64,
     window: &Window,
     bytes: &[u8],
 ) -> bool {
-    let document = replayed(rt, alloc, events, entries, many);
+    let document = replayed(rt, alloc, past, many);
     shows(&document, window, bytes)
 }
 
@@ -305,29 +314,23 @@ fn shows_replay(
 fn answered_right(
     rt: &impl Abort,
     alloc: Global,
-    events: &[Event],
-    entries: &[Entry],
+    past: &[Pair<'_>],
     own: u32,
-    since: usize,
+    at: usize,
     entry: &Entry,
 ) -> bool {
-    let whole = is_whole(events, entries, own, since);
-    match (entry, events.get(since), entries.get(since)) {
-        (
-            Entry::Tile {
-                version,
-                window,
-                raster,
-            },
-            Some(Event::Look { window: asked, .. }),
-            Some(Entry::Looked { version: fixed }),
-        ) => {
+    let whole = is_whole(past, own, at);
+    match entry {
+        Entry::Tile {
+            version,
+            window,
+            raster,
+        } => {
             whole
-                && version == fixed
-                && window == asked
-                && shows_replay(rt, alloc, events, entries, *fixed, asked, raster.bytes())
+                && look_at(past, at) == Some((*version, *window))
+                && shows_replay(rt, alloc, past, *version, window, raster.bytes())
         }
-        (Entry::Skipped, _, _) => !whole,
+        Entry::Skipped => !whole,
         _ => false,
     }
 }
@@ -336,26 +339,20 @@ fn answered_right(
 fn is_right(
     rt: &impl Abort,
     alloc: Global,
-    events: &[Event],
-    entries: &[Entry],
+    past: &[Pair<'_>],
     event: &Event,
     entry: &Entry,
 ) -> bool {
     if event.seat() >= 3 {
         return matches!(entry, Entry::Skipped);
     }
-    match (event, latest_look(events, entries, event.seat())) {
-        (Event::Edit { edit, .. }, _) => edited_right(rt, alloc, events, entries, edit, entry),
-        (Event::Look { .. }, _) => match entry {
-            Entry::Looked { version } => *version == edits_in(entries),
-            _ => false,
-        },
+    match (event, latest_look(past, event.seat())) {
+        (Event::Edit { edit, .. }, _) => edited_right(rt, alloc, past, edit, entry),
+        (Event::Look { .. }, _) => looked_right(past, entry),
         (Event::Strip { seat, k, n }, Some(at)) => {
-            painted_right(events, entries, *seat, at, (*k, *n), entry)
+            painted_right(past, *seat, at, (*k, *n), entry)
         }
-        (Event::Answer { seat }, Some(at)) => {
-            answered_right(rt, alloc, events, entries, *seat, at, entry)
-        }
+        (Event::Answer { seat }, Some(at)) => { answered_right(rt, alloc, past, *seat, at, entry) }
         _ => matches!(entry, Entry::Skipped),
     }
 }
@@ -363,15 +360,15 @@ fn is_right(
 // Whether all entries are right.
 fn all_right(rt: &impl Abort, alloc: Global, events: &[Event], transcript: &Transcript) -> bool {
     let entries = transcript.entries();
-    if entries.len() != events.len() {
-        return false;
-    }
+    let steps = pairs_of(rt, alloc, events, entries);
+    entries.len() == events.len() && are_right(rt, alloc, &steps)
+}
+
+fn are_right(rt: &impl Abort, alloc: Global, steps: &[Pair<'_>]) -> bool {
     let mut at = 0usize;
-    for (event, entry) in events.iter().zip(entries) {
-        let (Some(before), Some(came)) = (events.get(..at), entries.get(..at)) else {
-            return false;
-        };
-        if !is_right(rt, alloc, before, came, event, entry) {
+    for (event, entry) in steps {
+        let past = steps.get(..at).unwrap_or(&[]);
+        if !is_right(rt, alloc, past, event, entry) {
             return false;
         }
         at = at.wrapping_add(1);
@@ -393,8 +390,8 @@ fn tiles_in(entries: &[Entry]) -> u32 {
 // How many tiles there were in a list of events over an empty document, of which all entries are to be right. The number
 // tells which list it is.
 fn tiles_of(rt: &impl Abort, alloc: Global, events: &[Event], number: u64) -> u32 {
-    let transcript = run(alloc, &Document::empty(alloc), 3, events).expect(rt, "memory");
-    holds(
+    let transcript = ran(alloc, 3, events).expect(rt, "memory");
+    holds_at(
         rt,
         "list",
         number,
@@ -419,5 +416,5 @@ fn compared(rt: &impl Abort, alloc: Global, seed: u64) -> u32 {
 #[test]
 fn random_lists_are_their_replay(rt: HostRuntime) {
     let tiles = compared(&rt, rt.alloc(), 1);
-    holds(&rt, "tiles", u64::from(tiles), tiles > 200);
+    holds_at(&rt, "tiles", u64::from(tiles), tiles > 200);
 }

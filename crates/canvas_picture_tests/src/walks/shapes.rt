@@ -1,5 +1,6 @@
 //! Random numbers, and what is put on a page.
 
+use crate::shapes;
 use canvas_doc::{Document, Edit, Parent, Spot};
 use canvas_plane::{Point, Pose};
 use canvas_shape::{Colour, Kind, Points};
@@ -131,10 +132,9 @@ pub(crate) fn create_anyhow(
 
 /// The document after an edit, or as it was where the edit is refused.
 pub(crate) fn after(rt: &impl Abort, alloc: Global, document: Document, edit: Edit) -> Document {
-    match document.decide(alloc, &edit) {
-        Ok(change) => document.with(alloc, &change).expect(rt, "memory"),
-        Err(_) => document,
-    }
+    let after = shapes::after(alloc, document, &edit).expect(rt, "memory");
+    drop(edit);
+    after
 }
 
 /// The document with a shape in front of a parent's children.

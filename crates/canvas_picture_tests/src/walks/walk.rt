@@ -1,6 +1,6 @@
 //! Pictures compared with the walk, pixel by pixel.
 
-use crate::walks::asserts::holds;
+use crate::asserts::holds_at;
 use crate::walks::shapes::Dice;
 use bumpalo::Bump;
 use canvas_doc::Document;
@@ -48,7 +48,7 @@ pub(crate) fn check_walk(
     let scene = Scene::build(&bump, document, window).expect(rt, "memory");
     let items = scene.display_list();
     let bytes = paint_strip(alloc, items, window, 0, window.h()).expect(rt, "memory");
-    holds(rt, "picture", number, agrees(document, window, &bytes));
+    holds_at(rt, "picture", number, agrees(document, window, &bytes));
 }
 
 /// The number of a picture, by which a failure tells the seed and how many pictures came before.

@@ -1,14 +1,13 @@
 //! Pictures by one to four workers, compared with the walk pixel by pixel.
 
-use crate::walks::asserts::{equal, holds};
+use crate::asserts::{equal, holds_at};
+use crate::pictures::picture;
 use crate::walks::shapes::{
     Dice, after, create_anyhow, ellipse, far_groups, frame, polygon, rect, with,
 };
 use crate::walks::walk::{agrees, picture_number, random_window};
-use bumpalo::Bump;
 use canvas_doc::{Document, Edit, Parent};
 use canvas_plane::Window;
-use canvas_scene::append_picture;
 use canvas_shape::{Colour, Kind};
 use std::alloc::Global;
 use std::process::Abort;
@@ -23,11 +22,8 @@ fn check_walk_by<R: Abort + Threads + Sync>(
     workers: u32,
     number: u64,
 ) {
-    let bump = Bump::new(alloc);
-    let mut out = Vec::new(alloc);
-    let workers = workers.clamp(1, 4);
-    append_picture(rt, alloc, &bump, document, window, workers, &mut out).expect(rt, "memory");
-    holds(rt, "picture", number, agrees(document, window, &out));
+    let found = picture(rt, alloc, document, window, workers);
+    holds_at(rt, "picture", number, agrees(document, window, &found));
 }
 
 fn random_kind(rt: &impl Abort, alloc: Global, dice: &mut Dice) -> Kind {
@@ -94,9 +90,9 @@ fn random_pictures_are_the_walk(rt: HostRuntime) {
     let alloc = rt.alloc();
     equal(&rt, "windows", &compared(&rt, alloc, 1, 0, 0, 0), &150);
     let count = compared(&rt, alloc, 2, 1_048_576, 2_097_072, -2_097_152);
-    holds(&rt, "windows", u64::from(count), count > 20);
+    holds_at(&rt, "windows", u64::from(count), count > 20);
     let count = compared(&rt, alloc, 3, -1_048_576, -2_097_152, 2_097_132);
-    holds(&rt, "windows", u64::from(count), count > 20);
+    holds_at(&rt, "windows", u64::from(count), count > 20);
 }
 
 // A rectangle, an ellipse or a polygon with sides up to 120.
