@@ -1,0 +1,71 @@
+"""Which functions of a formatted source a change lies in, and of which function a line of the prover speaks."""
+
+import re
+from dataclasses import dataclass
+
+HEAD = re.compile(r"( *)(?:pub(?:\([a-z]+\))? )?(?:const )?fn (\w+)")
+# A goal of the prover's own, by its place in the source.
+GOAL = re.compile(r"(?:note: )?(?:\./)?(src/\S+\.rt):(\d+):\d+: (?:error: |it is not proved)")
+# An answer of a proof file, which stands in a folder with the function's name.
+ANSWER = re.compile(r"(?:note: )?(?:\./)?proofs/(?:\S+/)?(\w+)/\w+\.antt:\d+:\d+: error")
+
+
+@dataclass(frozen=True)
+class Function:
+    """A function: the numbers, from 1, of its first line, of the one that opens its body, and of its last one."""
+
+    name: str
+    begins: int
+    opens: int
+    ends: int
+
+
+def functions(text):
+    """The functions of a source, but for those with a body on one line."""
+    lines = text.split("\n")
+    found = []
+    for at, line in enumerate(lines):
+        head = HEAD.match(line)
+        opens = head and opening(lines, at, head[1])
+        if opens is not None and f"{head[1]}}}" in lines[opens + 1:]:
+            found.append(Function(head[2], at + 1, opens + 1, lines.index(f"{head[1]}}}", opens + 1) + 1))
+    return found
+
+
+def opening(lines, at, indent):
+    """Where the body opens of the function whose head stands at this line, if it has one of more than one line."""
+    for number in range(at, len(lines)):
+        line = lines[number]
+        if line == f"{indent}{{" or line.endswith(" {") and (number == at or line.startswith(f"{indent})")):
+            return number
+        if not line or number > at and HEAD.match(line) or line.endswith(("{}", ";", "}")) and not line.startswith(f"{indent} "):
+            return None
+    return None
+
+
+def innermost(found, number):
+    """The function that has this line and none of those inside it has."""
+    inside = [it for it in found if it.begins <= number <= it.ends]
+    return max(inside, key=lambda it: it.begins, default=None)
+
+
+def changed(old, new):
+    """The names of the functions in whose bodies two texts differ, or None where they differ elsewhere too."""
+    before, after = old.split("\n"), new.split("\n")
+    found = functions(old)
+    names = set()
+    for number, (line, other) in enumerate(zip(before, after), 1):
+        if line == other:
+            continue
+        inside = innermost(found, number)
+        if inside is None or number < inside.opens or number == inside.opens and not other.startswith(line):
+            return None
+        names.add(inside.name)
+    return names if len(before) == len(after) else None
+
+
+def spoken_of(line, texts):
+    """The name of the function that a line of the prover refuses, where it names one; `texts` has the sources by their paths."""
+    goal, answer = GOAL.match(line), ANSWER.match(line)
+    inside = innermost(functions(texts[goal[1]]), int(goal[2])) if goal and goal[1] in texts else None
+    return inside.name if inside else answer and answer[1]
