@@ -1,4 +1,4 @@
-"""Which functions of a formatted source a change lies in, and of which function a line of the prover speaks."""
+"""In which functions of a source, as `rt fmt` lays it out, a change lies, and which function a line of the prover refuses."""
 
 import re
 from dataclasses import dataclass
@@ -49,7 +49,7 @@ def innermost(found, number):
     return max(inside, key=lambda it: it.begins, default=None)
 
 
-def changed(old, new):
+def changed_functions(old, new):
     """The names of the functions in whose bodies two texts differ, or None where they differ elsewhere too."""
     before, after = old.split("\n"), new.split("\n")
     found = functions(old)
@@ -64,8 +64,8 @@ def changed(old, new):
     return names if len(before) == len(after) else None
 
 
-def spoken_of(line, texts):
-    """The name of the function that a line of the prover refuses, where it names one; `texts` has the sources by their paths."""
+def refused_function(line, texts):
+    """The name of the function that a line of the prover refuses, if it refuses one; `texts` has the sources by their paths."""
     goal, answer = GOAL.match(line), ANSWER.match(line)
     inside = innermost(functions(texts[goal[1]]), int(goal[2])) if goal and goal[1] in texts else None
     return inside.name if inside else answer and answer[1]

@@ -24,7 +24,7 @@ from itertools import chain
 from pathlib import Path
 from queue import Queue
 
-from functions import changed, spoken_of
+from functions import changed_functions, refused_function
 from repository import TOP, copy_for
 
 # A goal or an import of a proof that names what the edit took away.
@@ -128,7 +128,7 @@ def functions_of(edit, crate):
         texts = edited(edit.read_text(), crate)
     except BadEdit:
         return None
-    found = [path.startswith("src/") and changed((crate / path).read_text(), text) for path, text in texts.items()]
+    found = [path.startswith("src/") and changed_functions((crate / path).read_text(), text) for path, text in texts.items()]
     return set().union(*found) if all(found) else None
 
 
@@ -160,7 +160,7 @@ def refused_together(group, crate):
         return {}
     found = {}
     for line in told(lines):
-        name = None if NAMES_WHAT_IS_GONE.match(line) else spoken_of(line, texts)
+        name = None if NAMES_WHAT_IS_GONE.match(line) else refused_function(line, texts)
         for edit, names in group.items():
             if name in names:
                 found.setdefault(edit, line)
