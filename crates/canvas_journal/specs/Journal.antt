@@ -1,0 +1,23 @@
+-- What a journal's file stands for.
+use Rattle.std.specs.Prelude.{◌≡◌, ◌⊎◌, ℕ, List, [], ◌∷◌, ◌++◌, length, drop}
+use Rattle.canvas_journal.specs.Device.{Only}
+use Rattle.canvas_journal.specs.Lines.{text, recovered}
+use Rattle.canvas_journal.specs.declared.journal.Journal.{Journal}
+
+-- the lines that count, a closed gate in the place of the staged lines' first blank, the rest of these, and a closed gate
+abbrev pub at_rest : List (List ℕ) → List (List ℕ) → List ℕ
+at_rest done staged = text done ++ 10 ∷ drop 1 (text staged ++ 10 ∷ [])
+
+-- the lines that a crash now would leave
+abbrev pub done_of : {D : Type 0} → (D → List ℕ) → Journal D → List (List ℕ)
+done_of seen journal = recovered (seen journal.device)
+
+-- the file is the lines that count and the staged ones, all of it on the disk
+pub record IsSettled {D : Type 0} (seen : D → List ℕ) (may_leave : D → List ℕ → Type 0) (journal : Journal D) : Type 0 where
+  pub file : seen journal.device ≡ at_rest (recovered (seen journal.device)) journal.staged
+  pub end : journal.end ≡ length (text (recovered (seen journal.device)))
+  pub durable : Only (seen journal.device) (may_leave journal.device)
+
+-- the file stands for these lines, with the staged ones or without
+abbrev pub IsWithOrWithout : List (List ℕ) → List (List ℕ) → List ℕ → Type 0
+IsWithOrWithout done staged file = (recovered file ≡ done) ⊎ (recovered file ≡ done ++ staged)

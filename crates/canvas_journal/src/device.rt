@@ -1,0 +1,105 @@
+//! A file as the journal sees it: what a read returns, and what a crash may leave.
+
+ghost use Rattle.std.specs.Prelude.{◌≡◌, ◌≤◌, List, ℕ, length, take, IfOk, OnOk};
+ghost use Rattle.canvas_journal.specs.declared.device.DeviceError.TheVariants.{Memory};
+ghost use Rattle.canvas_journal.specs.Device.{Only, Follows, Torn, Cut, Holds, Elapses, HasCause};
+
+use std::alloc::{AllocError, AllocFailed, Global};
+use std::fmt::{Display, Formatter, Write};
+use thiserror::Error;
+
+/// Why a device or a journal did not do what it was asked. After any of them the file has to be opened anew.
+#[derive(Clone, Copy, Debug, Drop, PartialEq, Eq, Error)]
+pub enum DeviceError {
+    /// Memory could not be had.
+    Memory,
+    /// The disk has failed: a read, a write or a sync did not succeed.
+    Failed,
+    /// The journal has more than 2^60 bytes.
+    Full,
+}
+
+/// Writes what was wrong.
+impl Display for DeviceError {
+    fn fmt<W: Write>(&self, formatter: &mut Formatter<W>) -> std::fmt::Result {
+        formatter.write_str(match self {
+            DeviceError::Memory => "out of memory",
+            DeviceError::Failed => "the disk has failed",
+            DeviceError::Full => "the journal is full",
+        })
+    }
+}
+
+impl From<AllocError> for DeviceError {
+    ghost from_gives = { λ _ e. e ≡ Memory };
+
+    fn from(_error: AllocError) -> DeviceError {
+        DeviceError::Memory
+    }
+}
+
+impl<T: Drop> From<AllocFailed<T>> for DeviceError {
+    ghost from_gives = { λ _ e. e ≡ Memory };
+
+    fn from(_error: AllocFailed<T>) -> DeviceError {
+        DeviceError::Memory
+    }
+}
+
+/// A file on a disk that may crash between any two moments, also within a call.
+///
+/// What is written and not yet synced may be there whole, in part, torn, or not at all after a crash. What a sync has covered is there.
+pub trait Device {
+    /// The bytes that a read returns.
+    ghost seen: { Self → List ℕ };
+
+    /// What a crash at this moment may leave.
+    ghost may_leave: { Self → List ℕ → Type 0 };
+
+    /// The moment, as a number that never falls.
+    ghost moment: { Self → ℕ };
+
+    /// What a crash at some moment from that one on might have left, during a call or between two.
+    ghost left_since: { Self → ℕ → List ℕ → Type 0 };
+
+    /// How often the disk has failed.
+    ghost faults: { Self → ℕ };
+
+    /// All the bytes.
+    fn read(&mut self, alloc: Global) -> Result<Vec<u8>, DeviceError>
+        ensures bytes { IfOk result (λ bytes. bytes.items ≡ seen self.old) }
+        ensures seen { seen self.new ≡ seen self.old }
+        ensures crash { (c : List ℕ) → may_leave self.new c → may_leave self.old c }
+        ensures time { Elapses (moment self.old) (moment self.new) (left_since self.old) (left_since self.new) (may_leave self.new) }
+        ensures cause { HasCause (faults self.old) (faults self.new) result };
+
+    /// Writes over what is there, and past the end. Until a sync, a crash may leave any bytes in the range.
+    fn write_at(&mut self, at: usize, bytes: &[u8]) -> Result<(), DeviceError>
+        requires { at ≤ length (seen self.old) }
+        ensures written { OnOk result (Holds (seen self.old) at bytes.now (seen self.new)) }
+        ensures crash { Follows (Torn at (length bytes.now)) (may_leave self.old) (may_leave self.new) }
+        ensures time { Elapses (moment self.old) (moment self.new) (left_since self.old) (left_since self.new) (may_leave self.new) }
+        ensures cause { HasCause (faults self.old) (faults self.new) result };
+
+    /// Cuts the file to a length.
+    fn cut(&mut self, len: usize) -> Result<(), DeviceError>
+        requires { len ≤ length (seen self.old) }
+        ensures cut { OnOk result (seen self.new ≡ take len (seen self.old)) }
+        ensures crash { Follows (Cut len) (may_leave self.old) (may_leave self.new) }
+        ensures time { Elapses (moment self.old) (moment self.new) (left_since self.old) (left_since self.new) (may_leave self.new) }
+        ensures cause { HasCause (faults self.old) (faults self.new) result };
+
+    /// After it, a crash leaves what a read returns.
+    fn sync(&mut self) -> Result<(), DeviceError>
+        ensures durable { OnOk result (Only (seen self.old) (may_leave self.new)) }
+        ensures seen { seen self.new ≡ seen self.old }
+        ensures crash { (c : List ℕ) → may_leave self.new c → may_leave self.old c }
+        ensures time { Elapses (moment self.old) (moment self.new) (left_since self.old) (left_since self.new) (may_leave self.new) }
+        ensures cause { HasCause (faults self.old) (faults self.new) result };
+
+    /// This moment is one of those since an earlier one.
+    ghost counts_now: { (file : Self) (t : ℕ) (c : List ℕ) → t ≤ moment file → may_leave file c → left_since file t c };
+
+    /// Since this moment there is no other.
+    ghost only_now: { (file : Self) (c : List ℕ) → left_since file (moment file) c → may_leave file c };
+}

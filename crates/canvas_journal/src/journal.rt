@@ -1,0 +1,92 @@
+//! A file of lines, each behind a blank. A line counts if its blank is there, if it is whole, and if the line before it counts.
+//!
+//! A batch is written with an LF in the place of its first blank: the gate is closed. Once the batch is on the disk the blank is
+//! written, which opens the gate. Behind a closed gate nothing counts, whatever a crash left there. So no checksum is trusted, and
+//! one sync serves two batches: it keeps the blank of the one before and the bytes of the new one.
+
+ghost use Rattle.std.specs.Prelude.{◌≡◌, ◌⊎◌, ◌*◌, ◌+◌, ◌<◌, ◌≤◌, ◌^◌, ◌++◌, [], ◌∷◌, List, ℕ, length, map, IfOk, OnOk, IsErrOf};
+ghost use Rattle.canvas_journal.specs.Device.{Only, LeavesOnly};
+ghost use Rattle.canvas_journal.specs.Lines.{recovered, text};
+ghost use Rattle.canvas_journal.specs.Journal.{at_rest, done_of, IsSettled, IsWithOrWithout};
+
+use crate::batch::Batch;
+use crate::reading::{Lines, read_lines};
+use crate::{Device, DeviceError};
+use std::alloc::Global;
+use std::mem::replace;
+
+/// How many bytes of lines a journal takes.
+const MOST_BYTES: usize = 1 << 60;
+
+/// An open journal: the lines that count, and a batch that is on the disk behind a closed gate.
+#[derive(Drop)]
+pub struct Journal<D: Device> {
+    /// The file.
+    pub device: D,
+    /// Where the lines that count end, in bytes.
+    pub end: usize,
+    /// The lines that the next turn acknowledges.
+    pub staged: Batch,
+}
+
+impl<D: Device> Journal<D> {
+    /// Opens the gate of the staged batch, and stages another behind it, by one sync.
+    ///
+    /// At `Ok` what was staged is acknowledged: from then on each crash leaves a file that has it. It comes back, so that its
+    /// memory can be used again. `Failed` comes only where the disk failed, `Full` where the journal has more than 2^60 bytes. At any
+    /// error the journal is not used again: open the file anew.
+    pub fn turn(&mut self, batch: Batch) -> Result<Batch, DeviceError>
+        requires { IsSettled D.seen D.may_leave self.old }
+
+        ensures settled { OnOk result (IsSettled D.seen D.may_leave self.new) }
+        ensures acknowledged { OnOk result (done_of D.seen self.new ≡ done_of D.seen self.old ++ self.old.staged) }
+        ensures staged { IfOk result (λ b. (self.new.staged ≡ batch) × (b ≡ self.old.staged)) }
+
+        // A crash at any moment of the call leaves the lines from before it, with the staged ones or without.
+        ensures any_moment { LeavesOnly D.moment D.left_since self.old.device self.new.device
+            (IsWithOrWithout (done_of D.seen self.old) self.old.staged) }
+
+        // It does not give up by itself.
+        ensures failed { IsErrOf result DeviceError.Failed → D.faults self.old.device < D.faults self.new.device }
+        ensures full { IsErrOf result DeviceError.Full → 2 ^ 60 < self.old.end }
+    {
+        if self.end > MOST_BYTES {
+            return Err(DeviceError::Full);
+        }
+        let opened = self.end + self.staged.len();
+        self.device.write_at(self.end, self.staged.gate())?;
+        self.device.write_at(opened + 1, batch.body())?;
+        self.device.sync()?;
+        self.end = opened;
+        Ok(replace(&mut self.staged, batch))
+    }
+}
+
+/// Reads the lines that count in a file that a crash may have left, and repairs its end. It may itself crash at any moment, and
+/// be begun again.
+pub fn recover<D: Device>(alloc: Global, device: &mut D) -> Result<Lines, DeviceError>
+    // After a restart, what is read is what is on the disk.
+    requires { Only (D.seen device.old) (D.may_leave device.old) }
+
+    ensures lines { IfOk result (λ r. map (λ v. v.items) r.lines.items ≡ recovered (D.seen device.old)) }
+    ensures end { IfOk result (λ r. r.end ≡ length (text (recovered (D.seen device.old)))) }
+    ensures at_rest { OnOk result (D.seen device.new ≡ at_rest (recovered (D.seen device.old)) []) }
+    ensures same { OnOk result (recovered (D.seen device.new) ≡ recovered (D.seen device.old)) }
+    ensures durable { OnOk result (Only (D.seen device.new) (D.may_leave device.new)) }
+
+    // A crash at any moment leaves the same lines.
+    ensures any_moment { LeavesOnly D.moment D.left_since device.old device.new
+        (λ c. recovered c ≡ recovered (D.seen device.old)) }
+
+    ensures failed { IsErrOf result DeviceError.Failed → D.faults device.old < D.faults device.new }
+    ensures full { IsErrOf result DeviceError.Full → ⊥ }
+{
+    let bytes = device.read(alloc)?;
+    let lines = read_lines(alloc, &bytes)?;
+    device.cut(lines.end)?;
+    // The cut has to be on the disk first: behind a gate that is torn open, what was there would count.
+    device.sync()?;
+    device.write_at(lines.end, b"\n")?;
+    device.sync()?;
+    Ok(lines)
+}

@@ -1,0 +1,12 @@
+//! A journal of lines over a device that may crash at any moment: what was acknowledged is never lost, and no line is read that was not written.
+#![tactic(auto)]
+
+mod batch;
+mod device;
+mod journal;
+mod reading;
+
+pub use batch::Batch;
+pub use device::{Device, DeviceError};
+pub use journal::{Journal, recover};
+pub use reading::Lines;
