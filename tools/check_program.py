@@ -184,14 +184,19 @@ def read_fault():
     yield "a read that fails", (done.stdout, done.stderr, done.returncode), (b"", b"canvas: 71 ReadFault\n", 4)
 
 
+EXAMPLE = "bin/canvas script < examples/red-rectangle.jsonl\n"
+
+
+def readme_example():
+    """The bytes that README.md has after its example: lines, and at the end bytes as hex digits in brackets."""
+    blocks = re.findall(r"^```\n(.*?)^```", (TOP / "README.md").read_text(), re.M | re.S)
+    lines, _, raster = blocks[blocks.index(EXAMPLE) + 1].rpartition("(")
+    return lines.encode() + bytes.fromhex("".join(re.findall(r"\b[0-9a-f]{6}\b", raster)))
+
+
 def readme_command():
-    """The first command of README.md, and what stands there that it writes: lines, and at the end bytes as hex digits in brackets."""
-    section = (TOP / "README.md").read_text().partition("## Two commands")[2]
-    command, wanted = re.findall(r"^```\n(.*?)^```", section, re.M | re.S)[:2]
-    lines, _, raster = wanted.rpartition("(")
-    digits = "".join(re.findall(r"\b[0-9a-f]{6}\b", raster))
-    done = subprocess.run(["bash", "-c", command.replace("bin/canvas", str(PROGRAM))], cwd=TOP, capture_output=True, timeout=SECONDS)
-    yield "the first command of README.md", (done.stdout, done.returncode), (lines.encode() + bytes.fromhex(digits), 0)
+    done = subprocess.run(["bash", "-c", EXAMPLE.replace("bin/canvas", str(PROGRAM))], cwd=TOP, capture_output=True, timeout=SECONDS)
+    yield "the example of README.md", (done.stdout, done.returncode), (readme_example(), 0)
 
 
 def examples():

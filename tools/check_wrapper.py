@@ -13,6 +13,7 @@ Prints each case that fails, and a last line 'N passed, M failed'; the status is
 """
 
 import os
+import re
 import shutil
 import signal
 import socket
@@ -86,8 +87,8 @@ class Tree:
 
     def run(self, *words, has_rt=True, does="", top=None, **how):
         """What bin/canvas writes to standard output and standard error, and its status."""
-        done = subprocess.run([str((top or self.top) / "bin" / "canvas"), *words], env=self.environment(has_rt, does), text=True, timeout=SECONDS,
-                              stdin=subprocess.DEVNULL, capture_output=True, **how)
+        done = subprocess.run([str((top or self.top) / "bin" / "canvas"), *words], env=self.environment(has_rt, does), text=True,
+                              stdin=subprocess.DEVNULL, capture_output=True, timeout=SECONDS, **how)
         return done.stdout, done.stderr, done.returncode
 
     def calls(self):
@@ -110,8 +111,9 @@ def tree(is_built=False):
 
 # -- words that bin/canvas answers itself ------------------------------------------------------------------------------
 
-TOLD = ("canvas script [WORKERS]", "canvas serve ADDRESS FILE [WORKERS]", "HOST:PORT", "1 to 16", "$ canvas serve 127.0.0.1:7878 examples/poster.json",
-        "63 connections", "16,384", "1,000,000 accepted edits", "65,536", "134,217,728", "docs/PROTOCOL.md", "128 and a signal's number")
+TOLD = ("canvas script [WORKERS]", "canvas serve ADDRESS FILE [WORKERS]", "HOST:PORT", "1 to 16", "63 connections", "16,384",
+        "$ canvas serve 127.0.0.1:7878 examples/poster.json", "1,000,000 accepted edits", "65,536", "134,217,728", "docs/PROTOCOL.md",
+        "128 and a signal's number")
 """What the help says, among other things."""
 
 
@@ -124,8 +126,8 @@ def words():
         for word in ("--version", "version"):
             yield f"bin/canvas {word}", made.run(word, has_rt=False), (f"canvas {VERSION}\n", "", 0)
         yield "nothing is built for a word of help", (made.calls(), (made.top / "crates" / "canvas" / "out").exists()), ([], False)
-        named = [it for line in made.run("help")[0].splitlines() for it in line.replace(";", " ").replace(",", " ").split() if it.endswith((".md", ".jsonl", ".json"))]
-        yield "the files that the help names", [it for it in named if not (TOP / it).exists()], []
+        named = re.findall(r"[\w./-]+\.(?:md|jsonl|json)\b", made.run("help")[0])
+        yield "the files that the help names", (len(named) > 5, [it for it in named if not (TOP / it).exists()]), (True, [])
 
 
 # -- when it builds ----------------------------------------------------------------------------------------------------
@@ -262,7 +264,8 @@ def servings():
             is_there = served(address)
             wanted = refused(f"the address {address} can't be used: address already in use")
             yield f"a port that is taken, as {address[:9]}", is_there, started("serve", address, good) if has_other_place(address) else wanted
-        yield "an address of another machine", served("192.0.2.1:7878"), refused("the address 192.0.2.1:7878 can't be used: cannot assign requested address")
+        other = refused("the address 192.0.2.1:7878 can't be used: cannot assign requested address")
+        yield "an address of another machine", served("192.0.2.1:7878"), other
         for address in ("127.0.0.1:0", "localhost:0", "127.0.0.1:+0", "127.0.0.1:00000"):
             yield f"the address {address}", served(address), started("serve", address, good)
         yield "sixteen workers", served("127.0.0.1:0", good, "16"), started("serve", "127.0.0.1:0", good, "16")
@@ -282,8 +285,9 @@ def has_other_place(address):
 def demo(made, *words):
     """A running demo over the real program, and a stub for the gateway."""
     environment = {**made.environment(has_rt=False), "CANVAS": str(BUILT)}
-    process = subprocess.Popen([str(made.top / "bin" / "canvas-demo"), *words], env=environment, text=True, stdin=subprocess.DEVNULL,
-                               stdout=subprocess.PIPE, stderr=subprocess.PIPE, preexec_fn=lambda: signal.signal(signal.SIGINT, signal.SIG_DFL))
+    process = subprocess.Popen([str(made.top / "bin" / "canvas-demo"), *words], env=environment, text=True, start_new_session=True,
+                               stdin=subprocess.DEVNULL, stdout=subprocess.PIPE, stderr=subprocess.PIPE,
+                               preexec_fn=lambda: signal.signal(signal.SIGINT, signal.SIG_DFL))
     try:
         yield process
     finally:
@@ -315,14 +319,14 @@ def demos():
                 _, said = process.communicate(timeout=SECONDS)
                 alive = [it for it in started.values() if Path(f"/proc/{it}").exists()]
                 yield f"a demo whose {name} dies", (said, process.returncode, alive), (f"canvas-demo: the {name} ended by signal 9\n", 1, [])
-        for number in (signal.SIGINT, signal.SIGTERM):
+        for name, number, send in (("Ctrl-C", signal.SIGINT, os.killpg), ("SIGTERM", signal.SIGTERM, os.kill)):
             with demo(made) as process:
                 process.stdout.readline()
                 started = below(process)
-                process.send_signal(number)
+                send(process.pid, number)
                 _, said = process.communicate(timeout=SECONDS)
                 alive = [it for it in started.values() if Path(f"/proc/{it}").exists()]
-                yield f"a demo at {number.name}", (len(started), said, process.returncode, alive), (2, "", 0, [])
+                yield f"a demo at {name}", (len(started), said, process.returncode, alive), (2, "", 0, [])
         with demo(made, "--document", "/nowhere/at.json") as process:
             _, said = process.communicate(timeout=SECONDS)
             yield "a demo without its document", (said.splitlines()[-1], process.returncode), ("canvas-demo: the server did not start", 1)
