@@ -85,6 +85,21 @@ def served(address):
 SERVED = (True, 1, 1, b"P6\n256 256\n255\n")
 
 
+def shown(demo):
+    """What a demo says, and the page that it shows."""
+    address = f"127.0.0.1:{free_port()}"
+    process = subprocess.Popen([str(demo), "--listen", address], env=PLAIN, stdin=subprocess.DEVNULL, stdout=subprocess.PIPE)
+    try:
+        line = process.stdout.readline().decode()
+        yield f"what {demo} says", line.partition(" (")[0], f"look at http://{address}/"
+        if line:
+            with urllib.request.urlopen(f"http://{address}/", timeout=SECONDS) as page:
+                yield "its page", page.read(), (TOP / "tools" / "viewer" / "page" / "index.html").read_bytes()
+    finally:
+        process.terminate()
+        process.communicate(timeout=SECONDS)
+
+
 # -- the tarball -------------------------------------------------------------------------------------------------------
 
 def tarball(folder):
@@ -111,17 +126,7 @@ def served_by_tarball(top):
     with serving(["bin/canvas", "serve", "ADDRESS", "examples/poster.json"], top) as address:
         yield "a server of the tarball", served(address), SERVED
         yield "a visit", call(["examples/visit.py", address, "poster"], top)[1:], (b"", 0)
-    address = f"127.0.0.1:{free_port()}"
-    process = subprocess.Popen(["bin/canvas-demo", "--listen", address], cwd=top, env=PLAIN, stdin=subprocess.DEVNULL, stdout=subprocess.PIPE)
-    try:
-        line = process.stdout.readline().decode()
-        yield "the demo of the tarball", line.partition(" (")[0], f"look at http://{address}/"
-        if line:
-            with urllib.request.urlopen(f"http://{address}/", timeout=SECONDS) as page:
-                yield "its page", page.read(), (TOP / "tools" / "viewer" / "page" / "index.html").read_bytes()
-    finally:
-        process.terminate()
-        process.communicate(timeout=SECONDS)
+    yield from shown(top / "bin" / "canvas-demo")
 
 
 def words_missing(page):
@@ -145,6 +150,7 @@ def package(folder):
     yield "the man page of the package", words_missing(page), []
     for name in ("bin/canvas-demo", "share/canvas/bin/canvas"):
         yield f"the link {name}", (root / "usr" / name).resolve().is_relative_to(root / "usr") and (root / "usr" / name).exists(), True
+    yield from shown(root / "usr" / "bin" / "canvas-demo")
     yield from bare_root(root, folder / "bare")
 
 
