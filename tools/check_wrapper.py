@@ -163,7 +163,7 @@ def changes():
         out, said, status = made.run("script", has_rt=False)
         yield "a changed source with an old time, without rt", (out, "rt of the Rattle toolchain" in said, status), ("", True, 4)
         (out, status), calls = ran(made)
-        yield "a changed source with an old time", (out, status, calls[-1]), ("second program: script 2\n", 7, "run in canvas")
+        yield "a changed source with an old time", (out, status, calls[-1:]), ("second program: script 2\n", 7, ["run in canvas"])
         os.utime(made.write("crates/low/specs/New.antt", "new\n"), (0, 0))
         yield "a new source", ran(made)[1][-1:], ["run in canvas"]
         (made.top / "crates" / "low" / "specs" / "New.antt").unlink()
