@@ -1,19 +1,23 @@
 #!/usr/bin/env python3
 """Builds the program canvas, which proves it, and says on standard error how far it is.
 
-usage: tools/build_program.py
+usage: tools/build_program.py [COMMAND [WORD..]]     where it is built, the command runs in the place of this one
 
 Libraries that do not wait for each other are built side by side, at most as many as there are processors, each in a copy of what
-it needs; what is built goes to the crate's out/. On a terminal one line is written again and again, elsewhere one each minute. The
-status is 1 where the build failed.
+it needs; what is built goes to the crate's out/, and beside the program what it was made from (tools/made_from.sh). On a terminal one
+line is written again and again, elsewhere one each minute. The status is 4 where the build failed. Ctrl-C, SIGTERM and SIGHUP end
+all that the build started, and then the build.
 """
 
+import contextlib
 import fcntl
 import os
 import shutil
+import signal
 import subprocess
 import sys
 import tempfile
+import threading
 import time
 from concurrent.futures import FIRST_COMPLETED, ThreadPoolExecutor, wait
 from pathlib import Path
@@ -24,10 +28,67 @@ PROGRAM = "canvas"
 OUT = TOP / "crates" / PROGRAM / "out"
 # What a check beside others should find free, in bytes.
 ENOUGH = 4_000_000_000
+# The signals that end a build.
+ENDING = (signal.SIGINT, signal.SIGTERM, signal.SIGHUP)
 
 
 class NotBuilt(Exception):
     """A crate could not be built: its name, and what was said of it."""
+
+
+class Stopped(Exception):
+    """A signal ends the build: its number."""
+
+
+class Commands:
+    """The commands that run for the build, each as the leader of a session, so that what it starts can be found."""
+
+    def __init__(self):
+        self._lock, self._leaders, self._is_over = threading.Lock(), set(), False
+
+    def run(self, words, folder, room):
+        """Runs a command, whose temporary files go to the room, and gives its status and what it said."""
+        how = {"stdin": subprocess.DEVNULL, "stdout": subprocess.PIPE, "stderr": subprocess.STDOUT, "errors": "replace"}
+        with self._lock:
+            if self._is_over:
+                raise NotBuilt(folder.name, "the build was stopped")
+            command = subprocess.Popen(words, cwd=folder, start_new_session=True, env={**os.environ, "TMPDIR": str(room)}, **how)
+            self._leaders.add(command.pid)
+        said, _ = command.communicate()
+        end_sessions({command.pid})
+        with self._lock:
+            self._leaders.discard(command.pid)
+        for left in (folder / "out").glob(f"rt-work-{command.pid}-*"):
+            shutil.rmtree(left, ignore_errors=True)
+        return command.returncode, said
+
+    def end(self):
+        """Ends all commands with all that they started, and lets none begin any more."""
+        with self._lock:
+            self._is_over = True
+            end_sessions(self._leaders)
+
+
+COMMANDS = Commands()
+
+
+def sessions():
+    """The processes that run, each with its session."""
+    for entry in Path("/proc").iterdir():
+        if entry.name.isdigit():
+            with contextlib.suppress(OSError):
+                state, _, _, session = (entry / "stat").read_text(errors="replace").rpartition(")")[2].split()[:4]
+                if state not in "ZX":
+                    yield int(entry.name), int(session)
+
+
+def end_sessions(leaders):
+    """Kills what runs in these sessions, until nothing does."""
+    while found := [pid for pid, session in sessions() if session in leaders]:
+        for pid in found:
+            with contextlib.suppress(ProcessLookupError):
+                os.kill(pid, signal.SIGKILL)
+        time.sleep(0.02)
 
 
 def say(text):
@@ -93,11 +154,11 @@ class Progress:
             print("\r\x1b[K", end="", file=sys.stderr, flush=True)
 
 
-def call(words, folder):
+def call(words, folder, room):
     """Runs a command, whose output is kept for where it fails."""
-    done = subprocess.run(words, cwd=folder, stdin=subprocess.DEVNULL, stdout=subprocess.PIPE, stderr=subprocess.STDOUT, errors="replace")
-    if done.returncode != 0:
-        raise NotBuilt(folder.name, done.stdout)
+    status, said = COMMANDS.run(words, folder, room)
+    if status != 0:
+        raise NotBuilt(folder.name, said)
 
 
 def take_over(made, kept):
@@ -119,64 +180,115 @@ def build_library(name, is_first):
     if seems_built(name):
         return
     with tempfile.TemporaryDirectory(prefix="canvas-build-") as room:
-        crate = copy_for(name, Path(room))
-        call(["rt", "lib"] + ([] if is_first else ["--jobs", "1"]), crate)
+        crate = copy_for(name, Path(room, "copy"))
+        call(["rt", "lib"] + ([] if is_first else ["--jobs", "1"]), crate, room)
         take_over(crate / "out", TOP / "crates" / name / "out")
 
 
 def build_program():
     """Builds the program over its libraries. The run that follows serves an empty input and ends."""
-    folder = TOP / "crates" / PROGRAM
-    call(["rt", "run", "--", "script", "1"], folder)
-    os.utime(OUT / PROGRAM)
+    with tempfile.TemporaryDirectory(prefix="canvas-build-") as room:
+        call(["rt", "run", "--", "script", "1"], TOP / "crates" / PROGRAM, room)
 
 
-def build_all(progress):
+def made_from():
+    """The checksums of the program and of what it is made from, as they are now."""
+    done = subprocess.run([TOP / "tools" / "made_from.sh"], stdout=subprocess.PIPE, stderr=subprocess.DEVNULL, text=True, check=True)
+    return done.stdout.splitlines()
+
+
+def build_all(progress, pool):
     """Builds each crate once those that it uses are built, and first the one with the most work behind it."""
     used, names = uses(), below(PROGRAM)
     behind = work_behind([*names, PROGRAM], used)
     left, running, done = sorted(names, key=lambda it: -behind[it]), {}, set()
-    with ThreadPoolExecutor(os.cpu_count() or 1) as pool:
-        while left or running:
-            ready = [it for it in left if done.issuperset(used[it])]
-            for name in ready:
-                if running and (len(running) >= (os.cpu_count() or 1) or free_memory() < ENOUGH):
-                    break
-                is_first = all(behind[it] <= behind[name] for it in running.values())
-                running[pool.submit(build_library, name, is_first)] = name
-                left.remove(name)
-            progress.show(len(done), running.values())
-            for it in wait(running, timeout=1, return_when=FIRST_COMPLETED).done:
-                done.add(running.pop(it))
-                it.result()
-        last = pool.submit(build_program)
-        while not wait([last], timeout=1).done:
-            progress.show(len(done), [PROGRAM])
-        last.result()
+    while left or running:
+        ready = [it for it in left if done.issuperset(used[it])]
+        for name in ready:
+            if running and (len(running) >= (os.cpu_count() or 1) or free_memory() < ENOUGH):
+                break
+            is_first = all(behind[it] <= behind[name] for it in running.values())
+            running[pool.submit(build_library, name, is_first)] = name
+            left.remove(name)
+        progress.show(len(done), running.values())
+        for it in wait(running, timeout=1, return_when=FIRST_COMPLETED).done:
+            done.add(running.pop(it))
+            it.result()
+    last = pool.submit(build_program)
+    while not wait([last], timeout=1).done:
+        progress.show(len(done), [PROGRAM])
+    last.result()
 
 
-def main():
+def build(pool):
+    """Builds all, and notes what the program was made from as it was when that began."""
+    say("building the program, which proves all of it; README.md says how long a first build takes")
+    progress = Progress(len(below(PROGRAM)) + 1)
+    sources_before = made_from()[1]
+    try:
+        build_all(progress, pool)
+        (OUT / f"{PROGRAM}.made-from").write_text(f"{made_from()[0]}\n{sources_before}\n")
+    finally:
+        progress.end()
+    say(f"built, in {progress.passed()}")
+
+
+def fail(fault):
+    name, said = fault.args
+    print(*said.splitlines()[-20:], sep="\n", file=sys.stderr)
+    log = OUT / "build.log"
+    log.write_text(said)
+    say(f"{name} was not built; what was said of it stands in {log.relative_to(TOP)}")
+    sys.exit(4)
+
+
+def stop(number, _):
+    for it in ENDING:
+        signal.signal(it, signal.SIG_IGN)
+    raise Stopped(number)
+
+
+def end_by(number):
+    """Ends as the signal ends a program that does not care for it."""
+    signal.signal(number, signal.SIG_DFL)
+    os.kill(os.getpid(), number)
+
+
+def run_instead(words):
+    """Runs a command in the place of this one. (Python ignores two signals, and the command would inherit that.)"""
+    for number in (signal.SIGPIPE, signal.SIGXFSZ):
+        signal.signal(number, signal.SIG_DFL)
+    os.execv(words[0], words)
+
+
+def build_in_turn(pool):
+    """Builds once no other build works here. Where a crate fails the others that are being built go on to their end."""
     OUT.mkdir(exist_ok=True)
     with open(OUT / "building", "w") as lock:
         fcntl.flock(lock, fcntl.LOCK_EX)
-        say("building the program, which proves all of it; README.md says how long a first build takes")
-        progress = Progress(len(below(PROGRAM)) + 1)
         try:
-            build_all(progress)
-        except NotBuilt as fault:
-            name, said = fault.args
-            progress.end()
-            print(*said.splitlines()[-20:], sep="\n", file=sys.stderr)
-            log = OUT / "build.log"
-            log.write_text(said)
-            say(f"{name} was not built; what was said of it stands in {log.relative_to(TOP)}")
-            sys.exit(1)
-        progress.end()
-        say(f"built, in {progress.passed()}")
+            build(pool)
+        except NotBuilt:
+            pool.shutdown()
+            raise
+
+
+def main():
+    for number in ENDING:
+        if signal.getsignal(number) is not signal.SIG_IGN:
+            signal.signal(number, stop)
+    pool = ThreadPoolExecutor(os.cpu_count() or 1)
+    try:
+        build_in_turn(pool)
+    except NotBuilt as fault:
+        fail(fault)
+    except Stopped as stopped:
+        COMMANDS.end()
+        pool.shutdown()
+        end_by(stopped.args[0])
+    if sys.argv[1:]:
+        run_instead(sys.argv[1:])
 
 
 if __name__ == "__main__":
-    try:
-        main()
-    except KeyboardInterrupt:
-        sys.exit(130)
+    main()

@@ -5,8 +5,9 @@ usage: tools/check_docs.py
 
 - each wrong body that docs/PROOFS.md names stands in must-fail/ or wrong-bodies/ of a crate of its section, each that stands there is
   named in a section of its crate, and each can be applied to the sources;
-- each file, crate and command that README.md, docs/*.md or a crate's README.md names exists;
-- the gate that README.md names is what .ci/run runs (tools/check_program.py runs the other command).
+- each file, crate and command that README.md, CHANGELOG.md, docs/*.md or a crate's README.md names exists;
+- the gate that README.md names is what .ci/run runs (tools/check_program.py runs its example);
+- CHANGELOG.md begins with the version in the file VERSION, and the packages that docs/INSTALL.md names are of that version.
 
 Prints what is wrong, and a last line 'N passed, M failed'; the status is 1 where something failed.
 """
@@ -108,18 +109,26 @@ def faults_of_page(page):
 
 
 def faults_of_gate():
-    """As faults_of_bodies, for the commands of README.md's first section."""
-    section = (TOP / "README.md").read_text().partition("## Two commands")[2].partition("\n## ")[0]
-    commands = [it for it in re.findall(r"^```\n(.*?)\n```", section, re.M | re.S) if it.startswith("rt ")]
+    """As faults_of_bodies, for the command of README.md that is the gate."""
+    commands = [it for it in re.findall(r"^```\n(.*?)\n```", (TOP / "README.md").read_text(), re.M | re.S) if it.startswith("rt ")]
     gate = (TOP / ".ci" / "run").read_text()
     for command in commands or ["rt"]:
         is_run = re.search(rf"^[^#\n]*\b{re.escape(command)}$", gate, re.M)
         yield None if is_run else f"README.md: .ci/run does not run {command}"
 
 
+def faults_of_version():
+    """As faults_of_bodies, for the pages that name the version."""
+    version = (TOP / "VERSION").read_text().strip()
+    newest = re.search(r"^## (\S+) \(\d{4}-\d\d-\d\d\)$", (TOP / "CHANGELOG.md").read_text(), re.M)
+    yield None if newest and newest[1] == version else f"CHANGELOG.md: the first version is not {version}"
+    for other in re.findall(r"canvas[-_](\d+\.\d+\.\d+)", (TOP / "docs" / "INSTALL.md").read_text()):
+        yield None if other == version else f"docs/INSTALL.md: {other} is not the version {version}"
+
+
 def main():
-    pages = [TOP / "README.md", *sorted((TOP / "docs").glob("*.md")), *sorted(CRATES.glob("*/README.md"))]
-    found = [*faults_of_bodies(), *faults_of_gate()]
+    pages = [TOP / "README.md", TOP / "CHANGELOG.md", *sorted((TOP / "docs").glob("*.md")), *sorted(CRATES.glob("*/README.md"))]
+    found = [*faults_of_bodies(), *faults_of_gate(), *faults_of_version()]
     for page in pages:
         found += faults_of_page(page)
     failures = [it for it in found if it]

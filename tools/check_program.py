@@ -3,7 +3,7 @@
 
 usage: tools/check_program.py
 
-It runs the program that the environment's CANVAS names, or else bin/canvas. Prints each case that fails, and a last line
+It runs the program that the environment's CANVAS names, or else the one that bin/canvas builds. Prints each case that fails, and a last line
 'N passed, M failed'; the status is 1 where something failed.
 """
 
@@ -14,6 +14,7 @@ import subprocess
 import sys
 
 from canvas_client import PROGRAM, TOP, replies
+from repository import BUILT
 
 SECONDS = 60
 
@@ -33,7 +34,7 @@ def refused(code, name):
 
 def run(words, given=b"", sink=subprocess.PIPE):
     """What the program writes to standard output and standard error, and its status."""
-    done = subprocess.run([str(PROGRAM), *words], input=given, stdout=sink, stderr=subprocess.PIPE, timeout=SECONDS)
+    done = subprocess.run([str(BUILT), *words], input=given, stdout=sink, stderr=subprocess.PIPE, timeout=SECONDS)
     return done.stdout, done.stderr, done.returncode
 
 
@@ -177,20 +178,25 @@ def read_fault():
     """A folder as standard input: each read of it fails."""
     folder = os.open("/", os.O_RDONLY)
     try:
-        done = subprocess.run([str(PROGRAM), "script"], stdin=folder, capture_output=True, timeout=SECONDS)
+        done = subprocess.run([str(BUILT), "script"], stdin=folder, capture_output=True, timeout=SECONDS)
     finally:
         os.close(folder)
     yield "a read that fails", (done.stdout, done.stderr, done.returncode), (b"", b"canvas: 71 ReadFault\n", 4)
 
 
+EXAMPLE = "bin/canvas script < examples/red-rectangle.jsonl\n"
+
+
+def readme_example():
+    """The bytes that README.md has after its example: lines, and at the end bytes as hex digits in brackets."""
+    blocks = re.findall(r"^```\n(.*?)^```", (TOP / "README.md").read_text(), re.M | re.S)
+    lines, _, raster = blocks[blocks.index(EXAMPLE) + 1].rpartition("(")
+    return lines.encode() + bytes.fromhex("".join(re.findall(r"\b[0-9a-f]{6}\b", raster)))
+
+
 def readme_command():
-    """The first command of README.md, and what stands there that it writes: lines, and at the end bytes as hex digits in brackets."""
-    section = (TOP / "README.md").read_text().partition("## Two commands")[2]
-    command, wanted = re.findall(r"^```\n(.*?)^```", section, re.M | re.S)[:2]
-    lines, _, raster = wanted.rpartition("(")
-    digits = "".join(re.findall(r"\b[0-9a-f]{6}\b", raster))
-    done = subprocess.run(["bash", "-c", command.replace("bin/canvas", str(PROGRAM))], cwd=TOP, capture_output=True, timeout=SECONDS)
-    yield "the first command of README.md", (done.stdout, done.returncode), (lines.encode() + bytes.fromhex(digits), 0)
+    done = subprocess.run(["bash", "-c", EXAMPLE.replace("bin/canvas", str(PROGRAM))], cwd=TOP, capture_output=True, timeout=SECONDS)
+    yield "the example of README.md", (done.stdout, done.returncode), (readme_example(), 0)
 
 
 def examples():
@@ -204,7 +210,7 @@ def examples():
 
 def waiting_client():
     """A client that sends its next bytes only when it has the reply to the last."""
-    child = subprocess.Popen([str(PROGRAM), "script"], stdin=subprocess.PIPE, stdout=subprocess.PIPE, bufsize=0)
+    child = subprocess.Popen([str(BUILT), "script"], stdin=subprocess.PIPE, stdout=subprocess.PIPE, bufsize=0)
     got = []
     for given, wanted in [(CREATE, CREATED), (PATCH[:9], b""), (PATCH[9:], PAINTED)]:
         child.stdin.write(given)
@@ -221,6 +227,7 @@ def waiting_client():
 
 
 def main():
+    subprocess.run([str(PROGRAM), "script"], stdin=subprocess.DEVNULL, check=True)  # builds it where it is not built
     passed = failed = 0
     stages = (usage_faults, sessions, levels, windows, exports, most_records, most_versions, read_fault, waiting_client, readme_command,
               examples)

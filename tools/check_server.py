@@ -11,7 +11,6 @@ Prints each case that fails, and a last line 'N passed, M failed'; the status is
 """
 
 import hashlib
-import json
 import multiprocessing
 import os
 import random
@@ -30,6 +29,7 @@ from canvas_client import PROGRAM, TOP, Canvas, Refused, line_of
 from plain_model import Model
 from plain_model import Refused as Disallowed
 from plain_session import window_of
+from repository import BUILT
 
 SEATS = 63
 SECONDS = 60
@@ -197,7 +197,7 @@ def full_document(folder):
 # -- how the program starts --------------------------------------------------------------------------------------------
 
 def run(words):
-    done = subprocess.run([str(PROGRAM), *words], stdin=subprocess.DEVNULL, capture_output=True, timeout=SECONDS)
+    done = subprocess.run([str(BUILT), *words], stdin=subprocess.DEVNULL, capture_output=True, timeout=SECONDS)
     return done.stdout, done.stderr, done.returncode
 
 

@@ -25,11 +25,9 @@ import tty
 from contextlib import contextmanager, suppress
 from pathlib import Path
 
-from canvas_client import PROGRAM, TOP
+from canvas_client import PROGRAM
 from check_server import EMPTY, free_port, read_all, read_line
-
-BUILT = PROGRAM if "CANVAS" in os.environ else TOP / "crates" / "canvas" / "out" / "canvas"
-"""The program itself, where the script bin/canvas would be in the way: it has streams and allocations of its own."""
+from repository import BUILT
 
 SECONDS = 30
 CREATE = b'{"verb":"create","shape":{"kind":"rect","w":2,"h":1,"fill":"ff0000"}}\n'
@@ -57,8 +55,13 @@ def start(words, stdin=subprocess.PIPE, stdout=subprocess.PIPE, stderr=subproces
     streams = [stdin, stdout, stderr]
     closed = [number for number, stream in enumerate(streams) if stream is Closed]
     given = [subprocess.DEVNULL if stream is Closed else stream for stream in streams]
-    return subprocess.Popen([str(BUILT), *words], stdin=given[0], stdout=given[1], stderr=given[2], bufsize=0,
-                            preexec_fn=lambda: [os.close(number) for number in closed])
+
+    def prepare():
+        signal.signal(signal.SIGINT, signal.SIG_DFL)  # a shell has it ignored by what it starts in the background
+        for number in closed:
+            os.close(number)
+
+    return subprocess.Popen([str(BUILT), *words], stdin=given[0], stdout=given[1], stderr=given[2], bufsize=0, preexec_fn=prepare)
 
 
 def end(process, given=None):

@@ -10,6 +10,9 @@ from pathlib import Path
 
 TOP = Path(__file__).resolve().parent.parent
 SOURCES = ("src", "specs", "proofs")
+BUILT = Path(os.environ.get("CANVAS", TOP / "crates" / "canvas" / "out" / "canvas"))
+"""The program itself, where the script bin/canvas would be in the way: it has words, streams and allocations of its own. The environment's
+CANVAS names another one."""
 
 
 def lines():

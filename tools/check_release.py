@@ -1,0 +1,186 @@
+#!/usr/bin/env python3
+"""Makes a release twice, compares the two, and runs what is in it.
+
+usage: tools/check_release.py
+
+The release is of the program that the environment's CANVAS names, or else of the one that bin/canvas builds. The tarball is unpacked into an
+empty folder, the Debian package into a root folder that has the C library and nothing else; both run the example of README.md and a server.
+The second takes the right to change the root, so it runs as root or in a user namespace.
+
+Prints each case that fails, and a last line 'N passed, M failed'; the status is 1 where something failed.
+"""
+
+import gzip
+import os
+import re
+import shutil
+import subprocess
+import sys
+import tempfile
+import urllib.request
+from contextlib import contextmanager
+from pathlib import Path
+
+from canvas_client import PROGRAM, Canvas
+from check_program import EXAMPLE, readme_example
+from check_server import free_port
+from repository import BUILT, TOP
+
+SECONDS = 60
+VERSION = (TOP / "VERSION").read_text().strip()
+TARBALL = f"canvas-{VERSION}-x86_64-linux"
+PACKAGE = f"canvas_{VERSION}_amd64.deb"
+C_LIBRARY = ("/lib/x86_64-linux-gnu/libc.so.6", "/lib64/ld-linux-x86-64.so.2")
+NEWEST_GLIBC = (2, 34)
+PLAIN = {"PATH": "/usr/sbin:/usr/bin:/sbin:/bin", "LANG": "C.UTF-8"}
+
+
+def call(words, folder=None, **how):
+    """What a command writes to standard output and standard error, and its status."""
+    done = subprocess.run(words, cwd=folder, env=PLAIN, capture_output=True, timeout=SECONDS, **{"stdin": subprocess.DEVNULL, **how})
+    return done.stdout, done.stderr, done.returncode
+
+
+def releases(folder):
+    """The same release, made twice in other circumstances."""
+    made = []
+    for number, mask in enumerate((0o022, 0o077)):
+        target = folder / str(number)
+        words = [str(TOP / "tools" / "release.py"), "--program", str(BUILT), "--to", str(target)]
+        done = subprocess.run(words, umask=mask, capture_output=True, text=True, timeout=SECONDS)
+        yield f"release {number}", (done.stderr, done.returncode), ("", 0)
+        made.append({it.name: it.read_bytes() for it in target.iterdir()})
+    yield "the names of the files", sorted(made[0]), sorted([f"{TARBALL}.tar.gz", PACKAGE, "SHA256SUMS"])
+    for name, content in made[0].items():
+        yield f"{name}, made twice", made[1].get(name) == content, True
+    yield "the checksums", call(["sha256sum", "--check", "--quiet", "SHA256SUMS"], folder / "0"), (b"", b"", 0)
+    yield "no program to release", call([str(TOP / "tools" / "release.py"), "--program", "/nowhere"])[2], 1
+
+
+# -- what runs in both -------------------------------------------------------------------------------------------------
+
+@contextmanager
+def serving(words, folder=None):
+    """A server, and the address at which it listens."""
+    address = f"127.0.0.1:{free_port()}"
+    process = subprocess.Popen([address if it == "ADDRESS" else it for it in words], cwd=folder, env=PLAIN, stdin=subprocess.DEVNULL,
+                               stdout=subprocess.PIPE)
+    try:
+        process.stdout.readline()
+        yield address
+    finally:
+        process.kill()
+        process.communicate()
+
+
+def served(address):
+    """Whether a server serves the poster, takes an edit, and paints a tile."""
+    with Canvas.connect(address) as canvas:
+        _, text = canvas.ask(verb="export")
+        made, _ = canvas.ask(verb="create", shape={"kind": "rect", "w": 2, "h": 1, "fill": "ff0000"})
+        reply, image = canvas.ask(verb="tile", col=0, row=0)
+    return text == (TOP / "examples" / "poster.json").read_bytes().strip(), made["version"], reply["version"], image[:15]
+
+
+SERVED = (True, 1, 1, b"P6\n256 256\n255\n")
+
+
+def shown(demo):
+    """What a demo says, and the page that it shows."""
+    address = f"127.0.0.1:{free_port()}"
+    process = subprocess.Popen([str(demo), "--listen", address], env=PLAIN, stdin=subprocess.DEVNULL, stdout=subprocess.PIPE)
+    try:
+        line = process.stdout.readline().decode()
+        yield f"what {demo} says", line.partition(" (")[0], f"look at http://{address}/"
+        if line:
+            with urllib.request.urlopen(f"http://{address}/", timeout=SECONDS) as page:
+                yield "its page", page.read(), (TOP / "tools" / "viewer" / "page" / "index.html").read_bytes()
+    finally:
+        process.terminate()
+        process.communicate(timeout=SECONDS)
+
+
+# -- the tarball -------------------------------------------------------------------------------------------------------
+
+def tarball(folder):
+    room = folder / "unpacked"
+    room.mkdir()
+    yield "the tarball is unpacked", call(["tar", "xf", str(folder / "0" / f"{TARBALL}.tar.gz")], room), (b"", b"", 0)
+    top = room / TARBALL
+    yield "it has one folder", os.listdir(room), [TARBALL]
+    yield "its checksums", call(["sha256sum", "--check", "--quiet", "SHA256SUMS"], top), (b"", b"", 0)
+    named = {line.split("  ")[1] for line in (top / "SHA256SUMS").read_text().splitlines()} | {"SHA256SUMS"}
+    yield "each file has a checksum", {str(it.relative_to(top)) for it in top.rglob("*") if it.is_file()} ^ named, set()
+    yield "the program", (top / "libexec" / "canvas").read_bytes() == BUILT.read_bytes(), True
+    yield "README.md's example", call(["bash", "-c", EXAMPLE], top), (readme_example(), b"", 0)
+    yield "its version", call([str(top / "bin" / "canvas"), "--version"]), (f"canvas {VERSION}\n".encode(), b"", 0)
+    yield "its help", call([str(top / "bin" / "canvas"), "--help"])[1:], (b"", 0)
+    yield "a command that is none", call([str(top / "bin" / "canvas"), "paint"])[::2], (b"", 2)
+    yield "a document that is none", call([str(top / "bin" / "canvas"), "serve", "127.0.0.1:0", "none"])[1:], (b"canvas: there is no file none\n", 4)
+    yield from served_by_tarball(top)
+    page = (top / "share" / "man" / "man1" / "canvas.1").read_text()
+    yield "the man page tells what the help tells", words_missing(page), []
+
+
+def served_by_tarball(top):
+    with serving(["bin/canvas", "serve", "ADDRESS", "examples/poster.json"], top) as address:
+        yield "a server of the tarball", served(address), SERVED
+        yield "a visit", call(["examples/visit.py", address, "poster"], top)[1:], (b"", 0)
+    yield from shown(top / "bin" / "canvas-demo")
+
+
+def words_missing(page):
+    """The words of the help that its man page lacks."""
+    text = page.replace("\\-", "-").replace("\\&", "").replace("\\e", "\\").split()
+    return [it for it in (TOP / "tools" / "canvas.help").read_text().split() if it not in text and it not in ("VERSION", "$")]
+
+
+# -- the Debian package ------------------------------------------------------------------------------------------------
+
+def package(folder):
+    file, root = folder / "0" / PACKAGE, folder / "root"
+    told = call(["dpkg-deb", "--field", str(file), "Package", "Version", "Architecture", "Depends"])[0].decode().splitlines()
+    needs = f"Depends: libc6 (>= {NEWEST_GLIBC[0]}.{NEWEST_GLIBC[1]})"
+    yield "what the package says of itself", told, ["Package: canvas", f"Version: {VERSION}", "Architecture: amd64", needs]
+    yield "the package is unpacked", call(["dpkg-deb", "--extract", str(file), str(root)]), (b"", b"", 0)
+    used = {tuple(map(int, it)) for it in re.findall(rb"GLIBC_(\d+)\.(\d+)", (root / "usr" / "bin" / "canvas").read_bytes())}
+    yield "the newest version of the C library that it uses", max(used) <= NEWEST_GLIBC, True
+    shared = root / "usr" / "share"
+    page = gzip.decompress((shared / "man" / "man1" / "canvas.1.gz").read_bytes()).decode()
+    yield "the man page of the package", words_missing(page), []
+    for name in ("bin/canvas-demo", "share/canvas/bin/canvas"):
+        yield f"the link {name}", (root / "usr" / name).resolve().is_relative_to(root / "usr") and (root / "usr" / name).exists(), True
+    yield from shown(root / "usr" / "bin" / "canvas-demo")
+    yield from bare_root(root, folder / "bare")
+
+
+def bare_root(unpacked, root):
+    """The program of the package and the poster, with the C library alone."""
+    for name in C_LIBRARY:
+        (root / name[1:]).parent.mkdir(parents=True, exist_ok=True)
+        shutil.copy(name, root / name[1:])
+    shutil.copytree(unpacked / "usr", root / "usr", symlinks=True)
+    inside = [*([] if os.geteuid() == 0 else ["unshare", "--map-root-user"]), "chroot", str(root), "/usr/bin/canvas"]
+    with (TOP / "examples" / "red-rectangle.jsonl").open("rb") as given:
+        yield "README.md's example in a bare root", call([*inside, "script"], stdin=given), (readme_example(), b"", 0)
+    yield "a command that is none in a bare root", call(inside)[::2], (b"", 2)
+    with serving([*inside, "serve", "ADDRESS", "/usr/share/canvas/examples/poster.json"]) as address:
+        yield "a server in a bare root", served(address), SERVED
+
+
+def main():
+    subprocess.run([str(PROGRAM), "script"], stdin=subprocess.DEVNULL, check=True)  # builds it where it is not built
+    passed = failed = 0
+    with tempfile.TemporaryDirectory() as folder:
+        for cases in (releases, tarball, package):
+            for name, got, wanted in cases(Path(folder)):
+                passed += got == wanted
+                failed += got != wanted
+                if got != wanted:
+                    print(f"{name}: got {str(got)[:400]}, wanted {str(wanted)[:400]}", flush=True)
+    print(f"{passed} passed, {failed} failed")
+    sys.exit(1 if failed else 0)
+
+
+if __name__ == "__main__":
+    main()

@@ -1,0 +1,187 @@
+#!/usr/bin/env python3
+"""Makes a release from the built program: a tarball, a Debian package, and a file with their checksums.
+
+usage: tools/release.py [--program crates/canvas/out/canvas] [--to dist]
+
+The same program and files give the same bytes: times are the day of the version in CHANGELOG.md, owners are root, and names are in order.
+The text of the man page is tools/canvas.help. Prints the names of the files that it made.
+"""
+
+import argparse
+import gzip
+import hashlib
+import io
+import os
+import re
+import shutil
+import subprocess
+import sys
+import tarfile
+import tempfile
+from datetime import datetime, timezone
+from pathlib import Path
+
+from repository import TOP
+
+VERSION = (TOP / "VERSION").read_text().strip()
+SHARED = ("README.md", "CHANGELOG.md", "VERSION", "bin/canvas-demo", "docs/*.md", "docs/pictures/*.png", "examples/*.json*", "examples/visit.py",
+          "tools/bodies.py", "tools/canvas_client.py", "tools/viewer/gateway.py", "tools/viewer/setup.sh", "tools/viewer/page/*")
+"""The files of the repository that both packages have."""
+OF_SCRIPT = ("bin/canvas", "tools/canvas.help", "tools/before_serve.py")
+"""What bin/canvas is, which the tarball has over the program."""
+CONTROL = f"""Package: canvas
+Version: {VERSION}
+Architecture: amd64
+Maintainer: Yurdepla
+Section: graphics
+Priority: optional
+Depends: libc6 (>= 2.34)
+Recommends: python3, python3-aiohttp, python3-pil
+Installed-Size: SIZE
+Description: proved server behind a shared drawing tool
+ It keeps one design document of frames, groups and shapes, takes edits as
+ lines of JSON, and paints rectangles of the document as P6 images.
+"""
+COPYRIGHT = "canvas, of Yurdepla. No licence has been chosen yet.\n"
+
+
+# -- the man page ------------------------------------------------------------------------------------------------------
+
+def escaped(text):
+    """A text as roff takes it."""
+    text = text.replace("\\", "\\e").replace("-", "\\-")
+    return "\\&" + text if text.startswith((".", "'")) else text
+
+
+def man_page(text, day):
+    """The man page of the help: its headings, terms with what they mean, commands, and paragraphs."""
+    title, *lines = text.splitlines()
+    out = [f'.TH CANVAS 1 {day} "canvas {VERSION}"', ".SH NAME", escaped(title.replace(" VERSION", "")), ".SH DESCRIPTION"]
+    for number, line in enumerate(lines):
+        following = lines[number + 1] if number + 1 < len(lines) else ""
+        words = line.strip()
+        if line.isupper() and line == words:
+            out.append(f".SH {words}")
+        elif words.startswith("$ "):
+            out += [".PP", f".B {escaped(words[2:])}"]
+        elif line.startswith("  ") and line[2] != " " and following.startswith(6 * " "):
+            out += [".TP", f".B {escaped(words)}"]
+        elif words:
+            out.append(escaped(words))
+    return "\n".join(out) + "\n"
+
+
+# -- what is in the packages -------------------------------------------------------------------------------------------
+
+def day_of_version():
+    """The day that CHANGELOG.md names for this version."""
+    found = re.search(rf"^## {re.escape(VERSION)} \((\d{{4}}-\d\d-\d\d)\)$", (TOP / "CHANGELOG.md").read_text(), re.M)
+    return found[1] if found else sys.exit(f"CHANGELOG.md has no line '## {VERSION} (YEAR-MONTH-DAY)'")
+
+
+def files_of(patterns):
+    """The files of the repository with these names, in order."""
+    return [path for it in patterns for path in sorted(TOP.glob(it)) if path.is_file()]
+
+
+def put(folder, name, content, is_program=False):
+    """Writes a file with the rights of all others."""
+    target = folder / name
+    target.parent.mkdir(parents=True, exist_ok=True)
+    target.write_bytes(content)
+    target.chmod(0o755 if is_program else 0o644)
+
+
+def put_files(folder, patterns):
+    for path in files_of(patterns):
+        put(folder, path.relative_to(TOP), path.read_bytes(), os.access(path, os.X_OK))
+
+
+def checksums(folder, names):
+    return "".join(f"{hashlib.sha256((folder / it).read_bytes()).hexdigest()}  {it}\n" for it in names).encode()
+
+
+def all_files(folder):
+    return sorted(str(it.relative_to(folder)) for it in folder.rglob("*") if it.is_file() and not it.is_symlink())
+
+
+def fill_tarball(folder, program, page):
+    put_files(folder, SHARED + OF_SCRIPT)
+    put(folder, "libexec/canvas", program, True)
+    put(folder, "share/man/man1/canvas.1", page)
+    put(folder, "SHA256SUMS", checksums(folder, all_files(folder)))
+
+
+def fill_package(folder, program, page):
+    put_files(folder / "usr/share/canvas", SHARED)
+    put(folder, "usr/bin/canvas", program, True)
+    (folder / "usr/bin/canvas-demo").symlink_to("../share/canvas/bin/canvas-demo")
+    (folder / "usr/share/canvas/bin/canvas").symlink_to("../../../bin/canvas")
+    put(folder, "usr/share/man/man1/canvas.1.gz", gzip.compress(page, mtime=0))
+    put(folder, "usr/share/doc/canvas/copyright", COPYRIGHT.encode())
+    put(folder, "usr/share/doc/canvas/changelog.gz", gzip.compress((TOP / "CHANGELOG.md").read_bytes(), mtime=0))
+    size = sum((folder / it).stat().st_size for it in all_files(folder))
+    sums = "".join(f"{hashlib.md5((folder / it).read_bytes()).hexdigest()}  {it}\n" for it in all_files(folder))
+    put(folder, "DEBIAN/control", CONTROL.replace("SIZE", str(-(-size // 1024))).encode())
+    put(folder, "DEBIAN/md5sums", sums.encode())
+
+
+# -- the packages ------------------------------------------------------------------------------------------------------
+
+def tarball(folder, top, seconds):
+    """The compressed tar file of a folder, under the name of its top."""
+    def plain(entry):
+        entry.uid = entry.gid = 0
+        entry.uname = entry.gname = "root"
+        entry.mtime = seconds
+        entry.mode = 0o755 if entry.isdir() or entry.mode & 0o100 else 0o644
+        return entry
+
+    out = io.BytesIO()
+    with tarfile.open(fileobj=out, mode="w", format=tarfile.GNU_FORMAT) as archive:
+        archive.add(folder, top, filter=plain)  # (it adds what a folder has by the order of names)
+    return gzip.compress(out.getvalue(), mtime=0)
+
+
+def make_package(folder, target, seconds):
+    """Makes the Debian package of a folder."""
+    for it in [folder, *folder.rglob("*")]:
+        if it.is_dir():
+            it.chmod(0o755)
+        os.utime(it, (seconds, seconds), follow_symlinks=False)
+    words = ["dpkg-deb", "--root-owner-group", "-Zxz", "--threads-max=1", "--build", str(folder), str(target)]
+    subprocess.run(words, env={**os.environ, "SOURCE_DATE_EPOCH": str(seconds)}, stdout=subprocess.DEVNULL, check=True)
+
+
+def make(program, to):
+    """Makes the release of a program, and gives the names of its files."""
+    day = day_of_version()
+    seconds = int(datetime.fromisoformat(day).replace(tzinfo=timezone.utc).timestamp())
+    page = man_page((TOP / "tools" / "canvas.help").read_text(), day).encode()
+    top = f"canvas-{VERSION}-x86_64-linux"
+    names = [f"{top}.tar.gz", f"canvas_{VERSION}_amd64.deb"]
+    to.mkdir(parents=True, exist_ok=True)
+    with tempfile.TemporaryDirectory(prefix="canvas-release-") as room:
+        fill_tarball(Path(room, top), program.read_bytes(), page)
+        (to / names[0]).write_bytes(tarball(Path(room, top), top, seconds))
+        fill_package(Path(room, "package"), program.read_bytes(), page)
+        make_package(Path(room, "package"), to / names[1], seconds)
+    (to / "SHA256SUMS").write_bytes(checksums(to, names))
+    return [*names, "SHA256SUMS"]
+
+
+def main():
+    words = argparse.ArgumentParser(description="makes a release from the built program")
+    words.add_argument("--program", type=Path, default=TOP / "crates" / "canvas" / "out" / "canvas", metavar="FILE", help="the built program")
+    words.add_argument("--to", type=Path, default=TOP / "dist", metavar="FOLDER", help="where the release is put")
+    given = words.parse_args()
+    if not given.program.is_file():
+        sys.exit(f"release.py: there is no program {given.program}; bin/canvas builds it")
+    if not shutil.which("dpkg-deb"):
+        sys.exit("release.py: there is no dpkg-deb, which Debian's package dpkg has")
+    for name in make(given.program, given.to):
+        print(given.to / name)
+
+
+if __name__ == "__main__":
+    main()
