@@ -1,5 +1,6 @@
 //! From a line to a request.
-ghost use Rattle.std.specs.Prelude.{◌≡◌, [], Err};
+ghost use Rattle.std.specs.Prelude.{◌≡◌, [], Err, false};
+ghost use Rattle.std.specs.Str.{is_utf8};
 ghost use Rattle.canvas_wire.specs.Faults.{Gives};
 ghost use Rattle.canvas_wire.specs.Given.{view};
 ghost use Rattle.canvas_wire.specs.Requests.{request_in, request_of};
@@ -52,11 +53,12 @@ impl RequestReader {
     /// is no object, 52 where `verb` is missing or no verb's name, 53 where a member of the verb, or
     /// of an object inside it, is missing, of the wrong type or out of range, 54 where there is a
     /// member besides these. 1 is answered only where the allocator refused memory, or where the line
-    /// has more than 4 GiB less 256 bytes, whatever else it holds; an empty line takes none.
+    /// has more than 4 GiB less 256 bytes, whatever else it holds; an empty line and bytes that are no UTF-8 take none.
     #[tactic(auto, unfolding(crate::specs::Requests::request_of))]
     pub fn read(&mut self, alloc: Global, line: &[u8]) -> Result<Request, WireFault>
         ensures request { Gives result (request_of line.now) }
         ensures empty { line.now ≡ [] → result ≡ Err BadJson }
+        ensures text { is_utf8 line.now ≡ false → result ≡ Err BadJson }
     {
         let tape = tape_of(alloc, &mut self.scratch, line)?;
         let value = Given::root(&tape);
@@ -71,6 +73,7 @@ impl RequestReader {
 pub fn read_request(alloc: Global, line: &[u8]) -> Result<Request, WireFault>
     ensures request { Gives result (request_of line.now) }
     ensures empty { line.now ≡ [] → result ≡ Err BadJson }
+    ensures text { is_utf8 line.now ≡ false → result ≡ Err BadJson }
 {
     RequestReader::new(alloc).read(alloc, line)
 }

@@ -1,5 +1,6 @@
 //! From a line to its tape: the tokens that the line is as JSON.
-ghost use Rattle.std.specs.Prelude.{◌≡◌, [], map, IfOk, Err};
+ghost use Rattle.std.specs.Prelude.{◌≡◌, [], map, IfOk, Err, false};
+ghost use Rattle.std.specs.Str.{is_utf8};
 ghost use Rattle.json.specs.Tape.{node_token};
 ghost use Rattle.serde_json.specs.Read.{read};
 ghost use Rattle.canvas_wire.specs.Faults.{GivesSeen, or_fault};
@@ -80,6 +81,7 @@ pub(crate) fn tape_of<'a>(
     ensures value { GivesSeen view result (or_fault BadJson (json_of line.now)) }
     ensures begins { IfOk result (λ tape. HasData tape) }
     ensures empty { line.now ≡ [] → result ≡ Err BadJson }
+    ensures text { is_utf8 line.now ≡ false → result ≡ Err BadJson }
 {
     if line.is_empty() {
         return Err(WireFault::BadJson);

@@ -1,4 +1,5 @@
 use Rattle.std.proofs.Common.{sym, ap, subst}
+use Rattle.std.proofs.lemmas.Str.{is_utf8-from_IsUtf8}
 use Rattle.canvas_wire.specs.Faults.{GivesSeen, or_fault}
 use Rattle.canvas_wire.specs.Given.{view}
 use Rattle.canvas_wire.specs.declared.fault.WireFault.TheVariants.{BadJson}
@@ -15,3 +16,6 @@ returns-in-Ok-clause-value c =
 
 pub returns-in-Err-clause-value : goal.returns-in-Err-clause-value
 returns-in-Err-clause-value c = ap (or_fault BadJson) (json_none c.args.line.now (λ text. absurd (c.in-Err.ensures.cases.0 text)))
+
+pub returns-in-Ok-clause-text : goal.returns-in-Ok-clause-text
+returns-in-Ok-clause-text c = λ no. absurd (cc (no, is_utf8-from_IsUtf8 c.args.line.now c.in-Ok.ensures.cases.1))
