@@ -1,5 +1,5 @@
 -- The settings of a server, and how it may end.
-use Rattle.std.specs.Prelude.{◌≡◌, ℕ, ◌<◌, ◌&&◌, nat_le, Bool, Result, Ok, Err, if◌then◌else◌}
+use Rattle.std.specs.Prelude.{◌≡◌, ◌<◌, ◌&&◌, nat_le, Bool, Result, Ok, Err, if◌then◌else◌}
 use Rattle.canvas_board.specs.Alone.{is_limit}
 use Rattle.canvas_line.specs.declared.fault.LineFault.{LineFault}
 use Rattle.canvas_line.specs.declared.fault.LineFault.TheVariants as line

@@ -3,6 +3,7 @@
 ghost use Rattle.std.specs.Prelude.{◌≡◌};
 ghost use Rattle.canvas_wire.specs.Replies.{line_of, refused};
 
+use crate::first_bytes::{FIRST_BYTES, read_first, speaks_http};
 use crate::outlet::Outlet;
 use canvas_board::Board;
 use canvas_code::name_of;
@@ -16,7 +17,7 @@ use std::thread::Threads;
 use std::time::{Clock, Duration, Instant};
 
 /// Answers what a client sends until it has sent all, and says whether the session was ended by a closing reply, so that
-/// more may still come.
+/// more may still come. An HTTP request, as a web page sends it, gets one reply, and none of its lines is a request here.
 pub fn answer<H: Threads + Wait + Sync, B: Board>(
     rt: &H,
     alloc: Global,
@@ -27,9 +28,16 @@ pub fn answer<H: Threads + Wait + Sync, B: Board>(
     // Where small replies are delayed they come all the same.
     let _ = stream.set_nodelay(true);
     let mut reader = stream;
+    let mut first = [0u8; FIRST_BYTES];
+    let count = read_first(&mut reader, &mut first);
+    let (first, _) = first.split_at(count);
+    if speaks_http(first) {
+        return tell(stream, &no_json());
+    }
     let Ok(mut writer) = Outlet::new(alloc, stream) else {
         return false;
     };
+    let mut reader = first.chain(reader);
     match serve(rt, alloc, board, workers, &mut reader, &mut writer) {
         Ok(_) => false,
         Err(fault) => matches!(fault.cause, Cause::LineTooLong | Cause::TooManyRequests),
@@ -38,10 +46,24 @@ pub fn answer<H: Threads + Wait + Sync, B: Board>(
 
 /// Tells a client that no seat is free.
 pub fn refuse(stream: &TcpStream) {
-    let line = no_seats();
-    let mut writer = stream;
     // A client that is gone needs no reply.
-    let _ = writer.write_all(line.as_str().as_bytes());
+    let _ = tell(stream, &no_seats());
+}
+
+// Writes the only reply of a connection, and says whether it went out.
+fn tell(stream: &TcpStream, line: &ReplyLine) -> bool {
+    let mut writer = stream;
+    writer.write_all(line.as_str().as_bytes()).is_ok()
+}
+
+// The reply to an HTTP request: its first line is no JSON.
+fn no_json() -> ReplyLine
+    ensures { result.bytes ≡ line_of (refused 50) }
+{
+    write_reply(&Reply::Refused {
+        code: 50,
+        name: name_of(50),
+    })
 }
 
 // The reply where all seats are taken.

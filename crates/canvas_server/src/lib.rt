@@ -2,6 +2,7 @@
 #![tactic(auto)]
 
 mod connection;
+mod first_bytes;
 mod house;
 mod outlet;
 mod seats;

@@ -1,6 +1,6 @@
 //! Which seats of a server are taken, and how many connections are being settled.
 
-ghost use Rattle.std.specs.Prelude.{◌≡◌, ◌<◌, ◌≤◌, ◌+◌, ◌-◌, All, IfSome, IfNone, IsTrue, IsFalse, slice_get, slice_set, Some, take, true, false};
+ghost use Rattle.std.specs.Prelude.{◌≡◌, ◌<◌, ◌≤◌, ◌+◌, ◌-◌, All, IfSome, IfNone, IsTrue, IsFalse, slice_get, slice_set, Some, replicate, take, true, false};
 
 use std::marker::Model;
 
@@ -26,7 +26,9 @@ impl Model for Seats {
 
 impl Seats {
     /// No seat is taken.
-    pub fn new() -> Seats {
+    pub fn new() -> Seats
+        ensures { result ≡ replicate 64 false }
+    {
         Seats {
             taken: [false; MOST_SEATS],
         }
@@ -36,6 +38,7 @@ impl Seats {
     pub fn take(&mut self, count: usize) -> Option<usize>
         ensures within { IfSome result (λ seat. seat < count) }
         ensures free { IfSome result (λ seat. slice_get self.old seat ≡ Some false) }
+        ensures first { IfSome result (λ seat. All (λ taken. taken ≡ true) (take seat self.old)) }
         ensures taken { IfSome result (λ seat. self.new ≡ slice_set self.old seat true) }
         ensures full { IfNone result (All (λ taken. taken ≡ true) (take count self.old)) }
         ensures same { IfNone result (self.new ≡ self.old) }
