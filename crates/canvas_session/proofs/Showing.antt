@@ -1,14 +1,13 @@
 -- All pictures of a transcript are of the board's history at its end.
-use Rattle.std.proofs.Common.{◌≡◌, ℕ, ℤ, ◌<◌, ◌≤◌, ◌⊎◌, inl, inr, List, [], ◌∷◌, ◌++◌, Option, None, Some, Result, Ok, Err, length, take, refl, sym, ap, ◌∙◌, arith, subst, length-append}
+use Rattle.std.proofs.Common.{◌≡◌, ℕ, ℤ, ◌≤◌, inl, inr, List, [], ◌∷◌, ◌++◌, Option, None, Some, Result, Ok, Err, length, take, refl, sym, ap, ◌∙◌, arith, subst, length-append}
 use Rattle.std.specs.Arc.{arc_value}
 use Rattle.std.specs.List.{AllByRecursion}
 use Rattle.std.proofs.Math.Seq.{take-append_seam}
 use mathlib.Core.List.{IsPrefix}
 use Rattle.canvas_plane.specs.declared.windows.Window.{Window}
 use Rattle.canvas_plane.specs.declared.windows.WindowFault.{WindowFault}
-use Rattle.canvas_plane.specs.Limits.{window_fault, window_fault_code}
+use Rattle.canvas_plane.specs.Limits.{window_fault_code}
 use Rattle.canvas_plane.specs.Window.{IsWindowAt}
-use Rattle.canvas_record.specs.declared.edits.Change.{Change}
 use Rattle.canvas_record.specs.declared.edits.Edit.{Edit}
 use Rattle.canvas_record.specs.Contents.{Contents}
 use Rattle.canvas_record.specs.History.{replay_of, AllFit}
@@ -16,7 +15,7 @@ use Rattle.canvas_record.proofs.Histories.{all_fit-snoc}
 use Rattle.canvas_wire.specs.declared.request.Request.{Request}
 use Rattle.canvas_wire.specs.declared.request.Request.TheVariants as request
 use Rattle.canvas_wire.specs.declared.fault.WireFault.{WireFault}
-use Rattle.canvas_wire.specs.Replies.{Said, body, refused}
+use Rattle.canvas_wire.specs.Replies.{body, refused}
 use Rattle.canvas_line.specs.declared.fault.Edited.{Edited}
 use Rattle.canvas_line.proofs.Prefixes.{prefix_self, prefix_trans, prefix_length}
 use Rattle.canvas_board.specs.declared.answers.Picture.{Picture}
@@ -29,7 +28,7 @@ use Rattle.canvas_board.specs.Seen.{Seen, IsSound, Grows, document_of}
 use Rattle.canvas_board.specs.Steps.{Accepts, Edits, Looks, Paints, Saves}
 use Rattle.canvas_board.proofs.Spared.{file-key}
 use Rattle.canvas_session.specs.Response.{Response, bare, made, edit_response, picture_response, point_response, saved_response}
-use Rattle.canvas_session.specs.Transcript.{Shows, ShowsUnless, Step, Answers, IsTranscript}
+use Rattle.canvas_session.specs.Transcript.{ShowsUnless, Step, Answers, IsTranscript}
 use Rattle.canvas_session.specs.OneHistory.{versions_in, AsksFor, ShowsVersion, EachShowsItsVersion, TellsOneHistory}
 
 -- the board of the same document with a front that begins with the old one
