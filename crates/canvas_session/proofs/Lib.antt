@@ -6,3 +6,4 @@ pub mod Exchanges
 pub mod Stops
 pub mod Shown
 pub mod Taking
+pub mod Showing

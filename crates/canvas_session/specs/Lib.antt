@@ -6,3 +6,4 @@ pub mod Response
 pub mod Transcript
 pub mod Cause
 pub mod Session
+pub mod OneHistory

@@ -1,12 +1,25 @@
-//! That bytes have one list of lines.
+//! Laws of sessions: that bytes have one list of lines, and that all pictures of a session are of one history.
 
-ghost use Rattle.std.specs.Prelude.{◌≡◌, ◌≤◌, ℕ, List, ◌++◌, length};
+ghost use Rattle.std.specs.Prelude.{◌≡◌, ◌≤◌, ℕ, List, ◌++◌, length, Result};
 ghost use Rattle.std.specs.List.{flat_map, AllByRecursion};
+ghost use Rattle.canvas_wire.specs.declared.request.Request.{Request};
+ghost use Rattle.canvas_wire.specs.declared.fault.WireFault.{WireFault};
+ghost use Rattle.canvas_board.specs.Seen.{Seen, IsSound};
 ghost use Rattle.canvas_session.specs.Line.{HasNoLf, IsLine, ended, lines_of};
+ghost use Rattle.canvas_session.specs.Response.{Response};
+ghost use Rattle.canvas_session.specs.Transcript.{IsTranscript};
+ghost use Rattle.canvas_session.specs.OneHistory.{TellsOneHistory};
 
 /// Up to 1,000,000 lines and a rest without an LF are the lines of the bytes that they make: bytes have one list of
 /// lines.
 pub fn lines_are_one()
     ensures { (lines : List (List ℕ)) (rest : List ℕ) → AllByRecursion IsLine lines → length lines ≤ 1000000 → HasNoLf rest
         → lines_of (flat_map ended lines ++ rest) ≡ lines }
+{}
+
+/// Of each transcript of a board, whatever the number of its workers: all pictures are of one history of accepted changes, in which each change
+/// fits where it stands. A picture names a version, no less than any that was told before, and shows the document after so many changes.
+pub fn pictures_are_of_one_history()
+    ensures { (workers : ℕ) (s t : Seen) (requests : List (Result Request WireFault)) (answers : List Response) → IsSound s
+        → IsTranscript workers s requests answers t → TellsOneHistory s.opening s.front t.front requests answers }
 {}

@@ -1,0 +1,54 @@
+-- That all pictures of a session show versions of one history.
+use Rattle.std.specs.Prelude.{◌≡◌, ℕ, ◌≤◌, pos, ◌*ℤ◌, List, [], ◌∷◌, ◌++◌, length, take, Result, Ok, Err}
+use Rattle.std.specs.List.{AllByRecursion}
+use mathlib.Core.List.{IsPrefix}
+use Rattle.canvas_plane.specs.declared.windows.Window.{Window}
+use Rattle.canvas_plane.specs.Window.{IsWindowAt}
+use Rattle.canvas_record.specs.declared.edits.Change.{Change}
+use Rattle.canvas_record.specs.Contents.{Contents}
+use Rattle.canvas_record.specs.History.{replay_of, AllFit}
+use Rattle.canvas_wire.specs.declared.request.Request.{Request}
+use Rattle.canvas_wire.specs.declared.request.Request.TheVariants.{Edit, Tile, Patch, Point, Export}
+use Rattle.canvas_wire.specs.declared.fault.WireFault.{WireFault}
+use Rattle.canvas_wire.specs.Replies.{Said, created, edited, body, point, refused, behind}
+use Rattle.canvas_board.specs.Raster.{file_of}
+use Rattle.canvas_session.specs.Response.{Response}
+
+-- the version that a reply names, if it names one
+abbrev pub versions_in : Said → List ℕ
+versions_in (created id version) = version ∷ []
+versions_in (edited version) = version ∷ []
+versions_in (body bytes version) = version ∷ []
+versions_in (point colour version) = version ∷ []
+versions_in (refused code) = []
+versions_in (behind desk front) = []
+
+-- the request asks for the picture of this window
+abbrev pub AsksFor : Window → Result Request WireFault → Type 0
+AsksFor window (Ok (Tile level col row)) = IsWindowAt level (pos 256 *ℤ col) (pos 256 *ℤ row) 256 256 window
+AsksFor window (Ok (Patch level x y w h)) = IsWindowAt level x y w h window
+AsksFor window (Ok (Edit edit)) = ⊥
+AsksFor window (Ok (Point x y)) = ⊥
+AsksFor window (Ok Export) = ⊥
+AsksFor window (Err fault) = ⊥
+
+-- The bytes are the picture of the window after the first v changes of the history, and v is no less than any version told before.
+pub record ShowsVersion (opening : Contents) (history : List Change) (told : List ℕ) (window : Window) (v : ℕ) (bytes : List ℕ) : Type 0 where
+  pub no_older : AllByRecursion (λ u. u ≤ v) told
+  pub within : v ≤ length history
+  pub picture : bytes ≡ file_of (replay_of opening (take v history)) window
+
+-- Each answer to a request for a window, if it has a body, shows the version that its reply names.
+abbrev pub EachShowsItsVersion : Contents → List Change → List ℕ → List (Result Request WireFault) → List Response → Type 0
+EachShowsItsVersion opening history told [] [] = Unit {0}
+EachShowsItsVersion opening history told (r ∷ rs) (a ∷ more) =
+    ((window : Window) (bytes v : ℕ) → AsksFor window r → a.reply ≡ body bytes v → ShowsVersion opening history told window v a.follows)
+    × EachShowsItsVersion opening history (versions_in a.reply ++ told) rs more
+EachShowsItsVersion opening history told [] (a ∷ more) = ⊥
+EachShowsItsVersion opening history told (r ∷ rs) [] = ⊥
+
+-- The history begins with the front, each of its changes fits where it stands, and each picture shows a version of it.
+pub record TellsOneHistory (opening : Contents) (front history : List Change) (requests : List (Result Request WireFault)) (answers : List Response) : Type 0 where
+  pub begins : IsPrefix front history
+  pub fits : AllFit opening history
+  pub pictures : EachShowsItsVersion opening history (length front ∷ []) requests answers
