@@ -5,6 +5,7 @@ ghost use Rattle.canvas_wire.specs.Replies.{line_of, refused};
 
 use crate::first_bytes::{FIRST_BYTES, read_first, speaks_http};
 use crate::outlet::Outlet;
+use crate::workers::Workers;
 use canvas_board::Board;
 use canvas_code::name_of;
 use canvas_session::{Cause, serve};
@@ -22,7 +23,7 @@ pub fn answer<H: Threads + Wait + Sync, B: Board>(
     rt: &H,
     alloc: Global,
     board: &mut B,
-    workers: u32,
+    workers: &Workers,
     stream: &TcpStream,
 ) -> bool {
     // Where small replies are delayed they come all the same.
@@ -38,7 +39,7 @@ pub fn answer<H: Threads + Wait + Sync, B: Board>(
         return false;
     };
     let mut reader = first.chain(reader);
-    match serve(rt, alloc, board, workers, &mut reader, &mut writer) {
+    match serve(rt, alloc, board, workers.count(), &mut reader, &mut writer) {
         Ok(_) => false,
         Err(fault) => matches!(fault.cause, Cause::LineTooLong | Cause::TooManyRequests),
     }

@@ -1,12 +1,13 @@
 //! Connections, each served by a thread of its own from a seat of its own.
 
 ghost use denote.Param.Send.{IsSend, IsSync};
-ghost use Rattle.std.specs.Prelude.{◌≡◌, ◌<◌, OnOk, IfErr};
+ghost use Rattle.std.specs.Prelude.{◌≡◌, ◌<◌, OnOk, IfErr, length};
 ghost use Rattle.canvas_server.specs.declared.server_fault.ServerFault.TheVariants.{AcceptFault};
 
 use crate::connection::{answer, refuse, settle};
 use crate::seats::{Seats, Settling};
 use crate::server_fault::ServerFault;
+use crate::workers::Workers;
 use canvas_board::Board;
 use std::alloc::Global;
 use std::net::{TcpListener, TcpStream};
@@ -29,19 +30,22 @@ pub struct House<'a, B: Board> {
     boards: &'a [Mutex<B>],
     seats: &'a Mutex<Seats>,
     settling: &'a Mutex<Settling>,
-    workers: u32,
+    workers: Workers,
 }
 
-/// Serves so many connections, or without end where the number is 0, each with a board that no other session has.
+/// Serves so many connections, or without end where the number is 0, each with a board that no other session has. There is a
+/// board for each seat.
 /// Returns when all sessions have ended.
 pub fn serve_boards<H: Threads + Wait + Clock + Sync, B: Board + Send>(
     rt: &H,
     alloc: Global,
     listener: &TcpListener,
     boards: &[Mutex<B>],
-    workers: u32,
+    seats: u32,
+    workers: Workers,
     connections: u64,
 ) -> Result<(), ServerFault>
+    requires { length boards.now ≡ seats }
     ensures served { OnOk result (0 < connections) }
     ensures fault { IfErr result (λ fault. fault ≡ AcceptFault) }
 {
@@ -155,7 +159,13 @@ fn session<H: Threads + Wait + Clock + Sync, B: Board>(
     board: &Mutex<B>,
     stream: &TcpStream,
 ) {
-    let told = answer(rt, house.alloc, &mut *board.lock(rt), house.workers, stream);
+    let told = answer(
+        rt,
+        house.alloc,
+        &mut *board.lock(rt),
+        &house.workers,
+        stream,
+    );
     house.seats.lock(rt).give_back(seat);
     if told && house.settling.lock(rt).begin() {
         settle_counted(rt, house.settling, stream);

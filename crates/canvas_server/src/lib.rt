@@ -9,6 +9,7 @@ mod seats;
 mod server_fault;
 mod serving;
 mod words;
+mod workers;
 
 pub use server_fault::ServerFault;
 pub use serving::{Settings, serve_connections};

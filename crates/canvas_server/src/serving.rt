@@ -1,11 +1,12 @@
 //! Serving a document to connections.
 
-ghost use Rattle.std.specs.Prelude.{◌≡◌, ◌≤◌, IfErr};
+ghost use Rattle.std.specs.Prelude.{◌≡◌, ◌≤◌, IfErr, IfOk, vec_len};
 ghost use Rattle.canvas_server.specs.declared.server_fault.ServerFault.TheVariants.{OutOfMemory};
 ghost use Rattle.canvas_server.specs.Settings.{Ends, opening_fault, settings_fault};
 
 use crate::house::serve_boards;
 use crate::server_fault::ServerFault;
+use crate::workers::Workers;
 use canvas_board::Shared;
 use canvas_doc::Document;
 use canvas_line::{Line, LineFault, Lines, Opened, Seat};
@@ -91,12 +92,13 @@ fn serve_line<L: Lines + Send + Sync, H: Threads + Wait + Clock + Sync>(
         workers,
         connections,
     } = *settings;
-    let seats = match Line::open::<L, H>(rt, alloc, opened, NAME, document, seats, limit) {
-        Ok(seats) => seats,
+    let line = match Line::open::<L, H>(rt, alloc, opened, NAME, document, seats, limit) {
+        Ok(line) => line,
         Err(fault) => return Err(opening_fault(&fault)),
     };
-    let boards = boards_of(alloc, seats, keep)?;
-    let ended = serve_boards(rt, alloc, listener, &boards, workers, connections);
+    let boards = boards_of(alloc, line, keep)?;
+    let workers = Workers::new(workers);
+    let ended = serve_boards(rt, alloc, listener, &boards, seats, workers, connections);
     for board in boards {
         board.into_inner().close(rt);
     }
@@ -110,7 +112,8 @@ fn boards_of<L: Lines>(
     keep: u32,
 ) -> Result<Vec<Mutex<Shared<L>>>, ServerFault>
     requires { keep ≤ 256 }
-    ensures { IfErr result (λ fault. fault ≡ OutOfMemory) }
+    ensures count { IfOk result (λ boards. vec_len boards ≡ vec_len seats) }
+    ensures fault { IfErr result (λ fault. fault ≡ OutOfMemory) }
 {
     let mut boards = Vec::with_capacity(alloc, seats.len())?;
     for seat in seats {
