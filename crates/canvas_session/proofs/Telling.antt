@@ -11,7 +11,7 @@ use Rattle.canvas_record.specs.History.{replay_of, AllFit}
 use Rattle.canvas_wire.specs.declared.request.Request.{Request}
 use Rattle.canvas_wire.specs.declared.fault.WireFault.{WireFault}
 use Rattle.canvas_wire.specs.Requests.{request_of}
-use Rattle.canvas_line.proofs.Prefixes.{prefix_trans, prefix_length, take_more_same}
+use Rattle.canvas_line.proofs.Prefixes.{prefix_trans, prefix_length, take_more_same, take_prefix}
 use Rattle.canvas_board.specs.Raster.{file_of}
 use Rattle.canvas_board.specs.Seen.{IsSound}
 use Rattle.canvas_session.specs.Response.{Response, texts_of}
@@ -106,8 +106,31 @@ longer-tells opening front a b rs answers p fits t = record {
   pictures = longer-each opening a b (length front ∷ []) rs answers p t.pictures;
 }
 
-pub two_tell : (opening : Contents) (front front' history history' : List Change) (rs rs' : List (Result Request WireFault)) (answers answers' : List Response)
-    → TellsOneHistory opening front history rs answers → TellsOneHistory opening front' history' rs' answers' → IsPrefix history history' ⊎ IsPrefix history' history
+-- of two histories of which one begins the other, all pictures are of the longer one
+joined : (opening : Contents) (front front' a b : List Change) (rs rs' : List (Result Request WireFault)) (answers answers' : List Response)
+    → TellsOneHistory opening front a rs answers → TellsOneHistory opening front' b rs' answers' → IsPrefix a b ⊎ IsPrefix b a
     → (one : List Change) × TellsOneHistory opening front one rs answers × TellsOneHistory opening front' one rs' answers'
-two_tell opening front front' history history' rs rs' answers answers' t t' (inl p) = (history', longer-tells opening front history history' rs answers p t'.fits t, t')
-two_tell opening front front' history history' rs rs' answers answers' t t' (inr p) = (history, t, longer-tells opening front' history' history rs' answers' p t.fits t')
+joined opening front front' a b rs rs' answers answers' t t' (inl p) = (b, longer-tells opening front a b rs answers p t'.fits t, t')
+joined opening front front' a b rs rs' answers answers' t t' (inr p) = (a, t, longer-tells opening front' b a rs' answers' p t.fits t')
+
+-- of two beginnings of one list one begins the other
+begin_alike : {A : Type 0} (xs ys zs : List A) → IsPrefix xs zs → IsPrefix ys zs → IsPrefix xs ys ⊎ IsPrefix ys xs
+begin_alike [] ys zs p q = inl (ys, refl)
+begin_alike (x ∷ xs) [] zs p q = inr (x ∷ xs, refl)
+begin_alike (x ∷ xs) (y ∷ ys) [] p q = absurd (cc (p.1))
+begin_alike (x ∷ xs) (y ∷ ys) (z ∷ zs) p q =
+    let heads : x ≡ y = cc (p.1, q.1) in
+    elim (begin_alike xs ys zs (p.0, cc (p.1)) (q.0, cc (q.1))) [
+      | inl r ↦ inl (r.0, cc (heads, r.1))
+      | inr r ↦ inr (r.0, cc (heads, r.1))
+    ]
+
+takes_alike : {A : Type 0} (n m : ℕ) (xs ys : List A) → IsPrefix xs ys ⊎ IsPrefix ys xs → IsPrefix (take n xs) (take m ys) ⊎ IsPrefix (take m ys) (take n xs)
+takes_alike n m xs ys (inl p) = begin_alike (take n xs) (take m ys) ys (prefix_trans (take n xs) xs ys (take_prefix n xs) p) (take_prefix m ys)
+takes_alike n m xs ys (inr p) = begin_alike (take n xs) (take m ys) xs (take_prefix n xs) (prefix_trans (take m ys) ys xs (take_prefix m ys) p)
+
+pub two_tell : (opening : Contents) (front front' seen seen' : List Change) (known known' : ℕ) (rs rs' : List (Result Request WireFault)) (answers answers' : List Response)
+    → TellsOneHistory opening front (take known seen) rs answers → TellsOneHistory opening front' (take known' seen') rs' answers' → IsPrefix seen seen' ⊎ IsPrefix seen' seen
+    → (one : List Change) × TellsOneHistory opening front one rs answers × TellsOneHistory opening front' one rs' answers'
+two_tell opening front front' seen seen' known known' rs rs' answers answers' t t' p =
+    joined opening front front' (take known seen) (take known' seen') rs rs' answers answers' t t' (takes_alike known known' seen seen' p)

@@ -1,6 +1,6 @@
 //! Laws of sessions: that bytes have one list of lines, and that all pictures of a session are of one history.
 
-ghost use Rattle.std.specs.Prelude.{◌≡◌, ◌≤◌, ◌⊎◌, ℕ, List, ◌++◌, length, Result};
+ghost use Rattle.std.specs.Prelude.{◌≡◌, ◌≤◌, ◌⊎◌, ℕ, List, ◌++◌, length, take, Result};
 ghost use Rattle.std.specs.List.{flat_map, AllByRecursion};
 ghost use mathlib.Core.List.{IsPrefix};
 ghost use Rattle.canvas_record.specs.declared.edits.Change.{Change};
@@ -35,10 +35,11 @@ pub fn sessions_tell_one_history()
     ensures { (workers : ℕ) (e : Ends) (result : Result Served SessionFault) → IsSound e.before → Serves workers e result → SessionTells e }
 {}
 
-/// Of two sessions at one document: where one history is a beginning of the other, all pictures of both are of one history.
+/// Of two sessions at one document: where of what their seats have seen the one is a beginning of the other (`Seat::one_history` of canvas_line), all
+/// pictures of both are of one history. A session's history is what it has told of, the first so many changes that its seat has seen.
 pub fn two_sessions_tell_one_history()
-    ensures { (opening : Contents) (front front' history history' : List Change) (requests requests' : List (Result Request WireFault))
-        (answers answers' : List Response) → TellsOneHistory opening front history requests answers
-        → TellsOneHistory opening front' history' requests' answers' → IsPrefix history history' ⊎ IsPrefix history' history
+    ensures { (opening : Contents) (front front' seen seen' : List Change) (known known' : ℕ) (requests requests' : List (Result Request WireFault))
+        (answers answers' : List Response) → TellsOneHistory opening front (take known seen) requests answers
+        → TellsOneHistory opening front' (take known' seen') requests' answers' → IsPrefix seen seen' ⊎ IsPrefix seen' seen
         → (one : List Change) × TellsOneHistory opening front one requests answers × TellsOneHistory opening front' one requests' answers' }
 {}
