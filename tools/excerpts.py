@@ -32,7 +32,7 @@ def definition(path, name):
 def head_of(part):
     """An item of Rattle, without its attributes, comments on its implementation, and the body that a function may have."""
     lines = [it for it in dedent(part.strip("\n")).splitlines() if not it.startswith(("#[", "// "))]
-    end = next((it for it, line in enumerate(lines) if line in ("{", "{}")), len(lines))
+    end = next((it for it, line in enumerate(lines) if line == "{"), len(lines))
     return "\n".join(lines[:end])
 
 

@@ -14,7 +14,7 @@ use Rattle.canvas_wire.specs.declared.request.Request.TheVariants.{Edit, Tile, P
 use Rattle.canvas_wire.specs.declared.fault.WireFault.{WireFault}
 use Rattle.canvas_wire.specs.Replies.{Said, created, edited, body, point, refused, behind}
 use Rattle.canvas_board.specs.Raster.{file_of}
-use Rattle.canvas_session.specs.Line.{ended}
+use Rattle.canvas_session.specs.Line.{IsLine, ended}
 use Rattle.canvas_session.specs.Response.{Response, texts_of}
 use Rattle.canvas_session.specs.Session.{Ends, closing_line}
 
@@ -64,6 +64,7 @@ pub record SessionTells (e : Ends) : Type 0 where
   pub answers : List Response
   pub closing : List ℕ
   pub written : ℕ
+  pub each : AllByRecursion IsLine lines
   pub took : Consumes e.input e.unread (flat_map ended lines ++ pending)
   pub wrote : Appends e.held e.output (take written (texts_of answers ++ closing))
   pub closes : (closing ≡ []) ⊎ ((code : ℕ) × (closing ≡ closing_line code))
