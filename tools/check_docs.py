@@ -1,10 +1,12 @@
 #!/usr/bin/env python3
 """Compares the pages with what is there: the wrong bodies, and the files, crates and commands that a page names.
 
-usage: tools/check_docs.py
+usage: tools/check_docs.py [--write]
 
 - each wrong body that docs/PROOFS.md names stands in must-fail/ or wrong-bodies/ of a crate of its section, each that stands there is
   named in a section of its crate, and each can be applied to the sources;
+- each definition that a page shows (`<!-- from FILE: NAME.. -->` before a block of code) is as it stands in its file; with --write the pages
+  are written so first;
 - each file, crate and command that README.md, CHANGELOG.md, docs/*.md or a crate's README.md names exists;
 - the gate that README.md names is what .ci/run runs (tools/check_program.py runs its example);
 - CHANGELOG.md begins with the version in the file VERSION, and the packages that docs/INSTALL.md names are of that version.
@@ -15,6 +17,7 @@ Prints what is wrong, and a last line 'N passed, M failed'; the status is 1 wher
 import re
 import sys
 
+from excerpts import NoDefinition, as_they_stand, faults_of_excerpts
 from repository import TOP, lines
 from try_wrong_bodies import BadEdit, edited
 
@@ -126,11 +129,28 @@ def faults_of_version():
         yield None if other == version else f"docs/INSTALL.md: {other} is not the version {version}"
 
 
+def write(page):
+    """Writes a page with its definitions as they stand, where they can be found."""
+    text = page.read_text()
+    try:
+        now = as_they_stand(text)
+    except NoDefinition:
+        return
+    if now != text:
+        page.write_text(now)
+        print(f"wrote {page.relative_to(TOP)}")
+
+
 def main():
+    if sys.argv[1:] not in ([], ["--write"]):
+        sys.exit("usage: tools/check_docs.py [--write]")
     pages = [TOP / "README.md", TOP / "CHANGELOG.md", *sorted((TOP / "docs").glob("*.md")), *sorted(CRATES.glob("*/README.md"))]
+    if sys.argv[1:]:
+        for page in pages:
+            write(page)
     found = [*faults_of_bodies(), *faults_of_gate(), *faults_of_version()]
     for page in pages:
-        found += faults_of_page(page)
+        found += [*faults_of_page(page), *faults_of_excerpts(page)]
     failures = [it for it in found if it]
     print(*failures, sep="\n", end="\n" if failures else "")
     print(f"{len(found) - len(failures)} passed, {len(failures)} failed")

@@ -7,3 +7,4 @@ pub mod Stops
 pub mod Shown
 pub mod Taking
 pub mod Showing
+pub mod Telling

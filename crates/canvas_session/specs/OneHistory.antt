@@ -1,18 +1,22 @@
 -- That all pictures of a session show versions of one history.
-use Rattle.std.specs.Prelude.{◌≡◌, ℕ, ◌≤◌, pos, ◌*ℤ◌, List, [], ◌∷◌, ◌++◌, length, take, Result, Ok, Err}
-use Rattle.std.specs.List.{AllByRecursion}
+use Rattle.std.specs.Prelude.{◌≡◌, ℕ, ◌≤◌, pos, ◌*ℤ◌, List, [], ◌∷◌, ◌++◌, ◌⊎◌, length, map, take, Result, Ok, Err}
+use Rattle.std.specs.List.{flat_map, AllByRecursion}
+use Rattle.std.specs.Io.KnownBytes.{Consumes, Appends}
 use mathlib.Core.List.{IsPrefix}
 use Rattle.canvas_plane.specs.declared.windows.Window.{Window}
 use Rattle.canvas_plane.specs.Window.{IsWindowAt}
 use Rattle.canvas_record.specs.declared.edits.Change.{Change}
 use Rattle.canvas_record.specs.Contents.{Contents}
 use Rattle.canvas_record.specs.History.{replay_of, AllFit}
+use Rattle.canvas_wire.specs.Requests.{request_of}
 use Rattle.canvas_wire.specs.declared.request.Request.{Request}
 use Rattle.canvas_wire.specs.declared.request.Request.TheVariants.{Edit, Tile, Patch, Point, Export}
 use Rattle.canvas_wire.specs.declared.fault.WireFault.{WireFault}
 use Rattle.canvas_wire.specs.Replies.{Said, created, edited, body, point, refused, behind}
 use Rattle.canvas_board.specs.Raster.{file_of}
-use Rattle.canvas_session.specs.Response.{Response}
+use Rattle.canvas_session.specs.Line.{IsLine, ended}
+use Rattle.canvas_session.specs.Response.{Response, texts_of}
+use Rattle.canvas_session.specs.Session.{Ends, closing_line}
 
 -- the version that a reply names, if it names one
 abbrev pub versions_in : Said → List ℕ
@@ -52,3 +56,16 @@ pub record TellsOneHistory (opening : Contents) (front history : List Change) (r
   pub begins : IsPrefix front history
   pub fits : AllFit opening history
   pub pictures : EachShowsItsVersion opening history (length front ∷ []) requests answers
+
+-- A session read lines and wrote the texts of its answers, perhaps a closing line, or a beginning of these; the pictures among them are of the board's history.
+pub record SessionTells (e : Ends) : Type 0 where
+  pub lines : List (List ℕ)
+  pub pending : List ℕ
+  pub answers : List Response
+  pub closing : List ℕ
+  pub written : ℕ
+  pub each : AllByRecursion IsLine lines
+  pub took : Consumes e.input e.unread (flat_map ended lines ++ pending)
+  pub wrote : Appends e.held e.output (take written (texts_of answers ++ closing))
+  pub closes : (closing ≡ []) ⊎ ((code : ℕ) × (closing ≡ closing_line code))
+  pub tells : TellsOneHistory e.before.opening e.before.front e.after.front (map request_of lines) answers

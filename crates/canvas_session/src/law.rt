@@ -1,14 +1,20 @@
 //! Laws of sessions: that bytes have one list of lines, and that all pictures of a session are of one history.
 
-ghost use Rattle.std.specs.Prelude.{◌≡◌, ◌≤◌, ℕ, List, ◌++◌, length, Result};
+ghost use Rattle.std.specs.Prelude.{◌≡◌, ◌≤◌, ◌⊎◌, ℕ, List, ◌++◌, length, take, Result};
 ghost use Rattle.std.specs.List.{flat_map, AllByRecursion};
+ghost use mathlib.Core.List.{IsPrefix};
+ghost use Rattle.canvas_record.specs.declared.edits.Change.{Change};
+ghost use Rattle.canvas_record.specs.Contents.{Contents};
 ghost use Rattle.canvas_wire.specs.declared.request.Request.{Request};
 ghost use Rattle.canvas_wire.specs.declared.fault.WireFault.{WireFault};
 ghost use Rattle.canvas_board.specs.Seen.{Seen, IsSound};
 ghost use Rattle.canvas_session.specs.Line.{HasNoLf, IsLine, ended, lines_of};
 ghost use Rattle.canvas_session.specs.Response.{Response};
 ghost use Rattle.canvas_session.specs.Transcript.{IsTranscript};
-ghost use Rattle.canvas_session.specs.OneHistory.{TellsOneHistory};
+ghost use Rattle.canvas_session.specs.Session.{Ends, Serves};
+ghost use Rattle.canvas_session.specs.OneHistory.{SessionTells, TellsOneHistory};
+ghost use Rattle.canvas_session.specs.declared.fault.SessionFault.{SessionFault};
+ghost use Rattle.canvas_session.specs.declared.served.Served.{Served};
 
 /// Up to 1,000,000 lines and a rest without an LF are the lines of the bytes that they make: bytes have one list of
 /// lines.
@@ -22,4 +28,18 @@ pub fn lines_are_one()
 pub fn pictures_are_of_one_history()
     ensures { (workers : ℕ) (s t : Seen) (requests : List (Result Request WireFault)) (answers : List Response) → IsSound s
         → IsTranscript workers s requests answers t → TellsOneHistory s.opening s.front t.front requests answers }
+{}
+
+/// The same of each session, by what `serve` promises of it.
+pub fn sessions_tell_one_history()
+    ensures { (workers : ℕ) (e : Ends) (result : Result Served SessionFault) → IsSound e.before → Serves workers e result → SessionTells e }
+{}
+
+/// Of two sessions at one document: where of what their seats have seen the one is a beginning of the other (`Seat::one_history` of canvas_line), all
+/// pictures of both are of one history. A session's history is what it has told of, the first so many changes that its seat has seen.
+pub fn two_sessions_tell_one_history()
+    ensures { (opening : Contents) (front front' seen seen' : List Change) (known known' : ℕ) (requests requests' : List (Result Request WireFault))
+        (answers answers' : List Response) → TellsOneHistory opening front (take known seen) requests answers
+        → TellsOneHistory opening front' (take known' seen') requests' answers' → IsPrefix seen seen' ⊎ IsPrefix seen' seen
+        → (one : List Change) × TellsOneHistory opening front one requests answers × TellsOneHistory opening front' one requests' answers' }
 {}

@@ -13,7 +13,10 @@ mod session;
 
 pub use answer::Answer;
 pub use fault::{Cause, SessionFault};
-pub use law::{lines_are_one, pictures_are_of_one_history};
+pub use law::{
+    lines_are_one, pictures_are_of_one_history, sessions_tell_one_history,
+    two_sessions_tell_one_history,
+};
 pub use respond::answer_line;
 pub use served::Served;
 pub use session::{MOST_REQUESTS, serve};
