@@ -25,7 +25,7 @@ KEYS = {
     "ArrowLeft": ("ArrowLeft", 37, ""), "ArrowUp": ("ArrowUp", 38, ""), "ArrowRight": ("ArrowRight", 39, ""), "ArrowDown": ("ArrowDown", 40, ""),
     "Backspace": ("Backspace", 8, ""), "Home": ("Home", 36, ""), "End": ("End", 35, ""),
 }
-SHIFT = 8
+ALT, CONTROL, SHIFT = 1, 2, 8
 
 
 class Fault(Exception):
@@ -177,13 +177,18 @@ class Tab:
             await self.pointer("mouseMoved", x, y, modifiers=modifiers)
         await self.pointer("mouseReleased", x, y, clickCount=1, modifiers=modifiers)
 
-    async def wheel(self, x, y, down):
-        await self.pointer("mouseWheel", x, y, held=False, deltaX=0, deltaY=down)
+    async def wheel(self, x, y, down, across=0, modifiers=0):
+        await self.pointer("mouseWheel", x, y, held=False, deltaX=across, deltaY=down, modifiers=modifiers)
 
-    async def key(self, key, modifiers=0):
-        """Presses a key: a character, or a name of KEYS."""
+    async def touch(self, kind, *points):
+        """Fingers: touchStart, touchMove, touchEnd."""
+        await self.command("Input.dispatchTouchEvent", type=kind, touchPoints=[{"x": x, "y": y, "id": k} for k, (x, y) in enumerate(points)])
+
+    async def key(self, key, modifiers=0, **more):
+        """Presses a key: a character, or a name of KEYS; `commands` names what the browser does with it, as copy or paste."""
         code, number, text = KEYS.get(key, (key, ord(key[0].upper()), key))
-        values = {"key": key, "code": code, "windowsVirtualKeyCode": number, "modifiers": modifiers}
+        text = "" if modifiers & CONTROL else text
+        values = {**more, "key": key, "code": code, "windowsVirtualKeyCode": number, "modifiers": modifiers}
         await self.command("Input.dispatchKeyEvent", type="keyDown" if text else "rawKeyDown", **values, **({"text": text} if text else {}))
         await self.command("Input.dispatchKeyEvent", type="keyUp", **values)
 

@@ -5,7 +5,8 @@ usage: tools/viewer/test.py
 
 Two tabs look at one document: what is drawn, moved, reordered, coloured, hidden and deleted in one is seen in the other; pictures of the canvas are
 compared, pixel by pixel, with the server's own patches; the server is killed and started again; at the end no console has an error. What tabs are
-given of each other's pictures is looked at with more tabs, and with a server that the test leads.
+given of each other's pictures is looked at with more tabs, and with a server that the test leads. Node runs the tests of the page's pure modules, in
+unit/, before that.
 
 Prints each case that fails, and a last line 'N passed, M failed'; the status is 1 where something failed.
 """
@@ -14,6 +15,7 @@ import asyncio
 import io
 import json
 import os
+import re
 import signal
 import statistics
 import subprocess
@@ -27,7 +29,7 @@ from PIL import Image, ImageChops
 
 HERE = Path(__file__).resolve().parent
 sys.path.insert(0, str(HERE.parent))
-from browser import SHIFT, Browser, Fault  # noqa: E402
+from browser import CONTROL, SHIFT, Browser, Fault  # noqa: E402
 from canvas_client import PROGRAM, TOP, Canvas  # noqa: E402
 from check_server import difference, free_port  # noqa: E402
 from puppet import BareTab, Counter, Puppet  # noqa: E402
@@ -143,7 +145,7 @@ class Desk:
 
     async def made(self, before):
         """The id of the shape that is selected, when it is another one than before and in the tree."""
-        await self.tab.until(f"app.editor.selected !== {json.dumps(before)} && app.editor.record !== undefined")
+        await self.tab.until(f"app.editor.selected !== {json.dumps(before)} && !!app.picture.tree.record(app.editor.selected)")
         return await self.selected()
 
     async def look_at(self, level, point):
@@ -153,7 +155,7 @@ class Desk:
 
     async def picture(self):
         """What the canvas shows, with no marks above it; two frames after the last change."""
-        await self.tab.value("app.choose('select'), app.editor.select(null), document.activeElement.blur()")
+        await self.tab.value("app.choose('select'), app.editor.select(null), app.state.enter(null), document.activeElement.blur()")
         await self.tab.value("new Promise((done) => requestAnimationFrame(() => requestAnimationFrame(done)))")
         return Image.open(io.BytesIO(await self.tab.screenshot(await self.tab.box_of("#stage")))).convert("RGB")
 
@@ -393,6 +395,109 @@ async def both_formats(ann, server):
     yield "all records of both", difference(len(other), len(saved["shapes"]))
 
 
+# -- undo, selection, sizes, copies -----------------------------------------------------------------------------------
+
+async def sheet(ann, server, *shapes):
+    """An empty sheet in the window: a frame far from all else, with rectangles in it as (x, y, w, h); gives its id, theirs, and its corner."""
+    corner = (-3000, 3000)
+    with server.connect() as canvas:
+        frame, _ = canvas.ask(verb="create", shape={"kind": "group"}, pose={"dx": corner[0], "dy": corner[1]})
+        made = [canvas.ask(verb="create", shape={"kind": "rect", "w": w, "h": h, "fill": f"{40 + 50 * k:02x}80c0"}, pose={"dx": x, "dy": y},
+                           parent=frame["id"])[0] for k, (x, y, w, h) in enumerate(shapes)]
+    await ann.look_at(0, (corner[0] + 200, corner[1] + 200))
+    await ann.press("Escape", "Escape", "v")
+    await ann.settle((made or [frame])[-1]["version"])
+    await ann.tab.value(f"app.state.select([]), app.state.enter({frame['id']})")
+    return frame["id"], [reply["id"] for reply in made], corner
+
+
+def looks_of(server):
+    """All records but their index keys, with the order of all siblings."""
+    records = server.records()
+    order = {parent: server.order(parent) for parent in {record["parent"] for record in records.values()}}
+    return {number: [record[name] for name in ("shape", "pose", "hidden", "parent")] for number, record in records.items()}, order
+
+
+async def back(ann, times=1, key="z", modifiers=CONTROL):
+    """Takes back steps, or makes them again, and waits until that is shown."""
+    for _ in range(times):
+        await ann.press(key, modifiers=modifiers)
+        await ann.tab.value("app.editor.send({verb: 'pose', id: 4294967295, pose: {}}).then(() => app.notes.tell(null))")
+    await ann.settle(0)
+
+
+async def taken_back(ann, ben, server):
+    """Edits of all kinds are taken back, last first, and made again; what others did since stays."""
+    frame, (one, two, three), (x, y) = await sheet(ann, server, (0, 0, 60, 40), (100, 0, 60, 40), (200, 0, 60, 40))
+    steps = [
+        (f"app.editor.select({one}), app.editor.moveBy([15, 5])"), (f"app.editor.select({two}), app.editor.setFill('00ff00')"),
+        (f"app.editor.select({three}), app.editor.turn()"), ("app.editor.toBack()"), ("app.editor.hide()"),
+        (f"app.state.select([{one}, {two}]), app.editor.group()"), ("app.editor.fitTo({left: -3000, top: 3100, right: -2800, bottom: 3200})"),
+        ("app.editor.duplicate()"), (f"app.editor.select({frame}), app.editor.delete()"),
+    ]
+    looks = [looks_of(server)]
+    for step in steps:
+        await ann.tab.value(f"(async () => {{ await ({step}); }})()")
+        looks.append(looks_of(server))
+    yield "each step changes something", difference([k for k, (a, b) in enumerate(zip(looks, looks[1:])) if a == b], [])
+    await ann.settle(0)
+    yield "all of it is gone", difference(frame in server.records(), False)
+    await back(ann)
+    anew = await ann.tab.value(f"app.state.history.resolve({frame})")
+    shapes = lambda found: sorted(json.dumps(record[0], sort_keys=True) for record in found[0].values())
+    yield "a deletion is taken back: its shapes", difference(shapes(looks_of(server)), shapes(looks[-2]))
+    yield "made anew", difference(anew in server.records() and anew != frame, True)
+    yield "the picture of it", await ann.wrong_pixels()
+    await back(ann, len(steps) - 1)
+    now, order = looks_of(server)
+    resolved = await ann.tab.value(f"[{frame}, {one}, {two}, {three}].map((id) => app.state.history.resolve(id))")
+    wanted, wanted_order = looks[0]
+    yield "all steps are taken back", difference([now[number][:3] for number in resolved], [wanted[number][:3] for number in (frame, one, two, three)])
+    yield "the order too", difference(order[resolved[0]], [resolved[[frame, one, two, three].index(number)] for number in wanted_order[frame]])
+    yield "as many shapes", difference(len(now), len(wanted))
+    yield "the picture of all", await ann.wrong_pixels()
+    await back(ann, len(steps) - 1, "y")
+    yield "all are made again", difference(shapes(looks_of(server)), shapes(looks[-2]))
+    yield "the picture of that", await ann.wrong_pixels()
+    async for case in with_others(ann, ben, server):
+        yield case
+
+
+async def with_others(ann, ben, server):
+    """What others did since stays, and what they deleted is passed over in words."""
+    _, (one, two, _), _ = await sheet(ann, server, (0, 0, 60, 40), (100, 0, 60, 40), (200, 0, 60, 40))
+    await ann.tab.value(f"(async () => {{ app.editor.select({one}); await app.editor.moveBy([100, 0]); await app.editor.setFill('ff0000'); }})()")
+    await ann.settle(0)
+    with server.connect() as other:
+        pose = {**server.records()[one]["pose"]}
+        other.ask(verb="pose", id=one, pose={**pose, "dy": pose["dy"] + 120})
+        last, _ = other.ask(verb="reshape", id=one, shape={**server.records()[one]["shape"], "w": 77})
+    await ann.settle(last["version"])
+    await back(ann, 2)
+    record = server.records()[one]
+    yield "what others did stays", difference([record["pose"]["dx"], record["pose"]["dy"], record["shape"]["w"], record["shape"]["fill"]],
+                                              [pose["dx"] - 100, pose["dy"] + 120, 77, "2880c0"])
+    await ann.tab.value(f"(async () => {{ app.editor.select({two}); await app.editor.moveBy([9, 9]); }})()")
+    gone, _ = server.ask(verb="delete", id=two)
+    await ann.settle(gone["version"])
+    await back(ann)
+    yield "what is gone is passed over, in words", difference(await ann.text("note"), f"Passed over: Rectangle {two} is not there any more.")
+    yield "its button says what comes next", None if await ann.tab.value("document.querySelector('[data-act=undo]').title.includes('Ctrl+Z')") else "no"
+
+
+async def many_steps(ann, server, count=205):
+    """More than 200 steps are taken back and made again."""
+    _, (one,), _ = await sheet(ann, server, (0, 0, 60, 40))
+    before = server.records()[one]["pose"]
+    await ann.tab.value(f"(async () => {{ app.editor.select({one}); for (let k = 0; k < {count}; k++) await app.editor.moveBy([1, k % 2]); }})()")
+    yield f"after {count} steps", difference(server.records()[one]["pose"]["dx"], before["dx"] + count)
+    await ann.tab.value(f"(async () => {{ for (let k = 0; k < {count}; k++) await app.editor.back(false); }})()")
+    yield "all are taken back", difference(server.records()[one]["pose"], before)
+    await ann.tab.value(f"(async () => {{ for (let k = 0; k < {count}; k++) await app.editor.back(true); }})()")
+    yield "and made again", difference(server.records()[one]["pose"]["dx"], before["dx"] + count)
+    await ann.settle(0)
+
+
 async def zoomed(ann, server):
     """All seven levels by the wheel, out and in, and by keys; the picture of each."""
     x, y, width, height = await ann.tab.box_of("#stage")
@@ -405,7 +510,7 @@ async def zoomed(ann, server):
         yield f"the picture of level {level}", await ann.wrong_pixels()
         now = await ann.tab.value(point)
         yield f"the wheel keeps its point at level {level}", None if max(abs(a - b) for a, b in zip(now, begin)) <= 2**level else f"{now} for {begin}"
-        await ann.tab.wheel(*here, 100)
+        await ann.tab.wheel(*here, 100, modifiers=CONTROL)
         await ann.tab.until(f"app.view.level === {min(level + 1, LEVELS - 1)}")
         await ann.settle(0)
     for level in reversed(range(LEVELS - 1)):
@@ -423,9 +528,11 @@ async def panned(ann, server):
     await ann.look_at(0, (0, 0))
     _, left, top, *_ = await ann.view()
     x, y, *_ = await ann.tab.box_of("#stage")
+    await ann.tab.command("Input.dispatchKeyEvent", type="keyDown", key=" ", code="Space", windowsVirtualKeyCode=32, text=" ")
     await ann.tab.drag([(x + 700, y + 500), (x + 500, y + 450), (x + 311, y + 322)])
+    await ann.tab.command("Input.dispatchKeyEvent", type="keyUp", key=" ", code="Space", windowsVirtualKeyCode=32)
     await ann.settle(0)
-    yield "a pan by the mouse", difference((await ann.view())[1:3], [left + 389, top + 178])
+    yield "a pan by Space and the mouse", difference((await ann.view())[1:3], [left + 389, top + 178])
     yield "the picture after it", await ann.wrong_pixels()
     await ann.press("ArrowLeft", "ArrowUp", "ArrowUp")
     await ann.settle(0)
@@ -870,7 +977,7 @@ async def stages(folder):
             ann = await Desk.open(browser, gateway, server)
             ben = await Desk.open(browser, gateway, server)
             for stage in (first_view(ann, ben, server), drawn(ann, ben, server), changed(ann, ben, server), seen_soon(ann, ben),
-                          in_turned_frame(ann, server), both_formats(ann, server), zoomed(ann, server), panned(ann, server),
+                          in_turned_frame(ann, server), both_formats(ann, server), taken_back(ann, ben, server), many_steps(ann, server), zoomed(ann, server), panned(ann, server),
                           layers(ann, server), refused(ann, server), without_a_mouse(ann, server), readable(ann), sent_once(ann, server, gateway),
                           one_version(ann, server), same_view(browser, server), led(), away(ann, ben, server),
                           no_seat(browser, gateway, server)):
@@ -891,9 +998,20 @@ async def stages(folder):
         server.kill()
 
 
+def modules():
+    """Runs the tests of the page's pure modules by node; gives how many passed, and how many failed."""
+    tests = sorted(str(file) for file in (HERE / "unit").glob("*.test.js"))
+    run = subprocess.run(["node", "--test", "--test-reporter=tap", *tests], capture_output=True, text=True)
+    found = {name: int(number) for name, number in re.findall(r"^# (pass|fail) (\d+)$", run.stdout, re.MULTILINE)}
+    if run.returncode or not found.get("pass"):
+        print(run.stdout[-4000:], run.stderr[-1000:], flush=True)
+        return found.get("pass", 0), max(1, found.get("fail", 0))
+    return found["pass"], found["fail"]
+
+
 async def main():
     subprocess.run([str(PROGRAM), "script"], stdin=subprocess.DEVNULL, check=True)  # builds it where it is not built
-    passed = failed = 0
+    passed, failed = modules()
     with tempfile.TemporaryDirectory() as folder:
         async for name, fault in stages(folder):
             passed += fault is None
