@@ -104,6 +104,10 @@ class Browser:
             raise Fault(f"{method}: {found['error']['message']}")
         return found["result"]
 
+    async def downloads(self, folder):
+        """Puts what is downloaded into a folder from now on."""
+        await self.command("Browser.setDownloadBehavior", behavior="allow", downloadPath=str(folder))
+
     async def open(self, address):
         """Opens a tab."""
         target = (await self.command("Target.createTarget", url="about:blank", newWindow=True))["targetId"]
@@ -163,19 +167,23 @@ class Tab:
     # -- pointer and keys ------------------------------------------------------------------------------------------
 
     async def pointer(self, kind, x, y, held=True, **more):
-        await self.command("Input.dispatchMouseEvent", type=kind, x=x, y=y, button="left" if held else "none", buttons=int(held), **more)
+        values = {"button": "left" if held else "none", "buttons": int(held), **more}
+        await self.command("Input.dispatchMouseEvent", type=kind, x=x, y=y, **values)
 
-    async def click(self, x, y):
-        await self.drag([(x, y)])
+    async def click(self, x, y, count=1):
+        """Clicks; twice, where the count is 2."""
+        for number in range(1, count + 1):
+            await self.drag([(x, y)], count=number)
 
-    async def drag(self, points, modifiers=0):
+    async def drag(self, points, modifiers=0, count=1, button="left"):
         """Presses at the first point, moves over the others, and releases at the last."""
         (x, y), *others = points
+        more = {"modifiers": modifiers, "button": button, "buttons": 4 if button == "middle" else 1}
         await self.pointer("mouseMoved", x, y, held=False)
-        await self.pointer("mousePressed", x, y, clickCount=1, modifiers=modifiers)
+        await self.pointer("mousePressed", x, y, clickCount=count, **more)
         for x, y in others:
-            await self.pointer("mouseMoved", x, y, modifiers=modifiers)
-        await self.pointer("mouseReleased", x, y, clickCount=1, modifiers=modifiers)
+            await self.pointer("mouseMoved", x, y, **more)
+        await self.pointer("mouseReleased", x, y, clickCount=count, **more)
 
     async def wheel(self, x, y, down, across=0, modifiers=0):
         await self.pointer("mouseWheel", x, y, held=False, deltaX=across, deltaY=down, modifiers=modifiers)
