@@ -18,14 +18,9 @@ export class Fields {
     });
   }
 
-  get #box() {
-    const { tree, selection } = this.#app.state, ids = selection.filter((id) => tree?.record(id));
-    return ids.length ? tree.boxAround(ids) : null;
-  }
-
   /** Shows the numbers, but in a field that is being filled in. */
   show() {
-    const box = this.#box, { tree, selection } = this.#app.state;
+    const { tree, selection, box } = this.#app.state;
     const values = box ? [box.left, box.top, box.right - box.left, box.bottom - box.top] : [];
     const hasSize = box && members(tree, selection).length > 0;
     this.#inputs.forEach((input, k) => {
@@ -40,7 +35,7 @@ export class Fields {
   }
 
   #take(k) {
-    const value = Math.round(this.#inputs[k].valueAsNumber), box = this.#box;
+    const value = Math.round(this.#inputs[k].valueAsNumber), { box } = this.#app.state;
     if (box && Number.isFinite(value)) this.#set(box, k, value);
     else this.#app.notes.tell("A place and a size are whole numbers of pixels.");
   }

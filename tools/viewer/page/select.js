@@ -30,7 +30,7 @@ export class Select extends Tool {
     this.by = [0, 0];
     if (this.#pressPoint(at, keys)) return;
     const found = this.#handleAt(at.window);
-    if (found) this.#begin("resize", { handle: found, from: this.box, to: this.box });
+    if (found) this.#begin("resize", { handle: found, from: this.state.box, to: this.state.box });
     else this.#pressShape(at, keys);
   }
 
@@ -132,13 +132,8 @@ export class Select extends Tool {
 
   // -- the box and its handles ----------------------------------------------------------------------------------------
 
-  get box() {
-    const { tree, selection } = this.state;
-    return tree && selection.length ? tree.boxAround(selection.filter((id) => tree.record(id))) : null;
-  }
-
   #handles() {
-    const { box } = this, { tree, selection } = this.state;
+    const { tree, selection, box } = this.state;
     if (!box || this.mode === "move" || this.mode === "marquee" || this.edited !== null || !members(tree, selection).length) return [];
     const places = this.toWindow(handlesOf(box)), [[left, top], , , , [right, bottom]] = places;
     const has = ([across, down]) => (across !== 0 || right - left > ROOM) && (down !== 0 || bottom - top > ROOM);
@@ -251,7 +246,7 @@ function ghosts({ state, app }, [across, down]) {
     const { kind, fill } = tree.record(id).shape;
     if (fill) marks.push(ghost(kind, moved(app.outlineOf(id)), `#${fill}`));
   }
-  for (const id of state.selection) {
+  for (const id of state.selection.slice(0, MOST_GHOSTS)) {
     const points = app.outlineOf(id);
     if (points) marks.push(outline("halo", moved(points)), outline("mark", moved(points)));
   }

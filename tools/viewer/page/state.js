@@ -10,6 +10,7 @@ import { View } from "./view.js";
 export class State extends EventTarget {
   #base = null;
   #ahead = [];
+  #box = null;
 
   view = new View();
   history = new History();
@@ -36,9 +37,16 @@ export class State extends EventTarget {
     return this.selection.map((id) => this.tree?.record(id)).filter(Boolean);
   }
 
+  /** The box on the page round what is selected, or null. */
+  get box() {
+    this.#box ??= this.tree?.boxAround(this.records.map(({ id }) => id)) ?? null;
+    return this.#box;
+  }
+
   /** Selects shapes; those that lie in others of them are selected with those. */
   select(ids) {
     this.selection = this.tree && ids.length > 1 ? this.tree.tops(ids) : ids;
+    this.#box = undefined;
     if (this.entered !== null && !this.#isWithin(this.entered)) this.entered = null;
     this.dispatchEvent(new Event("selected"));
   }
@@ -76,17 +84,21 @@ export class State extends EventTarget {
 
   /** Takes own edits that were accepted: each with its reply. */
   add(edits) {
-    this.#ahead.push(...edits);
-    this.#build();
-    this.dispatchEvent(new Event("history"));
+    const base = this.#base, own = base ? edits.filter(([, reply]) => reply.version > base.version) : [];
+    this.#ahead.push(...own);
+    if (own.length) this.#take(this.tree.copy(), own);
   }
 
   #build() {
     const base = this.#base;
-    if (!base) return;
     this.#ahead = this.#ahead.filter(([, reply]) => reply.version > base.version);
-    this.tree = this.#ahead.length ? base.copy() : base;
-    for (const [request, reply] of this.#ahead) this.tree.make(request, reply);
+    this.#take(this.#ahead.length ? base.copy() : base, this.#ahead);
+  }
+
+  #take(tree, edits) {
+    for (const [request, reply] of edits) tree.make(request, reply);
+    this.tree = tree;
+    this.#box = undefined;
     if (this.entered !== null && !this.tree.record(this.entered)) this.entered = null;
     const left = this.selection.filter((id) => this.tree.record(id));
     this.dispatchEvent(new Event("tree"));
