@@ -25,7 +25,7 @@ KEYS = {
     "ArrowLeft": ("ArrowLeft", 37, ""), "ArrowUp": ("ArrowUp", 38, ""), "ArrowRight": ("ArrowRight", 39, ""), "ArrowDown": ("ArrowDown", 40, ""),
     "Backspace": ("Backspace", 8, ""), "Home": ("Home", 36, ""), "End": ("End", 35, ""),
 }
-SHIFT = 8
+ALT, CONTROL, SHIFT = 1, 2, 8
 
 
 class Fault(Exception):
@@ -104,6 +104,10 @@ class Browser:
             raise Fault(f"{method}: {found['error']['message']}")
         return found["result"]
 
+    async def downloads(self, folder):
+        """Puts what is downloaded into a folder from now on."""
+        await self.command("Browser.setDownloadBehavior", behavior="allow", downloadPath=str(folder))
+
     async def open(self, address):
         """Opens a tab."""
         target = (await self.command("Target.createTarget", url="about:blank", newWindow=True))["targetId"]
@@ -163,27 +167,36 @@ class Tab:
     # -- pointer and keys ------------------------------------------------------------------------------------------
 
     async def pointer(self, kind, x, y, held=True, **more):
-        await self.command("Input.dispatchMouseEvent", type=kind, x=x, y=y, button="left" if held else "none", buttons=int(held), **more)
+        values = {"button": "left" if held else "none", "buttons": int(held), **more}
+        await self.command("Input.dispatchMouseEvent", type=kind, x=x, y=y, **values)
 
-    async def click(self, x, y):
-        await self.drag([(x, y)])
+    async def click(self, x, y, count=1):
+        """Clicks; twice, where the count is 2."""
+        for number in range(1, count + 1):
+            await self.drag([(x, y)], count=number)
 
-    async def drag(self, points, modifiers=0):
+    async def drag(self, points, modifiers=0, count=1, button="left"):
         """Presses at the first point, moves over the others, and releases at the last."""
         (x, y), *others = points
+        more = {"modifiers": modifiers, "button": button, "buttons": 4 if button == "middle" else 1}
         await self.pointer("mouseMoved", x, y, held=False)
-        await self.pointer("mousePressed", x, y, clickCount=1, modifiers=modifiers)
+        await self.pointer("mousePressed", x, y, clickCount=count, **more)
         for x, y in others:
-            await self.pointer("mouseMoved", x, y, modifiers=modifiers)
-        await self.pointer("mouseReleased", x, y, clickCount=1, modifiers=modifiers)
+            await self.pointer("mouseMoved", x, y, **more)
+        await self.pointer("mouseReleased", x, y, clickCount=count, **more)
 
-    async def wheel(self, x, y, down):
-        await self.pointer("mouseWheel", x, y, held=False, deltaX=0, deltaY=down)
+    async def wheel(self, x, y, down, across=0, modifiers=0):
+        await self.pointer("mouseWheel", x, y, held=False, deltaX=across, deltaY=down, modifiers=modifiers)
 
-    async def key(self, key, modifiers=0):
-        """Presses a key: a character, or a name of KEYS."""
+    async def touch(self, kind, *points):
+        """Fingers: touchStart, touchMove, touchEnd."""
+        await self.command("Input.dispatchTouchEvent", type=kind, touchPoints=[{"x": x, "y": y, "id": k} for k, (x, y) in enumerate(points)])
+
+    async def key(self, key, modifiers=0, **more):
+        """Presses a key: a character, or a name of KEYS; `commands` names what the browser does with it, as copy or paste."""
         code, number, text = KEYS.get(key, (key, ord(key[0].upper()), key))
-        values = {"key": key, "code": code, "windowsVirtualKeyCode": number, "modifiers": modifiers}
+        text = "" if modifiers & CONTROL else text
+        values = {**more, "key": key, "code": code, "windowsVirtualKeyCode": number, "modifiers": modifiers}
         await self.command("Input.dispatchKeyEvent", type="keyDown" if text else "rawKeyDown", **values, **({"text": text} if text else {}))
         await self.command("Input.dispatchKeyEvent", type="keyUp", **values)
 

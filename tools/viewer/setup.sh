@@ -3,7 +3,10 @@
 set -eu
 
 packages=(python3 python3-aiohttp python3-pil)
-[ "${1-}" != test ] || packages+=(chromium fonts-dejavu-core)
+if [ "${1-}" = test ]; then
+    packages+=(chromium fonts-dejavu-core)
+    command -v node >/dev/null || packages+=(nodejs)
+fi
 
 missing=()
 for package in "${packages[@]}"; do

@@ -5,7 +5,8 @@ usage: tools/viewer/test.py
 
 Two tabs look at one document: what is drawn, moved, reordered, coloured, hidden and deleted in one is seen in the other; pictures of the canvas are
 compared, pixel by pixel, with the server's own patches; the server is killed and started again; at the end no console has an error. What tabs are
-given of each other's pictures is looked at with more tabs, and with a server that the test leads.
+given of each other's pictures is looked at with more tabs, and with a server that the test leads. Node runs the tests of the page's pure modules, in
+unit/, before that.
 
 Prints each case that fails, and a last line 'N passed, M failed'; the status is 1 where something failed.
 """
@@ -14,6 +15,7 @@ import asyncio
 import io
 import json
 import os
+import re
 import signal
 import statistics
 import subprocess
@@ -27,7 +29,7 @@ from PIL import Image, ImageChops
 
 HERE = Path(__file__).resolve().parent
 sys.path.insert(0, str(HERE.parent))
-from browser import SHIFT, Browser, Fault  # noqa: E402
+from browser import ALT, CONTROL, SHIFT, Browser, Fault  # noqa: E402
 from canvas_client import PROGRAM, TOP, Canvas  # noqa: E402
 from check_server import difference, free_port  # noqa: E402
 from puppet import BareTab, Counter, Puppet  # noqa: E402
@@ -143,7 +145,7 @@ class Desk:
 
     async def made(self, before):
         """The id of the shape that is selected, when it is another one than before and in the tree."""
-        await self.tab.until(f"app.editor.selected !== {json.dumps(before)} && app.editor.record !== undefined")
+        await self.tab.until(f"app.editor.selected !== {json.dumps(before)} && !!app.picture.tree.record(app.editor.selected)")
         return await self.selected()
 
     async def look_at(self, level, point):
@@ -153,7 +155,7 @@ class Desk:
 
     async def picture(self):
         """What the canvas shows, with no marks above it; two frames after the last change."""
-        await self.tab.value("app.choose('select'), app.editor.select(null), document.activeElement.blur()")
+        await self.tab.value("app.choose('select'), app.stage.drop(), app.editor.select(null), app.state.enter(null), app.notes.hide(), document.activeElement.blur()")
         await self.tab.value("new Promise((done) => requestAnimationFrame(() => requestAnimationFrame(done)))")
         return Image.open(io.BytesIO(await self.tab.screenshot(await self.tab.box_of("#stage")))).convert("RGB")
 
@@ -169,6 +171,12 @@ class Desk:
 
 def patches(server, level, left, top, width, height):
     """The picture of a window of any size, from the server's patches; what lies beside the page has no colour there, and is asked from no one."""
+    if level < 0:
+        scale = 1 << -level
+        first, last = (left // scale, top // scale), ((left + width) // scale + 1, (top + height) // scale + 1)
+        found = patches(server, 0, *first, last[0] - first[0], last[1] - first[1])
+        found = found.resize((found.width * scale, found.height * scale), Image.Resampling.NEAREST)
+        return found.crop((left - first[0] * scale, top - first[1] * scale, left - first[0] * scale + width, top - first[1] * scale + height))
     found = Image.new("RGB", (width, height))
     with server.connect() as canvas:
         for y in range(0, height, 256):
@@ -393,6 +401,465 @@ async def both_formats(ann, server):
     yield "all records of both", difference(len(other), len(saved["shapes"]))
 
 
+# -- undo, selection, sizes, copies -----------------------------------------------------------------------------------
+
+async def sheet(ann, server, *shapes):
+    """An empty sheet in the window: a frame far from all else, with rectangles in it as (x, y, w, h); gives its id, theirs, and its corner."""
+    corner = (-3000, 3000)
+    with server.connect() as canvas:
+        frame, _ = canvas.ask(verb="create", shape={"kind": "group"}, pose={"dx": corner[0], "dy": corner[1]})
+        made = [canvas.ask(verb="create", shape={"kind": "rect", "w": w, "h": h, "fill": f"{40 + 50 * k:02x}80c0"}, pose={"dx": x, "dy": y},
+                           parent=frame["id"])[0] for k, (x, y, w, h) in enumerate(shapes)]
+    await ann.look_at(0, (corner[0] + 200, corner[1] + 200))
+    await ann.press("Escape", "Escape", "v")
+    await ann.settle((made or [frame])[-1]["version"])
+    await ann.tab.value(f"app.state.select([]), app.state.enter({frame['id']})")
+    return frame["id"], [reply["id"] for reply in made], corner
+
+
+def looks_of(server):
+    """All records but their index keys, with the order of all siblings."""
+    records = server.records()
+    order = {parent: server.order(parent) for parent in {record["parent"] for record in records.values()}}
+    return {number: [record[name] for name in ("shape", "pose", "hidden", "parent")] for number, record in records.items()}, order
+
+
+async def back(ann, times=1, key="z", modifiers=CONTROL):
+    """Takes back steps, or makes them again, and waits until that is shown."""
+    for _ in range(times):
+        await ann.press(key, modifiers=modifiers)
+        await ann.tab.value("app.editor.send({verb: 'pose', id: 4294967295, pose: {}}).then(() => app.notes.tell(null))")
+    await ann.settle(0)
+
+
+async def taken_back(ann, ben, server):
+    """Edits of all kinds are taken back, last first, and made again; what others did since stays."""
+    frame, (one, two, three), (x, y) = await sheet(ann, server, (0, 0, 60, 40), (100, 0, 60, 40), (200, 0, 60, 40))
+    steps = [
+        (f"app.editor.select({one}), app.editor.moveBy([15, 5])"), (f"app.editor.select({two}), app.editor.setFill('00ff00')"),
+        (f"app.editor.select({three}), app.editor.turn()"), ("app.editor.toBack()"), ("app.editor.hide()"),
+        (f"app.state.select([{one}, {two}]), app.editor.group()"), ("app.editor.fitTo({left: -3000, top: 3100, right: -2800, bottom: 3200})"),
+        ("app.editor.duplicate()"), (f"app.editor.select({frame}), app.editor.delete()"),
+    ]
+    looks = [looks_of(server)]
+    for step in steps:
+        await ann.tab.value(f"(async () => {{ await ({step}); }})()")
+        looks.append(looks_of(server))
+    yield "each step changes something", difference([k for k, (a, b) in enumerate(zip(looks, looks[1:])) if a == b], [])
+    await ann.settle(0)
+    yield "all of it is gone", difference(frame in server.records(), False)
+    await back(ann)
+    anew = await ann.tab.value(f"app.state.history.resolve({frame})")
+    shapes = lambda found: sorted(json.dumps(record[0], sort_keys=True) for record in found[0].values())
+    yield "a deletion is taken back: its shapes", difference(shapes(looks_of(server)), shapes(looks[-2]))
+    yield "made anew", difference(anew in server.records() and anew != frame, True)
+    yield "the picture of it", await ann.wrong_pixels()
+    await back(ann, len(steps) - 1)
+    now, order = looks_of(server)
+    resolved = await ann.tab.value(f"[{frame}, {one}, {two}, {three}].map((id) => app.state.history.resolve(id))")
+    wanted, wanted_order = looks[0]
+    yield "all steps are taken back", difference([now[number][:3] for number in resolved], [wanted[number][:3] for number in (frame, one, two, three)])
+    yield "the order too", difference(order[resolved[0]], [resolved[[frame, one, two, three].index(number)] for number in wanted_order[frame]])
+    yield "as many shapes", difference(len(now), len(wanted))
+    yield "the picture of all", await ann.wrong_pixels()
+    await back(ann, len(steps) - 1, "y")
+    yield "all are made again", difference(shapes(looks_of(server)), shapes(looks[-2]))
+    yield "the picture of that", await ann.wrong_pixels()
+    async for case in with_others(ann, ben, server):
+        yield case
+
+
+async def with_others(ann, ben, server):
+    """What others did since stays, and what they deleted is passed over in words."""
+    _, (one, two, _), _ = await sheet(ann, server, (0, 0, 60, 40), (100, 0, 60, 40), (200, 0, 60, 40))
+    await ann.tab.value(f"(async () => {{ app.editor.select({one}); await app.editor.moveBy([100, 0]); await app.editor.setFill('ff0000'); }})()")
+    await ann.settle(0)
+    with server.connect() as other:
+        pose = {**server.records()[one]["pose"]}
+        other.ask(verb="pose", id=one, pose={**pose, "dy": pose["dy"] + 120})
+        last, _ = other.ask(verb="reshape", id=one, shape={**server.records()[one]["shape"], "w": 77})
+    await ann.settle(last["version"])
+    await back(ann, 2)
+    record = server.records()[one]
+    yield "what others did stays", difference([record["pose"]["dx"], record["pose"]["dy"], record["shape"]["w"], record["shape"]["fill"]],
+                                              [pose["dx"] - 100, pose["dy"] + 120, 77, "2880c0"])
+    await ann.tab.value(f"(async () => {{ app.editor.select({two}); await app.editor.moveBy([9, 9]); }})()")
+    gone, _ = server.ask(verb="delete", id=two)
+    await ann.settle(gone["version"])
+    await back(ann)
+    yield "what is gone is passed over, in words", difference(await ann.text("note"), f"Passed over: Rectangle {two} is not there any more.")
+    yield "its button says what comes next", None if await ann.tab.value("document.querySelector('[data-act=undo]').title.includes('Ctrl+Z')") else "no"
+
+
+async def many_steps(ann, server, count=205):
+    """More than 200 steps are taken back and made again."""
+    _, (one,), _ = await sheet(ann, server, (0, 0, 60, 40))
+    before = server.records()[one]["pose"]
+    await ann.tab.value(f"(async () => {{ app.editor.select({one}); for (let k = 0; k < {count}; k++) await app.editor.moveBy([1, k % 2]); }})()")
+    yield f"after {count} steps", difference(server.records()[one]["pose"]["dx"], before["dx"] + count)
+    await ann.tab.value(f"(async () => {{ for (let k = 0; k < {count}; k++) await app.editor.back(false); }})()")
+    yield "all are taken back", difference(server.records()[one]["pose"], before)
+    await ann.tab.value(f"(async () => {{ for (let k = 0; k < {count}; k++) await app.editor.back(true); }})()")
+    yield "and made again", difference(server.records()[one]["pose"]["dx"], before["dx"] + count)
+    await ann.settle(0)
+
+
+async def boxes(ann, numbers):
+    """The boxes of shapes on the page, of the newest version."""
+    await ann.tab.value("app.editor.send({verb: 'pose', id: 4294967295, pose: {}}).then(() => app.notes.tell(null))")
+    await ann.settle(0)
+    return [await ann.tab.value(BOX % number) for number in numbers]
+
+
+def at(corner, *points):
+    """Points of a sheet, on the page."""
+    return [[corner[0] + x, corner[1] + y] for x, y in points]
+
+
+async def selected_and_moved(ann, server):
+    """Select: what one click takes, how several are selected, and how they are moved and copied."""
+    group, (one, two, three), corner = await sheet(ann, server, (0, 0, 60, 40), (100, 0, 60, 40), (200, 0, 60, 40))
+    ids = "app.state.selection"
+    await ann.tab.value("app.state.enter(null)")
+    [spot] = at(corner, (20, 20))
+    await ann.click(spot)
+    yield "one click takes the outermost group", difference(await ann.tab.value(ids), [group])
+    await ann.tab.click(*(await ann.spot(spot)), count=2)
+    yield "a double click goes into it", difference(await ann.tab.value(ids), [one])
+    await ann.press("Escape")
+    yield "Esc goes out of it", difference(await ann.tab.value(ids), [group])
+    await ann.tab.drag([await ann.spot(spot)], CONTROL)
+    yield "Ctrl and a click take what is under the pointer", difference(await ann.tab.value(ids), [one])
+    await ann.tab.value(f"app.state.select([]), app.state.enter({group})")
+    await ann.drag(*at(corner, (20, 20), (25, 24), (30, 50)))
+    yield "Select moves what it drags", difference((await boxes(ann, [one]))[0][:2], at(corner, (10, 30))[0])
+    await ann.drag(*at(corner, (120, 20)), modifiers=SHIFT)
+    yield "Shift and a click select one more", difference(await ann.tab.value(ids), [one, two])
+    await ann.drag(*at(corner, (120, 20)), modifiers=SHIFT)
+    yield "and leave it again", difference(await ann.tab.value(ids), [one])
+    await ann.tab.value(f"app.state.select([]), app.state.enter({group})")
+    await ann.drag(*at(corner, (80, 5), (140, 20), (230, 30)))
+    yield "a marquee selects what it meets", difference(sorted(await ann.tab.value(ids)), [two, three])
+    await ann.drag(*at(corner, (230, 20), (231, 25), (230, 60)))
+    yield "several are moved together", difference([box[:2] for box in await boxes(ann, [two, three])], at(corner, (100, 40), (200, 40)))
+    await back(ann)
+    yield "and taken back together", difference([box[:2] for box in await boxes(ann, [two, three])], at(corner, (100, 0), (200, 0)))
+    async for case in copied(ann, server, group, corner, three):
+        yield case
+
+
+async def copied(ann, server, group, corner, three):
+    """Copies by Alt, by keys and by the clipboard."""
+    async def count():
+        await boxes(ann, [])
+        return len(server.order(group))
+
+    before = await count()
+    await ann.tab.value(f"app.editor.select({three})")
+    await ann.drag(*at(corner, (230, 20), (231, 25), (230, 120)), modifiers=ALT)
+    yield "Alt and a drag copy", difference([await count(), (await boxes(ann, [await ann.selected()]))[0][:2]], [before + 1, at(corner, (200, 100))[0]])
+    await ann.press("d", modifiers=CONTROL)
+    yield "Ctrl+D copies beside", difference([await count(), (await boxes(ann, [await ann.selected()]))[0][:2]], [before + 2, at(corner, (216, 116))[0]])
+    await ann.tab.key("c", CONTROL, commands=["copy"])
+    await ann.tab.key("v", CONTROL, commands=["paste"])
+    yield "Ctrl+C and Ctrl+V", difference([await count(), (await boxes(ann, [await ann.selected()]))[0][:2]], [before + 3, at(corner, (232, 132))[0]])
+    await ann.tab.key("x", CONTROL, commands=["cut"])
+    yield "Ctrl+X cuts", difference(await count(), before + 2)
+    await ann.tab.key("v", CONTROL, commands=["paste"])
+    await count()
+    yield "what was cut is pasted where it was", difference((await boxes(ann, [await ann.selected()]))[0][:2], at(corner, (232, 132))[0])
+    await ann.tab.value(f"app.state.select([]), app.state.enter({group})")
+    await ann.press("a", modifiers=CONTROL)
+    yield "Ctrl+A selects all that is in reach", difference(len(await ann.tab.value("app.state.selection")), before + 3)
+    yield "and no text of the page", difference(await ann.tab.value("String(getSelection())"), "")
+    await ann.press("Delete")
+    yield "all are deleted", difference(await count(), 0)
+    await back(ann)
+    yield "and made anew", difference(len(server.order(await ann.tab.value(f"app.state.history.resolve({group})"))), before + 3)
+
+
+async def resized(ann, server):
+    """The eight handles, Shift, frames, turned shapes, groups, the fields, and the points of polygons."""
+    group, (one, two), corner = await sheet(ann, server, (0, 0, 80, 40), (200, 0, 80, 40))
+    wanted = {(80, 40): [0, 0, 90, 60], (0, 0): [-10, -20, 80, 40], (80, 20): [0, 0, 90, 40], (40, 0): [0, -20, 80, 40]}
+    for (x, y), (left, top, right, bottom) in wanted.items():
+        await ann.tab.value(f"app.editor.select({one})")
+        by = (10 if x == 80 else -10, 20 if y == 40 else -20)
+        await ann.drag(*at(corner, (x, y), (x, y + 9), (x + by[0], y + by[1])))
+        yield f"the handle at {x}, {y}", difference((await boxes(ann, [one]))[0], sum(at(corner, (left, top), (right, bottom)), []))
+        yield f"the picture of that at {x}, {y}", await ann.wrong_pixels()
+        await back(ann)
+    await ann.tab.value(f"app.editor.select({one})")
+    await ann.drag(*at(corner, (80, 40), (90, 50), (120, 45)), modifiers=SHIFT)
+    yield "Shift keeps the ratio", difference((await boxes(ann, [one]))[0], sum(at(corner, (0, 0), (120, 60)), []))
+    await ann.tab.value(f"(async () => {{ app.state.select([{one}, {two}]); await app.editor.fitTo({{left: {corner[0]}, top: {corner[1]}, "
+                        f"right: {corner[0] + 560}, bottom: {corner[1] + 120}}}); }})()")
+    yield "several are resized together", difference(await boxes(ann, [one, two]), [sum(at(corner, *it), []) for it in
+                                                                                 [((0, 0), (240, 120)), ((400, 0), (560, 80))]])
+    for k, (name, value, wanted) in enumerate([("x", -10, (-10, 0, 230, 120)), ("y", 30, (-10, 30, 230, 150)), ("w", 55, (-10, 30, 45, 150)), ("h", 66, (-10, 30, 45, 96))]):
+        await ann.tab.value(f"app.editor.select({one}), document.getElementById('field-{name}').focus()")
+        shown = value if k > 1 else value + corner[k]
+        await ann.tab.value(f"document.activeElement.value = '{shown}', document.activeElement.dispatchEvent(new Event('change'))")
+        yield f"the field {name}", difference((await boxes(ann, [one]))[0], sum(at(corner, wanted[:2], wanted[2:]), []))
+    await ann.tab.value("document.activeElement.value = '0', document.activeElement.dispatchEvent(new Event('change'))")
+    yield "a side of none is told", None if "1 to 65,536" in await ann.text("refusal") else await ann.text("refusal")
+    async for case in frames_and_points(ann, server, group, corner):
+        yield case
+
+
+async def frames_and_points(ann, server, group, corner):
+    """A turned and flipped frame whose children stay; and the points of a polygon."""
+    with server.connect() as canvas:
+        frame, _ = canvas.ask(verb="create", shape={"kind": "frame", "w": 100, "h": 60, "fill": "ffddcc"}, parent=group,
+                              pose={"dx": 300, "dy": 300, "quarter": 1, "flip": True})
+        child, _ = canvas.ask(verb="create", shape={"kind": "rect", "w": 20, "h": 10, "fill": "aa0000"}, parent=frame["id"], pose={"dx": 30, "dy": 20})
+        polygon, _ = canvas.ask(verb="create", shape={"kind": "polygon", "points": [[0, 0], [60, 0], [60, 60], [0, 60]], "fill": "00aa77"}, parent=group,
+                                pose={"dx": 20, "dy": 200, "quarter": 1})
+    await ann.settle(polygon["version"])
+    left, top, right, bottom = (await boxes(ann, [frame["id"]]))[0]
+    [before] = await boxes(ann, [child["id"]])
+    await ann.tab.value(f"app.editor.select({frame['id']})")
+    await ann.drag([left, top], [left - 9, top], [left - 30, top - 40])
+    yield "a turned frame's box", difference((await boxes(ann, [frame["id"]]))[0], [left - 30, top - 40, right, bottom])
+    yield "a frame's children stay", difference((await boxes(ann, [child["id"]]))[0], before)
+    yield "the picture of the frame", await ann.wrong_pixels()
+    await back(ann)
+    yield "it is taken back with them", difference(await boxes(ann, [frame["id"], child["id"]]), [[left, top, right, bottom], before])
+
+    number = polygon["id"]
+    left, top, right, bottom = (await boxes(ann, [number]))[0]
+    middle = [(left + right) // 2, (top + bottom) // 2]
+    await ann.tab.value(f"app.editor.select({number})")
+    await ann.drag([right, bottom], [right + 5, bottom], [right + 20, bottom + 40])
+    yield "a polygon is resized", difference((await boxes(ann, [number]))[0], [left, top, right + 20, bottom + 40])
+    await back(ann)
+    await ann.tab.value(f"app.state.enter({group}), app.editor.select({number})")
+    await ann.tab.click(*(await ann.spot(middle)), count=2)
+    await ann.drag([right, bottom], [right + 5, bottom], [right + 12, bottom + 14])
+    yield "a point is dragged", difference((await boxes(ann, [number]))[0], [left, top, right + 12, bottom + 14])
+    await ann.drag([middle[0], top], [middle[0], top - 8], [middle[0], top - 20])
+    [[_, upper, *_]] = await boxes(ann, [number])
+    yield "a point is added", difference([len(server.records()[number]["shape"]["points"]), upper], [5, top - 20])
+    yield "the picture of the polygon", await ann.wrong_pixels()
+    await ann.tab.value(f"app.state.enter({group}), app.editor.select({number}), app.tool.editPoints()")
+    await ann.tab.drag([await ann.spot([middle[0], top - 20])], ALT)
+    [[_, upper, *_]] = await boxes(ann, [number])
+    yield "a point is taken out", difference([len(server.records()[number]["shape"]["points"]), upper], [4, top])
+    await ann.press("Escape")
+
+
+async def aligned(ann, server):
+    """Shapes are aligned and distributed."""
+    _, numbers, corner = await sheet(ann, server, (0, 0, 60, 40), (90, 30, 30, 40), (200, 60, 60, 80))
+    await ann.tab.value(f"app.state.select({numbers})")
+    for selector, wanted in [("top", [(0, 0), (90, 0), (200, 0)]), ("across", [(0, 0), (115, 0), (200, 0)]), ("right", [(200, 0), (230, 0), (200, 0)]),
+                             ("down", [(200, 0), (230, 40), (200, 80)])]:
+        if selector == "down":
+            await ann.tab.value("app.editor.state.select([%s]), app.editor.moveBy([0, 80])" % numbers[2])
+            await ann.tab.value(f"app.state.select({numbers})")
+        x, y, w, h = await ann.tab.box_of(f"#arrange [data-act={selector}]")
+        await ann.tab.click(x + w / 2, y + h / 2)
+        yield f"{selector}", difference([box[:2] for box in await boxes(ann, numbers)], at(corner, *wanted))
+        if selector == "across":
+            await back(ann)
+            await ann.tab.value(f"app.state.select({numbers})")
+
+
+# -- files and the rest ------------------------------------------------------------------------------------------------
+
+async def downloaded(folder, name):
+    """A file that is downloaded, when it is whole."""
+    file, end = Path(folder) / name, time.monotonic() + SECONDS
+    while not file.exists() and time.monotonic() < end:
+        await asyncio.sleep(0.05)
+    await asyncio.sleep(0.1)
+    return file.read_bytes()
+
+
+OPEN = """(async () => { const data = new DataTransfer(); data.items.add(new File([%s], %s)); const input = document.getElementById('file');
+  input.files = data.files; input.dispatchEvent(new Event('change')); })()"""
+
+
+async def files(browser, ann, server):
+    """Downloads, a file that is opened, and the words about what is saved."""
+    await ann.look_at(0, (128, 128))
+    yield "nothing is saved", None if "only while it runs" in await ann.text("saved-words") else await ann.text("saved-words")
+    with tempfile.TemporaryDirectory() as folder:
+        await browser.downloads(folder)
+        version = server.ask(verb="point", x=0, y=0)[0]["version"]
+        await ann.press("s", modifiers=CONTROL)
+        text = await downloaded(folder, f"canvas-version-{version}.json")
+        yield "the document as a file", difference(text, server.ask(verb="export")[1])
+        yield "all is saved", difference(await ann.text("saved"), "downloaded")
+        await ann.tab.value("document.querySelector('[data-act=picture]').click()")
+        picture = Image.open(io.BytesIO(await downloaded(folder, f"canvas-version-{version}.png"))).convert("RGB")
+        level, left, top, width, height = await ann.view()
+        yield "the view as a file", difference(ImageChops.difference(picture, patches(server, level, left, top, width, height)).getbbox(), None)
+    before = server.records()
+    await ann.tab.value(OPEN % (json.dumps(POSTER.read_text()), "'poster.json'"))
+    await ann.tab.until("app.state.history.undoName === 'open'")
+    await ann.settle(version + 120)
+    after = server.records()
+    poster = {record["id"]: record for record in json.loads(POSTER.read_text())["shapes"]}
+    yield "all shapes of the file are there", difference(len(after), len(before) + len(poster))
+    shapes = lambda records: sorted(json.dumps([record["shape"], record["hidden"]], sort_keys=True) for record in records)
+    yield "they are those of the file", difference(shapes(record for number, record in after.items() if number not in before), shapes(poster.values()))
+    yield "the picture of it", await ann.wrong_pixels()
+    yield "how much is not saved", difference(await ann.text("saved-words"), "120 edits since your download are in no file.")
+    await back(ann)
+    yield "one step takes it back", difference(set(server.records()), set(before))
+    await ann.tab.value(OPEN % ("'no document'", "'notes.txt'"))
+    await ann.tab.until("!document.getElementById('refusal').hidden")
+    yield "a file that is none", None if "notes.txt" in await ann.text("refusal") else await ann.text("refusal")
+    await ann.press("Escape")
+
+
+MIDDLE = "app.view.pointAt([app.view.width / 2, app.view.height / 2]).every((part, k) => Math.abs(part - [%d, %d][k]) <= app.view.scale)"
+PHONE = {"width": 390, "height": 780, "deviceScaleFactor": 2, "mobile": True}
+HIDDEN = """[...document.querySelectorAll('header button')].filter((it) => it.offsetParent !== null).filter((it) => {
+  const {left, top, width, height} = it.getBoundingClientRect();
+  return width < 44 || height < 44 || !it.contains(document.elementFromPoint(left + width / 2, top + height / 2));
+}).map((it) => it.outerHTML.slice(0, 60))"""
+
+
+async def small_things(ann, server):
+    """Colours, refusals, rows, tools and the view in the address."""
+    await ann.look_at(0, (128, 128))
+    await ann.press("Escape", "Escape", "v")
+    await ann.tab.value("app.editor.select(null), app.editor.setFill('7a4fc9')")
+    await ann.click([30, 30])
+    await ann.press("Escape", "Escape")
+    yield "a colour stays as picked when a shape is looked at", difference(await ann.tab.value("app.state.fill"), "7a4fc9")
+    for typed, wanted in [("red", "ff0000"), ("#0a0", "00aa00"), ("123456", "123456"), ("rgb(1, 2, 3)", "010203"), ("reddish", "010203")]:
+        await ann.tab.value(f"(() => {{ const it = document.getElementById('colour-text'); it.value = '{typed}'; it.dispatchEvent(new Event('change')); }})()")
+        yield f"{typed} is typed", difference(await ann.tab.value("app.state.fill"), wanted)
+    yield "what is no colour is told", None if "reddish” is no colour" in await ann.text("refusal") else await ann.text("refusal")
+    await ann.press("Escape", "r")
+    await ann.tab.value("document.getElementById('layers').scrollTop = 1e9, app.notes.tell('something')")
+    await ann.drag([-100, -60], [-80, -40], [-50, -20])
+    made = await ann.made(None)
+    yield "a refusal goes when an edit succeeds", difference(await ann.tab.value("document.getElementById('refusal').hidden"), True)
+    yield "the tool is Select after drawing", difference(await ann.tab.value("app.toolName"), "select")
+    row = f"(() => {{ const it = document.getElementById('layer-{made}')?.getBoundingClientRect(), all = document.getElementById('layers').getBoundingClientRect(); return Boolean(it && it.top >= all.top - 1 && it.bottom <= all.bottom + 1); }})()"
+    yield "a new shape's row is seen", difference(await ann.tab.value(row), True)
+    await ann.press("e")
+    await ann.click([-300, -60])
+    number = await ann.made(made)
+    yield "a click draws one of a usual size", difference([server.records()[number]["shape"][side] for side in "wh"], [96, 96])
+    await ann.tab.value(f"app.state.select([{made}, {number}])")
+    await ann.press("Delete")
+    await boxes(ann, [])
+    await ann.look_at(1, (640, 300))
+    await ann.tab.until("location.hash === '#640,300,1'")
+    await ann.tab.value("location.hash = '#-100,50,2'")
+    await ann.tab.until("app.view.level === 2")
+    yield "the address names a view", difference(await ann.tab.value(MIDDLE % (-100, 50)), True)
+    async for case in lost_in_a_drag(ann, server):
+        yield case
+
+
+async def lost_in_a_drag(ann, server):
+    """A shape that others delete while it is dragged is told."""
+    _, (one,), corner = await sheet(ann, server, (0, 0, 60, 40))
+    await ann.tab.value(f"app.state.enter(null)")
+    x, y = await ann.spot([corner[0] + 20, corner[1] + 20])
+    await ann.tab.pointer("mouseMoved", x, y, held=False)
+    await ann.tab.pointer("mousePressed", x, y, clickCount=1)
+    await ann.tab.pointer("mouseMoved", x + 30, y + 30)
+    group = await ann.selected()
+    gone, _ = server.ask(verb="delete", id=group)
+    await ann.settle(gone["version"])
+    yield "a shape that others delete while I drag it", difference(await ann.text("refusal"), "Not done.Others have deleted the shape that you were dragging.")
+    await ann.tab.pointer("mouseReleased", x + 30, y + 30, clickCount=1)
+    await ann.press("Escape")
+
+
+async def everywhere(browser, gateway, ann):
+    """Dark colours, and a phone."""
+    await ann.tab.command("Emulation.setEmulatedMedia", features=[{"name": "prefers-color-scheme", "value": "dark"}])
+    await asyncio.sleep(0.3)
+    yield "contrast in the dark", difference(await ann.tab.value(FAINT), [])
+    await ann.tab.value("app.state.select(app.state.tree.children(null).slice(0, 3).map(({id}) => id))")
+    await asyncio.sleep(0.3)
+    yield "contrast in the dark, with shapes selected", difference(await ann.tab.value(FAINT), [])
+    await ann.tab.command("Emulation.setEmulatedMedia", features=[])
+    tab = await browser.open(gateway.page)
+    await tab.command("Emulation.setDeviceMetricsOverride", **PHONE)
+    await tab.until("window.app.picture.isSettled && app.view.width === 390")
+    yield "all of the bar is seen on a phone", difference(await tab.value(HIDDEN), [])
+    yield "nothing is wider than the phone", difference(await tab.value("document.documentElement.scrollWidth"), 390)
+    x, y, w, h = await tab.box_of("[data-act=panel]")
+    await tab.click(x + w / 2, y + h / 2)
+    await tab.until("document.querySelector('aside').getBoundingClientRect().bottom <= innerHeight + 1")
+    yield "the panel is a sheet", difference(await tab.value("getComputedStyle(document.querySelector('aside')).visibility"), "visible")
+    yield "contrast on a phone", difference(await tab.value(FAINT), [])
+    yield "the phone's console", difference(tab.faults, [])
+    await tab.close()
+
+
+async def empty(browser):
+    """An empty document says what to press, and a fresh page with an address that names a view looks there."""
+    with tempfile.TemporaryDirectory() as folder:
+        file = Path(folder) / "empty.json"
+        file.write_text('{"format":2,"next":1,"shapes":[]}')
+        server, gateway = Server(file), None
+        try:
+            server.start()
+            gateway = Gateway(server)
+            tab = await browser.open(f"{gateway.page}#300,200,3")
+            await tab.until("window.app.picture.isSettled")
+            yield "an empty document says what to press", difference(await tab.value("document.getElementById('empty').hidden"), False)
+            yield "its view is the address's", difference(await tab.value(f"app.view.level === 3 && {MIDDLE % (300, 200)}"), True)
+            desk = Desk(tab, server)
+            await desk.press("r")
+            await desk.drag([0, 0], [100, 100], [800, 800])
+            await desk.made(None)
+            yield "it is silent then", difference(await tab.value("document.getElementById('empty').hidden"), True)
+            server.kill()
+            await tab.until("!document.getElementById('away').hidden")
+            server.start()
+            await tab.until("document.getElementById('away').hidden && app.picture.isSettled")
+            yield "what is lost after a restart", difference(await tab.value("document.getElementById('note').firstChild.data"),
+                                                             "The server was started anew, from an older document: 1 shape is gone.")
+            yield "what was there is offered", difference(await tab.value("document.querySelector('#note button').textContent"), "Download what was there")
+            yield "its console", difference(tab.faults, [])
+            await tab.close()
+        finally:
+            if gateway is not None:
+                gateway.close()
+            server.kill()
+
+
+async def panned_and_pinched(ann, server):
+    """The wheel and the middle button pan; two fingers pan and zoom; nearer than one to one each pixel is a square."""
+    await ann.look_at(0, (128, 128))
+    await ann.press("Escape", "Escape", "v")
+    x, y, *_ = await ann.tab.box_of("#stage")
+    _, left, top, *_ = await ann.view()
+    await ann.tab.wheel(x + 300, y + 200, 70, 30)
+    await ann.tab.until(f"app.view.left === {left + 30} && app.view.top === {top + 70}")
+    await ann.tab.drag([(x + 300, y + 200), (x + 340, y + 210)], button="middle")
+    yield "the wheel and the middle button pan", difference((await ann.view())[1:3], [left - 10, top + 60])
+    await ann.settle(0)
+    yield "the picture after it", await ann.wrong_pixels()
+    point = await ann.tab.value("app.view.pointAt([300, 200])")
+    await ann.tab.touch("touchStart", (x + 250, y + 200))
+    await ann.tab.touch("touchStart", (x + 250, y + 200), (x + 350, y + 200))
+    for apart in range(50, 30, -2):
+        await ann.tab.touch("touchMove", (x + 300 - apart, y + 220), (x + 300 + apart, y + 220))
+    await ann.tab.touch("touchMove", (x + 275, y + 240), (x + 325, y + 240))
+    await ann.tab.touch("touchEnd")
+    await ann.tab.until("app.view.level > 0.9")
+    level, now = (await ann.view())[0], await ann.tab.value("app.view.pointAt([300, 240])")
+    yield "a pinch zooms", difference(round(level, 2), 1)
+    yield "what was between the fingers stays there", None if max(abs(a - b) for a, b in zip(now, point)) <= 2 else f"{now} for {point}"
+    for level in (-2, -3):
+        await ann.look_at(level, (128, 128))
+        yield f"the picture of level {level}", await ann.wrong_pixels()
+    yield "the words of it", difference(await ann.text("level"), "8:1")
+    await ann.look_at(0, (128, 128))
+
+
 async def zoomed(ann, server):
     """All seven levels by the wheel, out and in, and by keys; the picture of each."""
     x, y, width, height = await ann.tab.box_of("#stage")
@@ -405,7 +872,7 @@ async def zoomed(ann, server):
         yield f"the picture of level {level}", await ann.wrong_pixels()
         now = await ann.tab.value(point)
         yield f"the wheel keeps its point at level {level}", None if max(abs(a - b) for a, b in zip(now, begin)) <= 2**level else f"{now} for {begin}"
-        await ann.tab.wheel(*here, 100)
+        await ann.tab.wheel(*here, 100, modifiers=CONTROL)
         await ann.tab.until(f"app.view.level === {min(level + 1, LEVELS - 1)}")
         await ann.settle(0)
     for level in reversed(range(LEVELS - 1)):
@@ -423,9 +890,11 @@ async def panned(ann, server):
     await ann.look_at(0, (0, 0))
     _, left, top, *_ = await ann.view()
     x, y, *_ = await ann.tab.box_of("#stage")
+    await ann.tab.command("Input.dispatchKeyEvent", type="keyDown", key=" ", code="Space", windowsVirtualKeyCode=32, text=" ")
     await ann.tab.drag([(x + 700, y + 500), (x + 500, y + 450), (x + 311, y + 322)])
+    await ann.tab.command("Input.dispatchKeyEvent", type="keyUp", key=" ", code="Space", windowsVirtualKeyCode=32)
     await ann.settle(0)
-    yield "a pan by the mouse", difference((await ann.view())[1:3], [left + 389, top + 178])
+    yield "a pan by Space and the mouse", difference((await ann.view())[1:3], [left + 389, top + 178])
     yield "the picture after it", await ann.wrong_pixels()
     await ann.press("ArrowLeft", "ArrowUp", "ArrowUp")
     await ann.settle(0)
@@ -633,6 +1102,7 @@ async def no_seat(browser, gateway, server):
     await tab.until("!document.getElementById('away').hidden")
     why = await tab.value("document.getElementById('away-why').textContent")
     yield "a tab without a seat", None if "All seats of the server are taken" in why else why
+    yield "its head", difference(await tab.value("document.getElementById('away-head').textContent"), "The server is full.")
     for guest in guests:
         guest.close()
     await tab.until("window.app.picture.isSettled")
@@ -859,6 +1329,10 @@ async def demo():
     yield "nothing of it is left", difference(left, "")
 
 
+ONLY = os.environ.get("ONLY", "").split()
+"""The stages that are run, where the environment names some."""
+
+
 async def stages(folder):
     file = Path(folder) / "document.json"
     file.write_bytes(POSTER.read_bytes())
@@ -870,11 +1344,16 @@ async def stages(folder):
             ann = await Desk.open(browser, gateway, server)
             ben = await Desk.open(browser, gateway, server)
             for stage in (first_view(ann, ben, server), drawn(ann, ben, server), changed(ann, ben, server), seen_soon(ann, ben),
-                          in_turned_frame(ann, server), both_formats(ann, server), zoomed(ann, server), panned(ann, server),
+                          in_turned_frame(ann, server), both_formats(ann, server), taken_back(ann, ben, server), many_steps(ann, server), selected_and_moved(ann, server), resized(ann, server),
+                          aligned(ann, server), files(browser, ann, server), small_things(ann, server),
+                          everywhere(browser, gateway, ann), empty(browser), panned_and_pinched(ann, server), zoomed(ann, server), panned(ann, server),
                           layers(ann, server), refused(ann, server), without_a_mouse(ann, server), readable(ann), sent_once(ann, server, gateway),
                           one_version(ann, server), same_view(browser, server), led(), away(ann, ben, server),
                           no_seat(browser, gateway, server)):
                 begin = time.monotonic()
+                if ONLY and stage.__name__ not in ONLY:
+                    await stage.aclose()
+                    continue
                 try:
                     async for case in stage:
                         yield case
@@ -883,17 +1362,29 @@ async def stages(folder):
                 print(f"{stage.__name__}: {time.monotonic() - begin:.1f} s", flush=True)
             for name, desk in [("Ann", ann), ("Ben", ben)]:
                 yield f"the console of {name}", difference(desk.tab.faults, [])
-        async for case in demo():
-            yield case
+        if not ONLY:
+            async for case in demo():
+                yield case
     finally:
         if gateway is not None:
             gateway.close()
         server.kill()
 
 
+def modules():
+    """Runs the tests of the page's pure modules by node; gives how many passed, and how many failed."""
+    tests = sorted(str(file) for file in (HERE / "unit").glob("*.test.js"))
+    run = subprocess.run(["node", "--test", "--test-reporter=tap", *tests], capture_output=True, text=True)
+    found = {name: int(number) for name, number in re.findall(r"^# (pass|fail) (\d+)$", run.stdout, re.MULTILINE)}
+    if run.returncode or not found.get("pass"):
+        print(run.stdout[-4000:], run.stderr[-1000:], flush=True)
+        return found.get("pass", 0), max(1, found.get("fail", 0))
+    return found["pass"], found["fail"]
+
+
 async def main():
     subprocess.run([str(PROGRAM), "script"], stdin=subprocess.DEVNULL, check=True)  # builds it where it is not built
-    passed = failed = 0
+    passed, failed = modules()
     with tempfile.TemporaryDirectory() as folder:
         async for name, fault in stages(folder):
             passed += fault is None

@@ -1,0 +1,288 @@
+// The tools that select, move and resize.
+
+import { boxOf, corners } from "./plane.js";
+import { dot, ghost, handle, outline, small } from "./overlay.js";
+import { HANDLES, dragged, handlesOf, members } from "./resize.js";
+import { JOIN, SLOP, Tool, distance } from "./tools.js";
+
+const MOST_GHOSTS = 120;
+const ROOM = 28;
+const FEWEST = 3;
+
+/** The pointer over a handle that moves these edges. */
+function cursorOf([across, down]) {
+  if (across && down) return across === down ? "nwse-resize" : "nesw-resize";
+  return across ? "ew-resize" : "ns-resize";
+}
+
+
+/** Selects, moves and resizes shapes. What a press begins is one of the modes below. */
+export class Select extends Tool {
+  hint = "Click or drag a shape; drag beside them to select several; double click to go into a group. Space or two fingers pan, Ctrl and the wheel zoom.";
+  mode = null;
+  /** The polygon of which the points are edited, or null. */
+  edited = null;
+  #point = null;
+
+  press(at, keys = {}) {
+    this.begin = at;
+    this.isMoved = false;
+    this.by = [0, 0];
+    if (this.#pressPoint(at, keys)) return;
+    const found = this.#handleAt(at.window);
+    if (found) this.#begin("resize", { handle: found, from: this.state.box, to: this.state.box });
+    else this.#pressShape(at, keys);
+  }
+
+  #begin(mode, values = {}) {
+    Object.assign(this, { mode, touched: this.state.selection, ...values });
+  }
+
+  #pressShape(at, { isShift, isDeep }) {
+    const { state } = this, { tree, selection } = state, hit = tree?.at(at.page) ?? null;
+    if (hit === null) {
+      if (!isShift) this.#leave(at.page);
+      this.#begin("marquee", { kept: isShift ? selection : [] });
+      return;
+    }
+    const held = tree.line(hit).find(({ id }) => selection.includes(id))?.id;
+    const id = isDeep ? hit : held ?? this.#reach(hit);
+    this.again = held !== undefined && !isDeep ? { id, isShift } : null;
+    if (!this.again) state.select(isShift ? [...selection, id] : [id]);
+    this.#begin("move");
+  }
+
+  // What lies at a press beside all shapes: the selection goes, and so does what was entered, unless the press was in its box.
+  #leave([x, y]) {
+    const { state } = this, box = state.entered !== null && state.tree?.boxOf(state.entered);
+    state.select([]);
+    if (!(box && x >= box.left && x < box.right && y >= box.top && y < box.bottom)) state.enter(null);
+  }
+
+  /** What a click on a shape selects: the outermost one that lies in what is entered. */
+  #reach(hit) {
+    const { tree, entered } = this.state, line = tree.line(hit), at = line.findIndex(({ id }) => id === entered);
+    return (at < 0 ? line.at(-1) : line[Math.max(0, at - 1)]).id;
+  }
+
+  /** Goes into the selected group or frame, to what lies there; or to the points of a polygon. */
+  enter(at) {
+    const { state } = this, { tree, selected } = state, hit = tree?.at(at.page) ?? null;
+    if (hit === null || selected === null) return;
+    const line = tree.line(hit), k = line.findIndex(({ id }) => id === selected);
+    if (k > 0) {
+      state.enter(selected);
+      state.select([line[k - 1].id]);
+    } else if (k === 0) {
+      this.editPoints();
+    }
+  }
+
+  drag(at, { isShift } = {}) {
+    if (!this.begin) return;
+    this.isMoved ||= distance(at.window, this.begin.window) >= SLOP;
+    if (!this.isMoved) return;
+    this.by = [at.page[0] - this.begin.page[0], at.page[1] - this.begin.page[1]];
+    this.now = at;
+    if (this.mode === "resize") this.to = dragged(this.from, this.handle, this.by, isShift);
+    else if (this.mode === "move" && isShift) this.by = Math.abs(this.by[0]) > Math.abs(this.by[1]) ? [this.by[0], 0] : [0, this.by[1]];
+    else if (this.mode === "marquee") this.#mark();
+    else if (this.mode === "point") this.points[this.#point] = at.page;
+  }
+
+  #mark() {
+    const { state } = this, box = boxOf([this.begin.page, this.now.page]);
+    const found = state.tree?.within(state.entered, box) ?? [];
+    state.select([...this.kept, ...found.filter((id) => !this.kept.includes(id)).reverse()]);
+  }
+
+  release(at, keys = {}) {
+    if (!this.begin) return;
+    this.drag(at, keys);
+    const { mode, isMoved, by, to } = this, { editor } = this.app;
+    this.begin = this.mode = null;
+    if (mode === "point") this.#setPoints();
+    else if (!isMoved && this.again && mode === "move") this.#clickAgain();
+    else if (isMoved && mode === "resize") editor.fitTo(to);
+    else if (isMoved && mode === "move" && keys.isAlt) editor.duplicate(by);
+    else if (isMoved && mode === "move") editor.moveBy(by);
+  }
+
+  // A click on what is selected: with Shift it is left, and else it alone is selected.
+  #clickAgain() {
+    const { id, isShift } = this.again, { state } = this;
+    this.again = null;
+    if (isShift) state.select(state.selection.filter((other) => other !== id));
+    else if (state.selection.length > 1) state.select([id]);
+  }
+
+  drop() {
+    const had = Boolean(this.begin) || this.edited !== null;
+    this.begin = this.mode = this.edited = this.#point = null;
+    return had;
+  }
+
+  /** Gives up a drag of what others deleted meanwhile; tells whether it was one. */
+  lost() {
+    const isLost = this.begin && this.mode !== "marquee" && this.touched.some((id) => !this.state.tree?.record(id));
+    if (this.edited !== null && !this.state.tree?.record(this.edited)) this.edited = null;
+    if (isLost) this.begin = this.mode = null;
+    return Boolean(isLost);
+  }
+
+  // -- the box and its handles ----------------------------------------------------------------------------------------
+
+  #handles() {
+    const { tree, selection, box } = this.state;
+    if (!box || this.mode === "move" || this.mode === "marquee" || this.edited !== null || !members(tree, selection).length) return [];
+    const places = this.toWindow(handlesOf(box)), [[left, top], , , , [right, bottom]] = places;
+    const has = ([across, down]) => (across !== 0 || right - left > ROOM) && (down !== 0 || bottom - top > ROOM);
+    return HANDLES.map((edges, k) => ({ edges, place: places[k] })).filter(({ edges }) => has(edges));
+  }
+
+  #handleAt(window) {
+    const reach = this.app.stage.isTouched ? 22 : JOIN;
+    return this.#handles().find(({ place }) => distance(place, window) <= reach)?.edges ?? null;
+  }
+
+  cursor(at) {
+    if (this.edited !== null) return this.#pointAt(at.window) === null ? "default" : "crosshair";
+    const found = this.#handleAt(at.window);
+    if (found) return cursorOf(found);
+    return this.state.tree?.at(at.page) == null ? "default" : "move";
+  }
+
+  // -- the points of a polygon ----------------------------------------------------------------------------------------
+
+  editPoints() {
+    const { record } = this.state;
+    if (record?.shape.kind !== "polygon") return;
+    this.edited = record.id;
+    this.#point = null;
+    this.app.say("Drag a point, or the middle of an edge to add one; Alt and a click, or Del, takes one out. Esc ends this.");
+  }
+
+  get #edges() {
+    return this.points.map(([x, y], k) => {
+      const [x2, y2] = this.points[(k + 1) % this.points.length];
+      return [Math.round((x + x2) / 2), Math.round((y + y2) / 2)];
+    });
+  }
+
+  #pointAt(window) {
+    const near = (list) => list.findIndex((point) => distance(this.state.view.toWindow(point), window) <= JOIN);
+    const points = this.app.outlineOf(this.edited);
+    if (!this.begin) this.points = points;
+    const corner = near(this.points), edge = corner < 0 ? near(this.#edges) : -1;
+    if (corner >= 0) return { corner };
+    return edge >= 0 ? { edge } : null;
+  }
+
+  #pressPoint(at, { isAlt }) {
+    if (this.edited === null) return false;
+    if (this.state.selected !== this.edited || !this.app.outlineOf(this.edited)) {
+      this.edited = null;
+      return false;
+    }
+    this.points = this.app.outlineOf(this.edited);
+    const found = this.#pointAt(at.window);
+    if (!found) {
+      this.edited = null;
+      return false;
+    }
+    if (found.edge !== undefined) {
+      this.points.splice(found.edge + 1, 0, at.page);
+      this.isMoved = true;
+    }
+    this.#point = found.corner ?? found.edge + 1;
+    this.#begin("point");
+    if (isAlt && found.corner !== undefined) this.#takeOut();
+    return true;
+  }
+
+  #setPoints() {
+    if (this.isMoved) this.app.editor.setPoints(this.edited, this.points);
+  }
+
+  #takeOut() {
+    this.begin = this.mode = null;
+    if (this.points.length <= FEWEST) this.app.say("A polygon has three points at least.");
+    else this.app.editor.setPoints(this.edited, this.points.filter((_, k) => k !== this.#point));
+    this.#point = null;
+  }
+
+  /** Takes out the chosen point; tells whether points are edited. */
+  back() {
+    if (this.edited === null) return false;
+    this.points = this.app.outlineOf(this.edited);
+    if (this.#point !== null && this.points) this.#takeOut();
+    return true;
+  }
+
+  // -- marks ----------------------------------------------------------------------------------------------------------
+
+  marks() {
+    if (this.edited !== null) return this.#pointMarks();
+    if (this.mode === "marquee" && this.isMoved) return [outline("marquee", this.toWindow(corners(boxOf([this.begin.page, this.now.page]))))];
+    if (this.mode === "move" && this.isMoved) return ghosts(this, this.by);
+    if (this.mode === "resize" && this.isMoved) return [outline("halo", this.toWindow(corners(this.to))), outline("mark", this.toWindow(corners(this.to)))];
+    return this.#handles().map(({ place }) => handle(place));
+  }
+
+  #pointMarks() {
+    if (!this.begin) this.points = this.app.outlineOf(this.edited);
+    if (!this.points) return [];
+    const shown = this.toWindow(this.points);
+    const edges = this.begin ? [] : this.toWindow(this.#edges).map(small);
+    return [outline("mark", shown), ...edges, ...shown.map((point, k) => dot(point, k === this.#point))];
+  }
+}
+
+/** What the selected shapes look like, moved by so much of the page. */
+function ghosts({ state, app }, [across, down]) {
+  const moved = (points) => points.map(([x, y]) => state.view.toWindow([x + across, y + down]));
+  const { tree } = state, marks = [];
+  for (const id of members(tree, state.selection).slice(0, MOST_GHOSTS)) {
+    const { kind, fill } = tree.record(id).shape;
+    if (fill) marks.push(ghost(kind, moved(app.outlineOf(id)), `#${fill}`));
+  }
+  for (const id of state.selection.slice(0, MOST_GHOSTS)) {
+    const points = app.outlineOf(id);
+    if (points) marks.push(outline("halo", moved(points)), outline("mark", moved(points)));
+  }
+  return marks;
+}
+
+/** Drags the shape that is pressed, however deep it lies. */
+export class Move extends Tool {
+  hint = "Drag any single shape to move it, however deep it lies. Arrow keys move what is selected, with Shift ten times as far.";
+
+  press(at) {
+    const { state } = this, id = state.tree?.at(at.page) ?? null;
+    // What lies in what is selected moves with it.
+    const isInside = id !== null && state.tree.line(id).some((record) => state.selection.includes(record.id));
+    if (!isInside) this.app.editor.select(id);
+    this.begin = state.selected === null ? null : at.page;
+    this.touched = state.selection;
+    this.by = [0, 0];
+  }
+
+  drag(at) {
+    if (this.begin) this.by = [at.page[0] - this.begin[0], at.page[1] - this.begin[1]];
+  }
+
+  release() {
+    if (this.begin) this.app.editor.moveBy(this.by);
+    this.begin = null;
+  }
+
+  lost() {
+    const isLost = this.begin && this.touched.some((id) => !this.state.tree?.record(id));
+    if (isLost) this.begin = null;
+    return Boolean(isLost);
+  }
+
+  marks() {
+    return this.begin && (this.by[0] || this.by[1]) ? ghosts(this, this.by) : [];
+  }
+}
