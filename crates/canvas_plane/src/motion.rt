@@ -45,6 +45,13 @@ impl Pose {
         flip: false,
     };
 
+    /// `STILL`, by the law that it carries each point to itself.
+    pub fn law_of_still() -> Pose
+        ensures { (p : Point) → carry result p ≡ p }
+    {
+        Pose::STILL
+    }
+
     /// The pose of these parts, refused as `BadPose` where `check` refuses it.
     pub fn new(dx: i64, dy: i64, quarter: u8, flip: bool) -> Result<Pose, PoseFault>
         ensures fault { MatchResult result (λ _. pose_fault (record { dx = dx; dy = dy; quarter = quarter; flip = flip }) ≡ None) (λ fault. pose_fault (record { dx = dx; dy = dy; quarter = quarter; flip = flip }) ≡ Some fault) }

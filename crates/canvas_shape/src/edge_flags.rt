@@ -60,7 +60,7 @@ impl EdgeFlags {
     }
 
     /// Appends the held columns before `width`, of which the first is the pixel `left`, as spans that rise, lie apart and are
-    /// not empty. Without memory `out` stays as it was. The width is at most 256, and the columns end at 2,147,483,647 at most.
+    /// not empty. Without memory `out` stays as it was; no column wants no memory. The width is at most 256, and the columns end at 2,147,483,647 at most.
     pub fn append_spans(
         &self,
         left: i32,
@@ -71,6 +71,7 @@ impl EdgeFlags {
         requires range { (left +ℤ pos width) ≤ℤ pos 2147483647 }
         ensures ok { OnOk result (AppendsSpans out.old.items out.new.items (held_from left width self.now.words)) }
         ensures err { OnErr result (out.new.items ≡ out.old.items) }
+        ensures want { OnErr result (0 < width) }
     {
         let before = out.len();
         match push_spans(self, row_from(left, width), width, out) {
@@ -113,6 +114,7 @@ fn push_spans(
     requires wide { row.right ≡ row.left +ℤ pos width }
     ensures ok { OnOk result (out.new.items ≡ out.old.items ++ spans_of row.left (is_held flags.now.words 0) 0 (cuts_behind width (flag flags.now.words) 0 256)) }
     ensures kept { take (length out.old.items) out.new.items ≡ out.old.items }
+    ensures want { OnErr result (0 < width) }
 {
     let mut reached = Reached {
         place: 0,
@@ -139,6 +141,7 @@ fn push_word(
     ensures ok { IfOk result (λ after. (rest : List ℕ) → out.new.items ++ spans_of row.left after.inside after.place rest ≡ out.old.items ++ spans_of row.left reached.inside reached.place (cuts_behind width (λ j. has word (j - base)) base 64 ++ rest)) }
     ensures place { IfOk result (λ after. after.place ≤ width) }
     ensures kept { take (length out.old.items) out.new.items ≡ out.old.items }
+    ensures want { OnErr result (0 < width) }
 {
     let mut place = reached.place;
     let mut inside = reached.inside;

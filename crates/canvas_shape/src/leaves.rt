@@ -1,6 +1,6 @@
 //! Leaves carried to the page, and the pixels that they hold.
 
-ghost use Rattle.std.specs.Prelude.{◌≡◌, ◌≤◌, ◌<◌, ◌^◌, ℤ, pos, All, length, OnOk, OnErr, ◌≤ℤ◌, ◌<ℤ◌, true, unsigned_abs};
+ghost use Rattle.std.specs.Prelude.{◌≡◌, ◌≤◌, ◌<◌, ◌^◌, ℤ, pos, All, length, OnOk, OnErr, ◌≤ℤ◌, ◌<ℤ◌, ◌+ℤ◌, ◌-ℤ◌, true, unsigned_abs};
 ghost use Rattle.canvas_plane.specs.Motion.{carry, reach_of, size_of};
 ghost use Rattle.std.specs.Int.{int_min, int_max};
 ghost use Rattle.canvas_plane.specs.Page.{is_in};
@@ -153,6 +153,7 @@ impl LeafBox {
 
     /// The mirror image of the row `y`, from top to bottom: the ellipse that fills the box holds the same there.
     pub fn mirror(&self, y: i32) -> i64
+        ensures row { result ≡ self.now.top +ℤ self.now.bottom -ℤ pos 1 -ℤ y }
         ensures same { (x : ℤ) → is_in_ellipse (sides_of self.now) x result ≡ is_in_ellipse (sides_of self.now) x y }
         ensures bound { unsigned_abs result ≤ 2 ^ 32 }
     {

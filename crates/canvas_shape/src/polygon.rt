@@ -251,6 +251,7 @@ pub(crate) fn push_piece(
     requires second { (row.left +ℤ pos cut) ≤ℤ row.right }
     ensures ok { OnOk result (out.new.items ≡ out.old.items ++ piece row.left inside start cut) }
     ensures err { OnErr result (out.new.items ≡ out.old.items) }
+    ensures want { OnErr result (start < cut) }
 {
     if inside && start < cut {
         out.push(span_between(row, start, cut))?;

@@ -8,6 +8,11 @@ overflow_sub-result-2 c =
     let leaf = c.args.self.now in
     mirror-fits leaf.top leaf.bottom c.args.y c.from.result leaf.down c.ranges.y (record { sfits = c.from.type_inv }) c.from.ensures
 
+pub returns-clause-row : goal.returns-clause-row
+returns-clause-row c =
+    let leaf = c.args.self.now in
+    mirror-is leaf.top leaf.bottom c.args.y c.from.result leaf.down c.ranges.y (record { sfits = c.from.type_inv }) c.from.ensures
+
 pub returns-clause-same : goal.returns-clause-same
 returns-clause-same c = λ x.
     let leaf = c.args.self.now in
