@@ -4,7 +4,10 @@
 //! `canvas serve <address> <file> [workers]` serves a saved document to the connections that come to an address.
 #![tactic(auto)]
 
-ghost use Rattle.std.specs.Prelude.{◌≡◌};
+ghost use Rattle.std.specs.Prelude.{◌≡◌, [], IfOk, Ok};
+ghost use Rattle.canvas_board.specs.Alone.{alone_board};
+ghost use Rattle.canvas_board.specs.Seen.{Seen};
+ghost use Rattle.canvas_session.specs.Session.{Serves};
 ghost use Rattle.canvas_board.specs.Fault.{board_fault_code};
 ghost use Rattle.canvas_session.specs.Cause.{cause_code};
 ghost use Rattle.canvas_saved.specs.Faults.{fault_code as store_fault_code};
@@ -17,7 +20,7 @@ mod opening;
 use canvas_board::{Alone, BoardFault};
 use canvas_doc::Document;
 use canvas_server::{Command, ServerFault, Settings, exit_status, serve_connections};
-use canvas_session::{SessionFault, serve};
+use canvas_session::{Served, SessionFault, serve};
 use canvas_store::StoreFault;
 use opening::read_document;
 use std::alloc::{AllocError, AllocFailed, Global};
@@ -162,7 +165,7 @@ fn command_of(alloc: Global, words: &[String]) -> Result<Command<'_>, Fault> {
     Command::read(&texts).ok_or(Fault::Usage)
 }
 
-/// Serves a reader to a writer over a document of its own, which begins empty.
+/// Serves a reader to an output over a document of its own, in large pieces.
 fn script<H: Threads + Wait + Sync, R: Read, W: Write + Drop>(
     rt: &H,
     alloc: Global,
@@ -170,10 +173,37 @@ fn script<H: Threads + Wait + Sync, R: Read, W: Write + Drop>(
     reader: &mut R,
     output: W,
 ) -> Result<(), Fault> {
-    let mut board = Alone::new(alloc, Document::empty(alloc), LIMIT)?;
     let mut writer = BufWriter::new(alloc, output)?;
-    serve(rt, alloc, &mut board, workers, reader, &mut writer)?;
+    serve_empty(rt, alloc, workers, reader, &mut writer)?;
     Ok(())
+}
+
+/// Serves a reader to a writer over a document of its own, which begins empty.
+fn serve_empty<H: Threads + Wait + Sync, R: Read, W: Write>(
+    rt: &H,
+    alloc: Global,
+    workers: u32,
+    reader: &mut R,
+    writer: &mut W,
+) -> Result<Served, Fault>
+    ensures { IfOk result (λ served. (after : Seen) × Serves workers (record {
+      input = R.remaining reader.old;
+      unread = R.remaining reader.new;
+      held = W.contents writer.old;
+      output = W.contents writer.new;
+      before = alone_board (record { records = []; next = 1 }) 1000000 [];
+      after = after;
+    }) (Ok served)) }
+{
+    let mut board = empty_board(alloc)?;
+    Ok(serve(rt, alloc, &mut board, workers, reader, writer)?)
+}
+
+/// The board of one caller over an empty document.
+fn empty_board(alloc: Global) -> Result<Alone, Fault>
+    ensures { IfOk result (λ board. board ≡ alone_board (record { records = []; next = 1 }) 1000000 []) }
+{
+    Ok(Alone::new(alloc, Document::empty(alloc), LIMIT)?)
 }
 
 /// Serves the document of a file at an address, without end.

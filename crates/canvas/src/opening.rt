@@ -1,6 +1,7 @@
 //! The saved document of a file.
 
-ghost use Rattle.std.specs.Prelude.{◌≤◌, IfOk, vec_len};
+ghost use Rattle.std.specs.Prelude.{◌≡◌, ◌≤◌, IfOk, IfSome, Ok, vec_len};
+ghost use Rattle.canvas_saved.specs.Opened.{opened};
 
 use crate::Fault;
 use canvas_doc::Document;
@@ -12,14 +13,17 @@ use std::io::Read;
 const MOST_BYTES: u64 = 134_217_728;
 
 /// The document of a saved text of at most 134,217,728 bytes; a longer one is refused as 60, and is not read to its end.
-pub fn read_document<R: Read + Drop>(alloc: Global, file: R) -> Result<Document, Fault> {
+pub fn read_document<R: Read + Drop>(alloc: Global, file: R) -> Result<Document, Fault>
+    ensures { IfOk result (λ document. IfSome (R.remaining file) (λ bytes. opened bytes ≡ Ok document)) }
+{
     let text = text_of(alloc, file)?;
     Ok(import(alloc, &text)?)
 }
 
 // The bytes of a file, where they are not too many.
 fn text_of<R: Read + Drop>(alloc: Global, file: R) -> Result<Vec<u8>, Fault>
-    ensures { IfOk result (λ text. vec_len text ≤ 134217728) }
+    ensures within { IfOk result (λ text. vec_len text ≤ 134217728) }
+    ensures whole { IfOk result (λ text. IfSome (R.remaining file) (λ bytes. text.items ≡ bytes)) }
 {
     let mut text = Vec::new(alloc);
     file.take(MOST_BYTES + 1).read_to_end(&mut text)?;
