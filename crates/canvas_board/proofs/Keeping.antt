@@ -1,19 +1,20 @@
 -- What comes into the kept pictures by a put, and what is found among them.
-use Rattle.std.proofs.Common.{◌≡◌, ℕ, inl, inr, Bool, true, false, List, Contains, Some, Result, Ok, Err, OnOk, OnErr, refl, sym, ◌∙◌, subst}
+use Rattle.std.proofs.Common.{◌≡◌, ℕ, ◌-◌, inl, inr, Bool, true, false, List, ◌∷◌, take, Contains, Option, Some, None, Result, Ok, Err, OnOk, OnErr, refl, sym, ap, ◌∙◌, subst, arith}
 use Rattle.std.specs.Arc.{arc_value}
 use Rattle.std.specs.Prelude.{◌&&◌, nat_eq}
 use Rattle.std.specs.Ordering.{int_eq}
 use Rattle.canvas_board.specs.contracts.kept.WindowKeyPartialEq.TheImpl as key_impl
-use Rattle.std.specs.Map.{lookup}
+use Rattle.std.specs.Option.{option_map_or}
+use Rattle.std.specs.Map.{lookup, lookup_entry, remove_entry}
 use Rattle.std.specs.Cmp.{signed_Decides}
 use Rattle.std.proofs.lemmas.Bool.{eqb-true}
 use Rattle.lru.specs.LruCache.{LruCache, lru_cache, put_entries}
-use Rattle.lru.proofs.CallerLemmas.{Contains-put_entries, Contains-lookup}
+use Rattle.lru.proofs.CallerLemmas.{Contains-put_entries, Contains-lookup, Contains-lookup_entry}
 use Rattle.canvas_plane.specs.declared.windows.Window.{Window}
 use Rattle.canvas_line.specs.declared.recent.Damage.{Damage}
 use Rattle.canvas_board.specs.declared.answers.Picture.{Picture}
 use Rattle.canvas_board.specs.declared.kept.WindowKey.{WindowKey}
-use Rattle.canvas_board.specs.Kept.{key_of, BringsIn, IsStillRight, TellsOfKept}
+use Rattle.canvas_board.specs.Kept.{key_of, BringsIn, CountsAt, IsStillRight, TellsOfKept}
 
 -- keys that pass as equal are one
 abbrev pub IsExact : (WindowKey → WindowKey → Bool) → Type 0
@@ -32,6 +33,29 @@ module _ (eq : WindowKey → WindowKey → Bool) (exact : IsExact eq) where
       → OnOk r (new ≡ lru_cache (put_entries eq old key picture) old.cap) → OnErr r (new ≡ old) → BringsIn old.entries window Is new.entries
   put-either (Ok a) old new window key picture Is named is ok err = subst (λ (c : LruCache WindowKey Picture). BringsIn old.entries window Is c.entries) (sym ok) (put-brings old window key picture Is named is)
   put-either (Err a) old new window key picture Is named is ok err = subst (λ (c : LruCache WindowKey Picture). BringsIn old.entries window Is c.entries) (sym err) (λ e h. inl h)
+
+  -- a put leaves room for as many
+  pub put-room : {A E : Type 0} (r : Result A E) (old new : LruCache WindowKey Picture) (es : List (WindowKey × Picture)) → OnOk r (new ≡ lru_cache es old.cap) → OnErr r (new ≡ old) → new.cap ≡ old.cap
+  put-room (Ok a) old new es ok err = ap (λ (c : LruCache WindowKey Picture). c.cap) ok
+  put-room (Err a) old new es ok err = ap (λ (c : LruCache WindowKey Picture). c.cap) err
+
+  there-after : (cache : LruCache WindowKey Picture) (window : Window) (key : WindowKey) (picture : Picture) (o : Option (WindowKey × Picture)) → key ≡ key_of window → lookup_entry (eq key) cache.entries ≡ o
+      → Contains (option_map_or (λ e. (e.0, picture) ∷ remove_entry (eq key) cache.entries) o ((key, picture) ∷ take (cache.cap - 1) cache.entries)) (key_of window, picture)
+  there-after cache window key picture None named found = (0, omega arith, ap (λ (k : WindowKey). (k, picture)) named)
+  there-after cache window key picture (Some e) named found =
+      let same : key ≡ e.0 = exact key e.0 (Contains-lookup_entry (eq key) cache.entries e found).1 in
+      (0, omega arith, ap (λ (k : WindowKey). (k, picture)) (sym same ∙ named))
+
+  -- what was put in is there, under the window's numbers
+  pub put-there : (cache : LruCache WindowKey Picture) (window : Window) (key : WindowKey) (picture : Picture) → key ≡ key_of window → Contains (put_entries eq cache key picture) (key_of window, picture)
+  put-there cache window key picture named = there-after cache window key picture (lookup_entry (eq key) cache.entries) named refl
+
+  -- so it counts as kept
+  pub put-counts : {A E : Type 0} (r : Result A E) (a : A) (cache new : LruCache WindowKey Picture) (window : Window) (key : WindowKey) (number : ℕ) (put picture : Picture) → key ≡ key_of window → r ≡ Ok a
+      → OnOk r (new ≡ lru_cache (put_entries eq cache key put) cache.cap) → put.version ≡ number → arc_value put.bytes ≡ arc_value picture.bytes → CountsAt new.entries window number picture
+  put-counts (Ok b) a cache new window key number put picture named done is version bytes =
+      (put, subst (λ (c : LruCache WindowKey Picture). Contains c.entries (key_of window, put)) (sym is) (put-there cache window key put named), version, bytes)
+  put-counts (Err e) a cache new window key number put picture named done is version bytes = absurd (cc done)
 
   -- a kept picture that is still right tells of the later version
   pub tells-of : (entries : List (WindowKey × Picture)) (window : Window) (key : WindowKey) (number : ℕ) (recent : List Damage) (from picture : Picture) → key ≡ key_of window → Some from ≡ lookup (eq key) entries

@@ -1,5 +1,6 @@
 -- The pictures that a board keeps.
 use Rattle.std.specs.Prelude.{◌≡◌, ℕ, ◌+◌, ◌<◌, ◌≤◌, ◌⊎◌, Bool, true, List, [], All, Contains, Option, Some, None, length, take}
+use Rattle.std.specs.Option.{ForSome}
 use Rattle.std.specs.Arc.{arc_value}
 use Rattle.lru.specs.LruCache.{LruCache}
 use Rattle.canvas_plane.specs.declared.PageBox.{PageBox}
@@ -19,6 +20,10 @@ use Rattle.canvas_board.specs.Raster.{file_of}
 abbrev pub key_of : Window → WindowKey
 key_of window = record { level = window.level; x = window.x; y = window.y; w = window.w; h = window.h }
 
+-- there is room for so many pictures, once there is any
+abbrev pub HasRoom : ℕ → Option (LruCache WindowKey Picture) → Type 0
+HasRoom most cache = ForSome cache (λ c. c.cap ≡ most)
+
 -- the pictures that are kept, with their windows, the last used first
 abbrev pub entries_of : Option (LruCache WindowKey Picture) → List (WindowKey × Picture)
 entries_of None = []
@@ -28,9 +33,10 @@ entries_of (Some cache) = cache.entries
 abbrev pub misses : Window → PageBox → Bool
 misses window area = is_empty_box (meet_of area (covered_by window))
 
--- A picture of a window that was right at one version is right at another: at most 64 changes lie between them, and the damage
--- of each misses the window.
+-- A picture of a window that was right at one version is right at a later one: at most 64 changes lie between them, and the
+-- damage of each misses the window. Damage is that of changes up to the later version, so nothing is said of a newer picture.
 pub record IsStillRight (recent : List Damage) (kept_at number : ℕ) (window : Window) : Type 0 where
+  pub later : kept_at ≤ number
   pub near : number ≤ kept_at + 64
   pub missed : All (λ damage. kept_at < damage.number → misses window damage.area ≡ true) recent
 
@@ -45,6 +51,10 @@ pub record TellsOfKept (entries : List (WindowKey × Picture)) (window : Window)
 -- the picture is the other, with the same bytes
 abbrev pub IsCopyOf : Picture → Picture → Type 0
 IsCopyOf picture copy = (copy.version ≡ picture.version) × (arc_value copy.bytes ≡ arc_value picture.bytes)
+
+-- a copy of the picture counts as kept for the window at this version
+abbrev pub CountsAt : List (WindowKey × Picture) → Window → ℕ → Picture → Type 0
+CountsAt entries window number picture = (q : Picture) × Contains entries (key_of window, q) × (q.version ≡ number) × (arc_value q.bytes ≡ arc_value picture.bytes)
 
 -- what is kept was kept before, or is such a picture, under the window's numbers
 abbrev pub BringsIn : List (WindowKey × Picture) → Window → (Picture → Type 0) → List (WindowKey × Picture) → Type 0

@@ -1,7 +1,7 @@
 //! The pictures that a board keeps.
-ghost use Rattle.std.specs.Prelude.{◌≡◌, ◌<◌, ◌↔◌, true, [], IsTrue, IfSome};
+ghost use Rattle.std.specs.Prelude.{◌≡◌, ◌<◌, ◌≤◌, ◌↔◌, true, [], IsTrue, IfSome};
 ghost use Rattle.canvas_plane.specs.Page.{is_empty_box, meet_of};
-ghost use Rattle.canvas_board.specs.Kept.{entries_of, key_of, BringsIn, IsCopyOf, IsStillRight, TellsOfKept};
+ghost use Rattle.canvas_board.specs.Kept.{entries_of, key_of, BringsIn, CountsAt, HasRoom, IsCopyOf, IsStillRight, TellsOfKept};
 
 use crate::answers::Picture;
 use canvas_line::{MOST_RECENT, Recent};
@@ -27,12 +27,16 @@ pub(crate) struct KeptPictures {
     most: usize,
     // There once a picture was kept.
     cache: Option<LruCache<WindowKey, Picture>>,
+    ghost few: { most ≤ 256 },
+    ghost room: { HasRoom most cache },
 }
 
 impl KeptPictures {
     /// No picture yet.
     pub(crate) fn new(most: usize) -> KeptPictures
-        ensures { entries_of result.cache ≡ [] }
+        requires { most ≤ 256 }
+        ensures none { entries_of result.cache ≡ [] }
+        ensures most { result.most ≡ most }
     {
         KeptPictures { most, cache: None }
     }
@@ -47,6 +51,8 @@ impl KeptPictures {
     ) -> Option<Picture>
         ensures answered { IfSome result (TellsOfKept (entries_of self.old.cache) window.now number recent.now) }
         ensures kept { BringsIn (entries_of self.old.cache) window.now (TellsOfKept (entries_of self.old.cache) window.now number recent.now) (entries_of self.new.cache) }
+        ensures counts { IfSome result (λ picture. CountsAt (entries_of self.new.cache) window.now number picture) }
+        ensures most { self.new.most ≡ self.old.most }
     {
         match &mut self.cache {
             Some(cache) => answered(cache, window, number, recent),
@@ -56,7 +62,8 @@ impl KeptPictures {
 
     /// Keeps the picture of a window, unless memory for it can't be had.
     pub(crate) fn keep(&mut self, alloc: Global, window: &Window, picture: &Picture)
-        ensures { BringsIn (entries_of self.old.cache) window.now (IsCopyOf picture.now) (entries_of self.new.cache) }
+        ensures kept { BringsIn (entries_of self.old.cache) window.now (IsCopyOf picture.now) (entries_of self.new.cache) }
+        ensures most { self.new.most ≡ self.old.most }
     {
         make_room(&mut self.cache, alloc, self.most);
         if let Some(cache) = &mut self.cache {
@@ -67,7 +74,9 @@ impl KeptPictures {
 
 // Makes room for pictures where there is none yet.
 fn make_room(cache: &mut Option<LruCache<WindowKey, Picture>>, alloc: Global, most: usize)
-    ensures { entries_of cache.new ≡ entries_of cache.old }
+    requires { HasRoom most cache.old }
+    ensures same { entries_of cache.new ≡ entries_of cache.old }
+    ensures room { HasRoom most cache.new }
 {
     match cache {
         Some(_) => {}
@@ -77,7 +86,8 @@ fn make_room(cache: &mut Option<LruCache<WindowKey, Picture>>, alloc: Global, mo
 
 // Room for so many pictures, unless there are to be none or memory can't be had.
 fn opened(alloc: Global, most: usize) -> Option<LruCache<WindowKey, Picture>>
-    ensures { entries_of result ≡ [] }
+    ensures none { entries_of result ≡ [] }
+    ensures room { HasRoom most result }
 {
     match NonZeroUsize::new(most) {
         Some(most) => LruCache::new(alloc, most).ok(),
@@ -93,6 +103,8 @@ fn answered(
 ) -> Option<Picture>
     ensures answered { IfSome result (TellsOfKept cache.old.entries window.now number recent.now) }
     ensures kept { BringsIn cache.old.entries window.now (TellsOfKept cache.old.entries window.now number recent.now) cache.new.entries }
+    ensures counts { IfSome result (λ picture. CountsAt cache.new.entries window.now number picture) }
+    ensures room { cache.new.cap ≡ cache.old.cap }
 {
     let bytes = match cache.peek(&key_of(window)) {
         Some(kept) if still_right(recent, kept.version, number, window) => Arc::try_clone(
@@ -120,7 +132,8 @@ fn answered(
 }
 
 fn keep_in(cache: &mut LruCache<WindowKey, Picture>, window: &Window, picture: &Picture)
-    ensures { BringsIn cache.old.entries window.now (IsCopyOf picture.now) cache.new.entries }
+    ensures kept { BringsIn cache.old.entries window.now (IsCopyOf picture.now) cache.new.entries }
+    ensures room { cache.new.cap ≡ cache.old.cap }
 {
     let Ok(bytes) = Arc::try_clone(&picture.bytes) else {
         return;
@@ -145,11 +158,12 @@ fn key_of(window: &Window) -> WindowKey
     }
 }
 
-// Whether the picture of a window at one version is that at a later one, as the damage of the changes in between tells.
+// Whether the picture of a window at one version is that at version `number`, as the damage of the changes in between tells. A
+// newer picture is not.
 fn still_right(recent: &Recent, kept_at: u64, number: u64, window: &Window) -> bool
     ensures { IsTrue result → IsStillRight recent.now kept_at number window.now }
 {
-    if number.saturating_sub(kept_at) > MOST_RECENT as u64 {
+    if number < kept_at || number - kept_at > MOST_RECENT as u64 {
         return false;
     }
     let covered = window.covered();

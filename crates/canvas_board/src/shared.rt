@@ -109,7 +109,10 @@ impl<B: Lines> Board for Shared<B> {
         let Ok(version) = self.seat.look() else {
             return Err(BoardFault::NoView);
         };
-        match picture_at(rt, self.alloc, &mut self.kept, &version, window, workers) {
+        self.seat.start_painting();
+        let answer = picture_at(rt, self.alloc, &mut self.kept, &version, window, workers);
+        self.seat.stop_painting();
+        match answer {
             Ok(answer) => {
                 self.known = version.number;
                 self.hits = self.hits.saturating_add(u64::from(answer.was_kept));

@@ -1,5 +1,5 @@
 -- What a call does to a seat's front.
-use Rattle.std.specs.Prelude.{ℕ, ◌≡◌, ◌≢◌, ◌⊎◌, ◌<◌, ◌≤◌, ◌&&◌, nat_le, Bool, true, false, List, [], ◌∷◌, ◌++◌, length, Ok, Err}
+use Rattle.std.specs.Prelude.{ℕ, ◌≡◌, ◌≢◌, ◌⊎◌, ◌<◌, ◌≤◌, ◌&&◌, nat_le, Bool, true, false, List, [], ◌∷◌, ◌++◌, length, Result, Ok, Err}
 use mathlib.Core.List.{IsPrefix}
 use Rattle.canvas_record.specs.declared.edits.Change.{Change}
 use Rattle.canvas_record.specs.declared.edits.Edit.{Edit}
@@ -65,6 +65,13 @@ EditRefused s e t (fault.Refused why) = GoesOn s t × (length t.front < s.limit)
 EditRefused s e t (fault.Behind desk front) = (t ≡ s) × (front ≡ length s.front) × (desk < front)
 EditRefused s e t (fault.Strangers own found) = (t ≡ s) × (own ≡ s.name) × (found ≢ s.name)
 EditRefused s e t _ = ⊥
+
+-- after an answer that speaks of the new front, this is the desk's history
+abbrev pub KeepsUp : Line → Result Edited LineFault → Sight → Type 0
+KeepsUp l (Ok r) t = t.front ≡ l.history
+KeepsUp l (Err fault.VersionsSpent) t = t.front ≡ l.history
+KeepsUp l (Err (fault.Refused why)) t = t.front ≡ l.history
+KeepsUp l (Err _) t = Unit {0}
 
 -- both fronts go on to be one
 abbrev pub Meets : Sight → Sight → Sight → Sight → Type 0

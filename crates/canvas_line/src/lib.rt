@@ -7,6 +7,7 @@ mod fault;
 mod front;
 mod line;
 mod next;
+mod painters;
 mod perch;
 mod published;
 mod recent;

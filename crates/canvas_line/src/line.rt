@@ -9,6 +9,7 @@ ghost use Rattle.canvas_line.specs.declared.fault.LineFault.TheVariants as fault
 use crate::desk::Desk;
 use crate::fault::LineFault;
 use crate::front::{Lines, Opened, Trace};
+use crate::painters::Painters;
 use crate::perch::Perch;
 use crate::published::Published;
 use crate::recent::Recent;
@@ -152,7 +153,11 @@ fn viewers_of<B: Lines, R: Wait>(
             return Err(OutOfMemory);
         }
     }
-    let Ok(viewers) = Arc::new(alloc, Viewers { all }) else {
+    let viewers = Viewers {
+        all,
+        painters: Painters::none(),
+    };
+    let Ok(viewers) = Arc::new(alloc, viewers) else {
         return Err(OutOfMemory);
     };
     Ok(Some(viewers))

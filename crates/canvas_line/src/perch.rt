@@ -1,13 +1,15 @@
 //! A seat's place at the line, without the lock: the viewers of the line, and the beginning of the history that it has seen.
-ghost use Rattle.std.specs.Prelude.{◌≡◌, length, IfOk, MatchResult};
+ghost use Rattle.std.specs.Prelude.{◌≡◌, ◌⊎◌, length, IfOk, MatchResult};
 ghost use Rattle.std.specs.Arc.{arc_value};
-ghost use Rattle.canvas_line.specs.Seats.{Looks, IsAt, IsHistoryOf, Apart, EditAccepted, EditRefused, Meets, MeetRefused};
-ghost use Rattle.canvas_line.specs.Lines.{with_front, sight_of};
+ghost use mathlib.Core.List.{IsPrefix};
+ghost use Rattle.canvas_line.specs.Seats.{Looks, IsAt, IsHistoryOf, Apart, EditAccepted, EditRefused, KeepsUp, Meets, MeetRefused};
+ghost use Rattle.canvas_line.specs.Lines.{Accepts, with_front, sight_of};
 ghost use Rattle.canvas_line.specs.declared.fault.LineFault.TheVariants as fault;
 
 use crate::desk::Desk;
 use crate::fault::{Edited, LineFault};
 use crate::front::{Lines, Trace};
+use crate::painters::Painters;
 use crate::published::Latest;
 use crate::version::Version;
 use crate::viewer::Viewers;
@@ -86,6 +88,23 @@ impl<B: Lines> Perch<B> {
         self.trace.len()
     }
 
+    /// Of two seats at one line, one front is a beginning of the other.
+    pub(crate) fn one_history(&self, other: &Perch<B>)
+        requires { other.now.name ≡ self.now.name }
+        ensures { IsPrefix self.now.front other.now.front ⊎ IsPrefix other.now.front self.now.front }
+    {
+        if self.trace.len() <= other.trace.len() {
+            self.trace.compare(&other.trace);
+        } else {
+            other.trace.compare(&self.trace);
+        }
+    }
+
+    /// The pictures of the line that are being painted.
+    pub(crate) fn painters(&self) -> &Painters {
+        &self.viewers.painters
+    }
+
     // The line's name, by which its facts are known.
     pub(crate) fn name(&self) -> u64
         ensures name { result ≡ self.now.name }
@@ -131,6 +150,9 @@ impl<B: Lines> Perch<B> {
     ) -> Result<Edited, LineFault>
         ensures accepted { IfOk result (λ r. EditAccepted self.old edit.now self.new r) }
         ensures refused { MatchResult result (λ _. Unit {0}) (λ f. EditRefused self.old edit.now self.new f) }
+        ensures once { IfOk result (λ r. Accepts desk.old edit.now desk.new r) }
+        ensures stays { MatchResult result (λ _. Unit {0}) (λ _. desk.new ≡ desk.old) }
+        ensures follows { KeepsUp desk.new result self.new }
     {
         self.meets(desk)?;
         match desk.apply(rt, edit) {

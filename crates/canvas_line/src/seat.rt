@@ -1,12 +1,14 @@
 //! A session's place at a line.
-ghost use Rattle.std.specs.Prelude.{◌≡◌, length, IfOk, MatchResult};
+ghost use Rattle.std.specs.Prelude.{◌≡◌, ◌≢◌, ◌⊎◌, length, IfOk, MatchResult, Err};
 ghost use Rattle.std.specs.Arc.{arc_value};
+ghost use mathlib.Core.List.{IsPrefix};
 ghost use Rattle.canvas_line.specs.Seats.{Looks, EditAccepted, EditRefused, Meets, MeetRefused};
 ghost use Rattle.canvas_line.specs.declared.fault.LineFault.TheVariants as fault;
 
 use crate::desk::Desk;
 use crate::fault::{Edited, LineFault};
 use crate::front::Lines;
+use crate::painters::Painters;
 use crate::perch::Perch;
 use crate::version::Version;
 use canvas_doc::Edit;
@@ -16,7 +18,7 @@ use std::hint::spin_loop;
 use std::marker::Model;
 use std::sync::{Arc, Mutex, MutexGuard, Wait};
 
-/// How many times a seat tries the lock before it lets other threads run between its tries.
+/// How many times a seat tries the lock before it may let other threads run between its tries.
 const SPINS: u32 = 8;
 
 /// How many times it tries the lock before it sleeps.
@@ -50,7 +52,7 @@ impl<B: Lines> Seat<B> {
         ensures refused { MatchResult result (λ _. Unit {0}) (λ f. EditRefused self.old edit.now self.new f) }
     {
         let Seat { desk, perch } = self;
-        let mut guard = held(rt, desk);
+        let mut guard = held(rt, desk, perch.painters());
         let answer = perch.edit_at(&mut *guard, rt, edit);
         let retired = guard.take_retired();
         drop(guard);
@@ -65,10 +67,11 @@ impl<B: Lines> Seat<B> {
         self.perch.look()
     }
 
-    /// Brings two seats to one front.
+    /// Brings two seats to one front. Seats of two lines are refused by both names.
     pub fn meet<R: Wait>(&mut self, rt: &R, other: &mut Seat<B>) -> Result<(), LineFault>
         ensures met { IfOk result (λ _. Meets self.old other.old self.new other.new) }
         ensures refused { MatchResult result (λ _. Unit {0}) (λ f. MeetRefused self.old other.old self.new other.new f) }
+        ensures apart { self.old.name ≢ other.old.name → result ≡ Err (fault.Strangers self.old.name other.old.name) }
     {
         let own = self.perch.name();
         let found = other.perch.name();
@@ -76,8 +79,27 @@ impl<B: Lines> Seat<B> {
             return Err(LineFault::Strangers { own, found });
         }
         let Seat { desk, perch } = self;
-        let guard = held(rt, desk);
+        let guard = held(rt, desk, perch.painters());
         perch.meet_at(&mut other.perch, &*guard)
+    }
+
+    /// Tells that two seats at one line have seen one history: one front is a beginning of the other.
+    pub fn one_history(&self, other: &Seat<B>)
+        requires { other.now.name ≡ self.now.name }
+        ensures { IsPrefix self.now.front other.now.front ⊎ IsPrefix other.now.front self.now.front }
+    {
+        self.perch.one_history(&other.perch);
+    }
+
+    /// Counts one more picture of the line that is being painted, until `stop_painting`. Meanwhile an edit that finds the
+    /// desk taken does not let the threads that paint run first.
+    pub fn start_painting(&self) {
+        self.perch.painters().start();
+    }
+
+    /// Counts one picture less.
+    pub fn stop_painting(&self) {
+        self.perch.painters().stop();
     }
 
     /// How many changes the front has.
@@ -98,13 +120,18 @@ impl<B: Lines> Seat<B> {
 }
 
 // Takes the lock. Edits are short, so a seat tries for a while before it sleeps: a lock that goes over to a sleeping thread
-// lies idle until that thread runs.
-fn held<'a, B: Lines, R: Wait>(rt: &R, desk: &'a Mutex<Desk<B>>) -> MutexGuard<'a, Desk<B>> {
+// lies idle until that thread runs. Between its tries it lets other threads run, but not while somebody paints: it would
+// wait for a turn of each thread that paints, where one that sleeps is woken in time.
+fn held<'a, B: Lines, R: Wait>(
+    rt: &R,
+    desk: &'a Mutex<Desk<B>>,
+    painters: &Painters,
+) -> MutexGuard<'a, Desk<B>> {
     for attempt in 0..TRIES {
         if let Some(guard) = desk.try_lock() {
             return guard;
         }
-        if attempt < SPINS {
+        if attempt < SPINS || painters.any() {
             spin_loop();
         } else {
             yield_now();

@@ -7,6 +7,7 @@ ghost use Rattle.canvas_line.specs.Rule.{Knows};
 ghost use Rattle.canvas_line.specs.Standing.{IsVersionOf};
 
 use crate::front::Lines;
+use crate::painters::Painters;
 use crate::published::{Latest, Published};
 use crate::rule::{Constant, Sees, View};
 use core::mem::replace_with;
@@ -98,10 +99,11 @@ impl<B: Lines> Viewer<B> {
     }
 }
 
-/// The viewers that the seats of a line share, each on cache lines of its own.
+/// The viewers that the seats of a line share, each on cache lines of its own; and how many of these seats paint.
 #[derive(Drop)]
 pub(crate) struct Viewers<B: Lines> {
     pub(crate) all: Vec<CachePadded<Mutex<Viewer<B>>>>,
+    pub(crate) painters: Painters,
 }
 
 impl<B: Lines> Viewers<B> {

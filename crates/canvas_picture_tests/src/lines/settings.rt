@@ -2,7 +2,7 @@
 ghost use Rattle.std.specs.Prelude.{◌≡◌};
 
 use crate::asserts::equal;
-use crate::lines::seats::only;
+use crate::lines::seats::{accept, only, rectangle};
 use canvas_doc::Document;
 use canvas_line::{Line, LineFault, Lines, Opened, Seat};
 use std::alloc::Global;
@@ -79,17 +79,37 @@ fn apart<B: Lines, R: Wait + Abort>(
     second: Opened,
     two: Document,
 )
-    requires first { B.line 1 ≡ record { book = first.head.word.book; opening = one; limit = 10 } }
-    requires second { B.line 2 ≡ record { book = second.head.word.book; opening = two; limit = 10 } }
+    requires first { B.line 3 ≡ record { book = first.head.word.book; opening = one; limit = 10 } }
+    requires second { B.line 7 ≡ record { book = second.head.word.book; opening = two; limit = 10 } }
 {
-    let ones = Line::open::<B, R>(rt, alloc, first, 1, one, 1, 10).expect(rt, "a line");
-    let twos = Line::open::<B, R>(rt, alloc, second, 2, two, 1, 10).expect(rt, "a line");
-    let strangers = LineFault::Strangers { own: 1, found: 2 };
-    let met = met(rt, only(rt, ones), only(rt, twos));
-    equal(rt, "seats that met", &met, &Err(strangers));
-    equal(rt, "its code", &strangers.code(), &18);
+    let threes = Line::open::<B, R>(rt, alloc, first, 3, one, 1, 10).expect(rt, "a line");
+    let sevens = Line::open::<B, R>(rt, alloc, second, 7, two, 1, 10).expect(rt, "a line");
+    let mut three = only(rt, threes);
+    let mut seven = only(rt, sevens);
+    check_strangers(rt, &mut three, &mut seven, (0, 0));
+    accept(rt, &mut three, rectangle(1, 1, 0));
+    check_strangers(rt, &mut three, &mut seven, (1, 0));
+    accept(rt, &mut seven, rectangle(1, 1, 0));
+    accept(rt, &mut seven, rectangle(1, 1, 0));
+    check_strangers(rt, &mut three, &mut seven, (1, 2));
 }
 
-fn met<B: Lines, R: Wait>(rt: &R, mut one: Seat<B>, mut other: Seat<B>) -> Result<(), LineFault> {
-    one.meet(rt, &mut other)
+// Asserts that a seat of line 3 and one of line 7 do not meet, in either order, and that their fronts stay so long.
+fn check_strangers<B: Lines, R: Wait + Abort>(
+    rt: &R,
+    three: &mut Seat<B>,
+    seven: &mut Seat<B>,
+    numbers: (u64, u64),
+) {
+    let first = LineFault::Strangers { own: 3, found: 7 };
+    let second = LineFault::Strangers { own: 7, found: 3 };
+    equal(rt, "seats that met", &met(rt, three, seven), &Err(first));
+    equal(rt, "seats that met", &met(rt, seven, three), &Err(second));
+    equal(rt, "its code", &first.code(), &18);
+    let found = (three.number(), seven.number());
+    equal(rt, "the numbers", &found, &numbers);
+}
+
+fn met<B: Lines, R: Wait>(rt: &R, one: &mut Seat<B>, other: &mut Seat<B>) -> Result<(), LineFault> {
+    one.meet(rt, other)
 }

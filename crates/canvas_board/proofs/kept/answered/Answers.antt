@@ -4,7 +4,7 @@ use Rattle.std.specs.Map.{lookup}
 use Rattle.canvas_board.specs.declared.answers.Picture.{Picture}
 use Rattle.canvas_board.specs.Kept.{IsStillRight, TellsOfKept}
 use Rattle.canvas_board.specs.contracts.kept.WindowKeyPartialEq.TheImpl as key_impl
-use Rattle.canvas_board.proofs.Keeping.{exact-key, put-either, tells-of}
+use Rattle.canvas_board.proofs.Keeping.{exact-key, put-counts, put-either, tells-of}
 use Rattle.canvas_board.proofs.kept.answered.Goals as goal
 
 pub returns-in-Ok-Some-clause-answered : goal.returns-in-Ok-Some-clause-answered
@@ -25,3 +25,12 @@ returns-in-Ok-Some-clause-kept c =
     put-either key_impl.ghosts.eq exact-key c.put.result c.args.cache.now c.put.new.self c.args.window.now c.key_of-2.result _ (TellsOfKept c.args.cache.now.entries c.args.window.now c.args.number c.args.recent.now) c.key_of-2.ensures
     (tells-of key_impl.ghosts.eq exact-key c.args.cache.now.entries c.args.window.now c.key_of.result c.args.number c.args.recent.now from _ c.key_of.ensures found right refl c.in-Ok.ensures)
     c.put.ensures.entries c.put.ensures.err
+
+pub returns-in-Ok-Some-clause-counts : goal.returns-in-Ok-Some-clause-counts
+returns-in-Ok-Some-clause-counts c =
+    let from : Picture = c.in-Some.kept.now in
+    let found : Some from ≡ lookup (key_impl.ghosts.eq c.key_of.result) c.args.cache.now.entries = c.in-Some.ensures in
+    let old : Some c.in-Ok-Some.field-0-0 ≡ lookup (key_impl.ghosts.eq c.key_of-2.result) c.args.cache.now.entries = cc (c.in-Ok-Some.ensures.old, c.in-Ok-Some.field-0-is) in
+    let same : Some c.in-Ok-Some.field-0-0 ≡ Some from = old ∙ ap (λ k. lookup (key_impl.ghosts.eq k) c.args.cache.now.entries) (c.key_of-2.ensures ∙ sym c.key_of.ensures) ∙ sym found in
+    let one : c.in-Ok-Some.field-0-0 ≡ from = cc (same) in
+    put-counts key_impl.ghosts.eq exact-key c.put.result _ c.args.cache.now c.put.new.self c.args.window.now c.key_of-2.result c.args.number _ c.in-Ok-Some.field-0-0 c.key_of-2.ensures c.in-Ok-Some.is c.put.ensures.entries refl (c.in-Ok.ensures ∙ sym (ap (λ (p : Picture). arc_value p.bytes) one))

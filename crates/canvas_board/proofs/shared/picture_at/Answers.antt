@@ -25,4 +25,4 @@ returns-clause-right g c s t looks right =
     let after = entries_of c.answer.new.self.cache in
     let v = c.args.version.now in
     let still = answer-right s t v looks kept after c.args.window.now right c.answer.ensures.kept in
-    keep-right s t v looks after (entries_of c.keep.new.self.cache) c.args.window.now c.in_ok-picture.picture c.well_formed_law.ensures c.in_ok-picture.ensures still c.keep.ensures
+    keep-right s t v looks after (entries_of c.keep.new.self.cache) c.args.window.now c.in_ok-picture.picture c.well_formed_law.ensures c.in_ok-picture.ensures still c.keep.ensures.kept

@@ -18,28 +18,28 @@ invariant_of-self g c =
     let i = c.self.inside in
     board-on i.seat c.look.new.self i.known (entries_of i.kept.cache) (goes-nowhere i.seat c.look.new.self c.in_default.ensures.1) c.self.invariant
 
-pub invariant_of-self-in-Ok-picture_at : goal.invariant_of-self-in-Ok-picture_at
-invariant_of-self-in-Ok-picture_at g c =
+pub invariant_of-self-in-Ok-answer : goal.invariant_of-self-in-Ok-answer
+invariant_of-self-in-Ok-answer g c =
     let i = c.self.inside in
     let seat = c.look.new.self in
     let version = arc_value c.in-Ok.version in
-    let n = c.deref-in-Ok-picture_at.result.now.number in
-    let told : n ≡ version.number = ap (λ (v : Version). v.number) c.deref-in-Ok-picture_at.ensures in
+    let n = c.deref-in-Ok-answer.result.now.number in
+    let told : n ≡ version.number = ap (λ (v : Version). v.number) c.deref-in-Ok-answer.ensures in
     let looks : Looks i.seat seat c.deref.result.now = subst (Looks i.seat seat) (sym c.deref.ensures) c.in-Ok.ensures in
     let right = are-right-on i.seat seat (goes-by-look i.seat seat version c.in-Ok.ensures) (entries_of i.kept.cache) c.self.invariant.1 in
-    board-told i.seat seat version n (entries_of c.picture_at.new.kept.cache) c.in-Ok.ensures told (c.picture_at.ensures.right i.seat seat looks right)
+    board-told i.seat seat version n (entries_of c.picture_at-answer.new.kept.cache) c.in-Ok.ensures told (c.picture_at-answer.ensures.right i.seat seat looks right)
 
-pub returns-in-Ok-picture_at : goal.returns-in-Ok-picture_at
-returns-in-Ok-picture_at g c =
+pub returns-in-Ok-answer : goal.returns-in-Ok-answer
+returns-in-Ok-answer g c =
     let i = c.self.inside in
     let seat = c.look.new.self in
     let version = arc_value c.in-Ok.version in
-    let n = c.deref-in-Ok-picture_at.result.now.number in
-    let picture = c.in-Ok-picture_at.answer.picture in
-    let told : n ≡ version.number = ap (λ (v : Version). v.number) c.deref-in-Ok-picture_at.ensures in
+    let n = c.deref-in-Ok-answer.result.now.number in
+    let picture = c.in-Ok-answer.answer.picture in
+    let told : n ≡ version.number = ap (λ (v : Version). v.number) c.deref-in-Ok-answer.ensures in
     let looks : Looks i.seat seat c.deref.result.now = subst (Looks i.seat seat) (sym c.deref.ensures) c.in-Ok.ensures in
     let right = are-right-on i.seat seat (goes-by-look i.seat seat version c.in-Ok.ensures) (entries_of i.kept.cache) c.self.invariant.1 in
-    let shows = c.in-Ok-picture_at.ensures.shows i.seat seat looks right in
+    let shows = c.in-Ok-answer.ensures.shows i.seat seat looks right in
     let named : picture.version ≡ n = shows.0 ∙ ap (λ (v : Version). v.number) c.deref.ensures ∙ sym told in
     let shown : c.deref.result.now.document ≡ document_of (board_at seat n) = ap (λ (v : Version). v.document) c.deref.ensures ∙ looks-document i.seat seat n version c.in-Ok.ensures told in
     let grows : Grows c.args.self.now (board_at seat n) = subst (λ (s : Seen). Grows s (board_at seat n)) c.self.view_is (looks-grow i.seat seat i.known n version c.in-Ok.ensures told) in
@@ -54,7 +54,7 @@ invariant_of-self-in-Err g c =
     let on = goes-by-look i.seat seat version c.in-Ok.ensures in
     let looks : Looks i.seat seat c.deref.result.now = subst (Looks i.seat seat) (sym c.deref.ensures) c.in-Ok.ensures in
     let right = are-right-on i.seat seat on (entries_of i.kept.cache) c.self.invariant.1 in
-    (within-on i.seat seat i.known on c.self.invariant.0, c.picture_at.ensures.right i.seat seat looks right)
+    (within-on i.seat seat i.known on c.self.invariant.0, c.picture_at-answer.ensures.right i.seat seat looks right)
 
 pub returns : goal.returns
 returns g c =

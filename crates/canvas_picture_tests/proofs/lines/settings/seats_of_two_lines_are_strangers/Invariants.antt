@@ -4,5 +4,5 @@ use Rattle.canvas_picture_tests.proofs.lines.settings.seats_of_two_lines_are_str
 -- the two lines that were just opened
 abbrev pub ghosts-apart : goal.ghosts-apart
 ghosts-apart g a = record {
-  line = λ n. if eqb n 1 then (record { book = a.first.head.word.book; opening = a.one; limit = 10 }) else (record { book = a.second.head.word.book; opening = a.two; limit = 10 });
+  line = λ n. if eqb n 3 then (record { book = a.first.head.word.book; opening = a.one; limit = 10 }) else (record { book = a.second.head.word.book; opening = a.two; limit = 10 });
 }
