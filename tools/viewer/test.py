@@ -843,7 +843,17 @@ async def empty(browser):
             await tab.until("document.getElementById('away').hidden && app.picture.isSettled")
             yield "what is lost after a restart", difference(await tab.value("document.getElementById('note').firstChild.data"),
                                                              "The server was started anew, from an older document: 1 shape is gone.")
-            yield "what was there is offered", difference(await tab.value("document.querySelector('#note button').textContent"), "Download what was there")
+            await browser.downloads(folder)
+            x, y, w, h = await tab.box_of("#note button")
+            await tab.click(x + w / 2, y + h / 2)
+            saved = json.loads(await downloaded(folder, "canvas-version-1.json"))
+            yield "what was there is offered as a file", difference([record["shape"]["w"] for record in saved["shapes"]], [800])
+            file.write_text(json.dumps(saved))
+            server.kill()
+            await tab.until("!document.getElementById('away').hidden")
+            server.start()
+            await tab.until("document.getElementById('away').hidden && app.picture.isSettled")
+            yield "the server serves that file", difference([record["shape"]["w"] for record in server.records().values()], [800])
             yield "its console", difference(tab.faults, [])
             await tab.close()
         finally:
