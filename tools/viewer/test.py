@@ -516,6 +516,28 @@ def at(corner, *points):
     return [[corner[0] + x, corner[1] + y] for x, y in points]
 
 
+async def many_shapes(ann, server, count=600):
+    """More shapes than go into one batch are made, moved, deleted and made anew, as one step each."""
+    before = server.records()
+    shapes = [{"shape": {"kind": "rect", "w": 9, "h": 9, "fill": f"{k * 97 % 256:02x}4080"}, "pose": {"dx": 4000 + k % 30 * 12, "dy": k // 30 * 12, "quarter": 0, "flip": False}}
+              for k in range(count)]
+    await ann.look_at(0, (4200, 130))
+    await ann.tab.value(f"app.editor.open({json.dumps(json.dumps({'copied': 'canvas', 'shapes': shapes}))})")
+    yield "they are made and selected", difference(await ann.tab.value("app.state.selection.length"), count)
+    await ann.tab.value("app.editor.moveBy([7, 3])")
+    left = min(record["pose"]["dx"] for number, record in server.records().items() if number not in before)
+    yield "they are moved", difference(left, 4007)
+    await ann.tab.value("app.editor.delete()")
+    yield "they are deleted", difference(set(server.records()), set(before))
+    for times, wanted in [(1, count), (1, count), (1, 0)]:
+        await back(ann, times)
+        yield f"{wanted} of them are there", difference(len(server.records()) - len(before), wanted)
+    for _ in range(3):
+        await back(ann, 1, "y")
+    yield "and none is left after all steps again", difference(set(server.records()), set(before))
+    yield "the picture of that", await ann.wrong_pixels()
+
+
 async def selected_and_moved(ann, server):
     """Select: what one click takes, how several are selected, and how they are moved and copied."""
     group, (one, two, three), corner = await sheet(ann, server, (0, 0, 60, 40), (100, 0, 60, 40), (200, 0, 60, 40))
@@ -821,7 +843,17 @@ async def empty(browser):
             await tab.until("document.getElementById('away').hidden && app.picture.isSettled")
             yield "what is lost after a restart", difference(await tab.value("document.getElementById('note').firstChild.data"),
                                                              "The server was started anew, from an older document: 1 shape is gone.")
-            yield "what was there is offered", difference(await tab.value("document.querySelector('#note button').textContent"), "Download what was there")
+            await browser.downloads(folder)
+            x, y, w, h = await tab.box_of("#note button")
+            await tab.click(x + w / 2, y + h / 2)
+            saved = json.loads(await downloaded(folder, "canvas-version-1.json"))
+            yield "what was there is offered as a file", difference([record["shape"]["w"] for record in saved["shapes"]], [800])
+            file.write_text(json.dumps(saved))
+            server.kill()
+            await tab.until("!document.getElementById('away').hidden")
+            server.start()
+            await tab.until("document.getElementById('away').hidden && app.picture.isSettled")
+            yield "the server serves that file", difference([record["shape"]["w"] for record in server.records().values()], [800])
             yield "its console", difference(tab.faults, [])
             await tab.close()
         finally:
@@ -1344,7 +1376,7 @@ async def stages(folder):
             ann = await Desk.open(browser, gateway, server)
             ben = await Desk.open(browser, gateway, server)
             for stage in (first_view(ann, ben, server), drawn(ann, ben, server), changed(ann, ben, server), seen_soon(ann, ben),
-                          in_turned_frame(ann, server), both_formats(ann, server), taken_back(ann, ben, server), many_steps(ann, server), selected_and_moved(ann, server), resized(ann, server),
+                          in_turned_frame(ann, server), both_formats(ann, server), taken_back(ann, ben, server), many_steps(ann, server), many_shapes(ann, server), selected_and_moved(ann, server), resized(ann, server),
                           aligned(ann, server), files(browser, ann, server), small_things(ann, server),
                           everywhere(browser, gateway, ann), empty(browser), panned_and_pinched(ann, server), zoomed(ann, server), panned(ann, server),
                           layers(ann, server), refused(ann, server), without_a_mouse(ann, server), readable(ann), sent_once(ann, server, gateway),

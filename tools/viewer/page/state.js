@@ -100,8 +100,9 @@ export class State extends EventTarget {
     this.tree = tree;
     this.#box = undefined;
     if (this.entered !== null && !this.tree.record(this.entered)) this.entered = null;
-    const left = this.selection.filter((id) => this.tree.record(id));
+    const before = this.selection;
+    this.selection = before.filter((id) => tree.record(id));
     this.dispatchEvent(new Event("tree"));
-    if (left.length < this.selection.length) this.select(left);
+    if (this.selection.length < before.length) this.select(this.selection);
   }
 }
