@@ -1,6 +1,6 @@
 //! The free pixels of a row.
 
-ghost use Rattle.std.specs.Prelude.{◌≡◌, ◌≤ℤ◌, ◌&&◌, ℤ, not, ◌++◌, IfOk, OnOk, OnErr, IsTrue, ◌↔◌, false, length, take};
+ghost use Rattle.std.specs.Prelude.{◌≡◌, ◌≤ℤ◌, ◌<ℤ◌, ◌&&◌, ℤ, not, ◌++◌, IfErr, IfOk, OnOk, OnErr, IsTrue, ◌↔◌, false, length, take};
 ghost use Rattle.canvas_shape.specs.Spans.{AppendsSpans, covers, is_from_to};
 ghost use Rattle.canvas_paint.specs.FreeRows.{after_of, before_of, common_of, piece_of, rest_of, taken_of};
 
@@ -32,10 +32,11 @@ impl Model for FreeRow {
 }
 
 impl FreeRow {
-    /// A row in which all from `left` up to `right` is free.
+    /// A row in which all from `left` up to `right` is free. A row of no pixel wants no memory.
     pub fn new(alloc: Global, left: i32, right: i32) -> Result<FreeRow, OutOfMemory>
         requires { left ≤ℤ right }
-        ensures { IfOk result (λ row. (x : ℤ) → covers row x ≡ is_from_to left x right) }
+        ensures free { IfOk result (λ row. (x : ℤ) → covers row x ≡ is_from_to left x right) }
+        ensures want { IfErr result (λ _. left <ℤ right) }
     {
         let mut spans = Vec::new(alloc);
         push_piece(
@@ -135,6 +136,7 @@ fn part_after(part: Span, span: Span) -> Span
 fn push_piece(spans: &mut Vec<Span>, piece: Span) -> Result<(), OutOfMemory>
     ensures ok { OnOk result (spans.new.items ≡ spans.old.items ++ piece_of piece) }
     ensures err { OnErr result (spans.new.items ≡ spans.old.items) }
+    ensures want { OnErr result (piece.from <ℤ piece.to) }
 {
     if piece.from < piece.to {
         spans.push(piece)?;

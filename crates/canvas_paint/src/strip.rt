@@ -1,6 +1,6 @@
 //! Pictures of items, strip by strip.
 
-ghost use Rattle.std.specs.Prelude.{◌≡◌, ℕ, ◌+◌, ◌-◌, ◌*◌, ◌/◌, ◌<◌, ◌≤◌, ◌++◌, List, length, false, slice_index_or, IfOk, OnOk, OnErr, take, vec_len, All};
+ghost use Rattle.std.specs.Prelude.{◌≡◌, ℕ, ◌+◌, ◌-◌, ◌*◌, ◌/◌, ◌<◌, ◌≤◌, ◌++◌, List, length, false, slice_index_or, IfErr, IfOk, OnOk, OnErr, take, vec_len, All};
 ghost use Rattle.canvas_plane.specs.Window.{column_shown, row_shown};
 ghost use Rattle.canvas_paint.specs.Items.{last_colour, last_fill};
 ghost use Rattle.canvas_paint.specs.Pictures.{raster_of, rows_of};
@@ -155,7 +155,8 @@ fn append_rows_of(
 }
 
 /// Appends the rows of a picture from one up to another: three bytes for each pixel, red, green
-/// and blue of the last item that holds it, or of white. Without memory all is as it was.
+/// and blue of the last item that holds it, or of white. Without memory all is as it was; no row
+/// wants no memory.
 pub fn append_strip(
     alloc: Global,
     items: &[Item<'_>],
@@ -167,8 +168,12 @@ pub fn append_strip(
     requires { (first ≤ end) × (end ≤ window.now.h) }
     ensures ok { OnOk result (out.new.items ≡ out.old.items ++ rows_of (last_colour items.now) window.now first end) }
     ensures err { OnErr result (out.new.items ≡ out.old.items) }
+    ensures want { OnErr result (first < end) }
 {
     let (first, end) = (first as usize, end as usize);
+    if first == end {
+        return Ok(());
+    }
     let before = out.len();
     out.reserve(3 * window.w() as usize * (end - first))?;
     match append_rows_of(alloc, items, window, first, end, out) {
@@ -190,7 +195,8 @@ pub fn paint_strip(
     end: u32,
 ) -> Result<Vec<u8>, OutOfMemory>
     requires { (first ≤ end) × (end ≤ window.now.h) }
-    ensures { IfOk result (λ bytes. bytes.items ≡ rows_of (last_colour items.now) window.now first end) }
+    ensures rows { IfOk result (λ bytes. bytes.items ≡ rows_of (last_colour items.now) window.now first end) }
+    ensures want { IfErr result (λ _. first < end) }
 {
     let mut out = Vec::new(alloc);
     append_strip(alloc, items, window, first, end, &mut out)?;
