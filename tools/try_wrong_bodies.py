@@ -18,13 +18,14 @@ status is 0 only where all are refused, and 2 where the crate itself is not prov
 these sources and says of each body that it is refused, so it can be stopped and begun again. --dry-run only says what it would try.
 
 --check compares the records with the sources. Where a record is of others, it tries the crate's bodies, lowest first, and begins no check after
-so many minutes (60); the crates that are then left have failed. It tries again 24 of the recorded bodies, of at most three crates, which the commit chooses
+so many minutes (60); the crates that are then left have failed. Before that it tries again 24 of the recorded bodies, of at most three crates, which the commit chooses
 (or, where there is no git, the sources). It writes nothing. Its last line is 'N passed, M failed'.
 """
 
 import argparse
 import os
 import re
+import shutil
 import subprocess
 import sys
 import tempfile
@@ -37,7 +38,7 @@ from queue import Queue
 
 import verdicts
 from functions import changed_functions, refused_function
-from repository import TOP, below, copy_for
+from repository import TOP, below, copy_again, copy_for
 
 # A goal or an import of a proof that names what the edit took away.
 NAMES_WHAT_IS_GONE = re.compile(r"(\./)?proofs/.*(has no field|is not in scope|has no `|was not admitted)")
@@ -217,19 +218,28 @@ class NotProved(Exception):
     """The crate itself is not proved, so no wrong body was tried."""
 
 
-def try_all(name, edits, jobs, most, deadline=None):
+def proved_copy(name, room, jobs):
+    """A repository of the crate in which it is proved, which is made in the room where that has none. While it stands there, `rt` takes
+    the libraries that it built for those of other crates."""
+    folder = room / name
+    if not folder.is_dir():
+        status, lines = check(copy_for(name, folder), jobs)
+        if status != 0:
+            shutil.rmtree(folder)
+            raise NotProved("\n".join([*lines[-20:], f"{name} itself is not proved, so no wrong body was tried"]))
+    return folder
+
+
+def try_all(name, edits, jobs, most, room, deadline=None):
     """Tries the edits in groups of up to so many, several groups side by side, each in a copy of its own that later ones use again. Gives what is
     said of each edit by its name, and leaves out those whose check would begin after the deadline."""
-    with tempfile.TemporaryDirectory(prefix="wrong-bodies-") as room:
-        first = copy_for(name, Path(room) / "0")
-        status, lines = check(first, jobs)
-        if status != 0:
-            raise NotProved("\n".join([*lines[-20:], f"{name} itself is not proved, so no wrong body was tried"]))
+    proved = proved_copy(name, room, jobs)
+    groups = in_groups(edits, proved / "crates" / name, most)
+    with tempfile.TemporaryDirectory(dir=room) as copies:
         crates = Queue()
-        crates.put(first)
-        groups = in_groups(edits, first, most)
-        for number in range(1, min(jobs, len(groups))):
-            crates.put(copy_for(name, Path(room) / str(number)))
+        for number in range(min(jobs, len(groups))):
+            copy_again(proved, Path(copies) / str(number))
+            crates.put(Path(copies) / str(number) / "crates" / name)
 
         def work(group):
             crate = crates.get()
@@ -257,7 +267,7 @@ def all_refused(found):
     return found is not None and all(it == verdicts.REFUSED for it in found.values())
 
 
-def record(names, given):
+def record(names, given, room):
     """Writes the records of crates, and gives whether all their bodies are refused."""
     todo = [it for it in names if not all_refused(verdicts.recorded(it))]
     edits = {it: verdicts.edits_of(it) for it in todo}
@@ -270,7 +280,7 @@ def record(names, given):
             continue
         begun, total = time.monotonic(), verdicts.checksum(name)
         try:
-            found = try_all(name, edits[name], given.jobs, given.together)
+            found = try_all(name, edits[name], given.jobs, given.together, room)
         except NotProved as why:
             good = bool(print(why))
             continue
@@ -283,12 +293,12 @@ def record(names, given):
     return good
 
 
-def check_crate(name, edits, given, deadline):
+def check_crate(name, edits, given, room, deadline):
     """The number of these bodies that are refused, and a line for each other thing."""
-    if time.monotonic() > deadline:
+    if deadline and time.monotonic() > deadline:
         return 0, [f"{name}: no time was left to try {len(edits)} bodies"]
     try:
-        found = try_all(name, edits, given.jobs, given.together, deadline)
+        found = try_all(name, edits, given.jobs, given.together, room, deadline)
     except NotProved as why:
         return 0, [str(why)]
     faults = [f"{name}: {it} is {said}" for it, said in found.items() if said != verdicts.REFUSED]
@@ -296,7 +306,7 @@ def check_crate(name, edits, given, deadline):
     return len(found) - len(faults), faults + ([f"{name}: no time was left to try {left} of {len(edits)} bodies"] if left else [])
 
 
-def check_records(given):
+def check_records(given, room):
     """Checks the records and a sample of them, and gives the number of things that passed and a line for each that failed."""
     deadline = time.monotonic() + 60 * given.minutes
     names = verdicts.crates_with_bodies()
@@ -305,24 +315,24 @@ def check_records(given):
     faults = [f"{name}: {it} is recorded as {said}" for name, found in current.items() for it, said in found.items() if said != verdicts.REFUSED]
     passed = sum(map(all_refused, current.values()))
     again = verdicts.sample(verdicts.seed(), current, {it: below(it) for it in names})
-    work = [(f"{name}: {len(words)} recorded bodies again", name, chosen(name, words, False)) for name, words in again.items()]
-    work += [(f"{name}: no record of these sources", name, verdicts.edits_of(name)) for name in names if name not in current]
-    for why, name, edits in work:
+    work = [(f"{name}: {len(words)} recorded bodies again", name, chosen(name, words, False), None) for name, words in again.items()]
+    work += [(f"{name}: no record of these sources", name, verdicts.edits_of(name), deadline) for name in names if name not in current]
+    for why, name, edits, until in work:
         print(f"== {why}", flush=True)
-        refused, wrong = check_crate(name, edits, given, deadline)
+        refused, wrong = check_crate(name, edits, given, room, until)
         passed += refused
         faults += wrong
     return passed, faults
 
 
-def try_named(given):
+def try_named(given, room):
     """Tries edits of one crate, and gives the status."""
     if not given.names:
         sys.exit("of which crate?")
     name, *words = given.names
     edits = chosen(name, [it.removesuffix(".edit") for it in words], given.all)
     try:
-        found = try_all(name, edits, given.jobs, given.together) if edits else {}
+        found = try_all(name, edits, given.jobs, given.together, room) if edits else {}
     except NotProved as why:
         print(why)
         return 2
@@ -337,23 +347,29 @@ def main():
     asked.add_argument("--record", action="store_true", help="write the records of these crates, or of all")
     asked.add_argument("--dry-run", action="store_true", help="with --record: say only what would be tried")
     asked.add_argument("--check", action="store_true", help="check the records of all crates")
-    asked.add_argument("--minutes", type=int, default=60, metavar="N", help="with --check: begin no check after so many minutes (60)")
+    asked.add_argument("--minutes", type=int, default=60, metavar="N", help="with --check: begin no check of a crate with no record after so many minutes (60)")
     asked.add_argument("--jobs", type=int, metavar="N", help="checks that run side by side (1, with --check one for each processor)")
     asked.add_argument("--together", type=int, default=8, metavar="N", help="edits that one check tries at most (8)")
     given = asked.parse_args()
     given.jobs = max(1, given.jobs or (os.cpu_count() if given.check else 1))
+    with tempfile.TemporaryDirectory(prefix="wrong-bodies-") as room:
+        sys.exit(done(given, Path(room)))
+
+
+def done(given, room):
+    """Does what is asked, and gives the status."""
     if given.check:
-        passed, faults = check_records(given)
+        passed, faults = check_records(given, room)
         print(*faults, sep="\n", end="\n" if faults else "")
         print(f"{passed} passed, {len(faults)} failed")
-        sys.exit(1 if faults else 0)
+        return 1 if faults else 0
     if given.record:
         known = verdicts.crates_with_bodies()
         unknown = set(given.names) - set(known)
         if unknown:
             sys.exit(f"no wrong bodies of {', '.join(sorted(unknown))}")
-        sys.exit(0 if record([it for it in known if not given.names or it in given.names], given) else 1)
-    sys.exit(try_named(given))
+        return 0 if record([it for it in known if not given.names or it in given.names], given, room) else 1
+    return try_named(given, room)
 
 
 if __name__ == "__main__":
