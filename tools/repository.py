@@ -70,3 +70,12 @@ def copy_for(name, folder):
         copy_crate(it, folder / "crates" / it, ["rlib"])
     copy_crate(name, folder / "crates" / name, ["rlib", "incremental"])
     return folder / "crates" / name
+
+
+def copy_again(folder, target):
+    """Makes another such repository, and links all that was built and kept in the first one."""
+
+    def copy(source, to):
+        (link_or_copy if "out" in Path(source).relative_to(folder).parts else shutil.copy2)(source, to)
+
+    shutil.copytree(folder, target, copy_function=copy)

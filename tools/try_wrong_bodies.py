@@ -2,6 +2,8 @@
 """Tries the wrong bodies of a crate: the check must refuse each.
 
 usage: tools/try_wrong_bodies.py NAME [EDIT..] [--all] [--jobs N] [--together N]
+       tools/try_wrong_bodies.py --record [--dry-run] [NAME..] [--jobs N] [--together N]
+       tools/try_wrong_bodies.py --check [--minutes N] [--jobs N] [--together N]
 
 A wrong body is an edit of crates/NAME/wrong-bodies/ (with --all or by its name also of must-fail/): a line 'file: src/..', and
 pairs of lines 'old: TEXT' and 'new: TEXT', where TEXT stands once in the file. Each is applied to a copy of the crate and
@@ -11,24 +13,39 @@ edit that it says nothing of there, or that changes anything else, is tried by i
 
 Each edit has a line 'refused', 'PROVED' or 'not judged' with the reason; the last line is 'N refused, M proved, K not judged'. The
 status is 0 only where all are refused, and 2 where the crate itself is not proved.
+
+--record tries the bodies of these crates, or of all, and writes crates/NAME/wrong-bodies/verdicts. It leaves out a crate whose record is of
+these sources and says of each body that it is refused, so it can be stopped and begun again. --dry-run only says what it would try.
+
+--check compares the records with the sources. Where a record is of others, it tries the crate's bodies, lowest first, and begins no check after
+so many minutes (60); the crates that are then left have failed. Before that it tries again 24 of the recorded bodies, of at most three crates, which the commit chooses
+(or, where there is no git, the sources). It writes nothing. Its last line is 'N passed, M failed'.
 """
 
 import argparse
+import os
 import re
+import shutil
 import subprocess
 import sys
 import tempfile
+import time
 from concurrent.futures import ThreadPoolExecutor
 from contextlib import contextmanager
 from itertools import chain
 from pathlib import Path
 from queue import Queue
 
+import verdicts
 from functions import changed_functions, refused_function
-from repository import TOP, copy_for
+from repository import TOP, below, copy_again, copy_for
 
 # A goal or an import of a proof that names what the edit took away.
 NAMES_WHAT_IS_GONE = re.compile(r"(\./)?proofs/.*(has no field|is not in scope|has no `|was not admitted)")
+# An answer that was kept for a goal that holds by itself with this body: nothing is wrong with the body there.
+NO_LONGER_FITS = re.compile(r"(?:\./)?proofs/\S+: error(?s:.*)expected type:? `?Unit \{0\}`?\s*$", re.M)
+# A place in a file.
+PLACE = re.compile(r"(note: )?\S+:\d+:\d+:")
 # A text that cannot be read at all, rather than a goal that is not proved.
 UNREAD = re.compile(r"is not in scope|has no field|is no name|operand is missing|expected the end|cannot continue")
 
@@ -57,9 +74,9 @@ def edited(text, crate):
     return texts
 
 
-def check(crate):
+def check(crate, jobs=1):
     """The status of a check, and the lines that it printed."""
-    done = subprocess.run(["rt", "check", "--jobs", "1"], cwd=crate, stdin=subprocess.DEVNULL, stdout=subprocess.PIPE,
+    done = subprocess.run(["rt", "check", "--jobs", str(jobs)], cwd=crate, stdin=subprocess.DEVNULL, stdout=subprocess.PIPE,
                           stderr=subprocess.STDOUT, errors="replace")
     return done.returncode, done.stdout.rstrip("\n").split("\n")
 
@@ -82,16 +99,27 @@ def judged(status, lines, changed):
     said = told(lines)
     if status != 1 or not any(it.startswith("logic=not-proved") for it in lines):
         return "not judged", f"it did not come to the prover: {' / '.join(said[:2] or lines[-3:])}"
-    first = next((it for it in said if not NAMES_WHAT_IS_GONE.match(it)), None)
+    first = next((it for it in said if not of_proof_alone(it)), None)
     if said and not first:
-        return "not judged", f"only a proof file names what the edit took away: {said[0]}"
+        return "not judged", f"only a proof file no longer fits: {said[0]}"
     return "refused", first or ""
 
 
 def told(lines):
-    """What the prover said of places in files."""
-    found = [it for it in lines if re.match(r"(note: )?\S+:\d+:\d+:", it)]
-    return [it for it in found if ": error" in it or it.startswith("note: ")] or found
+    """What the prover said of places in files, each with the lines below it that are set in."""
+    found, is_open = [], False
+    for line in lines:
+        if is_open and line.startswith("  "):
+            found[-1] += f"\n{line}"
+        else:
+            is_open = bool(PLACE.match(line))
+            found += [line] * is_open
+    return [it for it in found if it.startswith("note: ") or ": error" in it.split("\n")[0]] or found
+
+
+def of_proof_alone(said):
+    """Whether this says only that a proof file names what the edit took away, or answers a goal that now holds by itself."""
+    return bool(NAMES_WHAT_IS_GONE.match(said) or NO_LONGER_FITS.match(said))
 
 
 @contextmanager
@@ -160,7 +188,7 @@ def refused_together(group, crate):
         return {}
     found = {}
     for line in told(lines):
-        name = None if NAMES_WHAT_IS_GONE.match(line) else refused_function(line, texts)
+        name = None if of_proof_alone(line) else refused_function(line, texts)
         for edit, names in group.items():
             if name in names:
                 found.setdefault(edit, line)
@@ -186,48 +214,162 @@ def chosen(name, words, with_all):
     return [found[it] for it in sorted(found)]
 
 
-def try_all(name, edits, jobs, most, room):
-    """Tries the edits in groups of up to so many, several groups side by side, each in a copy of its own that later ones use again."""
-    crates = Queue()
-    for number in range(jobs):
-        crates.put(copy_for(name, room / str(number)))
-    first = crates.get()
-    status, lines = check(first)
-    crates.put(first)
-    if status != 0:
-        print(*lines[-20:], sep="\n")
-        print(f"{name} itself is not proved, so no wrong body was tried")
-        sys.exit(2)
+class NotProved(Exception):
+    """The crate itself is not proved, so no wrong body was tried."""
 
-    def work(group):
-        crate = crates.get()
+
+def proved_copy(name, room, jobs):
+    """A repository of the crate in which it is proved, which is made in the room where that has none. While it stands there, `rt` takes
+    the libraries that it built for those of other crates."""
+    folder = room / name
+    if not folder.is_dir():
+        status, lines = check(copy_for(name, folder), jobs)
+        if status != 0:
+            shutil.rmtree(folder)
+            raise NotProved("\n".join([*lines[-20:], f"{name} itself is not proved, so no wrong body was tried"]))
+    return folder
+
+
+def try_all(name, edits, jobs, most, room, deadline=None):
+    """Tries the edits in groups of up to so many, several groups side by side, each in a copy of its own that later ones use again. Gives what is
+    said of each edit by its name, and leaves out those whose check would begin after the deadline."""
+    proved = proved_copy(name, room, jobs)
+    groups = in_groups(edits, proved / "crates" / name, most)
+    with tempfile.TemporaryDirectory(dir=room) as copies:
+        crates = Queue()
+        for number in range(min(jobs, len(groups))):
+            copy_again(proved, Path(copies) / str(number))
+            crates.put(Path(copies) / str(number) / "crates" / name)
+
+        def work(group):
+            crate = crates.get()
+            try:
+                return [] if deadline and time.monotonic() > deadline else tried_together(group, crate)
+            finally:
+                crates.put(crate)
+
+        found = {}
+        with ThreadPoolExecutor(jobs) as pool:
+            for edit, said, why in chain.from_iterable(pool.map(work, groups)):
+                found[edit.stem] = said
+                print(f"{edit.stem}: {said}{': ' + why.splitlines()[0][:200] if why else ''}", flush=True)
+        return found
+
+
+def summed(found):
+    """The last line for what was said of edits."""
+    said = list(found.values())
+    return f"{said.count('refused')} refused, {said.count('PROVED')} proved, {said.count('not judged')} not judged"
+
+
+def all_refused(found):
+    """Whether these verdicts are there and are all 'refused'."""
+    return found is not None and all(it == verdicts.REFUSED for it in found.values())
+
+
+def record(names, given, room):
+    """Writes the records of crates, and gives whether all their bodies are refused."""
+    todo = [it for it in names if not all_refused(verdicts.recorded(it))]
+    edits = {it: verdicts.edits_of(it) for it in todo}
+    groups = {it: len(in_groups(edits[it], TOP / "crates" / it, given.together)) for it in todo}
+    print(f"{len(names) - len(todo)} records stand; to try: {sum(map(len, edits.values()))} bodies of {len(todo)} crates in {sum(groups.values())} checks or more")
+    good = True
+    for name in todo:
+        print(f"== {name}: {len(edits[name])} bodies, {groups[name]} checks or more", flush=True)
+        if given.dry_run:
+            continue
+        begun, total = time.monotonic(), verdicts.checksum(name)
         try:
-            return tried_together(group, crate)
-        finally:
-            crates.put(crate)
+            found = try_all(name, edits[name], given.jobs, given.together, room)
+        except NotProved as why:
+            good = bool(print(why))
+            continue
+        print(f"{name}: {summed(found)}, in {time.monotonic() - begun:.0f} s", flush=True)
+        if verdicts.checksum(name) != total:
+            good = bool(print(f"{name}: its sources changed meanwhile, so nothing was written"))
+            continue
+        verdicts.place_of(name).write_text(verdicts.written(total, found))
+        good = good and all_refused(found)
+    return good
 
-    counts = {"refused": 0, "PROVED": 0, "not judged": 0}
-    with ThreadPoolExecutor(jobs) as pool:
-        for edit, said, why in chain.from_iterable(pool.map(work, in_groups(edits, first, most))):
-            counts[said] += 1
-            print(f"{edit.stem}: {said}{': ' + why[:200] if why else ''}", flush=True)
-    return counts
+
+def check_crate(name, edits, given, room, deadline):
+    """The number of these bodies that are refused, and a line for each other thing."""
+    if deadline and time.monotonic() > deadline:
+        return 0, [f"{name}: no time was left to try {len(edits)} bodies"]
+    try:
+        found = try_all(name, edits, given.jobs, given.together, room, deadline)
+    except NotProved as why:
+        return 0, [str(why)]
+    faults = [f"{name}: {it} is {said}" for it, said in found.items() if said != verdicts.REFUSED]
+    left = len(edits) - len(found)
+    return len(found) - len(faults), faults + ([f"{name}: no time was left to try {left} of {len(edits)} bodies"] if left else [])
+
+
+def check_records(given, room):
+    """Checks the records and a sample of them, and gives the number of things that passed and a line for each that failed."""
+    deadline = time.monotonic() + 60 * given.minutes
+    names = verdicts.crates_with_bodies()
+    records = {it: verdicts.recorded(it) for it in names}
+    current = {it: found for it, found in records.items() if found is not None}
+    faults = [f"{name}: {it} is recorded as {said}" for name, found in current.items() for it, said in found.items() if said != verdicts.REFUSED]
+    passed = sum(map(all_refused, current.values()))
+    again = verdicts.sample(verdicts.seed(), current, {it: below(it) for it in names})
+    work = [(f"{name}: {len(words)} recorded bodies again", name, chosen(name, words, False), None) for name, words in again.items()]
+    work += [(f"{name}: no record of these sources", name, verdicts.edits_of(name), deadline) for name in names if name not in current]
+    for why, name, edits, until in work:
+        print(f"== {why}", flush=True)
+        refused, wrong = check_crate(name, edits, given, room, until)
+        passed += refused
+        faults += wrong
+    return passed, faults
+
+
+def try_named(given, room):
+    """Tries edits of one crate, and gives the status."""
+    if not given.names:
+        sys.exit("of which crate?")
+    name, *words = given.names
+    edits = chosen(name, [it.removesuffix(".edit") for it in words], given.all)
+    try:
+        found = try_all(name, edits, given.jobs, given.together, room) if edits else {}
+    except NotProved as why:
+        print(why)
+        return 2
+    print(summed(found))
+    return 0 if all_refused(found) else 1
 
 
 def main():
     asked = argparse.ArgumentParser(description=__doc__.split("\n\n")[0])
-    asked.add_argument("name", help="the crate")
-    asked.add_argument("edits", nargs="*", metavar="EDIT", help="names of edits, without .edit; none: all of wrong-bodies/")
+    asked.add_argument("names", nargs="*", metavar="NAME", help="the crate and edits of it, without .edit (none: all of wrong-bodies/); with --record crates")
     asked.add_argument("--all", action="store_true", help="the edits of must-fail/ too")
-    asked.add_argument("--jobs", type=int, default=1, metavar="N", help="checks that run side by side (1)")
+    asked.add_argument("--record", action="store_true", help="write the records of these crates, or of all")
+    asked.add_argument("--dry-run", action="store_true", help="with --record: say only what would be tried")
+    asked.add_argument("--check", action="store_true", help="check the records of all crates")
+    asked.add_argument("--minutes", type=int, default=60, metavar="N", help="with --check: begin no check of a crate with no record after so many minutes (60)")
+    asked.add_argument("--jobs", type=int, metavar="N", help="checks that run side by side (1, with --check one for each processor)")
     asked.add_argument("--together", type=int, default=8, metavar="N", help="edits that one check tries at most (8)")
     given = asked.parse_args()
-    edits = chosen(given.name, [it.removesuffix(".edit") for it in given.edits], given.all)
-    jobs = max(1, min(given.jobs, len(edits)))
+    given.jobs = max(1, given.jobs or (os.cpu_count() if given.check else 1))
     with tempfile.TemporaryDirectory(prefix="wrong-bodies-") as room:
-        counts = try_all(given.name, edits, jobs, given.together, Path(room)) if edits else {"refused": 0, "PROVED": 0, "not judged": 0}
-    print(f"{counts['refused']} refused, {counts['PROVED']} proved, {counts['not judged']} not judged")
-    sys.exit(1 if counts["PROVED"] or counts["not judged"] else 0)
+        sys.exit(done(given, Path(room)))
+
+
+def done(given, room):
+    """Does what is asked, and gives the status."""
+    if given.check:
+        passed, faults = check_records(given, room)
+        print(*faults, sep="\n", end="\n" if faults else "")
+        print(f"{passed} passed, {len(faults)} failed")
+        return 1 if faults else 0
+    if given.record:
+        known = verdicts.crates_with_bodies()
+        unknown = set(given.names) - set(known)
+        if unknown:
+            sys.exit(f"no wrong bodies of {', '.join(sorted(unknown))}")
+        return 0 if record([it for it in known if not given.names or it in given.names], given, room) else 1
+    return try_named(given, room)
 
 
 if __name__ == "__main__":

@@ -1,0 +1,103 @@
+#!/usr/bin/env python3
+"""Tries how tools/try_wrong_bodies.py reads what the prover prints, and how records are written, read and sampled.
+
+usage: tools/check_verdicts.py
+
+Prints what is wrong, and a last line 'N passed, M failed'; the status is 1 where something failed.
+"""
+
+import sys
+
+import verdicts
+from functions import refused_function
+from try_wrong_bodies import judged, told
+
+NOT_PROVED = "logic=not-proved"
+SEARCHED = "note: src/reader.rt:5:1: it is not proved that what the function ensures holds when it returns (`returns`)"
+DIFFERS = """./proofs/reader/read/Answers.antt:34:94: error: `returns`: as printed, the two types first differ where one has `◌*◌`
+  (expected), right after `◌<◌ (`, and the other has `◌+◌` (found)
+  expected type `◌<◌ (◌*◌ 3 c.w) c.len`
+  but this has type `◌<◌ (◌+◌ 3 c.w) c.len`
+./proofs/reader/read/Answers.antt:25:5: note: the two sides may simply be different"""
+TRIVIAL = """./proofs/reader/read/Answers.antt:34:94: error: `returns`: as printed, the two types first differ where one has `Unit {0}`
+  (expected) and the other has `◌≡◌` (found)
+  expected type `Unit {0}`
+  but this has type `◌≡◌ c.w c.h`"""
+BARE = "proofs/reader/read/Answers.antt:34:94: error: `returns`: expected type Unit {0}"
+FOUND_UNIT = """./proofs/reader/read/Answers.antt:34:94: error: `returns`: the two types differ
+  expected type `◌≡◌ c.w c.h`
+  but this has type `Unit {0}`"""
+INNER_UNIT = """./proofs/reader/read/Answers.antt:34:94: error: `returns`: the two types differ
+  expected type `Unit {0} × ◌≡◌ c.w c.h`
+  but this has type `Unit {0}`"""
+GONE = "./proofs/reader/read/Answers.antt:9:4: error: `returns`: `c` has no field `w`"
+ABSENT = "src/reader.rt:7:3: error: `side` is not in scope"
+SOURCE = "pub fn read(\n    side: u32,\n) -> u32 {\n    side\n    // a line\n}\n\nfn other() {\n    1\n}\n"
+
+# What a check printed, its status, and what that says of the body.
+CASES = (
+    ("a goal that search does not prove", SEARCHED, 1, "refused"),
+    ("an answer that does not fit", DIFFERS, 1, "refused"),
+    ("an answer of a trivial goal", TRIVIAL, 1, "not judged"),
+    ("an answer of a trivial goal, on one line", BARE, 1, "not judged"),
+    ("an answer that gives Unit where more is wanted", FOUND_UNIT, 1, "refused"),
+    ("an answer of a pair with Unit in it", INNER_UNIT, 1, "refused"),
+    ("an answer of a trivial goal, and a false goal after it", f"{TRIVIAL}\n{DIFFERS}", 1, "refused"),
+    ("an answer of a trivial goal, and a false goal before it", f"{SEARCHED}\n{TRIVIAL}", 1, "refused"),
+    ("an answer that names what is gone", GONE, 1, "not judged"),
+    ("both kinds of answer alone", f"{GONE}\n{TRIVIAL}", 1, "not judged"),
+    ("a text that cannot be read", ABSENT, 1, "not judged"),
+    ("a proved crate", "logic=proved", 0, "PROVED"),
+    ("a check that was stopped", "Killed", 137, "not judged"),
+)
+
+
+def faults_of_parsing():
+    """A line for each thing that is looked at: None, or what is wrong with it."""
+    for what, printed, status, wanted in CASES:
+        lines = [*printed.split("\n"), *[NOT_PROVED] * (status == 1)]
+        said, why = judged(status, lines, {"src/reader.rt": SOURCE})
+        yield None if said == wanted else f"{what}: {said} ({why}), not {wanted}"
+    texts = {"src/reader.rt": SOURCE}
+    for printed, wanted in ((SEARCHED, "read"), (DIFFERS, "read"), (SEARCHED.replace(":5:", ":9:"), "other"), ("help: no place", None)):
+        found = [refused_function(it, texts) for it in told(printed.split("\n"))]
+        yield None if found == [wanted] * bool(wanted) else f"{printed}: refuses {found}, not {wanted}"
+    yield None if len(told(f"{TRIVIAL}\nlogic: x\n  set in".split("\n"))[0].split("\n")) == 4 else "a line that is set in goes to the wrong place"
+
+
+def faults_of_records():
+    """As faults_of_parsing."""
+    said = {"b": "refused", "a": "PROVED", "c": "not judged"}
+    text = verdicts.written("12ab", said)
+    yield None if text == "sources: 12ab\na: PROVED\nb: refused\nc: not judged\n" else f"a record reads {text!r}"
+    yield None if verdicts.read(text) == ("12ab", said) else "a record is not read as it was written"
+    for bad in ("", "a: refused\n", "sources: 1\na\n", "sources: 1\na: refused\na: PROVED\n"):
+        yield None if verdicts.read(bad) is None else f"{bad!r} is read as a record"
+
+
+def faults_of_samples():
+    """As faults_of_parsing."""
+    records = {name: {f"{name}{number}": "refused" for number in range(size)} for name, size in (("low", 30), ("mid", 5), ("top", 40), ("side", 50))}
+    under = {"low": [], "mid": ["low"], "top": ["low", "mid"], "side": []}
+    firsts = set()
+    for begin in map(str, range(40)):
+        found = verdicts.sample(begin, records, under)
+        chosen = [it for names in found.values() for it in names]
+        good = len(chosen) == len(set(chosen)) == 24 and len(found) <= 3 and all(it in records[name] for name, names in found.items() for it in names)
+        yield None if good else f"the sample of {begin} is {found}"
+        yield None if found == verdicts.sample(begin, records, under) else f"the sample of {begin} is another the second time"
+        firsts |= set(found)
+    yield None if firsts == set(records) else f"samples are of {firsts} alone"
+    yield None if verdicts.sample("1", {}, under) == {} else "a sample of nothing"
+
+
+def main():
+    found = [*faults_of_parsing(), *faults_of_records(), *faults_of_samples()]
+    failures = [it for it in found if it]
+    print(*failures, sep="\n", end="\n" if failures else "")
+    print(f"{len(found) - len(failures)} passed, {len(failures)} failed")
+    sys.exit(1 if failures else 0)
+
+
+if __name__ == "__main__":
+    main()
