@@ -78,7 +78,10 @@ def faults_of_bodies():
 
 
 def exists(word, page):
-    """Whether a path that a page names is there: NAME and * stand for any name, CALLER for any path; a part of a crate may be of any crate."""
+    """Whether a path that a page names is there: NAME and * stand for any name, CALLER for any path; a part of a crate may be of any crate.
+    What is built may be missing."""
+    if "out" in word.split("/"):
+        return True
     pattern = word.replace("NAME", "*").replace("CALLER", "**").rstrip("/")
     if word.split("/")[0] in PARTS:
         folders = [page.parent] if page.parent.parent == CRATES else [it for it in CRATES.iterdir() if it.is_dir()]
