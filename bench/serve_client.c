@@ -4,8 +4,9 @@
 //                                                          with A_SECOND each sends so many a second
 //   serve_client echo PORT BYTES                           a thread for each connection: answers each line with BYTES bytes
 //
-// WHAT is points, edits (poses), tiles, same or beside. Pictures are as large as a tile: `tiles` are 2,048 windows about the page's origin in
-// turn; of `same` there are 64 in all, of which each client asks for eight in turn; `beside` is the same away from the page's first tiles.
+// WHAT is points, edits (poses), tiles, ahead, same or beside. Pictures are as large as a tile: `tiles` are 2,048 windows about the page's origin in
+// turn, and so are those of `ahead`, whose clients each have eight more requests on their way; of `same` there are 64 in all, of which each client asks
+// for eight in turn; `beside` is the same away from the page's first tiles.
 //
 // `ask` prints a line: requests a second, and the times that half and 99 of 100 requests do not exceed, in microseconds.
 #define _GNU_SOURCE
@@ -20,7 +21,7 @@
 #include <time.h>
 #include <unistd.h>
 
-enum { MOST_CLIENTS = 64, MOST_TIMES = 1 << 24, ROOM = 1 << 18 };
+enum { MOST_CLIENTS = 64, MOST_TIMES = 1 << 24, ROOM = 1 << 18, HEAD = 1 << 12, AHEAD = 8 };
 
 typedef struct {
     pthread_t thread;
@@ -65,11 +66,11 @@ static int connect_to(int port) {
     return fd;
 }
 
-// Reads one reply, its line and its body.
+// Reads one reply, its line and its body, and nothing of a reply behind it: one with a body is longer than HEAD.
 static void read_reply(int fd, char *room) {
     size_t have = 0, want = 0;
     while (want == 0 || have < want) {
-        ssize_t got = read(fd, room + have, ROOM - have);
+        ssize_t got = read(fd, room + have, (want == 0 ? HEAD : want) - have);
         if (got <= 0) stop("read");
         have += got;
         char *end = want == 0 ? memchr(room, '\n', have) : NULL;
@@ -88,7 +89,7 @@ static int window_at(char *line, long x, long y) {
 
 static int request_of(const Client *client, size_t n, char *line) {
     if (strcmp(client->what, "points") == 0) return sprintf(line, "{\"verb\":\"point\",\"x\":%zu,\"y\":%zu}\n", n % 211, n % 199);
-    if (strcmp(client->what, "tiles") == 0) return window_at(line, n % 2 * 256 - n / 2 % 32, -(n / 64 % 32));
+    if (strcmp(client->what, "tiles") == 0 || strcmp(client->what, "ahead") == 0) return window_at(line, n % 2 * 256 - n / 2 % 32, -(n / 64 % 32));
     if (strcmp(client->what, "same") == 0) return window_at(line, n % 2 * 256 - n / 2 % 4, -(client->number % 8));
     if (strcmp(client->what, "beside") == 0) return window_at(line, 256 + n % 8 * 256, 256 + client->number % 8 * 256);
     return sprintf(line, "{\"verb\":\"pose\",\"id\":%d,\"pose\":{\"dx\":%zu}}\n", 1 + client->number % 10, n % 200);
@@ -99,6 +100,7 @@ static void *run_client(void *argument) {
     char line[128], *room = malloc(ROOM);
     int fd = connect_to(client->port);
     double end = now() + client->seconds, next = now() + client->number * 0.0007;
+    for (size_t n = 0; strcmp(client->what, "ahead") == 0 && n < AHEAD; n++) send_all(fd, line, request_of(client, n, line));
     for (size_t n = 0; client->count < MOST_TIMES / MOST_CLIENTS; n++) {
         if (client->pace > 0) {
             double wait = next - now();
@@ -187,6 +189,6 @@ int main(int count, char **words) {
         echo(atoi(words[2]), strtoul(words[3], NULL, 10));
         return 1;
     }
-    fputs("usage: serve_client ask PORT points|edits|tiles|same|beside CLIENTS SECONDS [A_SECOND] | echo PORT BYTES\n", stderr);
+    fputs("usage: serve_client ask PORT points|edits|tiles|ahead|same|beside CLIENTS SECONDS [A_SECOND] | echo PORT BYTES\n", stderr);
     return 2;
 }
