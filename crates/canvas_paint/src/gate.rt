@@ -8,9 +8,13 @@ pub trait Gate {
     // The strips that may come to the gate.
     ghost admits: { Self → ℕ → Type 0 };
 
+    // What holds once a strip has passed. Only a call of `pass` tells it of a gate whose type is not known.
+    ghost passed: { Self → ℕ → Type 0 };
+
     /// Returns when the strip of this number, counted from 0, may be painted.
     fn pass(&self, strip: u32)
-        requires { admits self.now strip };
+        requires { admits self.now strip }
+        ensures passed { passed self.now strip };
 }
 
 /// Lets each worker pass at once.
@@ -19,6 +23,8 @@ pub struct FreeGate;
 
 impl Gate for FreeGate {
     ghost admits = { λ _ _. Unit {0} };
+
+    ghost passed = { λ _ _. Unit {0} };
 
     fn pass(&self, _strip: u32) {}
 }
@@ -33,6 +39,8 @@ impl Gate for GateFor {
     ghost use Rattle.std.specs.Prelude.{◌<◌};
 
     ghost admits = { λ gate strip. strip < gate.workers };
+
+    ghost passed = { λ _ _. Unit {0} };
 
     fn pass(&self, _strip: u32) {}
 }

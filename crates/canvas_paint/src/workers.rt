@@ -29,7 +29,8 @@ fn gated_strip<G: Gate>(
 ) -> Result<Vec<u8>, OutOfMemory>
     requires strip { k < n }
     requires admitted { G.admits gate.now k }
-    ensures { IfOk result (λ bytes. IsStrip items.now window.now k n bytes.items) }
+    ensures strip { IfOk result (λ bytes. IsStrip items.now window.now k n bytes.items) }
+    ensures passed { G.passed gate.now k }
 {
     gate.pass(k);
     let (first, end) = strip_rows(window.h(), k, n);
@@ -48,6 +49,7 @@ fn painted_strips<R: Threads + Sync, G: Gate + Sync>(
     requires { (k : ℕ) → k < n → G.admits gate.now k }
     ensures len { IfOk result (λ strips. vec_len strips ≡ n) }
     ensures each { IfOk result (λ strips. AreStrips items.now window.now n strips.items) }
+    ensures passed { OnOk result ((k : ℕ) → k < n → G.passed gate.now k) }
 {
     let strips = thread::map_indices(
         rt,
@@ -72,6 +74,7 @@ fn append_strips<R: Threads + Sync, G: Gate + Sync>(
     requires admitted { (k : ℕ) → k < n → G.admits gate.now k }
     ensures ok { OnOk result (out.new.items ≡ out.old.items ++ rows_of (last_colour items.now) window.now 0 window.now.h) }
     ensures kept { take (length out.old.items) out.new.items ≡ out.old.items }
+    ensures passed { OnOk result ((k : ℕ) → k < n → G.passed gate.now k) }
 {
     let strips = painted_strips(rt, alloc, items, window, n, gate)?;
     for strip in &strips {
@@ -98,6 +101,7 @@ fn append_painted<R: Threads + Sync, G: Gate + Sync>(
     requires admitted { (k : ℕ) → k < workers → G.admits gate.now k }
     ensures ok { OnOk result (out.new.items ≡ out.old.items ++ rows_of (last_colour items.now) window.now 0 window.now.h) }
     ensures err { OnErr result (out.new.items ≡ out.old.items) }
+    ensures passed { OnOk result ((k : ℕ) → k < workers → G.passed gate.now k) }
 {
     let (width, rows) = (window.w(), window.h());
     if workers == 1 {
@@ -121,6 +125,7 @@ fn append_painted<R: Threads + Sync, G: Gate + Sync>(
 /// A picture has one strip for each worker, with the rows of `strip_rows`, which may be none. Each
 /// passes the gate with its number, which is below the number of workers, and is then painted: the
 /// last by the caller, the others each by a thread of their own. All have ended when this returns.
+/// Where it returns a picture, all have passed.
 pub fn paint<R: Threads + Sync, G: Gate + Sync>(
     rt: &R,
     alloc: Global,
@@ -131,6 +136,7 @@ pub fn paint<R: Threads + Sync, G: Gate + Sync>(
 ) -> Result<Vec<u8>, PaintFault>
     requires { (k : ℕ) → k < workers → G.admits gate.now k }
     ensures raster { IfOk result (λ raster. raster.items ≡ rows_of (last_colour items.now) window.now 0 window.now.h) }
+    ensures passed { OnOk result ((k : ℕ) → k < workers → G.passed gate.now k) }
     ensures refused { MatchBool (are_workers workers) (IfErr result (λ fault. fault ≡ PaintFault.OutOfMemory)) (result ≡ Err BadWorkers) }
 {
     if workers < 1 || 16 < workers {

@@ -20,6 +20,8 @@ struct Counting {
 impl Gate for Counting {
     ghost admits = { λ _ _. Unit {0} };
 
+    ghost passed = { λ _ _. Unit {0} };
+
     fn pass(&self, strip: u32) {
         let passed = self.passed.get(strip as usize).unwrap_or(&self.others);
         passed.fetch_add(1, Ordering::SeqCst);

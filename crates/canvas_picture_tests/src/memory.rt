@@ -70,6 +70,8 @@ struct Slow<'a, C> {
 impl<C: Clock> Gate for Slow<'_, C> {
     ghost admits = { λ _ _. Unit {0} };
 
+    ghost passed = { λ _ _. Unit {0} };
+
     fn pass(&self, strip: u32) {
         if strip == 0 {
             thread::sleep(self.clock, Duration::from_millis(5));

@@ -187,6 +187,8 @@ struct Meeting<'a, C> {
 impl<C: Clock> Gate for Meeting<'_, C> {
     ghost admits = { λ _ _. Unit {0} };
 
+    ghost passed = { λ _ _. Unit {0} };
+
     fn pass(&self, strip: u32) {
         if let Some(mine) = self.come.get(strip as usize) {
             mine.store(1, Ordering::SeqCst);

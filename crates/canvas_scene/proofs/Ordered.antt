@@ -3,6 +3,7 @@ use Rattle.std.proofs.Common.{◌≡◌, ℕ, List, [], ◌∷◌, ◌++◌, Boo
 use Rattle.std.specs.Prelude.{not}
 use Rattle.std.specs.Ordering.{int_eq}
 use Rattle.std.proofs.lemmas.Int.{ints}
+use Rattle.std.proofs.lemmas.Slice.Eq.{bytes_eq-Decides}
 use Rattle.std.proofs.lemmas.List.{map-append, reverse-append, reverse-reverse}
 use mathlib.Core.Path.{fun_ext}
 use Rattle.canvas_plane.specs.declared.PageBox.{PageBox}
@@ -18,7 +19,7 @@ use Rattle.canvas_record.specs.Children.{IsPartOf, children}
 use Rattle.canvas_record.specs.Contents.{is_container}
 use Rattle.canvas_paint.specs.declared.item.Item.{Item}
 use Rattle.canvas_scene.specs.declared.nodes.Node.{Node}
-use Rattle.canvas_scene.specs.Trees.{are_in_order, AreNodesOf, clip_of, is_back_of, is_branch_of, is_leaf_of, is_node_of, is_same_box, IsOneMore, Test}
+use Rattle.canvas_scene.specs.Trees.{are_in_order, AreNodesOf, clip_of, fill_of, is_back_of, is_branch_of, is_filled_by, is_leaf_of, is_node_of, is_same_box, IsOneMore, Test}
 
 both : (p q : Bool) → p ≡ true → q ≡ true → (p && q) ≡ true
 both true q e f = f
@@ -52,6 +53,9 @@ same b = both (int_eq b.left b.left && int_eq b.top b.top) (int_eq b.right b.rig
 
 same-box : (a b : PageBox) → a ≡ b → is_same_box a b ≡ true
 same-box a b e = ap (λ c. is_same_box c b) e ∙ same b
+
+same-fill : (c : Colour) (fill : Option Colour) → fill ≡ Some c → is_filled_by c fill ≡ true
+same-fill c fill e = ap (is_filled_by c) e ∙ (bytes_eq-Decides c.0 c.0).1 refl
 
 -- ---- the order of nodes
 
@@ -127,17 +131,19 @@ nodes-none rs parent out clip nodes e = ap (λ l. are_in_order out clip (reverse
 -- ---- the node of a record
 
 -- a leaf's
-one-leaf : (rs : List Record) (r : Record) (out : Point → Point) (clip : PageBox) (nodes news : List Node) → is_container r.kind ≡ false → IsOneMore (λ node. (ss : List Record) → is_node_of ss node ≡ is_leaf_of clip) nodes news → IsOneMore (λ node. is_node_of rs node r out clip ≡ true) nodes news
-one-leaf rs r out clip nodes news k one = record {
+one-leaf : (rs : List Record) (r : Record) (out : Point → Point) (clip : PageBox) (fill : Colour) (nodes news : List Node) → is_container r.kind ≡ false → fill_of r.kind ≡ Some fill → IsOneMore (λ node. (ss : List Record) → is_node_of ss node ≡ is_leaf_of clip fill) nodes news → IsOneMore (λ node. is_node_of rs node r out clip ≡ true) nodes news
+one-leaf rs r out clip fill nodes news k f one = record {
   node = one.node;
   is = one.is;
-  has = ap (λ (n : Test). n r out clip) (one.has rs) ∙ both (not (is_container r.kind)) (is_same_box clip clip) (none-not (is_container r.kind) k) (same clip);
+  has = ap (λ (n : Test). n r out clip) (one.has rs)
+      ∙ both (not (is_container r.kind) && is_same_box clip clip) (is_filled_by fill (fill_of r.kind))
+      (both (not (is_container r.kind)) (is_same_box clip clip) (none-not (is_container r.kind) k) (same clip)) (same-fill fill (fill_of r.kind) f);
 }
 
 -- the same where a call gave it
-pub leaf-added : {A E : Type 0} (result : Result A E) (rs : List Record) (r : Record) (out : Point → Point) (clip : PageBox) (nodes news : List Node) → is_container r.kind ≡ false → OnOk result (IsOneMore (λ node. (ss : List Record) → is_node_of ss node ≡ is_leaf_of clip) nodes news) → OnOk result (IsOneMore (λ node. is_node_of rs node r out clip ≡ true) nodes news)
-leaf-added (Ok v) rs r out clip nodes news k one = one-leaf rs r out clip nodes news k one
-leaf-added (Err e) rs r out clip nodes news k t = t
+pub leaf-added : {A E : Type 0} (result : Result A E) (rs : List Record) (r : Record) (out : Point → Point) (clip : PageBox) (fill : Colour) (nodes news : List Node) → is_container r.kind ≡ false → fill_of r.kind ≡ Some fill → OnOk result (IsOneMore (λ node. (ss : List Record) → is_node_of ss node ≡ is_leaf_of clip fill) nodes news) → OnOk result (IsOneMore (λ node. is_node_of rs node r out clip ≡ true) nodes news)
+leaf-added (Ok v) rs r out clip fill nodes news k f one = one-leaf rs r out clip fill nodes news k f one
+leaf-added (Err e) rs r out clip fill nodes news k f t = t
 
 -- a group's or a frame's
 pub is-branch : (rs : List Record) (r : Record) (page : Point → Point) (outer clip : PageBox) (back : Option Item) (nodes : List Node) (node : Node) → is_node_of rs node ≡ is_branch_of rs clip back (map (is_node_of rs) nodes) → is_container r.kind ≡ true → clip ≡ clip_of r.kind page outer → is_back_of back r.kind outer ≡ true → AreNodesOf rs (Shape r.id) page clip nodes → is_node_of rs node r page outer ≡ true
@@ -147,6 +153,6 @@ is-branch rs r page outer clip back nodes node e k c b h =
     (both (is_container r.kind && is_same_box clip (clip_of r.kind page outer)) (is_back_of back r.kind outer) (both (is_container r.kind) (is_same_box clip (clip_of r.kind page outer)) k (same-box clip (clip_of r.kind page outer) c)) b) h
 
 -- a frame's own item
-pub frame-back : (back : Option Item) (w h : ℕ) (fill : Option Colour) (outer : PageBox) → IfSome back (λ i. i.clip ≡ outer) → is_back_of back (Frame w h fill) outer ≡ true
-frame-back None w h fill outer e = refl
-frame-back (Some i) w h fill outer e = same-box i.clip outer e
+pub frame-back : (back : Option Item) (w h : ℕ) (fill : Option Colour) (outer : PageBox) → IfSome back (λ i. i.clip ≡ outer) → IfSome back (λ i. fill ≡ Some i.fill) → is_back_of back (Frame w h fill) outer ≡ true
+frame-back None w h fill outer e f = refl
+frame-back (Some i) w h fill outer e f = both (is_same_box i.clip outer) (is_filled_by i.fill fill) (same-box i.clip outer e) (same-fill i.fill fill f)

@@ -1,11 +1,13 @@
 -- The tree of a scene against the document's: whose node each is, and what its clip leaves of the page.
 use Rattle.std.specs.Prelude.{◌≡◌, List, [], ◌∷◌, ◌++◌, map, reverse, Bool, true, false, ◌&&◌, ◌||◌, not, Option, Some, None}
 use Rattle.std.specs.Ordering.{int_eq}
+use Rattle.std.specs.Str.{bytes_eq}
 use Rattle.canvas_plane.specs.declared.PageBox.{PageBox}
 use Rattle.canvas_plane.specs.declared.Point.{Point}
 use Rattle.canvas_plane.specs.Motion.{carry}
 use Rattle.canvas_plane.specs.Page.{meet_of}
 use Rattle.canvas_shape.specs.Box.{box_of}
+use Rattle.canvas_shape.specs.declared.Colour.{Colour}
 use Rattle.canvas_shape.specs.declared.Kind.{Kind}
 use Rattle.canvas_shape.specs.declared.Kind.TheVariants.{Group, Frame, Rect, Ellipse, Polygon}
 use Rattle.canvas_record.specs.declared.records.Parent.{Parent}
@@ -30,10 +32,23 @@ clip_of (Rect w h fill) page outer = outer
 clip_of (Ellipse w h fill) page outer = outer
 clip_of (Polygon points fill) page outer = outer
 
--- an item of a branch's own is a frame's, under the parent's clip
+-- the fill of a kind, if it has one
+abbrev pub fill_of : Kind → Option Colour
+fill_of Group = None
+fill_of (Frame w h fill) = fill
+fill_of (Rect w h fill) = Some fill
+fill_of (Ellipse w h fill) = Some fill
+fill_of (Polygon points fill) = Some fill
+
+-- there is a fill, and it is this colour
+abbrev pub is_filled_by : Colour → Option Colour → Bool
+is_filled_by c None = false
+is_filled_by c (Some fill) = bytes_eq c.0 fill.0
+
+-- an item of a branch's own is a frame's, in its fill and under the parent's clip
 abbrev pub is_back_of : Option Item → Kind → PageBox → Bool
 is_back_of None kind outer = true
-is_back_of (Some i) (Frame w h fill) outer = is_same_box i.clip outer
+is_back_of (Some i) (Frame w h fill) outer = is_same_box i.clip outer && is_filled_by i.fill fill
 is_back_of (Some i) Group outer = false
 is_back_of (Some i) (Rect w h fill) outer = false
 is_back_of (Some i) (Ellipse w h fill) outer = false
@@ -49,9 +64,9 @@ are_in_order out clip [] rs = true
 are_in_order out clip (n ∷ ns) [] = false
 are_in_order out clip (n ∷ ns) (r ∷ rs) = ((not r.hidden && n r (λ q. out (carry r.pose q)) clip) && are_in_order out clip ns rs) || are_in_order out clip (n ∷ ns) rs
 
--- the node of a leaf, whose item has this clip
-abbrev pub is_leaf_of : PageBox → Record → (Point → Point) → PageBox → Bool
-is_leaf_of clip r page outer = not (is_container r.kind) && is_same_box clip outer
+-- the node of a leaf, whose item has this clip and this colour: the parent's clip and the record's fill
+abbrev pub is_leaf_of : PageBox → Colour → Record → (Point → Point) → PageBox → Bool
+is_leaf_of clip colour r page outer = (not (is_container r.kind) && is_same_box clip outer) && is_filled_by colour (fill_of r.kind)
 
 -- the node of a group or a frame: its clip is what the record leaves of the parent's, and its children, from front to back, are the record's under that clip
 abbrev pub is_branch_of : List Record → PageBox → Option Item → List Test → Record → (Point → Point) → PageBox → Bool
@@ -59,7 +74,7 @@ is_branch_of rs clip back nodes r page outer =
     ((is_container r.kind && is_same_box clip (clip_of r.kind page outer)) && is_back_of back r.kind outer) && are_in_order page clip (reverse nodes) (children (Shape r.id) rs)
 
 abbrev pub node_step : List Record → Node-F Test → Test
-node_step rs (Leaf i) = is_leaf_of i.clip
+node_step rs (Leaf i) = is_leaf_of i.clip i.fill
 node_step rs (Branch clip back nodes) = is_branch_of rs clip back nodes.now
 
 -- the node is that of a record of the document

@@ -31,7 +31,7 @@ pub enum Node<'a> {
 pub(crate) fn leaf<'a>(item: Item<'a>) -> Node<'a>
     ensures items { items_of result ≡ item.entry ∷ [] }
     ensures pixels { (x y : ℤ) → at_pixel x y result ≡ leaf_at x y item.entry }
-    ensures tree { (rs : List Record) → is_node_of rs result ≡ is_leaf_of item.entry.clip }
+    ensures tree { (rs : List Record) → is_node_of rs result ≡ is_leaf_of item.entry.clip item.entry.fill }
 {
     Node::Leaf(item)
 }

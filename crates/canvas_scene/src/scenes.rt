@@ -30,12 +30,9 @@ pub struct Scene<'a> {
 
 impl<'a> Scene<'a> {
     /// The scene of a document in a window, right at each of the page's pixels in the box that the
-    /// window covers, shown or not. These make no item: what is hidden, what has no common pixel
-    /// with its clip and that box, what of the box lies wholly within what one rectangle in front
-    /// of it shows there, and what touches only cells of the box that each lie wholly within what
-    /// one such rectangle shows. Cells are squares of 8 by 8 of the window's pixels, so of
-    /// 8 * 2^level by 8 * 2^level of the page's, from the box's left top corner on, cut by it. Want
-    /// of memory is the only refusal.
+    /// window covers, shown or not: the last item that holds such a pixel has its colour. What is
+    /// hidden makes no node. What cannot be seen in that box may be left out: the crate's README
+    /// tells what is, and no clause does. Want of memory is the only refusal.
     pub fn build(
         bump: &'a Bump,
         document: &Document,

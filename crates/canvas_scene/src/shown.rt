@@ -107,6 +107,7 @@ impl<'a> Shown<'a> {
         ensures fills { IfOk result (λ item. (x y : ℤ) → first_fill self.new x y ≡ or_else (first_fill self.old x y) (seen (is_in clip.now x y) (seen (carried_holds leaf.entry x y) (Some fill)))) }
         ensures items { IfOk result (λ item. self.new ≡ self.old ++ item ∷ []) }
         ensures clip { IfOk result (λ item. item.clip ≡ clip.now) }
+        ensures fill { IfOk result (λ item. item.fill ≡ fill) }
     {
         let item = Item {
             leaf,

@@ -192,6 +192,7 @@ fn back_of<'a>(
     ensures fills { IfOk result (λ back. (x y : ℤ) → first_fill shown.new x y ≡ or_else (first_fill shown.old x y) (seen (is_in clip.now x y) (seen (carried_holds leaf.entry x y) fill))) }
     ensures items { IfOk result (λ back. shown.new ≡ shown.old ++ back_item back) }
     ensures clip { IfOk result (λ back. IfSome back (λ i. i.clip ≡ clip.now)) }
+    ensures fill { IfOk result (λ back. IfSome back (λ i. fill ≡ Some i.fill)) }
 {
     let Some(fill) = fill else {
         return Ok(None);
@@ -214,7 +215,7 @@ fn add_leaf<'a>(
     ensures fills { OnOk result ((x y : ℤ) → first_fill shown.new x y ≡ or_else (first_fill shown.old x y) (seen (is_in clip.now x y) (seen (carried_holds shape.entry x y) (Some fill)))) }
     ensures items { OnOk result ((start : List Item) → AreShown start shown.old nodes.old.items → AreShown start shown.new nodes.new.items) }
     ensures clips { OnOk result (All (IsClipped clip.now) nodes.old.items → All (IsClipped clip.now) nodes.new.items) }
-    ensures tree { OnOk result (IsOneMore (λ node. (rs : List Record) → is_node_of rs node ≡ is_leaf_of clip.now) nodes.old.items nodes.new.items) }
+    ensures tree { OnOk result (IsOneMore (λ node. (rs : List Record) → is_node_of rs node ≡ is_leaf_of clip.now fill) nodes.old.items nodes.new.items) }
 {
     let item = shown.add(shape, clip, fill)?;
     keep(nodes, leaf(item))

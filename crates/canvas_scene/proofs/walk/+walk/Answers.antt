@@ -12,7 +12,7 @@ use Rattle.canvas_scene.specs.declared.nodes.Node.{Node}
 use Rattle.canvas_scene.specs.Clips.{IsClipped}
 use Rattle.canvas_scene.specs.Covers.{first_fill}
 use Rattle.canvas_scene.specs.Nodes.{items_along, seen, shown_of, AreShown}
-use Rattle.canvas_scene.specs.Trees.{AreNodesOf, clip_of, is_back_of}
+use Rattle.canvas_scene.specs.Trees.{AreNodesOf, clip_of, fill_of, is_back_of}
 use Rattle.canvas_shape.specs.declared.Colour.{Colour}
 use Rattle.canvas_shape.specs.Leaves.{carried_holds}
 use Rattle.canvas_shape.specs.Edges.{is_in_polygon}
@@ -145,22 +145,22 @@ add_node-returns-in_ok-back-in-Frame-clause-tree t c =
       has = is-branch c.args.document.now.records c.args.shape.now page outer c.args.part.now c.in_ok-back-in-Frame.back c.in_ok-children-in-Frame.children.now c.branch-part.result (c.branch-part.ensures.tree c.args.document.now.records)
           container
           (c.requires.part container)
-          (ap (λ k. is_back_of c.in_ok-back-in-Frame.back k outer) c.in-Frame.is ∙ frame-back c.in_ok-back-in-Frame.back _ _ c.in-Frame.fill outer c.in_ok-back-in-Frame.ensures.clip)
+          (ap (λ k. is_back_of c.in_ok-back-in-Frame.back k outer) c.in-Frame.is ∙ frame-back c.in_ok-back-in-Frame.back _ _ c.in-Frame.fill outer c.in_ok-back-in-Frame.ensures.clip c.in_ok-back-in-Frame.ensures.fill)
           c.in_ok-children-in-Frame.ensures.tree;
     })
     c.keep-in-Frame.ensures.nodes
 
 pub add_node-returns-in-Rect-clause-tree : goal.add_node-returns-in-Rect-clause-tree
 add_node-returns-in-Rect-clause-tree t c =
-    leaf-added c.add_leaf.result c.args.document.now.records c.args.shape.now (carry c.args.page.now) c.args.clip.now _ _ (ap is_container c.in-Rect.is) c.add_leaf.ensures.tree
+    leaf-added c.add_leaf.result c.args.document.now.records c.args.shape.now (carry c.args.page.now) c.args.clip.now c.in-Rect.fill _ _ (ap is_container c.in-Rect.is) (ap fill_of c.in-Rect.is) c.add_leaf.ensures.tree
 
 pub add_node-returns-in-Ellipse-clause-tree : goal.add_node-returns-in-Ellipse-clause-tree
 add_node-returns-in-Ellipse-clause-tree t c =
-    leaf-added c.add_leaf-in-Ellipse.result c.args.document.now.records c.args.shape.now (carry c.args.page.now) c.args.clip.now _ _ (ap is_container c.in-Ellipse.is) c.add_leaf-in-Ellipse.ensures.tree
+    leaf-added c.add_leaf-in-Ellipse.result c.args.document.now.records c.args.shape.now (carry c.args.page.now) c.args.clip.now c.in-Ellipse.fill _ _ (ap is_container c.in-Ellipse.is) (ap fill_of c.in-Ellipse.is) c.add_leaf-in-Ellipse.ensures.tree
 
 pub add_node-returns-in_ok-vertices-in-Polygon-clause-tree : goal.add_node-returns-in_ok-vertices-in-Polygon-clause-tree
 add_node-returns-in_ok-vertices-in-Polygon-clause-tree t c =
-    leaf-added c.add_leaf-in-Polygon.result c.args.document.now.records c.args.shape.now (carry c.args.page.now) c.args.clip.now _ _ (ap is_container c.in-Polygon.is) c.add_leaf-in-Polygon.ensures.tree
+    leaf-added c.add_leaf-in-Polygon.result c.args.document.now.records c.args.shape.now (carry c.args.page.now) c.args.clip.now c.in-Polygon.fill _ _ (ap is_container c.in-Polygon.is) (ap fill_of c.in-Polygon.is) c.add_leaf-in-Polygon.ensures.tree
 
 pub add_node-returns-in_ok-children-in-Group-clause-clips : goal.add_node-returns-in_ok-children-in-Group-clause-clips
 add_node-returns-in_ok-children-in-Group-clause-clips t c =

@@ -29,7 +29,10 @@ returns-clause-tree c =
     (λ e. record {
       node = c.leaf.result;
       is = e;
-      has = λ rs. c.leaf.ensures.tree rs ∙ ap is_leaf_of c.in_ok-item.ensures.clip;
+      has = λ rs.
+          c.leaf.ensures.tree rs
+          ∙ ap (λ b. is_leaf_of b c.in_ok-item.item.fill) c.in_ok-item.ensures.clip
+          ∙ ap (is_leaf_of c.args.clip.now) c.in_ok-item.ensures.fill;
     })
     c.keep.ensures.nodes
 
