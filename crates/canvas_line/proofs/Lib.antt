@@ -7,3 +7,6 @@ pub mod Versions
 pub mod Knowing
 pub mod Looking
 pub mod Refusals
+pub mod Recording
+pub mod Taking
+pub mod Accepting

@@ -1,6 +1,7 @@
 pub mod Trails
 pub mod Books
 pub mod Recent
+pub mod Recording
 pub mod Standing
 pub mod Lines
 pub mod Rule

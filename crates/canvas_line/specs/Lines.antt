@@ -1,5 +1,5 @@
 -- What a desk and a seat are seen as, and what an edit does to a desk.
-use Rattle.std.specs.Prelude.{ℕ, ◌≡◌, ◌+◌, ◌<◌, ◌≤◌, List, [], ◌∷◌, ◌++◌, length, Result, Ok, Err, Some}
+use Rattle.std.specs.Prelude.{ℕ, ◌≡◌, ◌+◌, ◌<◌, ◌≤◌, List, [], ◌∷◌, ◌++◌, length, Result, Ok, Err, Option, Some, None}
 use Rattle.canvas_record.specs.declared.edits.Change.{Change}
 use Rattle.canvas_record.specs.declared.edits.Edit.{Edit}
 use Rattle.canvas_record.specs.Contents.{Contents}
@@ -11,16 +11,20 @@ use Rattle.canvas_line.specs.declared.version.Version.{Version}
 use Rattle.canvas_line.specs.declared.fault.Edited.{Edited}
 use Rattle.canvas_line.specs.declared.fault.LineFault.{LineFault}
 use Rattle.canvas_line.specs.declared.fault.LineFault.TheVariants as fault
+use Rattle.canvas_line.specs.declared.recorder.Taken.{Taken}
 use Rattle.canvas_line.specs.Recent.{last_64}
+use Rattle.canvas_line.specs.Recording.{MakesRest}
 use Rattle.canvas_line.specs.Standing.{Shown}
 use Rattle.canvas_line.specs.Trails.{Facts}
 
--- a line at its desk: its name, the document that it was opened with, how many changes it may accept, and those that it accepted
+-- a line at its desk: its name, the document that it was opened with, how many changes it may accept, and those that it accepted;
+-- where it records, the edits of how many of these were taken
 pub record Line : Type 0 where
   pub name : ℕ
   pub opening : Contents
   pub limit : ℕ
   pub history : List Change
+  pub taken : Option ℕ
 
 -- a line from a seat: the same, with the changes that the seat has seen
 pub record Sight : Type 0 where
@@ -30,13 +34,16 @@ pub record Sight : Type 0 where
   pub front : List Change
 
 abbrev pub with_history : Line → List Change → Line
-with_history l h = record { name = l.name; opening = l.opening; limit = l.limit; history = h }
+with_history l h = record { name = l.name; opening = l.opening; limit = l.limit; history = h; taken = l.taken }
+
+abbrev pub with_taken : Line → Option ℕ → Line
+with_taken l taken = record { name = l.name; opening = l.opening; limit = l.limit; history = l.history; taken = taken }
 
 abbrev pub with_front : Sight → List Change → Sight
 with_front s h = record { name = s.name; opening = s.opening; limit = s.limit; front = h }
 
-abbrev pub line_of : ℕ → Facts → List Change → Line
-line_of name f history = record { name = name; opening = f.opening; limit = f.limit; history = history }
+abbrev pub line_of : ℕ → Facts → List Change → Option ℕ → Line
+line_of name f history taken = record { name = name; opening = f.opening; limit = f.limit; history = history; taken = taken }
 
 abbrev pub sight_of : ℕ → Facts → List Change → Sight
 sight_of name f front = record { name = name; opening = f.opening; limit = f.limit; front = front }
@@ -80,3 +87,15 @@ Rightly opening limit h e fault.OutOfMemory = (c : Change) × (decision_of e (re
 Rightly opening limit h e fault.VersionsSpent = length h ≡ limit
 Rightly opening limit h e (fault.Refused why) = (length h < limit) × (decision_of e (replay_of opening h) ≡ Err why)
 Rightly opening limit h e _ = ⊥
+
+-- the line records from now on, if it did not before
+abbrev pub recording : Line → Option ℕ → Line
+recording l None = with_taken l (Some (length l.history))
+recording l (Some taken) = l
+
+-- what is pending is given, and counts as taken: with what was taken before it makes the history. A line that does not record
+-- gives nothing
+abbrev pub Takes : Line → Option Taken → Line → Type 0
+Takes l None m = (l.taken ≡ None) × (m ≡ l)
+Takes l (Some t) m =
+    (l.taken ≡ Some t.before) × MakesRest l.opening l.history t.before t.edits.items × (m ≡ with_taken l (Some (length l.history)))

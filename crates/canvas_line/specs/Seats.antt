@@ -1,5 +1,5 @@
 -- What a call does to a seat's front.
-use Rattle.std.specs.Prelude.{ℕ, ◌≡◌, ◌≢◌, ◌⊎◌, ◌<◌, ◌≤◌, ◌&&◌, nat_le, Bool, true, false, List, [], ◌∷◌, ◌++◌, length, Result, Ok, Err}
+use Rattle.std.specs.Prelude.{ℕ, ◌≡◌, ◌≢◌, ◌⊎◌, ◌<◌, ◌≤◌, ◌&&◌, nat_le, Bool, true, false, List, [], ◌∷◌, ◌++◌, length, Option, None, Some, Result, Ok, Err}
 use mathlib.Core.List.{IsPrefix}
 use Rattle.canvas_record.specs.declared.edits.Change.{Change}
 use Rattle.canvas_record.specs.declared.edits.Edit.{Edit}
@@ -10,6 +10,8 @@ use Rattle.canvas_line.specs.declared.version.Version.{Version}
 use Rattle.canvas_line.specs.declared.fault.Edited.{Edited}
 use Rattle.canvas_line.specs.declared.fault.LineFault.{LineFault}
 use Rattle.canvas_line.specs.declared.fault.LineFault.TheVariants as fault
+use Rattle.canvas_line.specs.declared.recorder.Taken.{Taken}
+use Rattle.canvas_line.specs.Recording.{MakesRest}
 use Rattle.canvas_line.specs.Standing.{IsVersionOf}
 use Rattle.canvas_line.specs.Lines.{Line, Sight, with_front}
 
@@ -81,3 +83,12 @@ abbrev pub MeetRefused : Sight → Sight → Sight → Sight → LineFault → T
 MeetRefused s t s' t' (fault.Behind desk front) = (s' ≡ s) × (t' ≡ t) × ((front ≡ length s.front) ⊎ (front ≡ length t.front)) × (desk < front)
 MeetRefused s t s' t' (fault.Strangers own found) = (s' ≡ s) × (t' ≡ t) × ((own ≡ s.name) ⊎ (own ≡ t.name)) × (found ≢ own)
 MeetRefused s t s' t' _ = ⊥
+
+-- the edits that were taken make all changes of the new front but the first `before`
+abbrev pub TakesAt : Sight → Sight → Option Taken → Type 0
+TakesAt s t None = GoesOn s t
+TakesAt s t (Some taken) = GoesOn s t × MakesRest s.opening t.front taken.before taken.edits.items
+
+-- nothing changed, since the desk is another line's, or behind the front
+abbrev pub Stays : Sight → Sight → LineFault → Type 0
+Stays s t f = (t ≡ s) × Apart s f

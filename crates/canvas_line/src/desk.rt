@@ -1,20 +1,19 @@
 //! What lies under the lock: the writer, and the head of the history.
-ghost use Rattle.std.specs.Prelude.{◌≡◌, ◌≤◌, length, IfOk, IfSome, MatchBool, MatchResult};
+ghost use Rattle.std.specs.Prelude.{◌≡◌, ◌≤◌, [], None, length, IfOk, IfSome, MatchResult};
 ghost use Rattle.canvas_record.specs.History.{AllFit};
-ghost use Rattle.canvas_line.specs.Lines.{Accepts, Rightly, Next, with_history, line_of};
+ghost use Rattle.canvas_line.specs.Lines.{Accepts, Rightly, Takes, line_of, recording};
 ghost use Rattle.canvas_line.specs.Rule.{Knows};
 ghost use Rattle.left_right.specs.Sides.{view as seat_view};
 
 use crate::fault::{Edited, LineFault};
 use crate::front::{Head, Lines, Trace};
 use crate::next::next_published;
-use crate::published::Published;
+use crate::recorder::{Recorder, Taken};
 use crate::rule::Note;
 use crate::version::Version;
 use crate::viewer::Viewer;
-use crate::writer::{LineWriter, publish};
+use crate::writer::{LineWriter, publish_at};
 use canvas_doc::Edit;
-use core::mem::replace_with;
 use std::alloc::Global;
 use std::marker::{Model, PhantomData};
 use std::mem::ManuallyDrop;
@@ -31,6 +30,7 @@ pub struct Desk<B: Lines> {
     // is freed under the lock.
     previous: Option<Arc<Version, Global>>,
     retired: Option<Arc<Version, Global>>,
+    recorder: Recorder,
     of: PhantomData<B>,
 }
 
@@ -40,46 +40,21 @@ impl<B: Lines> Model for Desk<B> {
     ghost use Rattle.left_right.specs.Sides.{view as seat_view};
     ghost use Rattle.canvas_line.specs.Rule.{Knows};
     ghost use Rattle.canvas_line.specs.Lines.{Line, line_of};
+    ghost use Rattle.canvas_line.specs.Recording.{Records};
 
     ghost Value = { Line };
 
-    ghost view = { λ d. line_of d.name (B.line d.name) (manually_drop_value d.writer).desk.shown.value.changes };
+    ghost view = { λ d. line_of d.name (B.line d.name) (manually_drop_value d.writer).desk.shown.value.changes d.recorder.taken };
 
-    ghost invariant = { λ d. Knows (seat_view (manually_drop_value d.writer).desk.place) (B.line d.name) × ((manually_drop_value d.writer).desk.shown.value.facts ≡ B.line d.name) × (d.head.word.book ≡ (B.line d.name).book) × ((B.line d.name).limit ≤ 1000000) };
+    ghost invariant = { λ d. Knows (seat_view (manually_drop_value d.writer).desk.place) (B.line d.name) × ((manually_drop_value d.writer).desk.shown.value.facts ≡ B.line d.name) × (d.head.word.book ≡ (B.line d.name).book) × ((B.line d.name).limit ≤ 1000000) × Records (B.line d.name).opening (manually_drop_value d.writer).desk.shown.value.changes d.recorder.taken d.recorder.edits.items };
 }
 
 impl<B: Lines> Desk<B> {
-    fn published<R: Wait>(self, rt: &R, next: Published) -> (Desk<B>, bool)
-        requires { next.facts ≡ B.line self.name }
-        ensures { MatchBool result.1 (result.0 ≡ with_history self next.changes) (result.0 ≡ self) }
-    {
-        let Desk {
-            writer,
-            head,
-            name,
-            alloc,
-            previous,
-            retired,
-            of,
-        } = self;
-        let (writer, done) = publish(rt, ManuallyDrop::into_inner(writer), next);
-        let desk = Desk {
-            writer: unsafe { ManuallyDrop::new_unchecked(writer) },
-            head,
-            name,
-            alloc,
-            previous,
-            retired,
-            of,
-        };
-        (desk, done)
-    }
-
     // The desk of a line, whose history is the writer's.
     pub(crate) fn new(alloc: Global, name: u64, head: Head, writer: LineWriter) -> Desk<B>
         requires view { Knows (seat_view writer.desk.place) (B.line name) }
         requires facts { (writer.desk.shown.value.facts ≡ B.line name) × (head.word.book ≡ (B.line name).book) × ((B.line name).limit ≤ 1000000) }
-        ensures { result ≡ line_of name (B.line name) writer.desk.shown.value.changes }
+        ensures { result ≡ line_of name (B.line name) writer.desk.shown.value.changes None }
     {
         Desk {
             writer: unsafe { ManuallyDrop::new_unchecked(writer) },
@@ -88,6 +63,7 @@ impl<B: Lines> Desk<B> {
             alloc,
             previous: None,
             retired: None,
+            recorder: Recorder::off(alloc),
             of: PhantomData,
         }
     }
@@ -133,28 +109,20 @@ impl<B: Lines> Desk<B> {
         ensures accepted { IfOk result (λ r. Accepts self.old edit.now self.new r) }
         ensures refused { MatchResult result (λ _. Unit {0}) (λ f. (self.new ≡ self.old) × Rightly self.old.opening self.old.limit self.old.history edit.now f) }
     {
-        let (next, edited) = self.next(edit)?;
+        let (next, edited, copy) = next_published(
+            self.alloc,
+            self.writer.published(),
+            &self.head,
+            &mut self.recorder,
+            edit,
+        )?;
         let before = Arc::try_clone(&self.writer.published().version)?;
-        let published = replace_with(
-            self,
-            next,
-            |desk: Desk<B>, next: Published| -> (Desk<B>, bool)
-                requires { next.facts ≡ B.line desk.name }
-                ensures { MatchBool result.1 (result.0 ≡ with_history desk next.changes) (result.0 ≡ desk) }
-            { desk.published(rt, next) },
-        );
-        if !published {
+        if !publish_at(rt, &mut self.writer, next) {
             return Err(LineFault::OutOfMemory);
         }
-        self.retire(before);
-        Ok(edited)
-    }
-
-    // Keeps the version before the published one, in place of the one before that.
-    fn retire(&mut self, before: Arc<Version, Global>)
-        ensures { self.new ≡ self.old }
-    {
+        self.recorder.add(copy);
         self.retired = self.previous.replace(before);
+        Ok(edited)
     }
 
     /// The version that the last edit retired. Where no seat looks at it, it is freed with this pointer: whoever holds the lock
@@ -165,11 +133,22 @@ impl<B: Lines> Desk<B> {
         self.retired.take()
     }
 
-    // What is to be published once the edit is accepted, and what is answered then.
-    fn next(&self, edit: &Edit) -> Result<(Published, Edited), LineFault>
-        ensures next { IfOk result (λ p. Next (B.line self.now.name) self.now.opening self.now.limit self.now.history edit.now p.0 p.1) }
-        ensures refused { MatchResult result (λ _. Unit {0}) (λ f. Rightly self.now.opening self.now.limit self.now.history edit.now f) }
+    /// Records from now on, if it did not before.
+    pub fn start_recording(&mut self)
+        ensures { self.new ≡ recording self.old self.old.taken }
     {
-        next_published(self.alloc, self.writer.published(), &self.head, edit)
+        if self.recorder.taken.is_none() {
+            self.recorder.taken = Some(self.writer.published().trace.len());
+        }
+    }
+
+    /// The edits that were accepted since some were last taken, in the order of versions. An empty list takes their place. None
+    /// where the line does not record.
+    pub fn take_pending(&mut self, empty: Vec<Edit>) -> Option<Taken>
+        requires { empty.items ≡ [] }
+        ensures { Takes self.old result self.new }
+    {
+        let number = self.writer.published().trace.len();
+        self.recorder.take(number, empty)
     }
 }

@@ -5,11 +5,13 @@ ghost use Rattle.canvas_record.specs.Damage.{damage_of};
 ghost use Rattle.canvas_record.specs.Effect.{Fits, effect_of, new_id};
 ghost use Rattle.canvas_line.specs.Lines.{Decides, Follows, Next, RefusedAt, Rightly};
 ghost use Rattle.canvas_line.specs.Recent.{last_64};
+ghost use Rattle.canvas_line.specs.Recording.{Awaits};
 
 use crate::fault::{Edited, LineFault};
 use crate::front::Head;
 use crate::published::Published;
 use crate::recent::Damage;
+use crate::recorder::Recorder;
 use crate::version::Version;
 use canvas_code::OutOfMemory;
 use canvas_doc::{Change, Document, Edit, Refusal};
@@ -88,20 +90,26 @@ fn version_after(
     )?)
 }
 
-// What is to be published once the edit is accepted. All memory is there before the history grows.
+// What is to be published once the edit is accepted, what is answered then, and the copy that is recorded where the line
+// records. All memory is there before the history grows.
 pub(crate) fn next_published(
     alloc: Global,
     now: &Published,
     head: &Head,
+    recorder: &mut Recorder,
     edit: &Edit,
-) -> Result<(Published, Edited), LineFault>
+) -> Result<(Published, Edited, Option<Edit>), LineFault>
     requires book { head.now.word.book ≡ now.now.facts.book }
     requires limit { now.now.facts.limit ≤ 1000000 }
     ensures next { IfOk result (λ p. Next now.now.facts now.now.facts.opening now.now.facts.limit now.now.changes edit.now p.0 p.1) }
     ensures refused { MatchResult result (λ _. Unit {0}) (λ f. Rightly now.now.facts.opening now.now.facts.limit now.now.changes edit.now f) }
+    ensures taken { recorder.new.taken ≡ recorder.old.taken }
+    ensures edits { recorder.new.edits.items ≡ recorder.old.edits.items }
+    ensures copy { IfOk result (λ p. Awaits recorder.new edit.now p.2) }
 {
     let after = next_version(alloc, now.limit, &now.version, edit)?;
     let opening = Arc::try_clone(&now.opening)?;
+    let copy = recorder.copy(alloc, edit)?;
     let mut trace = now.trace.again();
     if !trace.add(head, &after.change) {
         return Err(LineFault::OutOfMemory);
@@ -112,5 +120,5 @@ pub(crate) fn next_published(
         limit: now.limit,
         trace,
     };
-    Ok((next, after.edited))
+    Ok((next, after.edited, copy))
 }

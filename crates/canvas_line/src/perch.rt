@@ -1,9 +1,9 @@
 //! A seat's place at the line, without the lock: the viewers of the line, and the beginning of the history that it has seen.
-ghost use Rattle.std.specs.Prelude.{◌≡◌, ◌⊎◌, length, IfOk, MatchResult};
+ghost use Rattle.std.specs.Prelude.{◌≡◌, ◌⊎◌, [], length, IfOk, MatchResult};
 ghost use Rattle.std.specs.Arc.{arc_value};
 ghost use mathlib.Core.List.{IsPrefix};
-ghost use Rattle.canvas_line.specs.Seats.{Looks, IsAt, IsHistoryOf, Apart, EditAccepted, EditRefused, KeepsUp, Meets, MeetRefused};
-ghost use Rattle.canvas_line.specs.Lines.{Accepts, with_front, sight_of};
+ghost use Rattle.canvas_line.specs.Seats.{Looks, IsAt, IsHistoryOf, Apart, EditAccepted, EditRefused, GoesOn, KeepsUp, Meets, MeetRefused, Stays, TakesAt};
+ghost use Rattle.canvas_line.specs.Lines.{Accepts, Takes, recording, with_front, sight_of};
 ghost use Rattle.canvas_line.specs.declared.fault.LineFault.TheVariants as fault;
 
 use crate::desk::Desk;
@@ -11,6 +11,7 @@ use crate::fault::{Edited, LineFault};
 use crate::front::{Lines, Trace};
 use crate::painters::Painters;
 use crate::published::Latest;
+use crate::recorder::Taken;
 use crate::version::Version;
 use crate::viewer::Viewers;
 use canvas_doc::Edit;
@@ -188,5 +189,37 @@ impl<B: Lines> Perch<B> {
         self.follow(desk.trace());
         other.follow(desk.trace());
         Ok(())
+    }
+    /// Has the desk record from now on, under its lock, if it did not before.
+    pub(crate) fn start_recording_at(&mut self, desk: &mut Desk<B>) -> Result<(), LineFault>
+        ensures started { IfOk result (λ _. GoesOn self.old self.new) }
+        ensures refused { MatchResult result (λ _. Unit {0}) (λ f. Stays self.old self.new f) }
+        ensures once { IfOk result (λ _. desk.new ≡ recording desk.old desk.old.taken) }
+        ensures stays { MatchResult result (λ _. Unit {0}) (λ _. desk.new ≡ desk.old) }
+        ensures follows { IfOk result (λ _. self.new.front ≡ desk.old.history) }
+    {
+        self.meets(desk)?;
+        desk.start_recording();
+        self.follow(desk.trace());
+        Ok(())
+    }
+
+    /// Takes what is pending at the desk, under its lock.
+    pub(crate) fn take_pending_at(
+        &mut self,
+        desk: &mut Desk<B>,
+        empty: Vec<Edit>,
+    ) -> Result<Option<Taken>, LineFault>
+        requires { empty.items ≡ [] }
+        ensures taken { IfOk result (λ t. TakesAt self.old self.new t) }
+        ensures refused { MatchResult result (λ _. Unit {0}) (λ f. Stays self.old self.new f) }
+        ensures once { IfOk result (λ t. Takes desk.old t desk.new) }
+        ensures stays { MatchResult result (λ _. Unit {0}) (λ _. desk.new ≡ desk.old) }
+        ensures follows { IfOk result (λ _. self.new.front ≡ desk.old.history) }
+    {
+        self.meets(desk)?;
+        let taken = desk.take_pending(empty);
+        self.follow(desk.trace());
+        Ok(taken)
     }
 }

@@ -1,8 +1,8 @@
 //! A session's place at a line.
-ghost use Rattle.std.specs.Prelude.{◌≡◌, ◌≢◌, ◌⊎◌, length, IfOk, MatchResult, Err};
+ghost use Rattle.std.specs.Prelude.{◌≡◌, ◌≢◌, ◌⊎◌, [], length, IfOk, MatchResult, Err};
 ghost use Rattle.std.specs.Arc.{arc_value};
 ghost use mathlib.Core.List.{IsPrefix};
-ghost use Rattle.canvas_line.specs.Seats.{Looks, EditAccepted, EditRefused, Meets, MeetRefused};
+ghost use Rattle.canvas_line.specs.Seats.{Looks, EditAccepted, EditRefused, GoesOn, Meets, MeetRefused, Stays, TakesAt};
 ghost use Rattle.canvas_line.specs.declared.fault.LineFault.TheVariants as fault;
 
 use crate::desk::Desk;
@@ -10,6 +10,7 @@ use crate::fault::{Edited, LineFault};
 use crate::front::Lines;
 use crate::painters::Painters;
 use crate::perch::Perch;
+use crate::recorder::Taken;
 use crate::version::Version;
 use canvas_doc::Edit;
 use core::sync::yield_now;
@@ -89,6 +90,34 @@ impl<B: Lines> Seat<B> {
         ensures { IsPrefix self.now.front other.now.front ⊎ IsPrefix other.now.front self.now.front }
     {
         self.perch.one_history(&other.perch);
+    }
+
+    /// Has the line record from now on each edit that it accepts, if it did not before. What is pending then grows until it is
+    /// taken. The front becomes the whole history, of which nothing is recorded where the line did not record before.
+    pub fn start_recording<R: Wait>(&mut self, rt: &R) -> Result<(), LineFault>
+        ensures started { IfOk result (λ _. GoesOn self.old self.new) }
+        ensures refused { MatchResult result (λ _. Unit {0}) (λ f. Stays self.old self.new f) }
+    {
+        let Seat { desk, perch } = self;
+        let mut guard = held(rt, desk, perch.painters());
+        perch.start_recording_at(&mut *guard)
+    }
+
+    /// Takes the edits that the line accepted since some were last taken, in the order of versions; the list that is handed in
+    /// takes their place, so that no memory is asked for under the lock. The front becomes the whole history, and the edits
+    /// make all its changes but the first `before`. None where the line does not record.
+    pub fn take_pending<R: Wait>(
+        &mut self,
+        rt: &R,
+        empty: Vec<Edit>,
+    ) -> Result<Option<Taken>, LineFault>
+        requires { empty.items ≡ [] }
+        ensures taken { IfOk result (λ t. TakesAt self.old self.new t) }
+        ensures refused { MatchResult result (λ _. Unit {0}) (λ f. Stays self.old self.new f) }
+    {
+        let Seat { desk, perch } = self;
+        let mut guard = held(rt, desk, perch.painters());
+        perch.take_pending_at(&mut *guard, empty)
     }
 
     /// Counts one more picture of the line that is being painted, until `stop_painting`. Meanwhile an edit that finds the

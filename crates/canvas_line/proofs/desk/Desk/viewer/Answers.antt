@@ -1,4 +1,4 @@
-use Rattle.std.proofs.Common.{ap, ◌∙◌}
+use Rattle.std.proofs.Common.{ap, ◌∙◌, rules}
 use Rattle.std.specs.Mem.{manually_drop_value}
 use Rattle.left_right.specs.Sides.{view as seat_view}
 use Rattle.canvas_line.proofs.Knowing.{knows_same}
@@ -21,7 +21,7 @@ invariant_of-self g c =
     let own = seat_view (manually_drop_value c.self.inside.writer).desk.place in
     let here = seat_view c.deref_mut-writer.result.now.desk.place in
     let same = ap (λ w. seat_view w.desk.place) c.deref_mut-writer.ensures.value in
-    (knows_same own here line same i.0, ap (λ w. w.desk.shown.value.facts) c.deref_mut-writer.ensures.value ∙ i.1, i.2, i.3)
+    (knows_same own here line same i.0, ap (λ w. w.desk.shown.value.facts) c.deref_mut-writer.ensures.value ∙ i.1, i.2, i.3, search rules)
 
 pub new-requires : goal.new-requires
 new-requires g c =
@@ -37,4 +37,4 @@ invariant_of-self-2 g c =
     let own = seat_view (manually_drop_value c.self.inside.writer).desk.place in
     let view = c.tell.ensures.kept.3 ∙ ap (λ w. seat_view w.desk.place) c.deref_mut-writer.ensures.value in
     let shown = ap (λ s. s.value.facts) c.tell.ensures.kept.0 ∙ ap (λ w. w.desk.shown.value.facts) c.deref_mut-writer.ensures.value in
-    (knows_same own (seat_view c.tell.new.self.desk.place) line view i.0, shown ∙ i.1, i.2, i.3)
+    (knows_same own (seat_view c.tell.new.self.desk.place) line view i.0, shown ∙ i.1, i.2, i.3, search rules)
