@@ -1,14 +1,16 @@
 //! The bytes of one connection.
 
-ghost use Rattle.std.specs.Prelude.{◌≡◌};
+ghost use Rattle.std.specs.Prelude.{◌≡◌, ℕ, IfSome, IsTrue, List, Option};
+ghost use Rattle.std.specs.Io.KnownBytes.{Appends};
+ghost use Rattle.canvas_server.specs.Connection.{IsAnswered};
 ghost use Rattle.canvas_wire.specs.Replies.{line_of, refused};
 
 use crate::first_bytes::{FIRST_BYTES, read_first, speaks_http};
-use crate::outlet::Outlet;
+use crate::outlet::{Outlet, WriteTwo};
 use crate::workers::Workers;
 use canvas_board::Board;
 use canvas_code::name_of;
-use canvas_session::{Cause, serve};
+use canvas_session::{Cause, Served, SessionFault, serve};
 use canvas_wire::{Reply, ReplyLine, write_reply};
 use std::alloc::Global;
 use std::io::{Read, Write};
@@ -16,6 +18,15 @@ use std::net::{OpenStream, Shutdown, TcpStream};
 use std::sync::Wait;
 use std::thread::Threads;
 use std::time::{Clock, Duration, Instant};
+
+/// How a connection was answered.
+#[derive(Drop)]
+pub enum Answered {
+    /// An HTTP request, by one reply.
+    Http,
+    /// All else, as a session.
+    Session(Result<Served, SessionFault>),
+}
 
 /// Answers what a client sends until it has sent all, and says whether the session was ended by a closing reply, so that
 /// more may still come. An HTTP request, as a web page sends it, gets one reply, and none of its lines is a request here.
@@ -28,32 +39,72 @@ pub fn answer<H: Threads + Wait + Sync, B: Board>(
 ) -> bool {
     // Where small replies are delayed they come all the same.
     let _ = stream.set_nodelay(true);
-    let mut reader = stream;
+    let (_, answered) = answer_input(rt, alloc, board, workers, stream, stream);
+    match answered {
+        Some(Answered::Http) => true,
+        Some(Answered::Session(Err(fault))) => {
+            matches!(fault.cause, Cause::LineTooLong | Cause::TooManyRequests)
+        }
+        _ => false,
+    }
+}
+
+// Answers what a reader brings, to a writer that comes back: `None` where no memory could be had or not all was sent.
+fn answer_input<H: Threads + Wait + Sync, B: Board, R: Read + Drop, W: WriteTwo + Drop>(
+    rt: &H,
+    alloc: Global,
+    board: &mut B,
+    workers: &Workers,
+    mut reader: R,
+    mut writer: W,
+) -> (W, Option<Answered>)
+    ensures { IfSome result.1 (λ answered. (unread : Option (List ℕ)) × IsAnswered workers.now (record {
+      input = R.remaining reader;
+      unread = unread;
+      held = W.contents writer;
+      output = W.contents result.0;
+      before = B.seen board.old;
+      after = B.seen board.new;
+    }) answered) }
+{
     let mut first = [0u8; FIRST_BYTES];
     let count = read_first(&mut reader, &mut first);
     let (first, _) = first.split_at(count);
     if speaks_http(first) {
-        return tell(stream, &no_json());
+        if !tell(&mut writer, &no_json()) {
+            return (writer, None);
+        }
+        return (writer, Some(Answered::Http));
     }
-    let Ok(mut writer) = Outlet::new(alloc, stream) else {
-        return false;
+    let mut outlet = match Outlet::new(alloc, writer) {
+        Ok(outlet) => outlet,
+        Err(writer) => return (writer, None),
     };
-    let mut reader = first.chain(reader);
-    match serve(rt, alloc, board, workers.count(), &mut reader, &mut writer) {
-        Ok(_) => false,
-        Err(fault) => matches!(fault.cause, Cause::LineTooLong | Cause::TooManyRequests),
+    let ended = serve(
+        rt,
+        alloc,
+        board,
+        workers.count(),
+        &mut first.chain(reader),
+        &mut outlet,
+    );
+    match outlet.finish() {
+        (writer, Ok(())) => (writer, Some(Answered::Session(ended))),
+        (writer, Err(_)) => (writer, None),
     }
 }
 
 /// Tells a client that no seat is free.
 pub fn refuse(stream: &TcpStream) {
+    let mut writer = stream;
     // A client that is gone needs no reply.
-    let _ = tell(stream, &no_seats());
+    let _ = tell(&mut writer, &no_seats());
 }
 
 // Writes the only reply of a connection, and says whether it went out.
-fn tell(stream: &TcpStream, line: &ReplyLine) -> bool {
-    let mut writer = stream;
+fn tell<W: Write>(writer: &mut W, line: &ReplyLine) -> bool
+    ensures { IsTrue result → Appends (W.contents writer.old) (W.contents writer.new) line.now.bytes }
+{
     writer.write_all(line.as_str().as_bytes()).is_ok()
 }
 
