@@ -7,7 +7,9 @@
 ghost use Rattle.std.specs.Prelude.{◌≡◌, ◌⊎◌, ◌*◌, ◌+◌, ◌<◌, ◌≤◌, ◌^◌, ◌++◌, [], ◌∷◌, List, ℕ, length, map, IfOk, OnOk, IsErrOf};
 ghost use Rattle.canvas_journal.specs.Device.{Only, LeavesOnly};
 ghost use Rattle.canvas_journal.specs.Lines.{recovered, text};
+ghost use mathlib.Core.List.{IsPrefix};
 ghost use Rattle.canvas_journal.specs.Journal.{at_rest, done_of, IsSettled, IsWithOrWithout};
+ghost use Rattle.canvas_journal.specs.Runs.{handed_of, HasKept, Lasts};
 
 use crate::batch::Batch;
 use crate::reading::{Lines, read_lines};
@@ -46,6 +48,14 @@ impl<D: Device> Journal<D> {
         ensures any_moment { LeavesOnly D.moment D.left_since self.old.device self.new.device
             (IsWithOrWithout (done_of D.seen self.old) self.old.staged) }
 
+        // Over a whole run: whatever was acknowledged at some moment, each crash since then leaves it, and nothing that was not handed over.
+        ensures lasts { (since : ℕ) (known : List (List ℕ)) → HasKept D.seen D.moment D.left_since self.old since known
+            → Lasts D.left_since self.new.device since known (handed_of D.seen self.old) }
+        ensures keeps { OnOk result ((since : ℕ) (known : List (List ℕ)) → HasKept D.seen D.moment D.left_since self.old since known
+            → HasKept D.seen D.moment D.left_since self.new since known) }
+        // From now on all that was handed over before this call is acknowledged.
+        ensures acknowledges { OnOk result (HasKept D.seen D.moment D.left_since self.new (D.moment self.new.device) (handed_of D.seen self.old)) }
+
         // It does not give up by itself.
         ensures failed { IsErrOf result DeviceError.Failed → D.faults self.old.device < D.faults self.new.device }
         ensures full { IsErrOf result DeviceError.Full → 2 ^ 60 < self.old.end }
@@ -77,6 +87,10 @@ pub fn recover<D: Device>(alloc: Global, device: &mut D) -> Result<Lines, Device
     // A crash at any moment leaves the same lines.
     ensures any_moment { LeavesOnly D.moment D.left_since device.old device.new
         (λ c. recovered c ≡ recovered (D.seen device.old)) }
+
+    // A run goes on: what was known of the lines that a crash left, is known of those that each later crash leaves.
+    ensures lasts { (known : List (List ℕ)) (handed : List (List ℕ)) → IsPrefix known (recovered (D.seen device.old))
+        → IsPrefix (recovered (D.seen device.old)) handed → Lasts D.left_since device.new (D.moment device.old) known handed }
 
     ensures failed { IsErrOf result DeviceError.Failed → D.faults device.old < D.faults device.new }
     ensures full { IsErrOf result DeviceError.Full → ⊥ }

@@ -14,10 +14,10 @@ use Rattle.canvas_wire.specs.Replies.{created, edited, body, point, refused, beh
 use Rattle.canvas_wire.specs.ReplyObjects.{object_of, AreJson}
 
 -- a byte that stands for itself in a JSON text
-abbrev is_plain : ℕ → Bool
+abbrev pub is_plain : ℕ → Bool
 is_plain x = nat_lt 34 x && not (x == 92)
 
-abbrev are_plain : List ℕ → Bool
+abbrev pub are_plain : List ℕ → Bool
 are_plain s = list_all is_plain s
 
 apart : (x k : ℕ) → k < x → (x == k) ≡ false
@@ -43,7 +43,7 @@ escape_byte-plain x h =
     ) refl
 
 -- a plain text stands for itself
-escape-plain : (s : List ℕ) → are_plain s ≡ true → escape s ≡ s
+pub escape-plain : (s : List ℕ) → are_plain s ≡ true → escape s ≡ s
 escape-plain [] h = refl
 escape-plain (x ∷ s) h =
     let parts = and_parts (is_plain x) (are_plain s) h in

@@ -1,4 +1,6 @@
 pub mod Asked
+pub mod EditObjects
+pub mod EditTexts
 pub mod Extra
 pub mod Faults
 pub mod Given

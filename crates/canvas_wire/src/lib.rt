@@ -15,9 +15,11 @@ mod request;
 mod shape;
 mod tape;
 mod verb;
+mod writing;
 
 pub use fault::WireFault;
 pub use law::replies_are_json;
 pub use reading::{RequestReader, read_request};
 pub use reply::{Reply, ReplyLine, write_reply};
 pub use request::Request;
+pub use writing::write_edit;

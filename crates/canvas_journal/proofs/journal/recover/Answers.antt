@@ -1,6 +1,7 @@
 use Rattle.std.proofs.Common.{◌≡◌, length, ◌∙◌, ap}
 use Rattle.canvas_journal.specs.Lines.{text, recovered}
-use Rattle.canvas_journal.proofs.Recovers.{in_cut, in_sync, in_write, in_last, cut_is, closes, same_lines}
+use Rattle.canvas_journal.proofs.Recovers.{in_read, in_cut, in_sync, in_write, in_last, cut_is, closes, same_lines}
+use Rattle.canvas_journal.proofs.Runs.{recovery_lasts}
 use Rattle.canvas_journal.proofs.journal.recover.Goals as goal
 
 pub returns-in_err-cut-clause-any_moment : goal.returns-in_err-cut-clause-any_moment
@@ -66,3 +67,28 @@ returns-clause-at_rest g c =
 pub returns-clause-same : goal.returns-clause-same
 returns-clause-same g c =
     same_lines g.D.Device.seen g.D.Device.may_leave g.D.Device.moment g.D.Device.left_since c.args.device.now c.sync-2.new.self (returns-clause-at_rest g c)
+
+pub returns-in_err-cut-clause-lasts : goal.returns-in_err-cut-clause-lasts
+returns-in_err-cut-clause-lasts g c = λ known handed counts begins. recovery_lasts g.D.Device.seen g.D.Device.may_leave g.D.Device.moment g.D.Device.left_since c.args.device.now c.cut.new.self known handed counts begins (returns-in_err-cut-clause-any_moment g c)
+
+pub returns-in_err-sync-clause-lasts : goal.returns-in_err-sync-clause-lasts
+returns-in_err-sync-clause-lasts g c = λ known handed counts begins. recovery_lasts g.D.Device.seen g.D.Device.may_leave g.D.Device.moment g.D.Device.left_since c.args.device.now c.sync.new.self known handed counts begins (returns-in_err-sync-clause-any_moment g c)
+
+pub returns-in_err-write_at-clause-lasts : goal.returns-in_err-write_at-clause-lasts
+returns-in_err-write_at-clause-lasts g c = λ known handed counts begins. recovery_lasts g.D.Device.seen g.D.Device.may_leave g.D.Device.moment g.D.Device.left_since c.args.device.now c.write_at.new.self known handed counts begins (returns-in_err-write_at-clause-any_moment g c)
+
+pub returns-in_err-sync-2-clause-lasts : goal.returns-in_err-sync-2-clause-lasts
+returns-in_err-sync-2-clause-lasts g c = λ known handed counts begins. recovery_lasts g.D.Device.seen g.D.Device.may_leave g.D.Device.moment g.D.Device.left_since c.args.device.now c.sync-2.new.self known handed counts begins (returns-in_err-sync-2-clause-any_moment g c)
+
+pub returns-clause-lasts : goal.returns-clause-lasts
+returns-clause-lasts g c = λ known handed counts begins. recovery_lasts g.D.Device.seen g.D.Device.may_leave g.D.Device.moment g.D.Device.left_since c.args.device.now c.sync-2.new.self known handed counts begins (returns-clause-any_moment g c)
+
+pub returns-in_err-bytes-clause-lasts : goal.returns-in_err-bytes-clause-lasts
+returns-in_err-bytes-clause-lasts g c =
+    let leaves = in_read g.D.Device.seen g.D.Device.may_leave g.D.Device.moment g.D.Device.left_since c.args.device.now c.requires (g.met.D.Device.only_now c.args.device.now) c.read.new.self c.read.ensures.crash c.read.ensures.time in
+    λ known handed counts begins. recovery_lasts g.D.Device.seen g.D.Device.may_leave g.D.Device.moment g.D.Device.left_since c.args.device.now c.read.new.self known handed counts begins leaves
+
+pub returns-in_err-lines-clause-lasts : goal.returns-in_err-lines-clause-lasts
+returns-in_err-lines-clause-lasts g c =
+    let leaves = in_read g.D.Device.seen g.D.Device.may_leave g.D.Device.moment g.D.Device.left_since c.args.device.now c.requires (g.met.D.Device.only_now c.args.device.now) c.read.new.self c.read.ensures.crash c.read.ensures.time in
+    λ known handed counts begins. recovery_lasts g.D.Device.seen g.D.Device.may_leave g.D.Device.moment g.D.Device.left_since c.args.device.now c.read.new.self known handed counts begins leaves
