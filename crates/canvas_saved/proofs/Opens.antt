@@ -1,15 +1,12 @@
 -- A document's JSON value opens as that document.
-use Rattle.std.proofs.Common.{◌≡◌, ℕ, suc, ◌+◌, ◌^◌, ◌<◌, ◌≤◌, true, List, [], ◌∷◌, ◌++◌, ◌∙◌, map, length, Some, Ok, refl, sym, ap, arith, All, Bor, get_or, take, subst}
-use Rattle.std.specs.Prelude.{nat_lt, nat_le, ◌&&◌, Result, Err, IfOk, IsUtf8}
-use Rattle.serde_json.specs.Read.{read}
+use Rattle.std.proofs.Common.{◌≡◌, ℕ, suc, ◌+◌, ◌^◌, ◌<◌, ◌≤◌, true, List, [], ◌∷◌, map, length, Some, Ok, refl, ap, arith, All, Bor, get_or, take, subst}
+use Rattle.std.specs.Prelude.{nat_lt, nat_le, ◌&&◌}
 use Rattle.std.specs.List.{AllByRecursion}
 use Rattle.std.proofs.lemmas.Bool.{lt-ltb, le-leb, and_from}
-use Rattle.std.proofs.lemmas.List.{map-append, map_more}
-use Rattle.std.proofs.lemmas.List.Elements.{recursion_from_All, All-nil, All-cons, All-head, All-tail, All-weaker, All-same, All-map, All-more}
+use Rattle.std.proofs.lemmas.List.Elements.{recursion_from_All, All-nil, All-cons, All-head, All-tail, All-map, All-more}
 use Rattle.serde_json.specs.Data.{Data, number, unsigned}
 use Rattle.serde_json.specs.Events.{items_len}
-use Rattle.serde_json.specs.View.{items_of, view}
-use Rattle.serde_json.specs.declared.value.Value.{Value}
+use Rattle.serde_json.specs.View.{items_of}
 use Rattle.canvas_plane.specs.Limits.{is_pose}
 use Rattle.canvas_plane.specs.Motion.{reach_of}
 use Rattle.canvas_shape.specs.Limits.{has_sides, has_vertices}
@@ -29,9 +26,9 @@ use Rattle.canvas_saved.specs.Opened.{format_of, head_of, shapes_of, records_fro
 use Rattle.canvas_saved.specs.Records.{element_of}
 use Rattle.canvas_saved.specs.Saved.{record_data, data_in, text_in}
 use Rattle.canvas_saved.proofs.Json.{json_some}
-use Rattle.canvas_saved.proofs.OlderText.{data-written}
+use Rattle.canvas_saved.proofs.DataWritten.{data-written}
 use Rattle.canvas_saved.proofs.Plain.{data-shallow}
-use Rattle.canvas_saved.proofs.ReadBack.{u32-back}
+use Rattle.canvas_saved.proofs.ReadBack.{u32-back, kept-back}
 use Rattle.canvas_saved.proofs.RoundTrip.{text-reads}
 
 items-length : (f : Record → Data) (rs : List Record) → items_len (items_of (map f rs)) ≡ length rs
@@ -46,15 +43,17 @@ within next r ids limits =
     (and_from (nat_le r.pose.quarter 3) (nat_le (reach_of r.pose) (2 ^ 20)) (le-leb r.pose.quarter 3 limits.quarter) (le-leb (reach_of r.pose) (2 ^ 20) limits.reach))
     (and_from (has_sides r.kind) (has_vertices r.kind) (sound-sides r.kind limits.kind) (sound-vertices r.kind limits.kind)))
 
-element-back : (head : Head) (r : Record) → IsKept r → is_record head.next r ≡ true → element_of head (record_data head.format r) ≡ Some r
+element-back : (head : Head) (r : Record) → head.next < 2 ^ 32 → (1 ≤ r.id) × (r.id < head.next) → IsInLimits r → IsKept r → element_of head (record_data head.format r) ≡ Some r
 unfolding element_of
-element-back head r kept is = rw (kept.reads head.format, is) refl
+element-back head r below ids limits kept =
+    let id : r.id < head.next = ids.1 in
+    rw (kept-back r (omega arith) limits kept head.format, within head.next r ids limits) refl
 
-records-back : (head : Head) (at : ℕ) (rs : List Record) → AllByRecursion IsKept rs → AllByRecursion (λ r. (1 ≤ r.id) × (r.id < head.next)) rs → AllByRecursion IsInLimits rs
+records-back : (head : Head) (at : ℕ) (rs : List Record) → head.next < 2 ^ 32 → AllByRecursion (λ r. (1 ≤ r.id) × (r.id < head.next)) rs → AllByRecursion IsInLimits rs → AllByRecursion IsKept rs
     → records_from head at (items_of (map (record_data head.format) rs)) ≡ Ok rs
-records-back head at [] kept ids limits = refl
-records-back head at (r ∷ rs) kept ids limits =
-    rw (element-back head r kept.0 (within head.next r ids.0 limits.0), records-back head (at + 1) rs kept.1 ids.1 limits.1) refl
+records-back head at [] below ids limits kept = refl
+records-back head at (r ∷ rs) below ids limits kept =
+    rw (element-back head r below ids.0 limits.0 kept.0, records-back head (at + 1) rs below ids.1 limits.1 kept.1) refl
 
 format-back : (format : Format) → format_of (number (unsigned (number_of format))) ≡ Some format
 unfolding format_of
@@ -69,53 +68,39 @@ shapes-back : (format : Format) (d : Contents) → length d.records ≤ most_of 
 unfolding shapes_of
 shapes-back format d few = rw (items-length (record_data format) d.records, le-leb (length d.records) (most_of format) few) refl
 
-pub data-back : (d : Contents) → IsWellFormed d → All IsKept d.records → (format : Format) → length d.records ≤ most_of format → records_in (data_in format d) ≡ Ok d
+data-back : (d : Contents) → IsWellFormed d → All IsKept d.records → (format : Format) → length d.records ≤ most_of format → records_in (data_in format d) ≡ Ok d
 unfolding records_in
 data-back d well kept format few =
     rw (
       head-back format d well.next_above well.next_below,
       shapes-back format d few,
-      records-back (record { format = format; next = d.next }) 0 d.records (recursion_from_All IsKept d.records kept) (recursion_from_All _ d.records well.ids) (recursion_from_All _ d.records well.limits),
+      records-back (record { format = format; next = d.next }) 0 d.records well.next_below (recursion_from_All _ d.records well.ids) (recursion_from_All _ d.records well.limits) (recursion_from_All IsKept d.records kept),
     ) refl
 
+-- the text of a document in a format that has room for it is read as its records
+pub text-read_back : (format : Format) (d : Contents) → IsWellFormed d → All IsKept d.records → length d.records ≤ most_of format → records_read (text_in format d) ≡ Ok d
+unfolding records_read
+text-read_back format d well kept few =
+    let written = data-written format d well kept in
+    rw (json_some (text_in format d) (data_in format d) written.text (text-reads (data_in format d) written (data-shallow format d))) (data-back d well kept format few)
+
+-- it opens as the document
+pub text-opens : (format : Format) (d : Contents) → IsWellFormed d → All IsKept d.records → length d.records ≤ most_of format → opened (text_in format d) ≡ Ok d
+unfolding opened
+text-opens format d well kept few = rw (text-read_back format d well kept few, restoration_of-same d well) refl
+
+-- ---- references to a document's records, in order
+
 -- what holds of each value under a map
-pub All-under : {X Y : Type 0} (P : X → Type 0) (f : Y → X) (ys : List Y) → All P (map f ys) → All (λ y. P (f y)) ys
+All-under : {X Y : Type 0} (P : X → Type 0) (f : Y → X) (ys : List Y) → All P (map f ys) → All (λ y. P (f y)) ys
 All-under P f [] h = All-nil (λ y. P (f y))
 All-under P f (y ∷ ys) h = All-cons (λ y. P (f y)) y ys (All-head P (f y) (map f ys) h) (All-under P f ys (All-tail P (f y) (map f ys) h))
 
-pub ids-below : (d : Contents) → IsWellFormed d → All (λ r. r.id < 2 ^ 32) d.records
-ids-below d well = All-weaker (λ r. (1 ≤ r.id) × (r.id < d.next)) (λ r. r.id < 2 ^ 32) (λ r h. let a : r.id < d.next = h.1 in let b : d.next < 2 ^ 32 = well.next_below in omega arith) d.records well.ids
+pub limits-held : (rs : List (Bor Record)) → All IsInLimits (map (λ r. r.now) rs) → All (λ r. IsInLimits r.now) rs
+limits-held rs limits = All-under IsInLimits (λ r. r.now) rs limits
 
--- a fact that does not depend on the value
-pub IfOk-any : {X Y : Type 0} (r : Result X Y) (P : Type 0) → P → IfOk r (λ _. P)
-IfOk-any (Ok x) P h = h
-IfOk-any (Err y) P h = tt
-
--- the text that is written is read as the records
-pub text-read_back : (d : Contents) (v : Data) (text : List ℕ) → IsUtf8 text → read text ≡ Some v → records_in v ≡ Ok d → records_read text ≡ Ok d
-unfolding records_read
-text-read_back d v text utf8 e back = rw (json_some text v utf8 e) back
-
--- it opens as the document
-pub text-opens : (d : Contents) (v : Data) (text : List ℕ) → IsUtf8 text → read text ≡ Some v → records_in v ≡ Ok d → IsWellFormed d → opened text ≡ Ok d
-unfolding opened
-text-opens d v text utf8 e back well = rw (text-read_back d v text utf8 e back, restoration_of-same d well) refl
-
--- references to a document's records, in order
-pub ids-held : (d : Contents) (rs : List (Bor Record)) → map (λ r. r.now) rs ≡ d.records → IsWellFormed d → All (λ r. r.now.id < 2 ^ 32) rs
-ids-held d rs e well = All-under (λ r. r.id < 2 ^ 32) (λ r. r.now) rs (All-same (λ r. r.id < 2 ^ 32) _ d.records e (ids-below d well))
-
-pub limits-held : (d : Contents) (rs : List (Bor Record)) → map (λ r. r.now) rs ≡ d.records → IsWellFormed d → All (λ r. IsInLimits r.now) rs
-limits-held d rs e well = All-under IsInLimits (λ r. r.now) rs (All-same IsInLimits _ d.records e well.limits)
-
-pub kept-held : (d : Contents) (rs : List (Bor Record)) → map (λ r. r.now) rs ≡ d.records → All (λ r. IsKept r.now) rs → All IsKept d.records
-kept-held d rs e kept = All-same IsKept d.records (map (λ r. r.now) rs) (sym e) (All-map IsKept (λ r. r.now) rs kept)
-
--- what format 1 wrote of a document that it had room for opens as the document
-pub older-opens : (d : Contents) → IsWellFormed d → All IsKept d.records → length d.records ≤ most_of One → opened (text_in One d) ≡ Ok d
-older-opens d well kept few =
-    let written = data-written d well kept in
-    text-opens d (data_in One d) (text_in One d) written.text (text-reads (data_in One d) written (data-shallow One d)) (data-back d well kept One few) well
+pub kept-held : (rs : List (Bor Record)) → All (λ r. IsKept r.now) rs → All IsKept (map (λ r. r.now) rs)
+kept-held rs kept = All-map IsKept (λ r. r.now) rs kept
 
 -- one more record that is kept
 pub kept-more : (rs : List (Bor Record)) (i : ℕ) (x : Bor Record) → i < length rs → x ≡ get_or rs i x → All (λ r. IsKept r.now) (take i rs) → IsKept x.now
@@ -123,13 +108,3 @@ pub kept-more : (rs : List (Bor Record)) (i : ℕ) (x : Bor Record) → i < leng
 kept-more rs i x within is kept here =
     let P : Bor Record → Type 0 = λ r. IsKept r.now in
     All-more P rs i x within kept (subst P is here)
-
--- the value of one more record
-pub seen-more : (rs : List (Bor Record)) (values more : List Value) (value : Value) (i : ℕ) (x : Bor Record) → i < length rs → x ≡ get_or rs i x
-    → map view values ≡ map (record_data Two) (map (λ r. r.now) (take i rs)) → more ≡ values ++ value ∷ [] → view value ≡ record_data Two x.now
-    → map view more ≡ map (record_data Two) (map (λ r. r.now) (take (i + 1) rs))
-seen-more rs values more value i x within is seen grown read =
-    let before : List Record = map (λ r. r.now) (take i rs) in
-    let taken : map (λ r. r.now) (take (i + 1) rs) ≡ before ++ x.now ∷ [] = map_more (λ r. r.now) rs i x within ∙ ap (λ (r : Bor Record). before ++ r.now ∷ []) (sym is) in
-    let known : map (record_data Two) (map (λ r. r.now) (take (i + 1) rs)) ≡ map (record_data Two) before ++ record_data Two x.now ∷ [] = ap (map (record_data Two)) taken ∙ map-append (record_data Two) before (x.now ∷ []) in
-    ap (map view) grown ∙ map-append view values (value ∷ []) ∙ ap (λ ds. ds ++ view value ∷ []) seen ∙ ap (λ d. map (record_data Two) before ++ d ∷ []) read ∙ sym known

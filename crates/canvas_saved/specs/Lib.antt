@@ -5,4 +5,5 @@ pub mod Kept
 pub mod Opened
 pub mod Records
 pub mod Saved
+pub mod SavedText
 pub mod Shapes

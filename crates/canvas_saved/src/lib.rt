@@ -5,11 +5,12 @@ mod extra;
 mod fault;
 mod field;
 mod formats;
+mod json_text;
 mod opening;
+mod parts;
 mod record;
 mod saving;
 mod shape;
-mod value;
 
 pub use fault::StoreFault;
 pub use formats::Format;

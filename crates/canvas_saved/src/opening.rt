@@ -1,6 +1,8 @@
 //! From a text to records.
-ghost use Rattle.std.specs.Prelude.{◌≡◌, ◌≤◌, ◌∷◌, ◌++◌, [], codes, option_map, length, IfOk, IfSome, OnOk};
+ghost use Rattle.std.specs.Prelude.{◌≡◌, ◌≤◌, ◌∷◌, ◌++◌, [], codes, option_map, length, false, Err, IfOk, IfSome, OnOk};
+ghost use Rattle.std.specs.Str.{is_utf8};
 ghost use Rattle.serde_json.specs.Find.{as_array};
+ghost use Rattle.serde_json.specs.Read.{read};
 ghost use Rattle.serde_json.specs.View.{view, items_view};
 ghost use Rattle.canvas_saved.specs.Faults.{GivesSeen, or_fault};
 ghost use Rattle.canvas_saved.specs.Json.{json_of, required};
@@ -17,6 +19,7 @@ use canvas_code::OutOfMemory;
 use canvas_record::Record;
 use serde_json::Value;
 use std::alloc::Global;
+use std::str;
 
 /// What a saved text has. Its records need not make a document.
 #[derive(Drop)]
@@ -27,11 +30,22 @@ pub struct SavedRecords {
     pub next: u32,
 }
 
-// The value that a text is.
-fn value_of(alloc: Global, text: &[u8]) -> Result<Value, StoreFault>
-    ensures { GivesSeen view result (or_fault BadJson (json_of text.now)) }
+// The value that bytes are, if they are text.
+fn value_of(alloc: Global, bytes: &[u8]) -> Result<Value, StoreFault>
+    ensures value { GivesSeen view result (or_fault BadJson (json_of bytes.now)) }
+    ensures text { is_utf8 bytes.now ≡ false → result ≡ Err BadJson }
 {
-    match Value::from_slice(alloc, text) {
+    match str::from_utf8(bytes) {
+        Ok(text) => value_of_text(alloc, text),
+        Err(_) => Err(StoreFault::BadJson),
+    }
+}
+
+// The value that a text is.
+fn value_of_text(alloc: Global, text: &str) -> Result<Value, StoreFault>
+    ensures { GivesSeen view result (or_fault BadJson (read text.now)) }
+{
+    match Value::from_str(alloc, text) {
         Ok(value) => Ok(value),
         Err(error) => {
             if error.is_memory() {
@@ -144,10 +158,12 @@ fn records_in(alloc: Global, saved: &Value) -> Result<SavedRecords, StoreFault>
 /// applies is answered: 50 where the text is not JSON; 60 where it is no object of exactly
 /// `format` 1 or 2, a `next` of 1 to 4,294,967,295 and a list `shapes` of at most 4,096 elements
 /// in format 1 or 16,384 in format 2; 61 with the least position whose element is no record of
-/// the text's own format within its limits. 1 is answered only where the allocator refused memory.
+/// the text's own format within its limits. 1 is answered only where the allocator refused memory;
+/// bytes that are no UTF-8 take none.
 #[tactic(auto, unfolding(crate::specs::Opened::records_read))]
 pub fn read_records(alloc: Global, text: &[u8]) -> Result<SavedRecords, StoreFault>
     ensures value { GivesSeen contents_of result (records_read text.now) }
+    ensures text { is_utf8 text.now ≡ false → result ≡ Err BadJson }
     ensures least { IfOk result (λ found. 1 ≤ found.next) }
     ensures few { IfOk result (λ found. length found.records.items ≤ most_records) }
 {

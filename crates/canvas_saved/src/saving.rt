@@ -1,126 +1,149 @@
 //! From records to a text.
-ghost use Rattle.std.specs.Prelude.{◌≡◌, ◌<◌, ◌≤◌, ◌^◌, length, Some, Ok, IfOk, All, map};
-ghost use Rattle.serde_json.specs.View.{view, items_view, items_of};
-ghost use Rattle.canvas_shape.specs.Inside.{IsSound};
-ghost use Rattle.canvas_shape.specs.declared.Kind.TheVariants.{Group};
-ghost use Rattle.canvas_record.specs.Tree.{IsInLimits};
+ghost use Rattle.std.specs.Prelude.{◌≡◌, ◌++◌, ◌≤◌, length, false, All, Ok, IfOk, OnOk};
+ghost use Rattle.canvas_shape.specs.declared.Kind.TheVariants.{Polygon};
 ghost use Rattle.canvas_record.specs.Contents.{IsWellFormed};
-ghost use Rattle.canvas_saved.specs.declared.formats.Format.TheVariants.{One, Two};
+ghost use Rattle.canvas_saved.specs.declared.formats.Format.TheVariants.{One};
 ghost use Rattle.canvas_saved.specs.Formats.{most_of};
-ghost use Rattle.canvas_saved.specs.Kept.{HasText, IsKept};
+ghost use Rattle.canvas_saved.specs.Kept.{AreColoursRead, IsKept, IsRead};
 ghost use Rattle.canvas_saved.specs.Opened.{opened, records_read};
-ghost use Rattle.canvas_saved.specs.Saved.{point_data, sided_data, polygon_data, shape_data, record_data, document_data, data_in, text_in, saved_text_of, contents_with};
-ghost use Rattle.canvas_saved.specs.Shapes.{shape_of};
+ghost use Rattle.canvas_saved.specs.Saved.{text_in, saved_text_of, contents_with};
+ghost use Rattle.canvas_saved.specs.SavedText.{list_text, point_text, sides_text, shape_text, head_text, record_text, document_text};
 
-use crate::value::{colour_value, fill_value, place_value, point_value, pose_value};
+use crate::json_text::{push_bool, push_comma, push_text, push_unsigned};
+use crate::parts::{push_colour, push_fill, push_place, push_point, push_pose};
 use canvas_code::OutOfMemory;
 use canvas_plane::Point;
 use canvas_record::Record;
-use canvas_shape::Kind;
-use serde_json::{Value, json};
+use canvas_shape::{Colour, Kind};
 use std::alloc::{AllocError, Global};
 
-// The list of the points.
-fn point_values(alloc: Global, points: &[Point]) -> Result<Vec<Value>, AllocError>
-    ensures { IfOk result (λ values. items_view values.items ≡ items_of (map point_data points.now)) }
+// The points of a list, and its closing bracket.
+fn push_points(out: &mut Vec<u8>, points: &[Point]) -> Result<(), AllocError>
+    ensures { OnOk result (out.new.items ≡ out.old.items ++ list_text point_text false points.now) }
 {
-    let mut values = Vec::with_capacity(alloc, points.len())?;
+    let mut later = false;
     for point in points {
-        values.push(point_value(alloc, point)?)?;
+        push_comma(out, later)?;
+        push_point(out, point)?;
+        later = true;
     }
-    Ok(values)
+    push_text(out, "]")
 }
 
-// A shape with sides.
-fn sided_value(alloc: Global, kind: &str, w: u32, h: u32, fill: Value) -> Result<Value, AllocError>
-    ensures { IfOk result (λ value. view value ≡ sided_data kind.now w h (view fill)) }
+fn push_polygon(out: &mut Vec<u8>, points: &[Point], fill: &Colour) -> Result<(), AllocError>
+    ensures text { OnOk result (out.new.items ≡ out.old.items ++ shape_text (Polygon points.now fill.now)) }
+    ensures colours { OnOk result (IsRead fill.now) }
 {
-    json!(in alloc; {"fill": fill, "h": h, "kind": kind, "w": w})
+    push_text(out, "{\"fill\":")?;
+    push_colour(out, fill)?;
+    push_text(out, ",\"kind\":\"polygon\",\"points\":[")?;
+    push_points(out, points)?;
+    push_text(out, "}")
 }
 
-fn polygon_value(alloc: Global, points: &[Point], fill: Value) -> Result<Value, AllocError>
-    ensures { IfOk result (λ value. view value ≡ polygon_data points.now (view fill)) }
+// What comes after the fill of a shape with sides.
+fn push_sides(out: &mut Vec<u8>, kind: &str, w: u32, h: u32) -> Result<(), AllocError>
+    ensures { OnOk result (out.new.items ≡ out.old.items ++ sides_text kind.now w h) }
 {
-    json!(in alloc; {
-        "fill": fill,
-        "kind": "polygon",
-        "points": Value::Array(point_values(alloc, points)?)
-    })
+    push_text(out, ",\"h\":")?;
+    push_unsigned(out, h)?;
+    push_text(out, ",\"kind\":\"")?;
+    push_text(out, kind)?;
+    push_text(out, "\",\"w\":")?;
+    push_unsigned(out, w)?;
+    push_text(out, "}")
 }
 
-fn group_value(alloc: Global) -> Result<Value, AllocError>
-    ensures { IfOk result (λ value. view value ≡ shape_data Group) }
-{
-    json!(in alloc; {"kind": "group"})
-}
-
-fn shape_value(alloc: Global, kind: &Kind) -> Result<Value, AllocError>
-    requires { IsSound kind.now }
-    ensures value { IfOk result (λ value. view value ≡ shape_data kind.now) }
-    ensures reads { IfOk result (λ _. shape_of (shape_data kind.now) ≡ Some kind.now) }
-    ensures text { IfOk result (λ _. HasText kind.now) }
+fn push_shape(out: &mut Vec<u8>, kind: &Kind) -> Result<(), AllocError>
+    ensures text { OnOk result (out.new.items ≡ out.old.items ++ shape_text kind.now) }
+    ensures colours { OnOk result (AreColoursRead kind.now) }
 {
     match kind {
-        Kind::Group => group_value(alloc),
+        Kind::Group => push_text(out, "{\"kind\":\"group\"}"),
         Kind::Frame { w, h, fill } => {
-            sided_value(alloc, "frame", *w, *h, fill_value(alloc, fill)?)
+            push_text(out, "{\"fill\":")?;
+            push_fill(out, fill)?;
+            push_sides(out, "frame", *w, *h)
         }
         Kind::Rect { w, h, fill } => {
-            sided_value(alloc, "rect", *w, *h, colour_value(alloc, fill)?)
+            push_text(out, "{\"fill\":")?;
+            push_colour(out, fill)?;
+            push_sides(out, "rect", *w, *h)
         }
         Kind::Ellipse { w, h, fill } => {
-            sided_value(alloc, "ellipse", *w, *h, colour_value(alloc, fill)?)
+            push_text(out, "{\"fill\":")?;
+            push_colour(out, fill)?;
+            push_sides(out, "ellipse", *w, *h)
         }
-        Kind::Polygon { points, fill } => {
-            polygon_value(alloc, points.as_slice(), colour_value(alloc, fill)?)
-        }
+        Kind::Polygon { points, fill } => push_polygon(out, points.as_slice(), fill),
     }
 }
 
-fn record_value(alloc: Global, shape: &Record) -> Result<Value, AllocError>
-    requires id { shape.now.id < 2 ^ 32 }
-    requires limits { IsInLimits shape.now }
-    ensures value { IfOk result (λ value. view value ≡ record_data Two shape.now) }
-    ensures kept { IfOk result (λ _. IsKept shape.now) }
+// What comes before the place of a record.
+fn push_head(out: &mut Vec<u8>, hidden: bool, id: u32) -> Result<(), AllocError>
+    ensures { OnOk result (out.new.items ≡ out.old.items ++ head_text hidden id) }
 {
-    json!(in alloc; {
-        "hidden": shape.hidden,
-        "id": shape.id,
-        "place": place_value(alloc, &shape.place)?,
-        "pose": pose_value(alloc, &shape.pose)?,
-        "shape": shape_value(alloc, &shape.kind)?
-    })
+    push_text(out, "{\"hidden\":")?;
+    push_bool(out, hidden)?;
+    push_text(out, ",\"id\":")?;
+    push_unsigned(out, id)?;
+    push_text(out, ",\"place\":")
 }
 
-fn record_values(alloc: Global, records: &[&Record]) -> Result<Vec<Value>, AllocError>
-    requires ids { All (λ shape. shape.now.id < 2 ^ 32) records.now }
-    requires limits { All (λ shape. IsInLimits shape.now) records.now }
-    ensures value { IfOk result (λ values. items_view values.items
-        ≡ items_of (map (record_data Two) (map (λ shape. shape.now) records.now))) }
-    ensures kept { IfOk result (λ _. All (λ shape. IsKept shape.now) records.now) }
+fn push_record(out: &mut Vec<u8>, shape: &Record) -> Result<(), AllocError>
+    ensures text { OnOk result (out.new.items ≡ out.old.items ++ record_text shape.now) }
+    ensures kept { OnOk result (IsKept shape.now) }
 {
-    let mut values = Vec::with_capacity(alloc, records.len())?;
+    push_head(out, shape.hidden, shape.id)?;
+    push_place(out, &shape.place)?;
+    push_text(out, ",\"pose\":")?;
+    push_pose(out, &shape.pose)?;
+    push_text(out, ",\"shape\":")?;
+    push_shape(out, &shape.kind)?;
+    push_text(out, "}")
+}
+
+// The records of a list, and its closing bracket.
+fn push_records(out: &mut Vec<u8>, records: &[&Record]) -> Result<(), AllocError>
+    ensures text { OnOk result (out.new.items ≡ out.old.items ++ list_text (λ r. record_text r.now) false records.now) }
+    ensures kept { OnOk result (All (λ r. IsKept r.now) records.now) }
+{
+    let mut later = false;
     for shape in records {
-        values.push(record_value(alloc, shape)?)?;
+        push_comma(out, later)?;
+        push_record(out, shape)?;
+        later = true;
     }
-    Ok(values)
+    push_text(out, "]")
 }
 
-// The JSON value of records with a next id.
-fn document_value(alloc: Global, next: u32, records: &[&Record]) -> Result<Value, AllocError>
-    requires { IsWellFormed (contents_with next records.now) }
-    ensures value { IfOk result (λ value. view value ≡ data_in Two (contents_with next records.now)) }
-    ensures kept { IfOk result (λ _. All (λ shape. IsKept shape.now) records.now) }
-{
-    let shapes = record_values(alloc, records)?;
-    value_with(alloc, next, shapes)
+// Room that suffices for the text of these records: each takes at most 200 bytes, those of its index, and 20 for each vertex.
+fn room_for(records: &[&Record]) -> usize {
+    let mut room: usize = 64;
+    for shape in records {
+        let vertices = match &shape.kind {
+            Kind::Polygon { points, .. } => points.as_slice().len(),
+            _ => 0,
+        };
+        room = room
+            .saturating_add(200 + shape.place.index.bytes().len())
+            .saturating_add(vertices.saturating_mul(20));
+    }
+    room
 }
 
-// A saved document with these records.
-fn value_with(alloc: Global, next: u32, shapes: Vec<Value>) -> Result<Value, AllocError>
-    ensures { IfOk result (λ value. view value ≡ document_data Two next (items_view shapes.items)) }
+// The text of a document with these records and this next id.
+fn document_text(alloc: Global, next: u32, records: &[&Record]) -> Result<Vec<u8>, AllocError>
+    ensures text { IfOk result (λ out. out.items ≡ document_text next (list_text (λ r. record_text r.now) false records.now)) }
+    ensures kept { IfOk result (λ _. All (λ r. IsKept r.now) records.now) }
 {
-    json!(in alloc; {"format": 2, "next": next, "shapes": shapes})
+    let mut out = Vec::with_capacity(alloc, room_for(records))?;
+    push_text(&mut out, "{\"format\":2,\"next\":")?;
+    push_unsigned(&mut out, next)?;
+    push_text(&mut out, ",\"shapes\":[")?;
+    push_records(&mut out, records)?;
+    push_text(&mut out, "}")?;
+    Ok(out)
 }
 
 /// The text of a document of these records, by rising id, and this next id, of format 2: compact JSON,
@@ -135,6 +158,5 @@ pub fn write_records(alloc: Global, next: u32, records: &[&Record]) -> Result<Ve
     ensures older { IfOk result (λ _. length (contents_with next records.now).records ≤ most_of One
         → opened (text_in One (contents_with next records.now)) ≡ Ok (contents_with next records.now)) }
 {
-    let saved = document_value(alloc, next, records)?;
-    Ok(saved.to_vec(alloc)?)
+    Ok(document_text(alloc, next, records)?)
 }

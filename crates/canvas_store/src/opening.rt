@@ -1,7 +1,10 @@
 //! From a text to a document.
 
+ghost use Rattle.std.specs.Prelude.{◌≡◌, false, Err};
+ghost use Rattle.std.specs.Str.{is_utf8};
 ghost use Rattle.canvas_saved.specs.Faults.{Gives};
 ghost use Rattle.canvas_saved.specs.Opened.{opened};
+ghost use Rattle.canvas_saved.specs.declared.fault.StoreFault.TheVariants.{BadJson};
 
 use canvas_doc::Document;
 use canvas_saved::{SavedRecords, StoreFault, read_records};
@@ -14,10 +17,12 @@ use std::alloc::Global;
 /// `format` 1 or 2, a `next` of 1 to 4,294,967,295 and a list `shapes` of at most 4,096 elements
 /// in format 1 or 16,384 in format 2; 61 with the least position whose element is no record of
 /// the text's own format within its limits; 62 with the least position whose record does not
-/// belong to a page tree. 1 is answered only where the allocator refused memory.
+/// belong to a page tree. 1 is answered only where the allocator refused memory; bytes that are no
+/// UTF-8 take none.
 #[tactic(auto, unfolding(canvas_saved::specs::Opened::opened))]
 pub fn import(alloc: Global, text: &[u8]) -> Result<Document, StoreFault>
-    ensures { Gives result (opened text.now) }
+    ensures document { Gives result (opened text.now) }
+    ensures text { is_utf8 text.now ≡ false → result ≡ Err BadJson }
 {
     let SavedRecords { records, next } = read_records(alloc, text)?;
     Ok(Document::restore(alloc, records, next)?)

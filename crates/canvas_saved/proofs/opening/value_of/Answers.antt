@@ -1,14 +1,18 @@
-use Rattle.std.proofs.Common.{IsTrue, refl, ap, subst}
-use Rattle.std.proofs.lemmas.Bool.{false≢true}
+use Rattle.std.proofs.Common.{sym, ap, subst}
+use Rattle.std.proofs.lemmas.Str.{is_utf8-from_IsUtf8}
 use Rattle.serde_json.specs.View.{view}
-use Rattle.canvas_saved.specs.Faults.{or_fault}
+use Rattle.canvas_saved.specs.Faults.{GivesSeen, or_fault}
 use Rattle.canvas_saved.specs.declared.fault.StoreFault.TheVariants.{BadJson}
-use Rattle.canvas_saved.proofs.Json.{json_some, json_none}
+use Rattle.canvas_saved.proofs.Json.{json_text, json_none}
 use Rattle.canvas_saved.proofs.opening.value_of.Goals as goal
 
-pub returns-in-Ok : goal.returns-in-Ok
-returns-in-Ok c = rw (json_some c.args.text.now (view c.in-Ok.value) c.in-Ok.ensures.ok.0 c.in-Ok.ensures.ok.1) refl
+pub returns-in-Ok-clause-value : goal.returns-in-Ok-clause-value
+returns-in-Ok-clause-value c =
+    let json = json_text c.args.bytes.now c.in-Ok.text.now c.in-Ok.ensures.cases.0 c.in-Ok.ensures.cases.1 in
+    subst (GivesSeen view c.value_of_text.result) (ap (or_fault BadJson) (sym json)) c.value_of_text.ensures
 
-pub returns-else-is_memory : goal.returns-else-is_memory
-returns-else-is_memory c =
-    ap (or_fault BadJson) (json_none c.args.text.now (c.in-Err.ensures.err (λ m. false≢true (subst IsTrue c.if-is_memory.false (c.is_memory.ensures.1 m)))))
+pub returns-in-Ok-clause-text : goal.returns-in-Ok-clause-text
+returns-in-Ok-clause-text c = λ no. absurd (cc (no, is_utf8-from_IsUtf8 c.args.bytes.now c.in-Ok.ensures.cases.1))
+
+pub returns-in-Err-clause-value : goal.returns-in-Err-clause-value
+returns-in-Err-clause-value c = ap (or_fault BadJson) (json_none c.args.bytes.now (λ text. absurd (c.in-Err.ensures.cases.0 text)))
