@@ -28,7 +28,7 @@ use Rattle.canvas_record.specs.declared.records.Parent.TheVariants.{Page, Shape}
 use Rattle.canvas_record.specs.declared.edits.Spot.{Spot}
 use Rattle.canvas_record.specs.declared.edits.Spot.TheVariants.{Back, Front, Over, At}
 use Rattle.canvas_saved.specs.Saved.{colour_data, fill_data, point_data, sided_data, polygon_data, shape_data, pose_data, parent_data}
-use Rattle.canvas_saved.proofs.Keys.{key-text}
+use Rattle.canvas_saved.proofs.Words.{word-text, key-word}
 use Rattle.canvas_saved.proofs.RoundTrip.{IsWritten, AreItemsWritten, null-written, boolean-written, unsigned-written, string-written, no-items-written, item-written, array-written, no-members-written, member-written, object-written}
 use Rattle.canvas_wire.specs.EditObjects.{spot_data}
 use Rattle.canvas_wire.specs.EditTexts.{HasDigits, FitsSides, FitsKind, FitsParent, FitsSpot, IsCoordinate, IsPointInRange, IsKindInRange, IsPoseInRange}
@@ -132,7 +132,7 @@ pub spot-written : (spot : Spot) → FitsSpot spot → IsWritten (spot_data spot
 spot-written Back h = string-written (codes "back") (IsUtf8-are_ascii _ refl)
 spot-written Front h = string-written (codes "front") (IsUtf8-are_ascii _ refl)
 spot-written (Over id) h = object-written _ (member-written (codes "over") _ _ (IsUtf8-are_ascii _ refl) (unsigned-written id (omega arith)) no-members-written) refl
-spot-written (At key) h = object-written _ (member-written (codes "at") _ _ (IsUtf8-are_ascii _ refl) (string-written key (key-text key h)) no-members-written) refl
+spot-written (At key) h = object-written _ (member-written (codes "at") _ _ (IsUtf8-are_ascii _ refl) (string-written key (word-text key (key-word key h))) no-members-written) refl
 
 -- ---- poses
 
