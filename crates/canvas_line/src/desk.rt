@@ -1,4 +1,4 @@
-//! What lies under the lock: the writer, and the head of the history.
+//! What lies under the lock: the writer, the head of the history, and what is recorded of it.
 ghost use Rattle.std.specs.Prelude.{◌≡◌, ◌≤◌, [], None, length, IfOk, IfSome, MatchResult};
 ghost use Rattle.canvas_record.specs.History.{AllFit};
 ghost use Rattle.canvas_line.specs.Lines.{Accepts, Rightly, Takes, line_of, recording};
@@ -19,7 +19,8 @@ use std::marker::{Model, PhantomData};
 use std::mem::ManuallyDrop;
 use std::sync::{Arc, Wait};
 
-/// The value of the lock. Contracts see it as the line's name, opening document, limit and history.
+/// The value of the lock. Contracts see it as the line's name, opening document, limit and history, and how many changes were
+/// taken of a line that records: taken and pending edits together make the history.
 #[derive(Drop)]
 pub struct Desk<B: Lines> {
     writer: ManuallyDrop<LineWriter>,
@@ -104,7 +105,8 @@ impl<B: Lines> Desk<B> {
     }
 
     /// Makes an edit, or says why it is refused: `VersionsSpent` where the history has as many changes as the line may
-    /// accept, then the document's refusal, then `OutOfMemory`. A refused edit leaves the history as it was.
+    /// accept, then the document's refusal, then `OutOfMemory`. A refused edit leaves the history as it was. An accepted one is
+    /// pending from then on, where the line records.
     pub fn apply<R: Wait>(&mut self, rt: &R, edit: &Edit) -> Result<Edited, LineFault>
         ensures accepted { IfOk result (λ r. Accepts self.old edit.now self.new r) }
         ensures refused { MatchResult result (λ _. Unit {0}) (λ f. (self.new ≡ self.old) × Rightly self.old.opening self.old.limit self.old.history edit.now f) }
@@ -133,7 +135,7 @@ impl<B: Lines> Desk<B> {
         self.retired.take()
     }
 
-    /// Records from now on, if it did not before.
+    /// Records from now on, if it did not before. The whole history counts as taken then.
     pub fn start_recording(&mut self)
         ensures { self.new ≡ recording self.old self.old.taken }
     {
