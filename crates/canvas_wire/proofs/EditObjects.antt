@@ -1,6 +1,6 @@
 -- The text of an edit is the compact text of its object.
-use Rattle.std.proofs.Common.{◌≡◌, ℕ, zero, suc, ◌<◌, ◌≤◌, ℤ, pos, negsuc, Bool, true, false, List, [], ◌∷◌, ◌++◌, map, Option, Some, None, Result, Ok, Err, inl, inr, refl, sym, ap, ◌∙◌, arith, append_assoc, decimal, get_or, ap₂}
-use Rattle.std.specs.Prelude.{codes, not, nat_lt, ◌&&◌, ◌||◌, ◌==◌, IfSome, IsOk, drop, slice_index}
+use Rattle.std.proofs.Common.{◌≡◌, ℕ, zero, suc, ◌<◌, ◌≤◌, ℤ, pos, negsuc, Bool, true, false, List, [], ◌∷◌, ◌++◌, map, Option, Some, None, Result, Ok, Err, inl, inr, refl, sym, ap, arith, append_assoc, decimal, get_or}
+use Rattle.std.specs.Prelude.{codes, not, ◌&&◌, ◌||◌, IfSome, IsOk, drop, slice_index}
 use Rattle.std.specs.Fmt.{signed_decimal}
 use Rattle.std.specs.List.{list_all}
 use Rattle.std.proofs.lemmas.Bool.{and_parts, and_from, cases_lt, cases_eq}
@@ -10,7 +10,7 @@ use Rattle.hex.specs.Hex.{decode_sized, is_hex_digit}
 use Rattle.hex.specs.declared.error.FromHexError.{FromHexError}
 use Rattle.hex.proofs.HexLemmas.{IsOk-decode_sized}
 use Rattle.json.specs.Print.{escape, escape_byte, quoted}
-use Rattle.serde_json.specs.Data.{Data, boolean, number, string}
+use Rattle.serde_json.specs.Data.{boolean, string}
 use Rattle.serde_json.specs.Find.{of_integer}
 use Rattle.serde_json.specs.View.{items_of}
 use Rattle.serde_json.specs.Written.{compact_text, items_text, number_text, comma_if}
@@ -22,7 +22,7 @@ use Rattle.canvas_plane.specs.declared.Pose.{Pose}
 use Rattle.canvas_shape.specs.declared.Colour.{Colour}
 use Rattle.canvas_shape.specs.declared.Kind.{Kind}
 use Rattle.canvas_shape.specs.declared.Kind.TheVariants as kinds
-use Rattle.canvas_shape.specs.Names.{colour_in, colour_named, colour_text}
+use Rattle.canvas_shape.specs.Names.{colour_in, colour_text}
 use Rattle.canvas_record.specs.declared.records.Parent.{Parent}
 use Rattle.canvas_record.specs.declared.records.Parent.TheVariants as parents
 use Rattle.canvas_record.specs.declared.edits.Spot.{Spot}

@@ -1,7 +1,6 @@
 -- The parts of an edit are read as they are written.
-use Rattle.std.proofs.Common.{◌≡◌, ℕ, ◌^◌, ◌<◌, ◌≤◌, ℤ, pos, negsuc, suc, true, false, Bool, List, [], ◌∷◌, map, Option, Some, None, All, inl, inr, refl, sym, ◌∙◌, arith, ◌&&◌, decimal}
-use Rattle.std.specs.Prelude.{nat_lt, nat_le, unsigned_abs, IfSome, IsUtf8, codes}
-use Rattle.std.specs.Fmt.{signed_decimal}
+use Rattle.std.proofs.Common.{◌≡◌, ℕ, ◌^◌, ◌<◌, ◌≤◌, ℤ, pos, negsuc, suc, false, List, [], ◌∷◌, map, Option, Some, None, inl, inr, refl, sym, ◌∙◌, arith, decimal}
+use Rattle.std.specs.Prelude.{nat_lt, unsigned_abs, IfSome, IsUtf8, codes}
 use Rattle.std.specs.List.{AllByRecursion}
 use Rattle.std.proofs.lemmas.Bool.{lt-ltb, cases_lt}
 use Rattle.std.proofs.lemmas.Bool.Decides.{nat_tests}
@@ -11,18 +10,17 @@ use Rattle.std.proofs.lemmas.List.Elements.{recursion_from_All}
 use Rattle.json.proofs.Found.{not_found}
 use Rattle.json.proofs.Printed.Decimals.{IsNumber-signed_decimal}
 use Rattle.json.proofs.Printed.Utf8.{IsUtf8-are_ascii}
-use Rattle.serde_json.specs.Data.{Data, number, unsigned, string, object, no_members}
+use Rattle.serde_json.specs.Data.{Data, number, unsigned}
 use Rattle.serde_json.specs.Find.{of_integer}
 use Rattle.serde_json.specs.View.{items_of}
 use Rattle.serde_json.proofs.Numbers.{number_of-negative}
 use Rattle.canvas_key.specs.Text.{IsKey}
 use Rattle.canvas_plane.specs.declared.Point.{Point}
 use Rattle.canvas_plane.specs.declared.Pose.{Pose}
-use Rattle.canvas_plane.specs.Motion.{size_of, reach_of}
 use Rattle.canvas_shape.specs.declared.Colour.{Colour}
 use Rattle.canvas_shape.specs.declared.Kind.{Kind}
 use Rattle.canvas_shape.specs.declared.Kind.TheVariants.{Group, Frame, Rect, Ellipse, Polygon}
-use Rattle.canvas_shape.specs.Names.{colour_named, colour_text}
+use Rattle.canvas_shape.specs.Names.{colour_text}
 use Rattle.canvas_record.specs.declared.records.Parent.{Parent}
 use Rattle.canvas_record.specs.declared.records.Parent.TheVariants.{Page, Shape}
 use Rattle.canvas_record.specs.declared.edits.Spot.{Spot}

@@ -1,10 +1,10 @@
 -- The text of an edit is read as that edit.
-use Rattle.std.proofs.Common.{◌≡◌, ℕ, ◌^◌, ◌<◌, ◌≤◌, ℤ, true, false, Bool, List, [], ◌∷◌, map, Option, Some, None, Result, Ok, Err, All, refl, sym, ap, ◌∙◌, subst, arith, ◌&&◌, ◌==◌, length}
+use Rattle.std.proofs.Common.{◌≡◌, ℕ, ◌^◌, ◌<◌, ◌≤◌, true, Bool, List, [], ◌∷◌, map, Option, Some, None, Result, Ok, Err, refl, sym, ap, ◌∙◌, subst, arith, ◌==◌, length}
 use Rattle.std.specs.Prelude.{nat_le, not, unsigned_abs, is_some, IsUtf8, codes}
 use Rattle.std.proofs.lemmas.Bool.{and_parts, leb-true}
 use Rattle.std.proofs.lemmas.Str.{is_utf8-from_IsUtf8}
 use Rattle.json.proofs.Printed.Utf8.{IsUtf8-are_ascii}
-use Rattle.serde_json.specs.Data.{Data, depth, items_depth, number, unsigned, string, object}
+use Rattle.serde_json.specs.Data.{Data, depth, items_depth, number, unsigned, string}
 use Rattle.serde_json.specs.Find.{as_object}
 use Rattle.serde_json.specs.Read.{read}
 use Rattle.serde_json.specs.View.{items_of}
@@ -15,7 +15,6 @@ use Rattle.canvas_plane.specs.Motion.{size_of, reach_of}
 use Rattle.canvas_shape.specs.declared.Colour.{Colour}
 use Rattle.canvas_shape.specs.declared.Kind.{Kind}
 use Rattle.canvas_shape.specs.declared.Kind.TheVariants as kinds
-use Rattle.canvas_shape.specs.Inside.{AreVertices}
 use Rattle.canvas_shape.specs.Limits.{has_sides, has_vertices}
 use Rattle.canvas_shape.proofs.Limits.{vertices-known}
 use Rattle.canvas_record.specs.declared.records.Parent.{Parent}
@@ -30,16 +29,15 @@ use Rattle.canvas_record.specs.declared.edits.Edit.TheVariants as edits
 use Rattle.canvas_record.specs.declared.refusals.Refusal.{Refusal}
 use Rattle.canvas_record.specs.declared.refusals.Refusal.TheVariants.{NoSuchShape, NoSuchParent, NotAContainer, TooDeep, TooMany, BadSize, BadPose, BadPolygon, WrongKind, IdsSpent}
 use Rattle.canvas_record.specs.Contents.{Contents, record_of, reaches_page, most_records}
-use Rattle.canvas_record.specs.Decision.{decision_of, placed, allowed, create_index, reshape_judgement, pose_decision, has_shape, has_parent, can_have_children, is_another_kind}
+use Rattle.canvas_record.specs.Decision.{decision_of, allowed, create_index, reshape_judgement, pose_decision, has_shape, has_parent, can_have_children, is_another_kind}
 use Rattle.canvas_record.specs.Siblings.{refused_if, siblings, index_at}
 use Rattle.canvas_record.proofs.Fit.{refused-ok, placed-ok, not-false}
-use Rattle.canvas_saved.specs.Saved.{fill_data, point_data, shape_data, pose_data, parent_data}
+use Rattle.canvas_saved.specs.Saved.{fill_data, point_data, shape_data, parent_data}
 use Rattle.canvas_saved.proofs.RoundTrip.{IsWritten, boolean-written, unsigned-written, string-written, no-members-written, member-written, object-written, text-reads}
 use Rattle.canvas_wire.specs.Asked.{asked}
 use Rattle.canvas_wire.specs.EditObjects.{spot_data, edit_data}
-use Rattle.canvas_wire.specs.EditTexts.{edit_text, FitsEdit, IsCoordinate, IsPoseInRange, IsPointInRange, IsKindInRange, IsInRange, IsOneLine}
+use Rattle.canvas_wire.specs.EditTexts.{edit_text, FitsEdit, IsPoseInRange, IsPointInRange, IsKindInRange, IsInRange, IsOneLine}
 use Rattle.canvas_wire.specs.Extra.{has_others, has_extra}
-use Rattle.canvas_wire.specs.Json.{json_of}
 use Rattle.canvas_wire.specs.Requests.{request_in, request_of}
 use Rattle.canvas_wire.specs.Verbs.{verb_named, verb_members}
 use Rattle.canvas_wire.specs.declared.request.Request.TheVariants as request

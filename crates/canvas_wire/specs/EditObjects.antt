@@ -1,8 +1,6 @@
 -- The objects of edits: the text of each is its compact text.
-use Rattle.std.specs.Prelude.{◌≡◌, ℕ, ◌++◌, List, [], ◌∷◌, Bool, true, false, ℤ, pos, negsuc, Option, None, Some, codes, map, decimal}
-use Rattle.std.specs.Fmt.{signed_decimal}
+use Rattle.std.specs.Prelude.{codes}
 use Rattle.serde_json.specs.Data.{Data, boolean, number, string, object, unsigned, no_members, member}
-use Rattle.canvas_shape.specs.declared.Kind.TheVariants as kinds
 use Rattle.canvas_record.specs.declared.edits.Spot.{Spot}
 use Rattle.canvas_record.specs.declared.edits.Spot.TheVariants.{Back, Front, Over, At}
 use Rattle.canvas_record.specs.declared.edits.Edit.{Edit}

@@ -1,4 +1,4 @@
-use Rattle.std.proofs.Common.{◌≡◌, ◌++◌, List, ℕ, Ok, sym, subst, ap, ◌∙◌}
+use Rattle.std.proofs.Common.{◌≡◌, ◌++◌, sym, subst, ap, ◌∙◌}
 use Rattle.canvas_wire.specs.EditTexts.{edit_text, IsOneLine}
 use Rattle.canvas_wire.specs.Requests.{request_of}
 use Rattle.canvas_wire.proofs.EditReads.{text-read, text-one_line, accepted-within}
