@@ -1,9 +1,9 @@
 -- What a turn or a recovery adds to a run.
-use Rattle.std.proofs.Common.{◌≡◌, ℕ, ◌≤◌, List, [], ◌++◌, refl, sym, ap, ◌∙◌, subst, arith, append_assoc, append-nil, ⊎_elim}
+use Rattle.std.proofs.Common.{◌≡◌, ℕ, ◌≤◌, List, [], ◌++◌, length, refl, sym, ap, ◌∙◌, subst, arith, append_assoc, append-nil, ⊎_elim}
 use mathlib.Core.List.{IsPrefix}
 use Rattle.canvas_journal.specs.Device.{Only, LeavesOnly}
-use Rattle.canvas_journal.specs.Lines.{recovered}
-use Rattle.canvas_journal.specs.Journal.{IsSettled, done_of, IsWithOrWithout}
+use Rattle.canvas_journal.specs.Lines.{recovered, text}
+use Rattle.canvas_journal.specs.Journal.{IsSettled, at_rest, done_of, IsWithOrWithout}
 use Rattle.canvas_journal.specs.Runs.{handed_of, Lasts, HasKept}
 use Rattle.canvas_journal.specs.declared.journal.Journal.{Journal}
 
@@ -57,3 +57,23 @@ module _ {D : Type 0} (seen : D → List ℕ) (may_leave : D → List ℕ → Ty
   recovery_lasts old new known handed counts begins leaves c left =
       let is : recovered c ≡ recovered (seen old) = leaves.each c left in
       (along known (recovered (seen old)) (recovered c) is counts, (begins.0, ap (λ l. l ++ begins.0) is ∙ begins.1))
+
+  -- a journal that was just opened
+  pub opened_settled : (old : D) (journal : Journal D) → seen journal.device ≡ at_rest (recovered (seen old)) [] → recovered (seen journal.device) ≡ recovered (seen old)
+      → journal.end ≡ length (text (recovered (seen old))) → journal.staged ≡ [] → Only (seen journal.device) (may_leave journal.device) → IsSettled seen may_leave journal
+  opened_settled old journal rests is end staged durable = record {
+    file = rests ∙ ap (λ ls. at_rest ls []) (sym is) ∙ ap (at_rest (recovered (seen journal.device))) (sym staged);
+    end = end ∙ ap (λ ls. length (text ls)) (sym is);
+    durable = durable;
+  }
+
+  pub opened_keeps : (old : D) (journal : Journal D) (known : List (List ℕ)) → recovered (seen journal.device) ≡ recovered (seen old)
+      → LeavesOnly moment left_since old journal.device (λ c. recovered c ≡ recovered (seen old)) → IsPrefix known (recovered (seen old))
+      → HasKept seen moment left_since journal (moment old) known
+  opened_keeps old journal known is leaves counts = record {
+    begun = leaves.later;
+    counts = along known (recovered (seen old)) (done_of seen journal) is counts;
+    lasts = λ c left.
+        let left_is : recovered c ≡ recovered (seen old) = leaves.each c left in
+        (along known (recovered (seen old)) (recovered c) left_is counts, longer (recovered c) (done_of seen journal) journal.staged (same (recovered c) (done_of seen journal) (left_is ∙ sym is)));
+  }

@@ -31,6 +31,30 @@ pub struct Journal<D: Device> {
     pub staged: Batch,
 }
 
+impl<D: Device + Drop> Journal<D> {
+    /// Opens a journal over a file that a crash may have left, with the lines that count in it. They are acknowledged: each later
+    /// crash leaves them.
+    pub fn open(alloc: Global, mut device: D) -> Result<(Journal<D>, Lines), DeviceError>
+        requires { Only (D.seen device) (D.may_leave device) }
+
+        ensures lines { IfOk result (λ r. map (λ v. v.items) r.1.lines.items ≡ recovered (D.seen device)) }
+        ensures settled { IfOk result (λ r. IsSettled D.seen D.may_leave r.0) }
+        ensures done { IfOk result (λ r. (done_of D.seen r.0 ≡ recovered (D.seen device)) × (r.0.staged ≡ [])) }
+        // A run begins or goes on: what was known of the lines is known of those that each later crash leaves.
+        ensures keeps { IfOk result (λ r. (known : List (List ℕ)) → IsPrefix known (recovered (D.seen device))
+            → HasKept D.seen D.moment D.left_since r.0 (D.moment device) known) }
+    {
+        let lines = recover(alloc, &mut device)?;
+        let staged = Batch::new(alloc)?;
+        let journal = Journal {
+            device,
+            end: lines.end,
+            staged,
+        };
+        Ok((journal, lines))
+    }
+}
+
 impl<D: Device> Journal<D> {
     /// Opens the gate of the staged batch, and stages another behind it, by one sync.
     ///
