@@ -1,5 +1,5 @@
 -- What a turn or a recovery adds to a run.
-use Rattle.std.proofs.Common.{◌≡◌, ℕ, ◌≤◌, List, [], ◌++◌, length, refl, sym, ap, ◌∙◌, subst, arith, append_assoc, append-nil, ⊎_elim}
+use Rattle.std.proofs.Common.{◌≡◌, ℕ, List, [], ◌++◌, length, sym, ap, ◌∙◌, arith, append_assoc, append-nil, ⊎_elim}
 use mathlib.Core.List.{IsPrefix}
 use Rattle.canvas_journal.specs.Device.{Only, LeavesOnly}
 use Rattle.canvas_journal.specs.Lines.{recovered, text}

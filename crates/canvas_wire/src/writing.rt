@@ -209,7 +209,13 @@ fn push_sides(line: &mut Vec<u8>, kind: &[u8], w: u32, h: u32) -> Result<(), All
     line.extend_from_slice(b"}")
 }
 
-fn push_filled(line: &mut Vec<u8>, kind: &[u8], w: u32, h: u32, fill: &Colour) -> Result<(), AllocError>
+fn push_filled(
+    line: &mut Vec<u8>,
+    kind: &[u8],
+    w: u32,
+    h: u32,
+    fill: &Colour,
+) -> Result<(), AllocError>
     ensures text { OnOk result (line.new.items
         ≡ line.old.items ++ codes "{\"fill\":" ++ in_quotes (colour_text fill.now) ++ sides_text kind.now w h) }
     ensures fits { OnOk result (FitsSides w h × HasDigits fill.now) }

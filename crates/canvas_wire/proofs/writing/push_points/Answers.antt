@@ -18,7 +18,7 @@ more line one two target later ps i d within comma point whole =
     let rest : List ℕ = points_text true (drop (i + 1) ps) in
     let now : line ++ points_text later (drop i ps) ≡ line ++ (comma_if later ++ point_text p ++ rest) = ap (λ qs. line ++ points_text later qs) (drop_more ps i d within) in
     let laid : two ++ rest ≡ line ++ (comma_if later ++ point_text p ++ rest) =
-        ap (λ t. t ++ rest) (point ∙ ap (λ t. t ++ point_text p) comma) ∙ regroup line (comma_if later) (point_text p) rest in
+    ap (λ t. t ++ rest) (point ∙ ap (λ t. t ++ point_text p) comma) ∙ regroup line (comma_if later) (point_text p) rest in
     laid ∙ sym now ∙ whole
 
 -- no more points

@@ -1,0 +1,88 @@
+-- What a file shows and what a crash may leave of it, by the calls that were made, the last one first.
+use Rattle.std.specs.Prelude.{◌≡◌, ◌⊎◌, ℕ, zero, suc, ◌+◌, ◌≤◌, Bool, true, false, List, [], ◌∷◌, ◌++◌, length, take, drop, if◌then◌else◌, MatchBool, Result, Ok, Err}
+use Rattle.std.proofs.Common.{inl, inr, arith}
+use Rattle.canvas_journal.specs.declared.device.DeviceError.{DeviceError}
+use Rattle.canvas_journal.specs.declared.device.DeviceError.TheVariants.{Failed}
+use Rattle.canvas_journal.specs.Device.{Torn, Cut}
+use Rattle.canvas_journal_file.specs.Events.{Event}
+
+pub data Call : Type 0 where
+  -- at first it held these bytes, all of them on the disk
+  held : List ℕ → Call
+  wrote : ℕ → List ℕ → Bool → Call
+  shortened : ℕ → Bool → Call
+  synced : Bool → Call
+  -- it was not read
+  unread : Call
+
+-- the call of an event's numbers
+abbrev pub call_of : ℕ → ℕ → Bool → List ℕ → Call
+call_of zero place done bytes = held bytes
+call_of (suc zero) place done bytes = wrote place bytes done
+call_of (suc (suc zero)) place done bytes = shortened place done
+call_of (suc (suc (suc zero))) place done bytes = synced done
+call_of (suc (suc (suc (suc n)))) place done bytes = unread
+
+abbrev pub call_in : Event → Call
+call_in e = call_of e.0 e.1 e.2 e.3
+
+-- what is seen after a call
+abbrev pub seen_after : Call → List ℕ → List ℕ
+seen_after (held bytes) seen = bytes
+seen_after (wrote at bytes done) seen = if done then take at seen ++ bytes ++ drop (at + length bytes) seen else seen
+seen_after (shortened len done) seen = if done then take len seen else seen
+seen_after (synced done) seen = seen
+seen_after unread seen = seen
+
+-- what a crash may leave after a call
+abbrev pub leaves_after : Call → (List ℕ → Type 0) → List ℕ → List ℕ → Type 0
+leaves_after (held bytes) outcomes seen c = c ≡ bytes
+leaves_after (wrote at bytes done) outcomes seen c = (d : List ℕ) × outcomes d × Torn at (length bytes) d c
+leaves_after (shortened len done) outcomes seen c = (d : List ℕ) × outcomes d × Cut len d c
+leaves_after (synced done) outcomes seen c = outcomes c × MatchBool done (c ≡ seen) (Unit {0})
+leaves_after unread outcomes seen c = outcomes c
+
+-- whether it failed
+abbrev pub fault_of : Call → ℕ
+fault_of (held bytes) = 0
+fault_of (wrote at bytes done) = if done then 0 else 1
+fault_of (shortened len done) = if done then 0 else 1
+fault_of (synced done) = if done then 0 else 1
+fault_of unread = 1
+
+-- the same of all calls that were made
+abbrev pub seen_of : List Event → List ℕ
+seen_of [] = []
+seen_of (e ∷ es) = seen_after (call_in e) (seen_of es)
+
+abbrev pub may_leave : List Event → List ℕ → Type 0
+may_leave [] c = c ≡ []
+may_leave (e ∷ es) c = leaves_after (call_in e) (may_leave es) (seen_of es) c
+
+abbrev pub faults_of : List Event → ℕ
+faults_of [] = 0
+faults_of (e ∷ es) = faults_of es + fault_of (call_in e)
+
+-- at some moment from t on
+abbrev pub left_since : List Event → ℕ → List ℕ → Type 0
+left_since [] t c = (t ≤ 0) × (c ≡ [])
+left_since (e ∷ es) t c = ((t ≤ length (e ∷ es)) × may_leave (e ∷ es) c) ⊎ left_since es t c
+
+-- what is answered of a call
+abbrev pub answer_of : Bool → Result (Unit {0}) DeviceError
+answer_of true = Ok tt
+answer_of false = Err Failed
+
+pub counts : (es : List Event) (t : ℕ) (c : List ℕ) → t ≤ length es → may_leave es c → left_since es t c
+counts [] t c le now = (le, now)
+counts (e ∷ es) t c le now = inl (le, now)
+
+within : (es : List Event) (t : ℕ) (c : List ℕ) → left_since es t c → t ≤ length es
+within [] t c left = left.0
+within (e ∷ es) t c (inl now) = now.0
+within (e ∷ es) t c (inr before) = omega (arith, within es t c before)
+
+pub only : (es : List Event) (c : List ℕ) → left_since es (length es) c → may_leave es c
+only [] c left = left.1
+only (e ∷ es) c (inl now) = now.1
+only (e ∷ es) c (inr before) = absurd (omega (arith, within es (length (e ∷ es)) c before))

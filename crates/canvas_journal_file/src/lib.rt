@@ -1,0 +1,10 @@
+//! Files as devices of a journal, by what was asked of them.
+#![tactic(auto)]
+
+mod asked;
+mod backing;
+mod record;
+
+pub use asked::Asked;
+pub use backing::{Backing, HostFile, Memory};
+pub use record::Record;
