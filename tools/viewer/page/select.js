@@ -1,5 +1,6 @@
 // The tools that select, move and resize.
 
+import { Drag } from "./drag.js";
 import { boxOf, corners } from "./plane.js";
 import { dot, ghost, handle, outline, small } from "./overlay.js";
 import { HANDLES, dragged, handlesOf, members } from "./resize.js";
@@ -15,7 +16,6 @@ function cursorOf([across, down]) {
   return across ? "ew-resize" : "ns-resize";
 }
 
-
 /** Selects, moves and resizes shapes. What a press begins is one of the modes below. */
 export class Select extends Tool {
   hint = "Click or drag a shape; drag beside them to select several; double click to go into a group. Space or two fingers pan, Ctrl and the wheel zoom.";
@@ -23,6 +23,7 @@ export class Select extends Tool {
   /** The polygon of which the points are edited, or null. */
   edited = null;
   #point = null;
+  #move = null;
 
   press(at, keys = {}) {
     this.begin = at;
@@ -38,7 +39,7 @@ export class Select extends Tool {
     Object.assign(this, { mode, touched: this.state.selection, ...values });
   }
 
-  #pressShape(at, { isShift, isDeep }) {
+  #pressShape(at, { isShift, isDeep, isAlt }) {
     const { state } = this, { tree, selection } = state, hit = tree?.at(at.page) ?? null;
     if (hit === null) {
       if (!isShift) this.#leave(at.page);
@@ -49,7 +50,8 @@ export class Select extends Tool {
     const id = isDeep ? hit : held ?? this.#reach(hit);
     this.again = held !== undefined && !isDeep ? { id, isShift } : null;
     if (!this.again) state.select(isShift ? [...selection, id] : [id]);
-    this.#begin("move");
+    this.#move = isAlt ? null : new Drag(this.app.editor, state.selection);
+    this.#begin("move", { from: state.box });
   }
 
   // What lies at a press beside all shapes: the selection goes, and so does what was entered, unless the press was in its box.
@@ -78,16 +80,29 @@ export class Select extends Tool {
     }
   }
 
-  drag(at, { isShift } = {}) {
+  drag(at, keys = {}) {
     if (!this.begin) return;
     this.isMoved ||= distance(at.window, this.begin.window) >= SLOP;
     if (!this.isMoved) return;
     this.by = [at.page[0] - this.begin.page[0], at.page[1] - this.begin.page[1]];
     this.now = at;
-    if (this.mode === "resize") this.to = dragged(this.from, this.handle, this.by, isShift);
-    else if (this.mode === "move" && isShift) this.by = Math.abs(this.by[0]) > Math.abs(this.by[1]) ? [this.by[0], 0] : [0, this.by[1]];
+    if (this.mode === "resize") this.#resize(keys);
+    else if (this.mode === "move") this.#goOn(keys);
     else if (this.mode === "marquee") this.#mark();
-    else if (this.mode === "point") this.points[this.#point] = at.page;
+    else if (this.mode === "point") this.points[this.#point] = this.grid.snap(at.page, keys);
+  }
+
+  #resize(keys) {
+    const { from, handle, by } = this;
+    this.to = dragged(from, handle, this.grid.pulled(from, handle, by, keys), keys.isShift);
+  }
+
+  // What is dragged with Alt from its begin is a copy, which is made at the end; all else is moved at once.
+  #goOn(keys) {
+    const [across, down] = this.by, isLevel = Math.abs(across) > Math.abs(down);
+    const way = !keys.isShift ? this.by : isLevel ? [across, 0] : [0, down];
+    this.by = this.grid.moved(this.from, way, this.#move ? keys : {});
+    this.#move?.to(this.by);
   }
 
   #mark() {
@@ -104,8 +119,19 @@ export class Select extends Tool {
     if (mode === "point") this.#setPoints();
     else if (!isMoved && this.again && mode === "move") this.#clickAgain();
     else if (isMoved && mode === "resize") editor.fitTo(to);
-    else if (isMoved && mode === "move" && keys.isAlt) editor.duplicate(by);
-    else if (isMoved && mode === "move") editor.moveBy(by);
+    else if (isMoved && mode === "move") this.#endMove(by);
+  }
+
+  #endMove(by) {
+    if (this.#move) this.#move.end(by);
+    else this.app.editor.duplicate(by);
+    this.#move = null;
+  }
+
+  /** Gives up a move: what is moved already goes back by all of the way, or stays where it is. */
+  #leaveMove(by = [0, 0]) {
+    if (this.mode === "move" && this.isMoved) this.#move?.end(by);
+    this.#move = null;
   }
 
   // A click on what is selected: with Shift it is left, and else it alone is selected.
@@ -118,6 +144,7 @@ export class Select extends Tool {
 
   drop() {
     const had = Boolean(this.begin) || this.edited !== null;
+    if (this.begin) this.#leaveMove();
     this.begin = this.mode = this.edited = this.#point = null;
     return had;
   }
@@ -126,8 +153,14 @@ export class Select extends Tool {
   lost() {
     const isLost = this.begin && this.mode !== "marquee" && this.touched.some((id) => !this.state.tree?.record(id));
     if (this.edited !== null && !this.state.tree?.record(this.edited)) this.edited = null;
+    if (isLost) this.#leaveMove(this.#move?.made);
     if (isLost) this.begin = this.mode = null;
     return Boolean(isLost);
+  }
+
+  /** Whether the selected shapes are on their way, so that the marks of this tool stand for theirs. */
+  get isMoving() {
+    return this.mode === "move" && this.isMoved;
   }
 
   // -- the box and its handles ----------------------------------------------------------------------------------------
@@ -178,7 +211,7 @@ export class Select extends Tool {
     return edge >= 0 ? { edge } : null;
   }
 
-  #pressPoint(at, { isAlt }) {
+  #pressPoint(at, keys) {
     if (this.edited === null) return false;
     if (this.state.selected !== this.edited || !this.app.outlineOf(this.edited)) {
       this.edited = null;
@@ -191,12 +224,12 @@ export class Select extends Tool {
       return false;
     }
     if (found.edge !== undefined) {
-      this.points.splice(found.edge + 1, 0, at.page);
+      this.points.splice(found.edge + 1, 0, this.grid.snap(at.page, keys));
       this.isMoved = true;
     }
     this.#point = found.corner ?? found.edge + 1;
     this.#begin("point");
-    if (isAlt && found.corner !== undefined) this.#takeOut();
+    if (keys.isAlt && found.corner !== undefined) this.#takeOut();
     return true;
   }
 
@@ -224,7 +257,7 @@ export class Select extends Tool {
   marks() {
     if (this.edited !== null) return this.#pointMarks();
     if (this.mode === "marquee" && this.isMoved) return [outline("marquee", this.toWindow(corners(boxOf([this.begin.page, this.now.page]))))];
-    if (this.mode === "move" && this.isMoved) return ghosts(this, this.by);
+    if (this.isMoving) return ghosts(this, this.by, this.#move?.made);
     if (this.mode === "resize" && this.isMoved) return [outline("halo", this.toWindow(corners(this.to))), outline("mark", this.toWindow(corners(this.to)))];
     return this.#handles().map(({ place }) => handle(place));
   }
@@ -238,8 +271,9 @@ export class Select extends Tool {
   }
 }
 
-/** What the selected shapes look like, moved by so much of the page. */
-function ghosts({ state, app }, [across, down]) {
+/** What the selected shapes look like, moved by so much of the page, of which a part is made already. */
+function ghosts({ state, app }, by, made = [0, 0]) {
+  const across = by[0] - made[0], down = by[1] - made[1];
   const moved = (points) => points.map(([x, y]) => state.view.toWindow([x + across, y + down]));
   const { tree } = state, marks = [];
   for (const id of members(tree, state.selection).slice(0, MOST_GHOSTS)) {
@@ -256,6 +290,7 @@ function ghosts({ state, app }, [across, down]) {
 /** Drags the shape that is pressed, however deep it lies. */
 export class Move extends Tool {
   hint = "Drag any single shape to move it, however deep it lies. Arrow keys move what is selected, with Shift ten times as far.";
+  #move = null;
 
   press(at) {
     const { state } = this, id = state.tree?.at(at.page) ?? null;
@@ -264,25 +299,39 @@ export class Move extends Tool {
     if (!isInside) this.app.editor.select(id);
     this.begin = state.selected === null ? null : at.page;
     this.touched = state.selection;
+    this.from = state.box;
     this.by = [0, 0];
+    this.#move = new Drag(this.app.editor, state.selection);
   }
 
-  drag(at) {
-    if (this.begin) this.by = [at.page[0] - this.begin[0], at.page[1] - this.begin[1]];
+  drag(at, keys) {
+    if (!this.begin) return;
+    this.by = this.grid.moved(this.from, [at.page[0] - this.begin[0], at.page[1] - this.begin[1]], keys);
+    this.#move.to(this.by);
   }
 
   release() {
-    if (this.begin) this.app.editor.moveBy(this.by);
+    if (this.begin) this.#move.end(this.by);
     this.begin = null;
+  }
+
+  drop() {
+    if (this.begin) this.#move.end([0, 0]);
+    return super.drop();
   }
 
   lost() {
     const isLost = this.begin && this.touched.some((id) => !this.state.tree?.record(id));
+    if (isLost) this.#move.end(this.#move.made);
     if (isLost) this.begin = null;
     return Boolean(isLost);
   }
 
+  get isMoving() {
+    return Boolean(this.begin && (this.by[0] || this.by[1]));
+  }
+
   marks() {
-    return this.begin && (this.by[0] || this.by[1]) ? ghosts(this, this.by) : [];
+    return this.isMoving ? ghosts(this, this.by, this.#move.made) : [];
   }
 }
