@@ -23,7 +23,7 @@ PATIENCE = 30
 KEYS = {
     "Enter": ("Enter", 13, "\r"), "Escape": ("Escape", 27, ""), "Delete": ("Delete", 46, ""), "Tab": ("Tab", 9, ""), " ": ("Space", 32, " "),
     "ArrowLeft": ("ArrowLeft", 37, ""), "ArrowUp": ("ArrowUp", 38, ""), "ArrowRight": ("ArrowRight", 39, ""), "ArrowDown": ("ArrowDown", 40, ""),
-    "Backspace": ("Backspace", 8, ""), "Home": ("Home", 36, ""), "End": ("End", 35, ""),
+    "Backspace": ("Backspace", 8, ""), "Home": ("Home", 36, ""), "End": ("End", 35, ""), "F2": ("F2", 113, ""),
 }
 ALT, CONTROL, SHIFT = 1, 2, 8
 

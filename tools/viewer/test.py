@@ -25,10 +25,10 @@ sys.path.insert(0, str(HERE.parent))
 from browser import Browser, Fault  # noqa: E402
 from canvas_client import PROGRAM  # noqa: E402
 from check_server import difference  # noqa: E402
-from tests import drags, drawing, files, grid, layers, looking, outages, selecting, sharing, small_things, svg, undo  # noqa: E402
+from tests import drags, drawing, files, grid, layers, looking, night, outages, selecting, sharing, small_things, svg, undo  # noqa: E402
 from tests.desk import POSTER, Desk, Gateway, Server  # noqa: E402
 
-MODULES = (drawing, undo, selecting, drags, grid, files, svg, small_things, looking, layers, sharing, outages)
+MODULES = (drawing, undo, selecting, drags, grid, files, svg, small_things, looking, layers, night, sharing, outages)
 STOPS = (Fault, TimeoutError, asyncio.TimeoutError, KeyError, TypeError)
 """What ends a stage, and no other one."""
 

@@ -4,11 +4,11 @@ import { Drag } from "./drag.js";
 import { boxOf, corners } from "./plane.js";
 import { dot, ghost, handle, outline, small } from "./overlay.js";
 import { HANDLES, dragged, handlesOf, members } from "./resize.js";
-import { JOIN, SLOP, Tool, distance } from "./tools.js";
+import { FEWEST, JOIN, SLOP, Tool, distance } from "./tools.js";
 
 const MOST_GHOSTS = 120;
 const ROOM = 28;
-const FEWEST = 3;
+const ASIDE = 6;
 
 /** The pointer over a handle that moves these edges. */
 function cursorOf([across, down]) {
@@ -41,7 +41,7 @@ export class Select extends Tool {
 
   #pressShape(at, { isShift, isDeep, isAlt }) {
     const { state } = this, { tree, selection } = state, hit = tree?.at(at.page) ?? null;
-    if (hit === null) {
+    if (hit === null || hit === state.entered) {
       if (!isShift) this.#leave(at.page);
       this.#begin("marquee", { kept: isShift ? selection : [] });
       return;
@@ -170,19 +170,31 @@ export class Select extends Tool {
     if (!box || this.mode === "move" || this.mode === "marquee" || this.edited !== null || !members(tree, selection).length) return [];
     const places = this.toWindow(handlesOf(box)), [[left, top], , , , [right, bottom]] = places;
     const has = ([across, down]) => (across !== 0 || right - left > ROOM) && (down !== 0 || bottom - top > ROOM);
-    return HANDLES.map((edges, k) => ({ edges, place: places[k] })).filter(({ edges }) => has(edges));
+    const away = this.#isSmall ? ASIDE : 0;
+    const placed = (edges, [x, y]) => ({ edges, place: [x + edges[0] * away, y + edges[1] * away] });
+    return HANDLES.map((edges, k) => placed(edges, places[k])).filter(({ edges }) => has(edges));
+  }
+
+  // Whether there is no room between the handles: then they lie beside the box, and a press in it is no press of theirs.
+  get #isSmall() {
+    const { box, view } = this.state, room = this.app.stage.isTouched ? 2 * ROOM : ROOM;
+    return Math.min(box.right - box.left, box.bottom - box.top) < room * view.scale;
   }
 
   #handleAt(window) {
-    const reach = this.app.stage.isTouched ? 22 : JOIN;
-    return this.#handles().find(({ place }) => distance(place, window) <= reach)?.edges ?? null;
+    const reach = this.app.stage.isTouched ? 22 : JOIN, found = this.#handles().find(({ place }) => distance(place, window) <= reach);
+    if (!found) return null;
+    const [[left, top], , [right, bottom]] = this.toWindow(corners(this.state.box)), [x, y] = window;
+    const isInside = x >= left && x < right && y >= top && y < bottom;
+    return isInside && this.#isSmall ? null : found.edges;
   }
 
   cursor(at) {
     if (this.edited !== null) return this.#pointAt(at.window) === null ? "default" : "crosshair";
     const found = this.#handleAt(at.window);
     if (found) return cursorOf(found);
-    return this.state.tree?.at(at.page) == null ? "default" : "move";
+    const hit = this.state.tree?.at(at.page) ?? null;
+    return hit === null || hit === this.state.entered ? "default" : "move";
   }
 
   // -- the points of a polygon ----------------------------------------------------------------------------------------
