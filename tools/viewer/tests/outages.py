@@ -15,6 +15,7 @@ from tests.desk import SECONDS, seen
 async def away(ann, ben, server):
     """The server is killed, and started again with the document that was saved."""
     _, text = server.ask(verb="export")
+    await ann.look_at(0, (100, 400))
     server.kill()
     for name, desk in [("Ann", ann), ("Ben", ben)]:
         await desk.tab.until("!document.getElementById('away').hidden")
