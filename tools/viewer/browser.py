@@ -129,6 +129,8 @@ class Tab:
         self._browser, self._target, self._session = browser, target, session
         self.faults = []
         self.fetched = []
+        self.place = (0, 0)
+        """Where the pointer is."""
 
     def take(self, method, values):
         """Takes an event of the tab."""
@@ -168,6 +170,7 @@ class Tab:
 
     async def pointer(self, kind, x, y, held=True, **more):
         values = {"button": "left" if held else "none", "buttons": int(held), **more}
+        self.place = (x, y)
         await self.command("Input.dispatchMouseEvent", type=kind, x=x, y=y, **values)
 
     async def click(self, x, y, count=1):

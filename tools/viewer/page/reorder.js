@@ -4,7 +4,7 @@ import { dropAt } from "./order.js";
 
 const SLOP = 4;
 const REST = 400;
-const EDGE = 24;
+const EDGE = 14;
 const SPEED = 0.3;
 
 export class Reorder {
@@ -31,9 +31,9 @@ export class Reorder {
     this.#sizes = sizes;
     this.#source = source;
     panel.addEventListener("pointerdown", (event) => this.#down(event));
-    panel.addEventListener("pointermove", (event) => this.#moved(event));
-    panel.addEventListener("pointerup", () => this.#up());
-    panel.addEventListener("pointercancel", () => this.cancel());
+    document.addEventListener("pointermove", (event) => this.#moved(event));
+    document.addEventListener("pointerup", () => this.#up());
+    document.addEventListener("pointercancel", () => this.cancel());
     panel.addEventListener("touchmove", (event) => this.isDragging && event.preventDefault(), { passive: false });
     panel.addEventListener("contextmenu", (event) => event.preventDefault());
   }

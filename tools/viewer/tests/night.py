@@ -27,16 +27,23 @@ def place_of(number):
 
 
 class Hand:
-    """A hand with a mouse, and one on the keys. `after` is awaited after each thing that is done."""
+    """A hand with a mouse, and one on the keys. `near` are the keys that come near enough for all; `after` is awaited after each thing that
+    is done."""
 
-    def __init__(self, desk, after=None):
-        self.desk, self.tab, self.after = desk, desk.tab, after
-        self.fill, self.done = None, 0
+    def __init__(self, desk, near="++", after=None):
+        self.desk, self.tab, self.near, self.after = desk, desk.tab, near, after
+        self.fill = None
 
     async def did(self):
-        self.done += 1
         if self.after:
             await self.after()
+
+    async def drag(self, *points, modifiers=0):
+        """Presses at the first point of the page, goes to the others, and lets go at the last."""
+        for kind, point in [("mouseMoved", points[0]), ("mousePressed", points[0]), *[("mouseMoved", it) for it in points[1:]], ("mouseReleased", points[-1])]:
+            await self.tab.pointer(kind, *(await self.desk.spot(point)), clickCount=1, modifiers=modifiers, held=kind != "mouseMoved" or point != points[0])
+            if kind == "mouseMoved" and point != points[0]:
+                await self.did()
 
     async def come(self, *keys):
         """Comes to the middle of the scene at 1:1, by keys and the wheel; then nearer or further by keys."""
@@ -72,7 +79,7 @@ class Hand:
         begin, end = (x, y + is_upward * shape["h"]), (x + shape["w"], y + (not is_upward) * shape["h"])
         await self.desk.press(shape["kind"][0])
         await self.colour(shape["fill"])
-        await self.desk.drag(begin, [(begin[0] + end[0]) // 2, (begin[1] + end[1]) // 2], end)
+        await self.drag(begin, [(begin[0] + end[0]) // 2, (begin[1] + end[1]) // 2], end)
         await self.made(before)
         if shape["fill"] is None:
             x, y, w, h = await self.tab.box_of("#no-fill")
@@ -97,7 +104,7 @@ class Hand:
         x, y = place_of(first)
         for number in others:
             before, (x2, y2) = await self.count(), place_of(number)
-            await self.desk.drag([x + at[0], y + at[1]], [(x + x2) // 2, (y + y2) // 2], [x2 + at[0], y2 + at[1]], modifiers=ALT)
+            await self.drag([x + at[0], y + at[1]], [(x + x2) // 2, (y + y2) // 2], [x2 + at[0], y2 + at[1]], modifiers=ALT)
             await self.made(before)
             x, y = x2, y2
 
@@ -110,7 +117,7 @@ class Hand:
 
 async def sky(hand):
     """The sky with its stars, of which each is a copy of another one, and the moon, which a dark disc covers inside a frame."""
-    await hand.come("+", "+")
+    await hand.come(*hand.near)
     await hand.box(SKY)
     for kind in ("rect", "ellipse"):
         stars = [number for number in below(STARS) if RECORDS[number]["shape"]["kind"] == kind]
@@ -128,7 +135,7 @@ async def land(hand):
     await hand.desk.press("Escape")
     for number in MOUNTAINS:
         await hand.polygon(number, first=1)
-    await hand.come("+", "+")
+    await hand.come(*hand.near)
     await hand.box(LAKE)
     for number in below(RAYS):
         await hand.box(number)
