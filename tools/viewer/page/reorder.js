@@ -34,7 +34,7 @@ export class Reorder {
     document.addEventListener("pointermove", (event) => this.#moved(event));
     document.addEventListener("pointerup", () => this.#up());
     document.addEventListener("pointercancel", () => this.cancel());
-    panel.addEventListener("touchmove", (event) => this.isDragging && event.preventDefault(), { passive: false });
+    panel.addEventListener("touchmove", this.#hold, { passive: false });
     panel.addEventListener("contextmenu", (event) => event.preventDefault());
   }
 
@@ -42,8 +42,14 @@ export class Reorder {
     const row = event.target.closest(".row");
     if (!row || event.button !== 0 || event.target.closest(".eye, .twist") || !this.#source.isOrdered) return;
     this.#begin = { id: Number(row.dataset.id), x: event.clientX, y: event.clientY, pointer: event.pointerId, isTouch: event.pointerType === "touch" };
-    if (this.#begin.isTouch) this.#timer = setTimeout(() => this.#start(event), REST);
+    if (!this.#begin.isTouch) return;
+    this.#timer = setTimeout(() => this.#start(event), REST);
+    // (the row is drawn anew when it is selected, and what the finger does is still told to the old one)
+    event.target.addEventListener("touchmove", this.#hold, { passive: false });
   }
+
+  // A finger that drags does not scroll.
+  #hold = (event) => this.isDragging && event.preventDefault();
 
   #start(event) {
     this.#ids = this.#source.take(this.#begin.id);

@@ -12,7 +12,7 @@ from tests.desk import at, back, boxes, sheet
 LINES = "(({hidden, style}) => hidden ? null : style.backgroundSize)(document.getElementById('grid'))"
 
 
-async def grid(ann, server):
+async def grid(browser, gateway, ann, server):
     """It is put on and off, shown from 2:1 on, kept by the browser, and never part of a picture."""
     await ann.look_at(-1, (40, 40))
     await ann.press("Escape", "Escape", "v")
@@ -21,6 +21,9 @@ async def grid(ann, server):
     await ann.tab.click(x + w / 2, y + h / 2)
     yield "its button says that it is on", difference(await ann.tab.value("document.querySelector('[data-act=grid]').getAttribute('aria-pressed')"), "true")
     yield "the browser keeps that", difference(await ann.tab.value("localStorage.getItem('canvas.grid')"), "true")
+    guest = await browser.open(gateway.page)
+    yield "a tab that is opened then has it", difference(await guest.value("window.app.grid.isOn"), True)
+    await guest.close()
     for level, wanted in [(-1, "16px 16px"), (-2, "32px 32px"), (-3, "64px 64px"), (0, None)]:
         await ann.look_at(level, (40, 40))
         await asyncio.sleep(0.1)

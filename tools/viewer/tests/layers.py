@@ -1,5 +1,6 @@
 """The layers panel."""
 
+import asyncio
 import json
 
 from browser import ALT, CONTROL
@@ -102,6 +103,7 @@ async def ordered(ann, server):
     async for case in several_and_given_up(ann, server, rows, group, inner, (one, two, three)):
         yield case
     await back(ann, 9)
+    await ann.tab.value("app.stage.isTouched = false")
     gone, _ = server.ask(verb="delete", id=inner)
     await ann.settle(gone["version"])
     yield "the picture is as before", difference((await ann.picture()).tobytes() == picture.tobytes(), True)
@@ -127,6 +129,15 @@ async def several_and_given_up(ann, server, rows, group, inner, numbers):
         await ann.press(key, modifiers=modifiers)
         await boxes(ann, [])
         found.append([server.order(group), server.order(inner)])
+    x, y = await rows.spot(inner)
+    await ann.tab.touch("touchStart", (x, y))
+    await asyncio.sleep(0.6)
+    for part in (0.6, 0.75, 0.9):
+        await ann.tab.touch("touchMove", await rows.spot(one, part))
+    await ann.tab.touch("touchEnd")
+    await boxes(ann, [])
+    yield "a finger that rests on a row drags it", difference(server.order(group), [one, inner])
+    await back(ann)
     front, behind, inside = [[one, inner], [three, two]], [[inner, one], [three, two]], [[inner], [one, three, two]]
     yield "Alt and the arrows, and Ctrl and brackets, carry a row", difference(found, [front, inside, front, behind, front, behind])
 

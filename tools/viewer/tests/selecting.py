@@ -154,4 +154,40 @@ async def aligned(ann, server):
             await ann.tab.value(f"app.state.select({numbers})")
 
 
-STAGES = (selected_and_moved, resized, aligned)
+async def worked_in(ann, server):
+    """Work inside a frame: what is drawn there, its colours, a marquee on it, and shapes too small for handles."""
+    group, _, corner = await sheet(ann, server)
+    await ann.press("f")
+    await ann.drag(*at(corner, (0, 0), (100, 100), (320, 240)))
+    frame = await ann.made(group)
+    numbers = []
+    for key, colour, left in [("r", "d9412f", 40), ("r", "1e8a5a", 120), ("e", "f6c13c", 200)]:
+        await ann.press(key)
+        x, y, w, h = await ann.tab.box_of(f"[data-fill='{colour}']")
+        await ann.tab.click(x + w / 2, y + h / 2)
+        await ann.tab.value("document.getElementById('stage').focus()")
+        await ann.drag(*at(corner, (left, 60), (left + 20, 80), (left + 60, 120)))
+        numbers.append(await ann.made((numbers or [frame])[-1]))
+    records = server.records()
+    yield "all go into the frame", difference([records[number]["parent"] for number in numbers], [frame] * 3)
+    yield "a colour that is picked while one draws is for what is drawn", difference([records[number]["shape"]["fill"] for number in [frame, *numbers]][1:],
+                                                                                     ["d9412f", "1e8a5a", "f6c13c"])
+    await ann.click(at(corner, (60, 90))[0])
+    yield "a click selects one beside", difference(await ann.tab.value("app.state.selection"), numbers[:1])
+    await ann.drag(*at(corner, (20, 30), (60, 100), (150, 130)))
+    yield "a marquee on the frame selects in it", difference(sorted(await ann.tab.value("app.state.selection")), numbers[:2])
+    yield "and leaves it where it is", difference((await boxes(ann, [frame]))[0], sum(at(corner, (0, 0), (320, 240)), []))
+    await ann.press("Escape")
+    yield "Esc goes out to the frame", difference(await ann.tab.value("app.state.selection"), [frame])
+    with server.connect() as canvas:
+        tiny, _ = canvas.ask(verb="create", shape={"kind": "rect", "w": 6, "h": 6, "fill": "000000"}, parent=group, pose={"dx": 400, "dy": 60})
+    await ann.settle(tiny["version"])
+    await ann.tab.value(f"app.state.enter({group}), app.editor.select({tiny['id']})")
+    await ann.drag(*at(corner, (402, 62), (410, 70), (422, 92)))
+    yield "a small shape is moved by a press in it", difference((await boxes(ann, [tiny["id"]]))[0], sum(at(corner, (420, 90), (426, 96)), []))
+    await ann.drag(*at(corner, (431, 101), (435, 105), (451, 111)))
+    yield "and resized by the handle beside it", difference((await boxes(ann, [tiny["id"]]))[0], sum(at(corner, (420, 90), (446, 106)), []))
+    yield "the picture of that", await ann.wrong_pixels()
+
+
+STAGES = (selected_and_moved, resized, aligned, worked_in)
