@@ -22,8 +22,9 @@ export class Drag {
   #isFollowing = false;
   #isOver = false;
 
-  /** How much of the way the shapes have been moved so far. */
+  /** How much of the way the shapes have been moved so far, and by which version. */
   made = [0, 0];
+  version = 0;
 
   constructor(steps, ids, clock = CLOCK) {
     this.#steps = steps;
@@ -68,5 +69,6 @@ export class Drag {
     if (done.replies.length < records.length) this.#isOver = true;
     for (const change of done.changes) this.#changes.set(change.id, joined(this.#changes.get(change.id) ?? change, change));
     this.made = by;
+    this.version = Math.max(this.version, ...done.replies.map(({ version }) => version));
   }
 }

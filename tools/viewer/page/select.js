@@ -1,12 +1,12 @@
 // The tools that select, move and resize.
 
 import { Drag } from "./drag.js";
+import { Ghost } from "./ghost.js";
+import { dot, handle, outline, small } from "./overlay.js";
 import { boxOf, corners } from "./plane.js";
-import { dot, ghost, handle, outline, small } from "./overlay.js";
 import { HANDLES, dragged, handlesOf, members } from "./resize.js";
 import { FEWEST, JOIN, SLOP, Tool, distance } from "./tools.js";
 
-const MOST_GHOSTS = 120;
 const ROOM = 28;
 const ASIDE = 6;
 
@@ -51,6 +51,7 @@ export class Select extends Tool {
     this.again = held !== undefined && !isDeep ? { id, isShift } : null;
     if (!this.again) state.select(isShift ? [...selection, id] : [id]);
     this.#move = isAlt ? null : new Drag(this.app.editor, state.selection);
+    this.app.ghost = null;
     this.#begin("move", { from: state.box });
   }
 
@@ -102,6 +103,8 @@ export class Select extends Tool {
     const [across, down] = this.by, isLevel = Math.abs(across) > Math.abs(down);
     const way = !keys.isShift ? this.by : isLevel ? [across, 0] : [0, down];
     this.by = this.grid.moved(this.from, way, this.#move ? keys : {});
+    this.app.ghost ??= new Ghost(this.app, this.state.selection, this.#move);
+    this.app.ghost.go(this.by);
     this.#move?.to(this.by);
   }
 
@@ -123,15 +126,15 @@ export class Select extends Tool {
   }
 
   #endMove(by) {
-    if (this.#move) this.#move.end(by);
-    else this.app.editor.duplicate(by);
+    const made = this.#move ? this.#move.end(by) : this.app.editor.duplicate(by);
+    this.app.ghost?.end(made);
     this.#move = null;
   }
 
   /** Gives up a move: what is moved already goes back by all of the way, or stays where it is. */
   #leaveMove(by = [0, 0]) {
     if (this.mode === "move" && this.isMoved) this.#move?.end(by);
-    this.#move = null;
+    this.#move = this.app.ghost = null;
   }
 
   // A click on what is selected: with Shift it is left, and else it alone is selected.
@@ -158,16 +161,11 @@ export class Select extends Tool {
     return Boolean(isLost);
   }
 
-  /** Whether the selected shapes are on their way, so that the marks of this tool stand for theirs. */
-  get isMoving() {
-    return this.mode === "move" && this.isMoved;
-  }
-
   // -- the box and its handles ----------------------------------------------------------------------------------------
 
   #handles() {
     const { tree, selection, box } = this.state;
-    if (!box || this.mode === "move" || this.mode === "marquee" || this.edited !== null || !members(tree, selection).length) return [];
+    if (!box || this.app.isMoving || this.mode === "marquee" || this.edited !== null || !members(tree, selection).length) return [];
     const places = this.toWindow(handlesOf(box)), [[left, top], , , , [right, bottom]] = places;
     const has = ([across, down]) => (across !== 0 || right - left > ROOM) && (down !== 0 || bottom - top > ROOM);
     const away = this.#isSmall ? ASIDE : 0;
@@ -269,7 +267,6 @@ export class Select extends Tool {
   marks() {
     if (this.edited !== null) return this.#pointMarks();
     if (this.mode === "marquee" && this.isMoved) return [outline("marquee", this.toWindow(corners(boxOf([this.begin.page, this.now.page]))))];
-    if (this.isMoving) return ghosts(this, this.by, this.#move?.made);
     if (this.mode === "resize" && this.isMoved) return [outline("halo", this.toWindow(corners(this.to))), outline("mark", this.toWindow(corners(this.to)))];
     return this.#handles().map(({ place }) => handle(place));
   }
@@ -281,22 +278,6 @@ export class Select extends Tool {
     const edges = this.begin ? [] : this.toWindow(this.#edges).map(small);
     return [outline("mark", shown), ...edges, ...shown.map((point, k) => dot(point, k === this.#point))];
   }
-}
-
-/** What the selected shapes look like, moved by so much of the page, of which a part is made already. */
-function ghosts({ state, app }, by, made = [0, 0]) {
-  const across = by[0] - made[0], down = by[1] - made[1];
-  const moved = (points) => points.map(([x, y]) => state.view.toWindow([x + across, y + down]));
-  const { tree } = state, marks = [];
-  for (const id of members(tree, state.selection).slice(0, MOST_GHOSTS)) {
-    const { kind, fill } = tree.record(id).shape;
-    if (fill) marks.push(ghost(kind, moved(app.outlineOf(id)), `#${fill}`));
-  }
-  for (const id of state.selection.slice(0, MOST_GHOSTS)) {
-    const points = app.outlineOf(id);
-    if (points) marks.push(outline("halo", moved(points)), outline("mark", moved(points)));
-  }
-  return marks;
 }
 
 /** Drags the shape that is pressed, however deep it lies. */
@@ -314,36 +295,33 @@ export class Move extends Tool {
     this.from = state.box;
     this.by = [0, 0];
     this.#move = new Drag(this.app.editor, state.selection);
+    this.app.ghost = null;
   }
 
   drag(at, keys) {
     if (!this.begin) return;
     this.by = this.grid.moved(this.from, [at.page[0] - this.begin[0], at.page[1] - this.begin[1]], keys);
+    this.app.ghost ??= new Ghost(this.app, this.touched, this.#move);
+    this.app.ghost.go(this.by);
     this.#move.to(this.by);
   }
 
   release() {
-    if (this.begin) this.#move.end(this.by);
+    const made = this.begin && this.#move.end(this.by);
+    if (made) this.app.ghost?.end(made);
     this.begin = null;
   }
 
   drop() {
     if (this.begin) this.#move.end([0, 0]);
+    if (this.begin) this.app.ghost = null;
     return super.drop();
   }
 
   lost() {
     const isLost = this.begin && this.touched.some((id) => !this.state.tree?.record(id));
     if (isLost) this.#move.end(this.#move.made);
-    if (isLost) this.begin = null;
+    if (isLost) this.begin = this.app.ghost = null;
     return Boolean(isLost);
-  }
-
-  get isMoving() {
-    return Boolean(this.begin && (this.by[0] || this.by[1]));
-  }
-
-  marks() {
-    return this.isMoving ? ghosts(this, this.by, this.#move.made) : [];
   }
 }

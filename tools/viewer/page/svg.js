@@ -1,5 +1,6 @@
 // A tree, or shapes of it, as an SVG picture: exact outlines in pixels of the page, which is transparent where nothing lies.
 
+import { inOrder } from "./clip.js";
 import { STILL, apply, around, boxOf, compose } from "./plane.js";
 
 /** The `transform` of a pose, or nothing where it does not move. */
@@ -42,6 +43,15 @@ function shownBox(tree, record, outer) {
   const pose = compose(outer, record.pose), { kind } = record.shape;
   if (kind === "group") return tree.children(record.id).reduce((all, child) => around(all, shownBox(tree, child, pose)), null);
   return boxOf(tree.outline(record).map((point) => apply(pose, point)));
+}
+
+/** Shapes with what lies in them, where they lie on the page, as SVG; "" where they are more than so many. */
+export function markupOf(tree, ids, most) {
+  let count = 0;
+  const isFew = (id) => ++count <= most && tree.children(id).every((child) => isFew(child.id));
+  const shown = inOrder(tree, ids);
+  if (!shown.every(({ id }) => isFew(id))) return "";
+  return shown.flatMap((record) => linesOf(tree, record, tree.poseOf(record.id), "")).join("");
 }
 
 /** The SVG of these shapes, or of the whole document where there are none; null where they show nothing. */

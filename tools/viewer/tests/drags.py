@@ -18,7 +18,18 @@ NOTE = """(() => {
 """Notes which poses a tab sends, and when."""
 SEEN = """(() => { window.lefts = new Set(); app.picture.addEventListener('shown', () => { const box = app.picture.tree.record(%d) && app.picture.tree.boxOf(%d);
   if (box) window.lefts.add(box.left); }); })()"""
-GHOST = "(() => { const it = document.querySelector('#overlay .ghost'); return it && Math.round(it.getBoundingClientRect().left - document.getElementById('stage').getBoundingClientRect().left); })()"
+LEFT = """(id) => {
+  const it = document.querySelector('#overlay .ghost'), stage = document.getElementById('stage').getBoundingClientRect();
+  return Math.round(it ? it.getBoundingClientRect().left - stage.left : app.view.toWindow([app.picture.tree.boxOf(id).left, 0])[0]);
+}"""
+"""Where the left edge of a shape is shown: that of what is dragged, or else that of the picture."""
+WATCH = """(() => {
+  const left = %s;
+  window.shownLefts = [];
+  const look = () => { window.shownLefts.push(left(%d)); if (window.shownLefts.length < 60) requestAnimationFrame(look); };
+  document.getElementById('stage').addEventListener('pointerup', () => requestAnimationFrame(look), { once: true });
+})()"""
+"""Notes where a shape is shown in each frame after a drag."""
 
 
 async def drags(ann, ben, server):
@@ -36,10 +47,14 @@ async def drags(ann, ben, server):
         if step % 20 == 0:
             await ann.tab.value("new Promise((done) => requestAnimationFrame(() => requestAnimationFrame(done)))")
             wanted = (await ann.tab.value(f"app.view.toWindow([{corner[0]}, 0])"))[0] + 2 * step
-            late.append(await ann.tab.value(GHOST) - wanted)
+            late.append(await ann.tab.value(f"({LEFT})({one})") - wanted)
         await asyncio.sleep(0.012)
     yield "it is drawn under the pointer at once", difference([off for off in late if abs(off) > 1], [])
+    await ann.tab.value(WATCH % (LEFT, one))
     await ann.tab.pointer("mouseReleased", x + 240, y, clickCount=1)
+    await ann.tab.until("window.shownLefts.length === 60")
+    last = (await ann.tab.value(f"app.view.toWindow([{corner[0] + 240}, 0])"))[0]
+    yield "it is shown nowhere else after that", difference(set(await ann.tab.value("window.shownLefts")), {last})
     yield "where it ends", difference((await boxes(ann, [one]))[0][:2], at(corner, (240, 0))[0])
     async for case in sent(ann, one, corner):
         yield case
