@@ -12,8 +12,8 @@ const inside = (tree, parent, ids) => ({ parent, over: tree.children(parent).fin
 
 /**
  * Where shapes go that are dropped among rows of the layers, or null where they can't lie there. `at` is the height in rows, `depth` that
- * to which the pointer is indented. The place comes with `line`, the row below whose upper edge a line is to be drawn, and its `depth`; or with
- * `into`, the row of the container that they are dropped on.
+ * to which the pointer is indented. The place comes with `line`, the row at whose upper edge a line is drawn, and its `depth`; or with `into`,
+ * the row of the container that they are dropped on.
  */
 export function dropAt(tree, rows, at, depth, ids) {
   const found = placeAt(tree, rows, at, depth, ids);

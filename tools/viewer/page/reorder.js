@@ -3,7 +3,9 @@
 import { dropAt } from "./order.js";
 
 const SLOP = 4;
+/** For how many milliseconds a finger rests. */
 const REST = 400;
+/** How near to the upper or lower edge the list scrolls, and by how many pixels in a millisecond. */
 const EDGE = 14;
 const SPEED = 0.3;
 
@@ -22,8 +24,8 @@ export class Reorder {
   isDragging = false;
 
   /**
-   * `sizes` are the height of a row, its first indent and each further one. `source` gives what is there: `tree`, `rows`, `isOrdered`, `take(id)`, which
-   * selects what is dragged and gives its ids, and `put(place)`.
+   * `sizes` are the first indent of a row and each further one. `source` gives what is there: `tree`, `rows`, their `height`, `isOrdered`,
+   * `take(id)`, which selects what is dragged and gives its ids, and `put(place)`.
    */
   constructor(panel, mark, sizes, source) {
     this.#panel = panel;
@@ -74,7 +76,7 @@ export class Reorder {
   /** Shows where what is dragged would go, among the rows as they are now. */
   show() {
     if (!this.isDragging) return;
-    const { left, top } = this.#panel.getBoundingClientRect(), { height, first, indent } = this.#sizes, { tree, rows } = this.#source;
+    const { left, top } = this.#panel.getBoundingClientRect(), { first, indent } = this.#sizes, { tree, rows, height } = this.#source;
     const y = (this.#last.clientY - top + this.#panel.scrollTop) / height, x = this.#last.clientX - left;
     this.#ids = this.#ids.filter((id) => tree.record(id));
     if (!this.#ids.length) return this.cancel();
@@ -83,7 +85,7 @@ export class Reorder {
   }
 
   #draw() {
-    const place = this.#place, mark = this.#mark, { height, first, indent } = this.#sizes;
+    const place = this.#place, mark = this.#mark, { first, indent } = this.#sizes, { height } = this.#source;
     mark.hidden = !place;
     if (!place) return;
     const isInto = place.into !== undefined;
@@ -95,7 +97,8 @@ export class Reorder {
   // Scrolls while the pointer is near the upper or lower edge.
   #roll(time) {
     if (!this.isDragging) return;
-    const { top, bottom } = this.#panel.getBoundingClientRect(), y = this.#last.clientY, way = y < top + EDGE ? -1 : y > bottom - EDGE ? 1 : 0;
+    const { top, bottom } = this.#panel.getBoundingClientRect(), y = this.#last.clientY;
+    const way = y < top + EDGE ? -1 : y > bottom - EDGE ? 1 : 0;
     this.#frame = requestAnimationFrame((now) => {
       this.#panel.scrollTop += way * SPEED * (now - time);
       if (way) this.show();

@@ -12,6 +12,11 @@ HIDDEN = """[...document.querySelectorAll('header button')].filter((it) => it.of
   return width < 44 || height < 44 || !it.contains(document.elementFromPoint(left + width / 2, top + height / 2));
 }).map((it) => it.outerHTML.slice(0, 60))"""
 
+SMALL = """[...document.querySelectorAll('aside button, aside input, .row, .twist:not(:empty)')].filter((it) => it.offsetParent !== null).filter((it) => {
+  const {width, height} = it.getBoundingClientRect();
+  return width < 43.5 || height < 43.5;
+}).map((it) => [it.outerHTML.slice(0, 60), it.offsetWidth, it.offsetHeight])"""
+
 
 async def small_things(ann, server):
     """Colours, refusals, rows, tools and the view in the address."""
@@ -83,6 +88,9 @@ async def everywhere(browser, gateway, ann):
     await tab.click(x + w / 2, y + h / 2)
     await tab.until("document.querySelector('aside').getBoundingClientRect().bottom <= innerHeight + 1")
     yield "the panel is a sheet", difference(await tab.value("getComputedStyle(document.querySelector('aside')).visibility"), "visible")
+    await tab.value("app.state.select(app.state.tree.children(null).slice(0, 2).map(({id}) => id))")
+    await asyncio.sleep(0.3)
+    yield "nothing in it is too small for a finger", difference(await tab.value(SMALL), [])
     yield "contrast on a phone", difference(await tab.value(FAINT), [])
     yield "the phone's console", difference(tab.faults, [])
     await tab.close()

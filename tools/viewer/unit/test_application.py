@@ -2,6 +2,9 @@
 
 import argparse
 import asyncio
+import re
+import subprocess
+import sys
 from types import SimpleNamespace
 
 import pytest
@@ -80,3 +83,9 @@ def test_a_tab_is_told_of_its_own_run_alone():
 
 def test_a_tab_without_a_session_is_told_nothing():
     assert asyncio.run(heard(Session(0, 0, 9), None, 4)) == []
+
+
+def test_what_is_missing_is_said_in_words():
+    said = subprocess.run([sys.executable, "-S", str(PAGE.parent / "gateway.py"), "127.0.0.1:1"], capture_output=True, text=True)
+    assert (said.returncode, said.stdout) == (1, "")
+    assert re.fullmatch(r"gateway: there is no \w+; tools/viewer/setup.sh installs what is needed\n", said.stderr)
