@@ -7,7 +7,10 @@ const KINDS = { rect: "Rectangle", ellipse: "Ellipse", polygon: "Polygon", frame
 const MOST = 2000;
 const LONGEST = 80;
 
-const given = new Map(kept("names", []));
+/** What was kept, but for what is no list of names. */
+const readNames = (found) => (Array.isArray(found) ? found.filter((it) => Array.isArray(it) && Array.isArray(it[1])) : []);
+
+const given = new Map(readNames(kept("names", [])));
 
 /** The name that was given to a shape, or "". */
 export function givenName({ id, shape }) {

@@ -42,7 +42,7 @@ async def drags(ann, ben, server):
     await ann.tab.pointer("mouseMoved", x, y, held=False)
     await ann.tab.pointer("mousePressed", x, y, clickCount=1)
     late = []
-    for step in range(1, 121):
+    for step in range(1, 116):
         await ann.tab.pointer("mouseMoved", x + 2 * step, y)
         if step % 20 == 0:
             await ann.tab.value("new Promise((done) => requestAnimationFrame(() => requestAnimationFrame(done)))")
@@ -51,6 +51,7 @@ async def drags(ann, ben, server):
         await asyncio.sleep(0.012)
     yield "it is drawn under the pointer at once", difference([off for off in late if abs(off) > 1], [])
     await ann.tab.value(WATCH % (LEFT, one))
+    await ann.tab.pointer("mouseMoved", x + 240, y)
     await ann.tab.pointer("mouseReleased", x + 240, y, clickCount=1)
     await ann.tab.until("window.shownLefts.length === 60")
     last = (await ann.tab.value(f"app.view.toWindow([{corner[0] + 240}, 0])"))[0]

@@ -4,7 +4,7 @@ import assert from "node:assert/strict";
 import { test } from "node:test";
 
 import { STILL, apply, compose } from "../page/plane.js";
-import { svgOf } from "../page/svg.js";
+import { markupOf, svgOf } from "../page/svg.js";
 import { Tree } from "../page/tree.js";
 
 const saved = (id, parent, shape, pose = {}, hidden = false) => ({ id, hidden, place: { parent, index: `a${id}` }, pose: { ...STILL, ...pose }, shape });
@@ -64,4 +64,14 @@ test("what is selected is shown where it lies on the page, by itself", () => {
 test("what shows nothing is no picture", () => {
   assert.equal(svgOf(treeOf()), null);
   assert.equal(svgOf(treeOf(saved(1, null, { kind: "group" }), saved(2, null, rect(3, 3), {}, true))), null);
+});
+
+test("what is dragged is drawn where it lies on the page, unless it is too much", () => {
+  const outer = { dx: 100, dy: 50, quarter: 1 };
+  const tree = treeOf(saved(1, null, { kind: "frame", w: 5, h: 5, fill: "eeeeee" }, outer), saved(2, 1, rect(3, 1)), saved(3, null, rect(2, 2), { dx: 9 }));
+  const text = markupOf(tree, [3, 1], 3);
+  assert.ok(text.startsWith('<g transform="matrix(0 1 -1 0 100 50)">') && text.endsWith('<rect width="2" height="2" fill="#ff0000" transform="translate(9 0)"/>'), text);
+  assert.equal(markupOf(tree, [2], 3), '<rect width="3" height="1" fill="#ff0000" transform="matrix(0 1 -1 0 100 50)"/>');
+  assert.equal(markupOf(tree, [3, 1], 2), "");
+  assert.equal(markupOf(tree, [], 2), "");
 });
