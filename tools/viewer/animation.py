@@ -26,7 +26,7 @@ from tests.night import Hand, land, sky, things  # noqa: E402
 
 PICTURE = TOP / "docs" / "pictures" / "viewer-night.png"
 SIZE = (880, 640)
-COLOURS = 160
+COLOURS, APART = 160, 8
 PAUSE, LAST = 60, 3000
 """How long a frame is shown, and the last one, in milliseconds."""
 ARROW = [(0, 0), (0, 17), (4, 13), (7, 20), (10, 19), (7, 12), (12, 12)]
@@ -56,12 +56,16 @@ class Film:
 # -- the file ----------------------------------------------------------------------------------------------------------
 
 def palette_of(frames):
-    """A palette that does for all frames: the colours that are most often there. Colour 0, which none has, is left for what is transparent."""
-    count = collections.Counter()
+    """A palette that does for all frames: the colours that are most often there, of those near each other the first. Colour 0, which none has,
+    is left for what is transparent."""
+    count, chosen = collections.Counter(), []
     for frame in frames[::8] + frames[-1:]:
         count.update({colour: number for number, colour in frame.getcolors(1 << 24)})
+    for colour, _ in count.most_common():
+        if len(chosen) < COLOURS and all(max(abs(a - b) for a, b in zip(colour, other)) >= APART for other in chosen):
+            chosen.append(colour)
     found = Image.new("P", (1, 1))
-    found.putpalette([255, 0, 255, *(part for colour, _ in count.most_common(COLOURS) for part in colour)])
+    found.putpalette([255, 0, 255, *(part for colour in chosen for part in colour)])
     return found
 
 
