@@ -25,7 +25,8 @@ from repository import TOP
 
 VERSION = (TOP / "VERSION").read_text().strip()
 SHARED = ("README.md", "CHANGELOG.md", "VERSION", "bin/canvas-demo", "docs/*.md", "docs/pictures/*.png", "examples/*.json*", "examples/visit.py",
-          "tools/bodies.py", "tools/canvas_client.py", "tools/viewer/gateway.py", "tools/viewer/setup.sh", "tools/viewer/page/*")
+          "tools/bodies.py", "tools/canvas_client.py", "tools/viewer/gateway.py", "tools/viewer/relay/*.py", "tools/viewer/setup.sh",
+          "tools/viewer/page/*")
 """The files of the repository that both packages have."""
 OF_SCRIPT = ("bin/canvas", "tools/canvas.help", "tools/before_serve.py")
 """What bin/canvas is, which the tarball has over the program."""

@@ -23,7 +23,7 @@ PATIENCE = 30
 KEYS = {
     "Enter": ("Enter", 13, "\r"), "Escape": ("Escape", 27, ""), "Delete": ("Delete", 46, ""), "Tab": ("Tab", 9, ""), " ": ("Space", 32, " "),
     "ArrowLeft": ("ArrowLeft", 37, ""), "ArrowUp": ("ArrowUp", 38, ""), "ArrowRight": ("ArrowRight", 39, ""), "ArrowDown": ("ArrowDown", 40, ""),
-    "Backspace": ("Backspace", 8, ""), "Home": ("Home", 36, ""), "End": ("End", 35, ""),
+    "Backspace": ("Backspace", 8, ""), "Home": ("Home", 36, ""), "End": ("End", 35, ""), "F2": ("F2", 113, ""),
 }
 ALT, CONTROL, SHIFT = 1, 2, 8
 
@@ -129,6 +129,8 @@ class Tab:
         self._browser, self._target, self._session = browser, target, session
         self.faults = []
         self.fetched = []
+        self.place = (0, 0)
+        """Where the pointer is."""
 
     def take(self, method, values):
         """Takes an event of the tab."""
@@ -168,6 +170,7 @@ class Tab:
 
     async def pointer(self, kind, x, y, held=True, **more):
         values = {"button": "left" if held else "none", "buttons": int(held), **more}
+        self.place = (x, y)
         await self.command("Input.dispatchMouseEvent", type=kind, x=x, y=y, **values)
 
     async def click(self, x, y, count=1):

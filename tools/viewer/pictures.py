@@ -14,7 +14,7 @@ from pathlib import Path
 from PIL import Image
 
 sys.path.insert(0, str(Path(__file__).resolve().parent.parent))
-from browser import Browser  # noqa: E402
+from browser import CONTROL, Browser  # noqa: E402
 from canvas_client import TOP, Canvas  # noqa: E402
 from check_server import free_port  # noqa: E402
 
@@ -24,9 +24,10 @@ SEEDS = 900
 MIDDLE = 3900
 
 
-async def save(tab, name):
+async def save(tab, name, has_focus=False):
     """Saves a picture of the tab, in at most 128 colours."""
-    await tab.value("document.activeElement.blur()")
+    if not has_focus:
+        await tab.value("document.activeElement.blur()")
     await asyncio.sleep(0.5)
     image = Image.open(io.BytesIO(await tab.screenshot())).convert("RGB")
     image.quantize(128, dither=Image.Dither.NONE).save(PICTURES / f"viewer-{name}.png", optimize=True)
@@ -38,21 +39,45 @@ async def spot(tab, point):
     return x + i, y + j
 
 
+async def row(tab, number, part, across=90):
+    """A place in a row of the layers."""
+    x, y, _, height = await tab.box_of(f"#layer-{number}")
+    return x + across, y + part * height
+
+
 async def select(tab):
-    """The examples, with a frame of the poster selected."""
-    await tab.drag([await spot(tab, (100, 40))])
-    await save(tab, "select")
+    """The examples, with the moon selected, and its row on the way to another place in the layers."""
+    await tab.key("v")
+    await tab.drag([await spot(tab, (170, 60))], CONTROL)
+    await tab.until("!!document.getElementById('layer-30')")
+    x, y = await row(tab, 31, 0.5)
+    await tab.pointer("mouseMoved", x, y, held=False)
+    await tab.pointer("mousePressed", x, y, clickCount=1)
+    x, y = await row(tab, 3, 0.2)
+    await tab.pointer("mouseMoved", x, y + 5)
+    await tab.pointer("mouseMoved", x, y)
+    await save(tab, "select", has_focus=True)
+    await tab.key("Escape")
+    await tab.pointer("mouseReleased", x, y, clickCount=1)
 
 
 async def draw(tab):
-    """A polygon that is being drawn beside them."""
-    await tab.value("app.editor.select(null), app.editor.setFill('7a4fc9')")
+    """A polygon that is being drawn on the grid, beside the examples."""
+    for key in ("Escape", "Escape", "#", "+"):
+        await tab.key(key)
+    x, y, w, h = await tab.box_of("#stage")
+    i, j = await tab.value("app.view.toWindow([300, 200])")
+    await tab.wheel(x + w / 2, y + h / 2, j - h / 2, i - w / 2)
+    await tab.value("app.editor.setFill('7a4fc9'), app.notes.hide()")
     await tab.key("p")
-    for point in [(330, 420), (390, 330), (480, 300), (540, 400)]:
+    await tab.until("app.picture.isSettled")
+    for point in [(270, 250), (300, 180), (340, 160), (372, 236)]:
         await tab.drag([await spot(tab, point)])
-    await tab.pointer("mouseMoved", *(await spot(tab, (450, 500))), held=False)
+    await tab.pointer("mouseMoved", *(await spot(tab, (336, 280))), held=False)
     await save(tab, "draw")
-    await tab.key("Escape")
+    for key in ("Escape", "Escape", "#"):
+        await tab.key(key)
+    await tab.value("app.notes.hide()")
 
 
 def plant(canvas):

@@ -4,7 +4,7 @@ set -eu
 
 packages=(python3 python3-aiohttp python3-pil)
 if [ "${1-}" = test ]; then
-    packages+=(chromium fonts-dejavu-core)
+    packages+=(chromium fonts-dejavu-core python3-pytest)
     command -v node >/dev/null || packages+=(nodejs)
 fi
 

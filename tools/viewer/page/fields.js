@@ -1,5 +1,6 @@
-// The fields of place and size: x, y, w and h of the box of what is selected, in pixels of the page.
+// The fields: x, y, w and h of the box of what is selected, in pixels of the page, and the name of the one shape.
 
+import { giveName, givenName, plainName } from "./names.js";
 import { members } from "./resize.js";
 
 const NAMES = ["x", "y", "w", "h"];
@@ -8,6 +9,8 @@ const MOST = 65_536;
 export class Fields {
   #app;
   #inputs = NAMES.map((name) => document.getElementById(`field-${name}`));
+  #name = document.getElementById("field-name");
+  #from = null;
 
   constructor(app) {
     this.#app = app;
@@ -16,11 +19,38 @@ export class Fields {
       input.addEventListener("keydown", (event) => event.key === "Escape" && this.#leave(input));
       input.addEventListener("blur", () => this.show());
     });
+    this.#name.addEventListener("change", () => this.#rename());
+    this.#name.addEventListener("blur", () => this.show());
+    this.#name.addEventListener("keydown", (event) => this.#keyOfName(event));
   }
 
-  /** Shows the numbers, but in a field that is being filled in. */
-  show() {
-    const { tree, selection, box } = this.#app.state;
+  /** Goes to the field of the name; Enter and Esc go back to where the focus was. */
+  name() {
+    this.#from = document.activeElement;
+    document.body.classList.add("has-panel");
+    this.#name.focus();
+    this.#name.select();
+  }
+
+  #keyOfName(event) {
+    if (event.key !== "Enter" && event.key !== "Escape") return;
+    if (event.key === "Escape") this.show(true);
+    (this.#from ?? document.getElementById("stage")).focus({ preventScroll: true });
+    this.#from = null;
+  }
+
+  #rename() {
+    const { record } = this.#app.state;
+    if (record) giveName(record, this.#name.value);
+    this.#app.showNames();
+  }
+
+  /** Shows what is so, but in a field that is being filled in, unless all are to be shown. */
+  show(isAll = false) {
+    const { tree, selection, box, record } = this.#app.state;
+    this.#name.disabled = !record;
+    this.#name.placeholder = record ? plainName(record) : "";
+    if (isAll || document.activeElement !== this.#name) this.#name.value = record ? givenName(record) : "";
     const values = box ? [box.left, box.top, box.right - box.left, box.bottom - box.top] : [];
     const hasSize = box && members(tree, selection).length > 0;
     this.#inputs.forEach((input, k) => {

@@ -1,6 +1,9 @@
 // Saving and opening: the document as a file, the view as a picture, and in words what is not saved.
 
+import { inOrder } from "./clip.js";
 import { count } from "./names.js";
+import { svgOf } from "./svg.js";
+import { Tree } from "./tree.js";
 
 const part = (id) => document.getElementById(id);
 
@@ -28,14 +31,30 @@ export class Files {
     this.#saved = null;
   }
 
+  /** The reply with the document as the server has it now, or null where there is none, which is told. */
+  async #export() {
+    const { link, notes } = this.#app, [reply] = await link.ask([{ verb: "export" }]).catch(() => []);
+    if (reply?.ok) return reply;
+    notes.tell(reply ?? "The server is away.");
+    return null;
+  }
+
   /** Downloads the document as the server exports it. */
   async download() {
-    const { link, notes } = this.#app;
-    const [reply] = await link.ask([{ verb: "export" }]).catch(() => []);
-    if (!reply?.ok) return notes.tell(reply ?? "The server is away.");
+    const reply = await this.#export();
+    if (!reply) return;
     this.#saved = reply.version;
     this.give(reply.document, reply.version);
-    return this.show();
+    this.show();
+  }
+
+  /** Downloads the selected shapes, or the whole document, as an SVG picture. */
+  async svg() {
+    const { selection } = this.#app.state, reply = await this.#export();
+    if (!reply) return;
+    const tree = new Tree(reply.document, reply.version), records = inOrder(tree, selection), text = svgOf(tree, records);
+    if (!text) this.#app.notes.tell("There is nothing to be seen in it.");
+    else give(new Blob([text], { type: "image/svg+xml" }), `canvas-${records.length ? "selection" : "version"}-${reply.version}.svg`);
   }
 
   give(saved, version) {

@@ -1,20 +1,20 @@
 // The tools that select, move and resize.
 
+import { Drag } from "./drag.js";
+import { Ghost } from "./ghost.js";
+import { dot, handle, outline, small } from "./overlay.js";
 import { boxOf, corners } from "./plane.js";
-import { dot, ghost, handle, outline, small } from "./overlay.js";
 import { HANDLES, dragged, handlesOf, members } from "./resize.js";
-import { JOIN, SLOP, Tool, distance } from "./tools.js";
+import { FEWEST, JOIN, SLOP, Tool, distance } from "./tools.js";
 
-const MOST_GHOSTS = 120;
 const ROOM = 28;
-const FEWEST = 3;
+const ASIDE = 6;
 
 /** The pointer over a handle that moves these edges. */
 function cursorOf([across, down]) {
   if (across && down) return across === down ? "nwse-resize" : "nesw-resize";
   return across ? "ew-resize" : "ns-resize";
 }
-
 
 /** Selects, moves and resizes shapes. What a press begins is one of the modes below. */
 export class Select extends Tool {
@@ -23,6 +23,7 @@ export class Select extends Tool {
   /** The polygon of which the points are edited, or null. */
   edited = null;
   #point = null;
+  #move = null;
 
   press(at, keys = {}) {
     this.begin = at;
@@ -38,9 +39,9 @@ export class Select extends Tool {
     Object.assign(this, { mode, touched: this.state.selection, ...values });
   }
 
-  #pressShape(at, { isShift, isDeep }) {
+  #pressShape(at, { isShift, isDeep, isAlt }) {
     const { state } = this, { tree, selection } = state, hit = tree?.at(at.page) ?? null;
-    if (hit === null) {
+    if (hit === null || hit === state.entered) {
       if (!isShift) this.#leave(at.page);
       this.#begin("marquee", { kept: isShift ? selection : [] });
       return;
@@ -49,7 +50,9 @@ export class Select extends Tool {
     const id = isDeep ? hit : held ?? this.#reach(hit);
     this.again = held !== undefined && !isDeep ? { id, isShift } : null;
     if (!this.again) state.select(isShift ? [...selection, id] : [id]);
-    this.#begin("move");
+    this.#move = isAlt ? null : new Drag(this.app.editor, state.selection);
+    this.app.ghost = null;
+    this.#begin("move", { from: state.box });
   }
 
   // What lies at a press beside all shapes: the selection goes, and so does what was entered, unless the press was in its box.
@@ -78,16 +81,31 @@ export class Select extends Tool {
     }
   }
 
-  drag(at, { isShift } = {}) {
+  drag(at, keys = {}) {
     if (!this.begin) return;
     this.isMoved ||= distance(at.window, this.begin.window) >= SLOP;
     if (!this.isMoved) return;
     this.by = [at.page[0] - this.begin.page[0], at.page[1] - this.begin.page[1]];
     this.now = at;
-    if (this.mode === "resize") this.to = dragged(this.from, this.handle, this.by, isShift);
-    else if (this.mode === "move" && isShift) this.by = Math.abs(this.by[0]) > Math.abs(this.by[1]) ? [this.by[0], 0] : [0, this.by[1]];
+    if (this.mode === "resize") this.#resize(keys);
+    else if (this.mode === "move") this.#goOn(keys);
     else if (this.mode === "marquee") this.#mark();
-    else if (this.mode === "point") this.points[this.#point] = at.page;
+    else if (this.mode === "point") this.points[this.#point] = this.grid.snap(at.page, keys);
+  }
+
+  #resize(keys) {
+    const { from, handle, by } = this;
+    this.to = dragged(from, handle, this.grid.pulled(from, handle, by, keys), keys.isShift);
+  }
+
+  // What is dragged with Alt from its begin is a copy, which is made at the end; all else is moved at once.
+  #goOn(keys) {
+    const [across, down] = this.by, isLevel = Math.abs(across) > Math.abs(down);
+    const way = !keys.isShift ? this.by : isLevel ? [across, 0] : [0, down];
+    this.by = this.grid.moved(this.from, way, this.#move ? keys : {});
+    this.app.ghost ??= new Ghost(this.app, this.state.selection, this.#move);
+    this.app.ghost.go(this.by);
+    this.#move?.to(this.by);
   }
 
   #mark() {
@@ -104,8 +122,19 @@ export class Select extends Tool {
     if (mode === "point") this.#setPoints();
     else if (!isMoved && this.again && mode === "move") this.#clickAgain();
     else if (isMoved && mode === "resize") editor.fitTo(to);
-    else if (isMoved && mode === "move" && keys.isAlt) editor.duplicate(by);
-    else if (isMoved && mode === "move") editor.moveBy(by);
+    else if (isMoved && mode === "move") this.#endMove(by);
+  }
+
+  #endMove(by) {
+    const made = this.#move ? this.#move.end(by) : this.app.editor.duplicate(by);
+    this.app.ghost?.end(made);
+    this.#move = null;
+  }
+
+  /** Gives up a move: what is moved already goes back by all of the way, or stays where it is. */
+  #leaveMove(by = [0, 0]) {
+    if (this.mode === "move" && this.isMoved) this.#move?.end(by);
+    this.#move = this.app.ghost = null;
   }
 
   // A click on what is selected: with Shift it is left, and else it alone is selected.
@@ -118,6 +147,7 @@ export class Select extends Tool {
 
   drop() {
     const had = Boolean(this.begin) || this.edited !== null;
+    if (this.begin) this.#leaveMove();
     this.begin = this.mode = this.edited = this.#point = null;
     return had;
   }
@@ -126,6 +156,7 @@ export class Select extends Tool {
   lost() {
     const isLost = this.begin && this.mode !== "marquee" && this.touched.some((id) => !this.state.tree?.record(id));
     if (this.edited !== null && !this.state.tree?.record(this.edited)) this.edited = null;
+    if (isLost) this.#leaveMove(this.#move?.made);
     if (isLost) this.begin = this.mode = null;
     return Boolean(isLost);
   }
@@ -134,22 +165,34 @@ export class Select extends Tool {
 
   #handles() {
     const { tree, selection, box } = this.state;
-    if (!box || this.mode === "move" || this.mode === "marquee" || this.edited !== null || !members(tree, selection).length) return [];
+    if (!box || this.app.isMoving || this.mode === "marquee" || this.edited !== null || !members(tree, selection).length) return [];
     const places = this.toWindow(handlesOf(box)), [[left, top], , , , [right, bottom]] = places;
     const has = ([across, down]) => (across !== 0 || right - left > ROOM) && (down !== 0 || bottom - top > ROOM);
-    return HANDLES.map((edges, k) => ({ edges, place: places[k] })).filter(({ edges }) => has(edges));
+    const away = this.#isSmall ? ASIDE : 0;
+    const placed = (edges, [x, y]) => ({ edges, place: [x + edges[0] * away, y + edges[1] * away] });
+    return HANDLES.map((edges, k) => placed(edges, places[k])).filter(({ edges }) => has(edges));
+  }
+
+  // Whether there is no room between the handles: then they lie beside the box, and a press in it is no press of theirs.
+  get #isSmall() {
+    const { box, view } = this.state, room = this.app.stage.isTouched ? 2 * ROOM : ROOM;
+    return Math.min(box.right - box.left, box.bottom - box.top) < room * view.scale;
   }
 
   #handleAt(window) {
-    const reach = this.app.stage.isTouched ? 22 : JOIN;
-    return this.#handles().find(({ place }) => distance(place, window) <= reach)?.edges ?? null;
+    const reach = this.app.stage.isTouched ? 22 : JOIN, found = this.#handles().find(({ place }) => distance(place, window) <= reach);
+    if (!found) return null;
+    const [[left, top], , [right, bottom]] = this.toWindow(corners(this.state.box)), [x, y] = window;
+    const isInside = x >= left && x < right && y >= top && y < bottom;
+    return isInside && this.#isSmall ? null : found.edges;
   }
 
   cursor(at) {
     if (this.edited !== null) return this.#pointAt(at.window) === null ? "default" : "crosshair";
     const found = this.#handleAt(at.window);
     if (found) return cursorOf(found);
-    return this.state.tree?.at(at.page) == null ? "default" : "move";
+    const hit = this.state.tree?.at(at.page) ?? null;
+    return hit === null || hit === this.state.entered ? "default" : "move";
   }
 
   // -- the points of a polygon ----------------------------------------------------------------------------------------
@@ -178,7 +221,7 @@ export class Select extends Tool {
     return edge >= 0 ? { edge } : null;
   }
 
-  #pressPoint(at, { isAlt }) {
+  #pressPoint(at, keys) {
     if (this.edited === null) return false;
     if (this.state.selected !== this.edited || !this.app.outlineOf(this.edited)) {
       this.edited = null;
@@ -191,12 +234,12 @@ export class Select extends Tool {
       return false;
     }
     if (found.edge !== undefined) {
-      this.points.splice(found.edge + 1, 0, at.page);
+      this.points.splice(found.edge + 1, 0, this.grid.snap(at.page, keys));
       this.isMoved = true;
     }
     this.#point = found.corner ?? found.edge + 1;
     this.#begin("point");
-    if (isAlt && found.corner !== undefined) this.#takeOut();
+    if (keys.isAlt && found.corner !== undefined) this.#takeOut();
     return true;
   }
 
@@ -224,7 +267,6 @@ export class Select extends Tool {
   marks() {
     if (this.edited !== null) return this.#pointMarks();
     if (this.mode === "marquee" && this.isMoved) return [outline("marquee", this.toWindow(corners(boxOf([this.begin.page, this.now.page]))))];
-    if (this.mode === "move" && this.isMoved) return ghosts(this, this.by);
     if (this.mode === "resize" && this.isMoved) return [outline("halo", this.toWindow(corners(this.to))), outline("mark", this.toWindow(corners(this.to)))];
     return this.#handles().map(({ place }) => handle(place));
   }
@@ -238,24 +280,10 @@ export class Select extends Tool {
   }
 }
 
-/** What the selected shapes look like, moved by so much of the page. */
-function ghosts({ state, app }, [across, down]) {
-  const moved = (points) => points.map(([x, y]) => state.view.toWindow([x + across, y + down]));
-  const { tree } = state, marks = [];
-  for (const id of members(tree, state.selection).slice(0, MOST_GHOSTS)) {
-    const { kind, fill } = tree.record(id).shape;
-    if (fill) marks.push(ghost(kind, moved(app.outlineOf(id)), `#${fill}`));
-  }
-  for (const id of state.selection.slice(0, MOST_GHOSTS)) {
-    const points = app.outlineOf(id);
-    if (points) marks.push(outline("halo", moved(points)), outline("mark", moved(points)));
-  }
-  return marks;
-}
-
 /** Drags the shape that is pressed, however deep it lies. */
 export class Move extends Tool {
   hint = "Drag any single shape to move it, however deep it lies. Arrow keys move what is selected, with Shift ten times as far.";
+  #move = null;
 
   press(at) {
     const { state } = this, id = state.tree?.at(at.page) ?? null;
@@ -264,25 +292,36 @@ export class Move extends Tool {
     if (!isInside) this.app.editor.select(id);
     this.begin = state.selected === null ? null : at.page;
     this.touched = state.selection;
+    this.from = state.box;
     this.by = [0, 0];
+    this.#move = new Drag(this.app.editor, state.selection);
+    this.app.ghost = null;
   }
 
-  drag(at) {
-    if (this.begin) this.by = [at.page[0] - this.begin[0], at.page[1] - this.begin[1]];
+  drag(at, keys) {
+    if (!this.begin) return;
+    this.by = this.grid.moved(this.from, [at.page[0] - this.begin[0], at.page[1] - this.begin[1]], keys);
+    this.app.ghost ??= new Ghost(this.app, this.touched, this.#move);
+    this.app.ghost.go(this.by);
+    this.#move.to(this.by);
   }
 
   release() {
-    if (this.begin) this.app.editor.moveBy(this.by);
+    const made = this.begin && this.#move.end(this.by);
+    if (made) this.app.ghost?.end(made);
     this.begin = null;
+  }
+
+  drop() {
+    if (this.begin) this.#move.end([0, 0]);
+    if (this.begin) this.app.ghost = null;
+    return super.drop();
   }
 
   lost() {
     const isLost = this.begin && this.touched.some((id) => !this.state.tree?.record(id));
-    if (isLost) this.begin = null;
+    if (isLost) this.#move.end(this.#move.made);
+    if (isLost) this.begin = this.app.ghost = null;
     return Boolean(isLost);
-  }
-
-  marks() {
-    return this.begin && (this.by[0] || this.by[1]) ? ghosts(this, this.by) : [];
   }
 }

@@ -21,6 +21,8 @@ export class State extends EventTarget {
   entered = null;
   /** The colour of new shapes. */
   fill = "2f6fde";
+  /** Whether a tool that draws is chosen. */
+  isDrawing = false;
 
   /** The selected shape, or the last one of several; null where there is none. */
   get selected() {

@@ -2,6 +2,7 @@
 
 import { batches, changeOf, planBack } from "./changes.js";
 import { Unanswered } from "./link.js";
+import { carryName } from "./names.js";
 
 const MOST = 256;
 
@@ -31,7 +32,8 @@ export class Steps {
     this.state = state;
   }
 
-  #inTurn(work) {
+  /** Does some work when all that was begun before it is done. */
+  inTurn(work) {
     const found = this.#last.then(work);
     this.#last = found.catch(() => {});
     return found;
@@ -39,7 +41,7 @@ export class Steps {
 
   /** Sends one edit that is no step; gives its reply, or null where it was refused or not answered. */
   send(request) {
-    return this.#inTurn(async () => (await this.#make([request])).replies[0] ?? null);
+    return this.inTurn(async () => (await this.make([request])).replies[0] ?? null);
   }
 
   /**
@@ -47,23 +49,28 @@ export class Steps {
    * Steps of one `kind` that follow each other soon are taken back together.
    */
   perform(name, plan, kind) {
-    return this.#inTurn(async () => {
+    return this.inTurn(async () => {
       const requests = this.state.tree && plan(this.state.tree);
       if (!requests?.length) return null;
-      const done = await this.#make(requests);
-      this.state.history.note({ name, kind, changes: done.changes });
-      this.state.dispatchEvent(new Event("history"));
+      const done = await this.make(requests);
+      this.note(name, done.changes, kind);
       return done;
     });
   }
 
+  /** Notes changes that were made as a step. */
+  note(name, changes, kind) {
+    this.state.history.note({ name, kind, changes });
+    this.state.dispatchEvent(new Event("history"));
+  }
+
   /** Takes back the last step, or makes again the one that was taken back last. Gives in words what was passed over. */
   back(isRedo) {
-    return this.#inTurn(async () => {
+    return this.inTurn(async () => {
       const { history, tree } = this.state, step = tree && history.take(isRedo);
       if (!step) return null;
       const { requests, passed } = planBack(tree, step.changes, (id) => history.resolve(id));
-      const done = requests.length ? await this.#make(requests) : { changes: [] };
+      const done = requests.length ? await this.make(requests) : { changes: [] };
       if (done.wasNotSent) history.putBack(step, isRedo);
       else history.noteBack({ name: step.name, changes: done.changes }, isRedo);
       const touched = done.changes.map(({ id }) => id);
@@ -73,7 +80,8 @@ export class Steps {
     });
   }
 
-  async #make(requests) {
+  /** Sends edits, of which the caller has the turn. Gives the replies of those that were made, and what they changed. */
+  async make(requests) {
     const done = { changes: [], replies: [], made: new Map(), refusal: null, wasNotSent: false };
     try {
       for (const batch of batches(requests, MOST)) await this.#makeBatch(batch, done);
@@ -102,7 +110,10 @@ export class Steps {
       before?.make(request, reply);
       if (change) done.changes.push(change);
       if (as !== undefined) done.made.set(as, reply.id);
-      if (instead !== undefined) this.state.history.rename(instead, reply.id);
+      if (instead !== undefined) {
+        this.state.history.rename(instead, reply.id);
+        carryName(instead, reply.id);
+      }
       done.replies.push(reply);
       edits.push([request, reply]);
     });

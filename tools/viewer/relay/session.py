@@ -1,0 +1,115 @@
+"""Sessions with a server: requests as lines, replies in order, and when the server was there for certain."""
+
+import asyncio
+import collections
+import json
+import math
+import socket
+import time
+
+BUFFER = 1 << 20
+PATIENCE = 20
+"""Seconds after which a server that does not answer counts as away."""
+
+
+class Away(Exception):
+    """The server can't be reached, or has ended the session; the text says why."""
+
+
+def line_of(request):
+    return json.dumps(request, separators=(",", ":")).encode() + b"\n"
+
+
+POINT = line_of({"verb": "point", "x": 0, "y": 0})
+
+
+class Presence:
+    """When a session's server was there for certain: from the first reply's coming to the sending of the last batch that was answered."""
+
+    def __init__(self):
+        self._since, self._until = math.inf, -math.inf
+
+    def hear(self, asked):
+        """Takes note of a reply to what was asked at a time."""
+        self._since = min(self._since, time.monotonic())
+        self._until = asked
+
+    def is_with(self, other):
+        """Whether two sessions are known to be with one run of the server: both servers were there at one time, and one address has one."""
+        return self is other or max(self._since, other._since) < min(self._until, other._until)
+
+
+class Session:
+    """A session with a server. Batches are sent as they come, and answered in order.
+
+    `seen` is the newest version that its tab was told of.
+    """
+
+    def __init__(self, reader, writer):
+        self._reader, self._writer = reader, writer
+        self._waiting = collections.deque()
+        self._replies = asyncio.create_task(self._read())
+        self.presence = Presence()
+        self.seen = 0
+
+    @classmethod
+    async def open(cls, host, port):
+        try:
+            reader, writer = await asyncio.wait_for(asyncio.open_connection(host, port, limit=BUFFER), PATIENCE)
+        except (OSError, asyncio.TimeoutError):
+            raise Away("no server answers") from None
+        writer.get_extra_info("socket").setsockopt(socket.IPPROTO_TCP, socket.TCP_NODELAY, 1)
+        return cls(reader, writer)
+
+    async def ask(self, lines):
+        """Sends the lines of requests in one piece; gives their replies, each with its body."""
+        if self._replies.done():
+            raise Away("the server has ended the session")
+        replies = asyncio.get_running_loop().create_future()
+        self._waiting.append((len(lines), time.monotonic(), replies))
+        try:
+            self._writer.write(b"".join(lines))
+            return await asyncio.wait_for(replies, PATIENCE)
+        except asyncio.TimeoutError:
+            raise Away("the server does not answer") from None
+        except OSError:
+            raise Away("the server has ended the session") from None
+
+    async def version(self):
+        """The version that the document has now, as a point's reply names it."""
+        (reply, _), = await self.ask([POINT])
+        if not reply["ok"]:
+            raise Away(reply["name"])
+        return reply["version"]
+
+    async def _read(self):
+        """Reads the replies of each batch until the session ends, and tells those who wait for more."""
+        why = "the server has ended the session"
+        try:
+            while True:
+                reply, body = await self._reply()
+                if not self._waiting:
+                    why = reply.get("name", why)
+                    break
+                count, asked, replies = self._waiting[0]
+                found = [(reply, body)]
+                while len(found) < count:
+                    found.append(await self._reply())
+                self._waiting.popleft()
+                self.presence.hear(asked)
+                if not replies.done():
+                    replies.set_result(found)
+        except (OSError, ValueError, asyncio.IncompleteReadError):
+            pass
+        for _, _, replies in self._waiting:
+            if not replies.done():
+                replies.set_exception(Away(why))
+        self._writer.close()
+
+    async def _reply(self):
+        reply = json.loads(await self._reader.readuntil(b"\n"))
+        return reply, await self._reader.readexactly(reply["body"])
+
+    def close(self):
+        self._replies.cancel()
+        self._writer.close()

@@ -1,0 +1,91 @@
+"""Who may open a session, where the gateway listens, and what tabs are told."""
+
+import argparse
+import asyncio
+import re
+import subprocess
+import sys
+from types import SimpleNamespace
+
+import pytest
+
+from gateway import parts_of
+from relay.application import PAGE, is_own
+from relay.session import Presence
+from relay.tabs import News, Tab
+
+
+def request(host, origin=None):
+    return SimpleNamespace(host=host, headers={} if origin is None else {"Origin": origin})
+
+
+@pytest.mark.parametrize("host, origin", [
+    ("127.0.0.1:8080", "http://127.0.0.1:8080"), ("localhost:8080", "http://localhost:8080"), ("[::1]:8080", "http://[::1]:8080"),
+    ("drawing:8080", "http://drawing:8080"), ("127.0.0.1:8080", None),
+])
+def test_the_own_page_may(host, origin):
+    assert is_own(request(host, origin), "drawing")
+
+
+@pytest.mark.parametrize("host, origin", [
+    ("127.0.0.1:8080", "http://elsewhere.example"), ("127.0.0.1:8080", "http://127.0.0.1:9090"), ("127.0.0.1:8080", "null"),
+    ("elsewhere.example:8080", "http://elsewhere.example:8080"), ("elsewhere.example", None), ("", None),
+])
+def test_other_pages_may_not(host, origin):
+    assert not is_own(request(host, origin), "127.0.0.1")
+
+
+@pytest.mark.parametrize("text, wanted", [("127.0.0.1:80", ("127.0.0.1", 80)), ("[::1]:8080", ("::1", 8080)), (":0", ("", 0))])
+def test_an_address(text, wanted):
+    assert parts_of(text) == wanted
+
+
+@pytest.mark.parametrize("text", ["", "8080", "host", "host:", "host:x", "host:65536", "host:-1"])
+def test_what_is_no_address(text):
+    with pytest.raises(argparse.ArgumentTypeError):
+        parts_of(text)
+
+
+def test_the_page_is_there():
+    assert (PAGE / "index.html").is_file()
+
+
+class Session:
+    def __init__(self, seen, first, last):
+        self.seen, self.presence = seen, Presence()
+        self.presence._since, self.presence._until = first, last
+
+
+async def heard(session, own, *versions):
+    """What a tab with a session of its own is told, where another session was told of versions."""
+    said, news = [], News()
+    tab = Tab(SimpleNamespace(closed=False, send_str=None), None, news, "", 0)
+    tab._session = own
+
+    async def say(**what):
+        said.append(what["version"])
+
+    tab._say = say
+    news.tabs.add(tab)
+    for version in versions:
+        news.tell(session, version)
+    await asyncio.sleep(0)
+    return said
+
+
+def test_a_tab_is_told_of_what_it_has_not_seen():
+    assert asyncio.run(heard(Session(0, 0, 9), Session(3, 0, 9), 2, 3, 4, 4, 6)) == [4, 6]
+
+
+def test_a_tab_is_told_of_its_own_run_alone():
+    assert asyncio.run(heard(Session(0, 0, 9), Session(3, 10, 19), 4)) == []
+
+
+def test_a_tab_without_a_session_is_told_nothing():
+    assert asyncio.run(heard(Session(0, 0, 9), None, 4)) == []
+
+
+def test_what_is_missing_is_said_in_words():
+    said = subprocess.run([sys.executable, "-S", str(PAGE.parent / "gateway.py"), "127.0.0.1:1"], capture_output=True, text=True)
+    assert (said.returncode, said.stdout) == (1, "")
+    assert re.fullmatch(r"gateway: there is no \w+; tools/viewer/setup.sh installs what is needed\n", said.stderr)

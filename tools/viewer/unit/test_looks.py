@@ -1,0 +1,116 @@
+"""Which tab may be given another one's answer."""
+
+import asyncio
+
+from relay.looks import Look, Looks, is_look
+from relay.pictures import Answer, Pictures, UNANSWERED
+from relay.session import Presence
+
+
+class Stub:
+    """A session that answers each line with a version, and notes what it was asked."""
+
+    def __init__(self, version, seen=0):
+        self.version, self.seen, self.asked = version, seen, []
+        self.presence = Presence()
+        self.presence._since, self.presence._until = 0, 9
+
+    async def ask(self, lines):
+        self.asked += lines
+        return [({"body": 0, "ok": True, "version": self.version}, b"") for _ in lines]
+
+
+def test_only_tiles_and_exports_are_looks():
+    assert is_look({"verb": "tile"}) and is_look({"verb": "export"})
+    assert not any(is_look(it) for it in [{"verb": "pose"}, {}, None, "tile", []])
+
+
+def test_an_answer_serves_those_who_have_seen_no_newer_version():
+    async def served():
+        look = Look(Stub(3))
+        look.end(Answer(3, "{}"))
+        return [look.may_serve(Stub(3), seen) for seen in (2, 3, 4)]
+
+    assert asyncio.run(served()) == [True, True, False]
+
+
+def test_what_is_on_its_way_serves_those_who_have_seen_as_much():
+    async def served():
+        look = Look(Stub(9, seen=3))
+        return [look.may_serve(Stub(9), seen) for seen in (3, 4)]
+
+    assert asyncio.run(served()) == [True, False]
+
+
+def test_an_answer_of_another_run_serves_no_one():
+    async def served():
+        look, other = Look(Stub(3)), Stub(3)
+        look.end(Answer(3, "{}"))
+        other.presence._since, other.presence._until = 10, 20
+        return look.may_serve(other, 0)
+
+    assert not asyncio.run(served())
+
+
+def test_what_has_no_answer_serves_no_one():
+    async def served():
+        look = Look(Stub(3))
+        look.end(UNANSWERED)
+        return look.may_serve(Stub(3), 0)
+
+    assert not asyncio.run(served())
+
+
+def test_the_first_answer_counts():
+    async def ended():
+        look = Look(Stub(3))
+        look.end(Answer(1, "one"))
+        look.end(Answer(2, "two"))
+        return look.answer.result().text
+
+    assert asyncio.run(ended()) == "one"
+
+
+def test_one_tab_asks_for_two():
+    async def answers():
+        looks, ann, ben = Looks(Pictures()), Stub(5), Stub(5)
+        first = await looks.answers(ann, [b"a", b"b"], 0)
+        second = await looks.answers(ben, [b"b", b"c"], 5)
+        return ann.asked, ben.asked, [answer.version for answer in first + second]
+
+    assert asyncio.run(answers()) == ([b"a", b"b"], [b"c"], [5, 5, 5, 5])
+
+
+def test_a_line_that_stands_twice_is_asked_once():
+    async def answers():
+        ann = Stub(5)
+        found = await Looks(Pictures()).answers(ann, [b"a", b"a"], 0)
+        return ann.asked, len(found)
+
+    assert asyncio.run(answers()) == ([b"a"], 2)
+
+
+def test_an_older_answer_is_asked_anew():
+    async def answers():
+        looks, ann, ben = Looks(Pictures()), Stub(5), Stub(6)
+        await looks.answers(ann, [b"a"], 0)
+        found = await looks.answers(ben, [b"a"], 6)
+        return ben.asked, found[0].version
+
+    assert asyncio.run(answers()) == ([b"a"], 6)
+
+
+def test_where_the_server_goes_those_who_wait_ask_for_themselves():
+    class Gone(Stub):
+        async def ask(self, lines):
+            await asyncio.sleep(0.05)
+            raise OSError
+
+    async def answers():
+        looks, ben = Looks(Pictures()), Stub(5)
+        first = asyncio.create_task(looks.answers(Gone(5), [b"a"], 0))
+        await asyncio.sleep(0.01)
+        found = await looks.answers(ben, [b"a"], 0)
+        return isinstance((await asyncio.gather(first, return_exceptions=True))[0], OSError), ben.asked, found[0].version
+
+    assert asyncio.run(answers()) == (True, [b"a"], 5)
