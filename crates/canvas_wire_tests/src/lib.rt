@@ -6,6 +6,8 @@ mod asserts;
 #[cfg(test)]
 mod codes;
 #[cfg(test)]
+mod edits;
+#[cfg(test)]
 mod key_rows;
 #[cfg(test)]
 mod keys;
