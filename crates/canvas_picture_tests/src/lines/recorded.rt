@@ -199,7 +199,7 @@ fn check_plain<B: Lines, R: Wait + Abort>(rt: &R, alloc: Global, seat: &mut Seat
     holds(
         rt,
         "the edit",
-        taken.edits.as_slice() == [rectangle(1, 1, 1)],
+        taken.edits.as_slice() == [rectangle(1, 1, 1)].as_slice(),
     );
     let taken = take(rt, alloc, seat).expect(rt, "a line that records");
     equal(rt, "the number before then", &taken.before, &2);
