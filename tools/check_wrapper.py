@@ -307,12 +307,20 @@ def below(process):
     return found
 
 
+def below_with(process, name):
+    """The same, once one of that name runs: the gateway's stub has another name before it sleeps."""
+    end = time.monotonic() + SECONDS
+    while name not in (found := below(process)) and time.monotonic() < end:
+        time.sleep(0.01)
+    return found
+
+
 def demos():
     with tree() as made:
         for name, killed in (("server", "canvas"), ("gateway", "sleep")):
             with demo(made) as process:
                 line = process.stdout.readline()
-                started = below(process)
+                started = below_with(process, killed)
                 with Canvas.connect(line.partition("server is at ")[2].partition(")")[0]) as canvas:
                     yield "the demo's address", canvas.ask(verb="export")[1][:12], b'{"format":2,'
                 os.kill(started[killed], signal.SIGKILL)
