@@ -1,4 +1,4 @@
-//! Lines: worked examples, settings, texts of refusals, want of memory, twenty-four threads at one line, and what is taken of a line that records.
+//! Lines: worked examples, settings, texts of refusals, want of memory, and twenty-four threads at one line.
 
 #[cfg(test)]
 mod editor;
@@ -8,8 +8,6 @@ mod faults;
 mod memory;
 #[cfg(test)]
 mod recent;
-#[cfg(test)]
-mod recorded;
 #[cfg(test)]
 mod refused;
 #[cfg(test)]

@@ -60,39 +60,6 @@ fn at_a_line<B: Lines, R: Wait + Abort>(
     again(rt, &mut only(rt, seats))
 }
 
-fn at_a_line_that_records<B: Lines, R: Wait + Abort>(
-    rt: &R,
-    alloc: Global,
-    opened: Opened,
-    document: Document,
-) -> Result<(), Fail>
-    requires { B.line 1 ≡ record { book = opened.head.word.book; opening = document; limit = 10 } }
-{
-    let seats = Line::open::<B, R>(rt, alloc, opened, 1, document, 1, 10)?;
-    again_and_taken(rt, alloc, &mut only(rt, seats))
-}
-
-// The same three edits, which are then taken.
-fn again_and_taken<B: Lines, R: Wait + Abort>(
-    rt: &R,
-    alloc: Global,
-    seat: &mut Seat<B>,
-) -> Result<(), Fail> {
-    seat.start_recording(rt)?;
-    again(rt, seat)?;
-    let taken = seat.take_pending(rt, Vec::new(alloc))?;
-    let count = taken.expect(rt, "a line that records").edits.len();
-    equal(rt, "edits that were taken", &count, &3);
-    Ok(())
-}
-
-// Nor is it recorded before it is accepted.
-#[test]
-fn a_recorded_edit_that_wanted_memory_is_made_again(rt: HostRuntime) -> Result<(), Fail> {
-    let document = Document::empty(rt.alloc());
-    at_a_line_that_records::<Brand, _>(&rt, rt.alloc(), Opened::new(), document)
-}
-
 // An edit that wanted memory, or whose seat was not let in, published nothing, and is made again.
 #[test]
 fn an_edit_that_wanted_memory_is_made_again(rt: HostRuntime) -> Result<(), Fail> {

@@ -70,14 +70,8 @@ pub(crate) fn check_sights<R: Threads + Sync + Abort>(
     }
 }
 
-/// Asserts that two documents of a version have the same records and the same next id.
-pub(crate) fn check_same<R: Abort>(
-    rt: &R,
-    alloc: Global,
-    number: u64,
-    one: &Document,
-    other: &Document,
-) {
+// Asserts that two documents of a version have the same records and the same next id.
+fn check_same<R: Abort>(rt: &R, alloc: Global, number: u64, one: &Document, other: &Document) {
     let is_so = one.next_id() == other.next_id();
     holds_at(rt, "the next id of version", number, is_so);
     let is_so = one.count() == other.count();
