@@ -128,7 +128,7 @@ class Assembly {
   /**
    * The replies that are whole with these bytes.
    * @param {Buffer} bytes
-   * @returns {Generator<[Reply | Refusal, Buffer]>}
+   * @returns {Generator<Found>}
    */
   *add(bytes) {
     let rest = bytes;
@@ -208,18 +208,20 @@ function placeOf(address) {
   return { host: found[1].replace(/^\[/, "").replace(/\]$/, ""), port };
 }
 
+/** @typedef {[reply: Reply | Refusal, body: Buffer]} Found */
+/** @typedef {{ resolve: (answer: Answer) => void, reject: (fault: Error) => void }} Reader Who waits for a reply. */
+
 /** What a session is sent by and read from: two streams, which are one where it is a socket. */
 class Session {
   #input;
   #output;
-  /** @type {Promise<number | null>} the exit status of a program of its own, when it has ended */
-  #exit;
   #seconds;
+  #exit;
   #assembly = new Assembly();
-  /** @type {[Reply | Refusal, Buffer][]} that nobody has asked for yet */
+  /** @type {Found[]} that nobody has asked for yet */
   #waiting = [];
   #waitingBytes = 0;
-  /** @type {{ resolve: (answer: Answer) => void, reject: (fault: Error) => void }[]} who waits for a reply */
+  /** @type {Reader[]} */
   #readers = [];
   /** @type {Error | null} why no more replies come */
   #fault = null;
@@ -231,8 +233,17 @@ class Session {
   /** How many requests were sent whose reply nobody has asked for. */
   #unread = 0;
 
+  /**
+   * @param {import("node:stream").Writable} input
+   * @param {import("node:stream").Readable} output
+   * @param {number | null} seconds how long a call may wait while nothing comes
+   * @param {Promise<number | null>} exit the exit status of a program of its own, when it has ended
+   */
   constructor(input, output, seconds, exit) {
-    [this.#input, this.#output, this.#seconds, this.#exit] = [input, output, seconds, exit];
+    this.#input = input;
+    this.#output = output;
+    this.#seconds = seconds;
+    this.#exit = exit;
     output.on("data", (bytes) => this.#came(bytes));
     output.on("end", () => this.#ended());
     output.on("error", (cause) => this.#stop(new Ended(ENDED, { cause })));
@@ -319,7 +330,7 @@ class Session {
       this.#input.end();
       this.#output.destroy();
     } else if (!this.#input.closed) {
-      const socket = this.#input;
+      const socket = /** @type {import("node:net").Socket} */ (this.#input);
       await new Promise((resolve) => {
         const timer = setTimeout(() => socket.destroy(), milliseconds(this.#seconds ?? Infinity));
         socket.on("close", () => resolve(clearTimeout(timer)));
@@ -343,6 +354,7 @@ class Session {
     this.#watch();
   }
 
+  /** @param {Found} found */
   #keep(found) {
     this.#waiting.push(found);
     this.#waitingBytes += found[1].length;
@@ -365,7 +377,10 @@ class Session {
     this.#timer = setTimeout(() => this.#stop(new TimedOut(`nothing came for ${this.#seconds} seconds`)), milliseconds(this.#seconds));
   }
 
-  /** No more replies come, and whoever waits for one is told why. */
+  /**
+   * No more replies come, and whoever waits for one is told why.
+   * @param {Error} fault
+   */
   #stop(fault, isAtOnce = true) {
     this.#fault ??= fault;
     clearTimeout(this.#timer);
@@ -385,7 +400,11 @@ function milliseconds(seconds) {
   return Math.min(1000 * seconds, MOST_MILLISECONDS);
 }
 
-/** Gives a reply and its body to who waits for it. */
+/**
+ * Gives a reply and its body to who waits for it.
+ * @param {Reader} reader
+ * @param {Found} found
+ */
 function hand(reader, [reply, body]) {
   if (reply.ok) reader.resolve([reply, body]);
   else reader.reject(new Refused(reply));
@@ -550,7 +569,7 @@ export class Canvas {
   }
 
   /**
-   * Ends the session. Gives the exit status of a program of its own, and null of a server.
+   * Ends the session: what is not answered by then may be done or not. Gives the exit status of a program of its own, and null of a server.
    * @returns {Promise<number | null>}
    */
   close() {

@@ -258,7 +258,7 @@ class Canvas:
     # -- the end -------------------------------------------------------------------------------------------------------
 
     def close(self):
-        """Ends the session. Gives the exit status of a program of its own, and None of a server."""
+        """Ends the session: what is not answered by then may be done or not. Gives the exit status of a program of its own, and None of a server."""
         self._is_over = True
         for stream in (self._input, self._output):
             with suppress(OSError):  # the other side is gone already

@@ -176,7 +176,10 @@ test("the reply to an HTTP request, and a server that speaks HTTP", async () => 
     assert.deepEqual(await faultOf(canvas.read()).then(({ code, name }) => [code, name]), [50, "BadJson"]);
     assert.ok((await faultOf(canvas.read())) instanceof Ended);
   });
-  const others = ["HTTP/1.1 400 Bad Request\r\n\r\n", "[]\n", '{"ok":true}\n', '{"body":-1,"ok":true}\n', '{"body":0,"ok":1}\n', '{"body":0,"ok":false}\n', "9".repeat(70_000)];
+  const others = [
+    "HTTP/1.1 400 Bad Request\r\n\r\n", "[]\n", '{"ok":true}\n', '{"body":-1,"ok":true}\n', '{"body":0,"ok":1}\n', '{"body":0,"ok":false}\n',
+    "9".repeat(70_000),
+  ];
   for (const other of others) {
     await beside(answering([other]), async (canvas) => {
       const fault = await faultOf(canvas.ask({ verb: "export" }));
