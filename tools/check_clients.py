@@ -16,6 +16,7 @@ import json
 import os
 import re
 import shutil
+import signal
 import socket
 import subprocess
 import sys
@@ -33,7 +34,7 @@ EMPTY = b'{"format":2,"next":1,"shapes":[]}'
 FAULTS = {"EOFError": "Ended", "TimeoutError": "TimedOut", "ValueError": "BadReply", "RuntimeError": "Error"}
 """What a fault of Python is in JavaScript."""
 LEAST_NODE = 18
-SECONDS = 120
+SECONDS = 300
 
 
 def node_fault():
@@ -65,9 +66,17 @@ def served(text):
 
 
 def run(words, folder=TOP, environment=None):
-    """What a program writes, and its status."""
+    """What a program writes, and its status. One that takes too long is ended, with all that it started."""
     environment = {**os.environ, "CANVAS": str(BUILT), **(environment or {})}
-    return subprocess.run(words, cwd=folder, capture_output=True, text=True, timeout=SECONDS, env=environment)
+    process = subprocess.Popen(words, cwd=folder, stdin=subprocess.DEVNULL, stdout=subprocess.PIPE, stderr=subprocess.PIPE, text=True,
+                               env=environment, start_new_session=True)
+    try:
+        out, said = process.communicate(timeout=SECONDS)
+    except subprocess.TimeoutExpired:
+        os.killpg(process.pid, signal.SIGKILL)
+        out, said = process.communicate()
+        said += f"it took longer than {SECONDS} seconds"
+    return subprocess.CompletedProcess(words, process.returncode, out, said)
 
 
 def difference(got, wanted):

@@ -249,13 +249,13 @@ test("more replies than are read wait at the server", async () => {
   const tile = Buffer.concat([Buffer.from('{"body":196623,"ok":true,"version":0}\n'), Buffer.alloc(196_623, 7)]);
   let sent = 0;
   const sending = (socket) => socket.once("data", async () => {
-    for (sent = 0; sent < 200; sent += 1) if (!socket.write(tile)) await once(socket, "drain");
+    for (sent = 0; sent < 400; sent += 1) if (!socket.write(tile)) await once(socket, "drain");
   });
   await beside(sending, async (canvas) => {
-    for (let count = 0; count < 200; count += 1) canvas.send({ verb: "tile", col: 0, row: 0 });
-    await sleep(300);
-    assert.ok(sent < 150, `${sent} were taken`);
-    for (let count = 0; count < 200; count += 1) assert.equal((await canvas.read())[1].length, 196_623);
+    for (let count = 0; count < 400; count += 1) canvas.send({ verb: "tile", col: 0, row: 0 });
+    for (let before = -1; before !== sent; await sleep(500)) before = sent;
+    assert.ok(sent < 200, `${sent} were taken`);
+    for (let count = 0; count < 400; count += 1) assert.equal((await canvas.read())[1].length, 196_623);
   });
 });
 

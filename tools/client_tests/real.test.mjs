@@ -33,6 +33,8 @@ before(async () => {
   writeFileSync(file, '{"format":2,"next":1,"shapes":[]}');
   address = `127.0.0.1:${await freePort()}`;
   server = spawn(PROGRAM, ["serve", address, file], { stdio: ["ignore", "pipe", "inherit"] });
+  process.on("exit", () => server.kill("SIGKILL"));
+  process.once("SIGTERM", () => process.exit(1));
   const [line] = await once(createInterface(server.stdout), "line");
   assert.equal(line, "listening");
 });

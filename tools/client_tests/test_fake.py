@@ -167,7 +167,7 @@ class Fake(unittest.TestCase):
                 canvas.read()
         for other in (b"HTTP/1.1 400 Bad Request\r\n\r\n", b"[]\n", b'{"ok":true}\n', b'{"body":-1,"ok":true}\n', b'{"body":0,"ok":1}\n',
                       b'{"body":0,"ok":false}\n', b"9" * 70_000):
-            with beside(answering(other)) as canvas:
+            with beside(answering(other), 5) as canvas:
                 with self.assertRaisesRegex(ValueError, "^this is no reply of canvas: ") as found:
                     canvas.ask(**LOOK)
                 self.assertLess(len(str(found.exception)), 250)
@@ -193,14 +193,14 @@ class Fake(unittest.TestCase):
             self.assertEqual(canvas.ask(**LOOK)[0]["id"], 1)
 
     def test_a_server_that_takes_nothing(self):
-        with beside(lambda sock: None, 0.2) as canvas:
-            begin = time.monotonic()
+        with beside(lambda sock: None, 4) as canvas:
             with self.assertRaises(TimeoutError):
-                for _ in range(1000):
-                    canvas.send_line(b" " * 65_536)
+                for _ in range(20_000):
+                    canvas.send_line(b" " * 3000)
             self.check_ended(canvas)
+            begin = time.monotonic()
             canvas.close()
-            self.assertLess(time.monotonic() - begin, 10)
+            self.assertLess(time.monotonic() - begin, 2)  # it does not wait again
 
     def test_requests_are_sent_together_as_they_are(self):
         came = []
