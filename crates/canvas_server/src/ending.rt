@@ -114,7 +114,7 @@ impl Ending {
         }
     }
 
-    /// Begins the end, unless it has begun. No session is sent anything more: what it has answered still leaves. Where the gate could not settle
+    /// Begins the end, unless it has begun: no session takes in anything more, and what it has answered still leaves. Where the gate could not settle
     /// nothing leaves any more.
     pub fn begin<H: Wait>(&self, rt: &H, call: Call) {
         if !self.can_begin {

@@ -9,11 +9,11 @@ use std::sync::Wait;
 pub trait Settles {
     ghost use Rattle.std.specs.Prelude.{ℕ};
 
-    /// All versions up to the newest that was published when so many bytes had been put in are kept. Only `settle` gives this.
+    /// When so many bytes of a session had been put in, all versions were kept of which they may tell. Only `settle` gives this.
     ghost settled: { Self → ℕ → Type 0 };
 
-    /// Waits until all is kept that bytes may tell which are put in by now, and lie in front of others that are not. The bytes that were put in are
-    /// counted from the first of the session.
+    /// Waits until all versions are kept up to the newest one that is published by now, so all of which the bytes of the session may tell. So many of its
+    /// bytes were put in by now: those that were handed on, and behind them those that are to be. After an `Err` nothing is sent any more.
     fn settle<R: Wait>(&self, rt: &R, put_in: u64) -> io::Result<()>
         ensures { OnOk result (settled self.now put_in) };
 
