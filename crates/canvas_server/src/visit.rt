@@ -53,6 +53,10 @@ impl Read for Input<'_> {
         if self.ending.has_begun() {
             return Ok(0);
         }
+        // A silent client is waited for once.
+        if self.is_idle.get() {
+            return Err(ErrorKind::WouldBlock.into());
+        }
         let mut stream = self.stream;
         match stream.read(bytes) {
             Ok(count) => Ok(count),

@@ -9,7 +9,7 @@ use std::process::Abort;
 use std::time::{Clock, Duration};
 use std::{io, thread};
 
-const PICTURE: &str = "{\"verb\":\"patch\",\"x\":0,\"y\":0,\"w\":256,\"h\":256}\n";
+pub(crate) const PICTURE: &str = "{\"verb\":\"patch\",\"x\":0,\"y\":0,\"w\":256,\"h\":256}\n";
 
 const POINT: &str = "{\"verb\":\"point\",\"x\":0,\"y\":0}\n";
 

@@ -6,7 +6,11 @@ mod asserts;
 #[cfg(test)]
 mod crowd;
 #[cfg(test)]
+mod doors;
+#[cfg(test)]
 mod faults;
+#[cfg(test)]
+mod gates;
 #[cfg(test)]
 mod memory;
 #[cfg(test)]

@@ -12,7 +12,7 @@ use std::thread::Threads;
 use std::time::{Clock, Duration};
 use std::{io, thread};
 
-const RED: &str =
+pub(crate) const RED: &str =
     "{\"verb\":\"create\",\"shape\":{\"kind\":\"rect\",\"w\":1,\"h\":1,\"fill\":\"ff0000\"}}\n";
 
 const BLUE: &str =
