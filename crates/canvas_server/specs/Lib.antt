@@ -1,5 +1,7 @@
 pub mod Connection
+pub mod Doors
 pub mod Faults
+pub mod Gate
 pub mod Http
 pub mod Outlet
 pub mod Settings

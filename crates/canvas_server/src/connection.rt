@@ -3,9 +3,13 @@
 ghost use Rattle.std.specs.Prelude.{◌≡◌, ℕ, IfSome, IsTrue, List, Option};
 ghost use Rattle.std.specs.Io.KnownBytes.{Appends};
 ghost use Rattle.canvas_server.specs.Connection.{IsAnswered};
+ghost use Rattle.canvas_server.specs.Gate.{HasPassed};
 ghost use Rattle.canvas_wire.specs.Replies.{line_of, refused};
 
+use crate::doors::Stream;
 use crate::first_bytes::{FIRST_BYTES, read_first, speaks_http};
+use crate::gate::Settles;
+use crate::gated::{Connection, Gated};
 use crate::outlet::{Outlet, WriteTwo};
 use crate::workers::Workers;
 use canvas_board::Board;
@@ -14,7 +18,8 @@ use canvas_session::{Cause, Served, SessionFault, serve};
 use canvas_wire::{Reply, ReplyLine, write_reply};
 use std::alloc::Global;
 use std::io::{Read, Write};
-use std::net::{OpenStream, Shutdown, TcpStream};
+use std::marker::Brand;
+use std::net::Shutdown;
 use std::sync::Wait;
 use std::thread::Threads;
 use std::time::{Clock, Duration, Instant};
@@ -28,25 +33,62 @@ pub enum Answered {
     Session(Result<Served, SessionFault>),
 }
 
-/// Answers what a client sends until it has sent all, and says whether the session was ended by a closing reply, so that
-/// more may still come. An HTTP request, as a web page sends it, gets one reply, and none of its lines is a request here.
-pub fn answer<H: Threads + Wait + Sync, B: Board>(
+/// Answers what a reader brings until that has ended, to a writer that comes back. A gate is asked before any bytes are handed to the writer.
+/// `None` where no memory could be had or not all was sent.
+pub fn answer<H: Threads + Wait + Sync, B: Board, G: Settles, R: Read + Drop, W: WriteTwo + Drop>(
     rt: &H,
     alloc: Global,
     board: &mut B,
     workers: &Workers,
-    stream: &TcpStream,
-) -> bool {
-    // Where small replies are delayed they come all the same.
-    let _ = stream.set_nodelay(true);
-    let (_, answered) = answer_input(rt, alloc, board, workers, stream, stream);
-    match answered {
-        Some(Answered::Http) => true,
-        Some(Answered::Session(Err(fault))) => {
-            matches!(fault.cause, Cause::LineTooLong | Cause::TooManyRequests)
-        }
-        _ => false,
-    }
+    gate: &G,
+    reader: R,
+    writer: W,
+) -> (W, Option<Answered>)
+    ensures answered { IfSome result.1 (λ answered. (unread : Option (List ℕ)) × IsAnswered workers.now (record {
+      input = R.remaining reader;
+      unread = unread;
+      held = W.contents writer;
+      output = W.contents result.0;
+      before = B.seen board.old;
+      after = B.seen board.new;
+    }) answered) }
+    ensures settled { ∥ ((n : ℕ) × HasPassed (G.settled gate.now) (W.contents writer) (W.contents result.0) n) ∥₁ }
+{
+    answer_gated::<Brand, H, B, G, R, W>(rt, alloc, board, workers, gate, reader, writer)
+}
+
+// Answers through the gate of one connection.
+fn answer_gated<
+    K: Connection,
+    H: Threads + Wait + Sync,
+    B: Board,
+    G: Settles,
+    R: Read + Drop,
+    W: WriteTwo + Drop,
+>(
+    rt: &H,
+    alloc: Global,
+    board: &mut B,
+    workers: &Workers,
+    gate: &G,
+    reader: R,
+    writer: W,
+) -> (W, Option<Answered>)
+    requires begun { K.begun ≡ W.contents writer }
+    requires tells { (n : ℕ) → G.settled gate.now n → K.settled n }
+    ensures answered { IfSome result.1 (λ answered. (unread : Option (List ℕ)) × IsAnswered workers.now (record {
+      input = R.remaining reader;
+      unread = unread;
+      held = W.contents writer;
+      output = W.contents result.0;
+      before = B.seen board.old;
+      after = B.seen board.new;
+    }) answered) }
+    ensures settled { ∥ ((n : ℕ) × HasPassed K.settled K.begun (W.contents result.0) n) ∥₁ }
+{
+    let gated = Gated::<K, H, G, W>::new(rt, gate, writer);
+    let (gated, answered) = answer_input(rt, alloc, board, workers, reader, gated);
+    (gated.into_inner(), answered)
 }
 
 // Answers what a reader brings, to a writer that comes back: `None` where no memory could be had or not all was sent.
@@ -94,8 +136,8 @@ fn answer_input<H: Threads + Wait + Sync, B: Board, R: Read + Drop, W: WriteTwo 
     }
 }
 
-/// Tells a client that no seat is free.
-pub fn refuse(stream: &TcpStream) {
+/// Tells a client that no seat is free. This reply names no version, so no gate is asked.
+pub fn refuse(stream: &Stream) {
     let mut writer = stream;
     // A client that is gone needs no reply.
     let _ = tell(&mut writer, &no_seats());
@@ -136,15 +178,13 @@ const MOST_PIECES: u32 = 256;
 
 /// Ends what is sent, and reads what still comes, at most 1 MiB for two seconds, and up to two more where a read waits:
 /// a connection that is closed with bytes unread is reset, and a reset may take the closing reply with it.
-pub fn settle<H: Clock>(rt: &H, stream: &TcpStream) {
+pub fn settle<H: Clock>(rt: &H, stream: &Stream) {
     let mut reader = stream;
     let patience = Duration::from_secs(SETTLING);
     let Ok(start) = Instant::now(rt) else {
         return;
     };
-    if stream.shutdown(Shutdown::Write).is_err()
-        || stream.set_read_timeout(Some(patience)).is_err()
-    {
+    if stream.shutdown(Shutdown::Write).is_err() || stream.set_read_timeout(patience).is_err() {
         return;
     }
     let mut bytes = [0u8; 4096];

@@ -4,13 +4,18 @@ ghost use denote.Param.Send.{IsSend, IsSync};
 ghost use Rattle.std.specs.Prelude.{◌≡◌, ◌<◌, OnOk, IfErr, length};
 ghost use Rattle.canvas_server.specs.declared.server_fault.ServerFault.TheVariants.{AcceptFault};
 
-use crate::connection::{answer, refuse, settle};
+use crate::connection::{refuse, settle};
+use crate::doors::{Accepts, Door, Stream};
+use crate::ending::{Call, Ending};
+use crate::event::{Events, Quiet};
+use crate::gate::{Settles, Unkept};
 use crate::seats::{Seats, Settling};
 use crate::server_fault::ServerFault;
+use crate::visit::answer_visit;
 use crate::workers::Workers;
 use canvas_board::Board;
 use std::alloc::Global;
-use std::net::{TcpListener, TcpStream};
+use std::net::{Net, TcpListener};
 use std::sync::{Mutex, Wait};
 use std::thread;
 use std::thread::{Scope, Threads};
@@ -22,15 +27,22 @@ const PATIENCE: u32 = 100;
 /// How many milliseconds the server waits after an accept that failed.
 const PAUSE: u64 = 10;
 
+/// How often the server looks whether all sessions have ended before it cuts those that are left: once in ten milliseconds.
+const LOOKS: u32 = 500;
+
 /// What the threads of a server share: a board for each seat, which seats are taken, and how many connections are
-/// being settled.
+/// being settled; the gate that sessions ask, who is told of them, after how many silent seconds they end (0 for never), and the server's end.
 #[derive(Drop)]
-pub struct House<'a, B: Board> {
-    alloc: Global,
+pub struct House<'a, B: Board, G: Settles, E: Events> {
+    pub alloc: Global,
     boards: &'a [Mutex<B>],
     seats: &'a Mutex<Seats>,
     settling: &'a Mutex<Settling>,
-    workers: Workers,
+    pub workers: Workers,
+    pub gate: &'a G,
+    pub events: &'a E,
+    pub idle: u64,
+    pub ending: &'a Ending,
 }
 
 /// Serves so many connections, or without end where the number is 0, each with a board that no other session has. There is a
@@ -51,12 +63,19 @@ pub fn serve_boards<H: Threads + Wait + Clock + Sync, B: Board + Send>(
 {
     let seats = Mutex::new(Seats::new());
     let settling = Mutex::new(Settling::new());
+    let gate = Unkept;
+    let events = Quiet;
+    let ending = Ending::never(alloc);
     let house = House {
         alloc,
         boards,
         seats: &seats,
         settling: &settling,
         workers,
+        gate: &gate,
+        events: &events,
+        idle: 0,
+        ending: &ending,
     };
     let house = &house;
     let ended = thread::scope(
@@ -72,22 +91,149 @@ pub fn serve_boards<H: Threads + Wait + Clock + Sync, B: Board + Send>(
     Ok(())
 }
 
-// Admits each connection that comes, until there were so many, or none can be accepted any more.
-fn accept_each<'s, 'e: 's, H: Threads + Wait + Clock + Sync, B: Board + Send>(
+/// Serves the connections that come to several doors, each door on a thread of its own, until something ends the server, and says
+/// what. There is a board for each seat. Returns when all sessions have ended.
+pub fn serve_until<
+    'a,
+    H: Threads + Wait + Clock + Net + Sync,
+    B: Board + Send,
+    G: Settles + Sync,
+    E: Events + Sync,
+>(
+    rt: &H,
+    alloc: Global,
+    doors: &[Door],
+    boards: &'a [Mutex<B>],
+    seats: usize,
+    workers: Workers,
+    gate: &'a G,
+    events: &'a E,
+    idle: u64,
+    ending: &'a Ending,
+) -> Call
+    requires { length boards.now ≡ seats }
+{
+    let seats = Mutex::new(Seats::new());
+    let settling = Mutex::new(Settling::new());
+    let house = House {
+        alloc,
+        boards,
+        seats: &seats,
+        settling: &settling,
+        workers,
+        gate,
+        events,
+        idle,
+        ending,
+    };
+    let house = &house;
+    thread::scope(
+        thread::scope_env(),
+        rt,
+        |scope|
+            requires { IsSync H.row × IsSend B.row × IsSync G.row × IsSync E.row }
+        {
+            open_doors(rt, scope, house, doors, ending);
+            ending.wait(rt);
+            close_doors(rt, doors, ending)
+        },
+    );
+    ending.wait(rt)
+}
+
+// Starts a thread at each door.
+fn open_doors<
+    's,
+    'e: 's,
+    H: Threads + Wait + Clock + Sync,
+    B: Board + Send,
+    G: Settles + Sync,
+    E: Events + Sync,
+>(
     rt: &'e H,
     scope: &'s Scope<'s, &'e ()>,
-    house: &'e House<'e, B>,
-    listener: &TcpListener,
+    house: &'e House<'e, B, G, E>,
+    doors: &'e [Door],
+    ending: &'e Ending,
+)
+    requires { IsSync H.row × IsSend B.row × IsSync G.row × IsSync E.row }
+{
+    for door in doors {
+        let started = scope.spawn(
+            move ||
+                requires { IsSync H.row × IsSend B.row × IsSync G.row × IsSync E.row }
+            { keep_door(rt, scope, house, door, ending) },
+        );
+        if started.is_err() {
+            ending.begin(rt, Call::DoorFault);
+        }
+    }
+}
+
+// Accepts at a door until the server ends, or until no connection can be accepted there any more, which ends it.
+fn keep_door<
+    's,
+    'e: 's,
+    H: Threads + Wait + Clock + Sync,
+    B: Board + Send,
+    G: Settles + Sync,
+    E: Events + Sync,
+>(
+    rt: &'e H,
+    scope: &'s Scope<'s, &'e ()>,
+    house: &'e House<'e, B, G, E>,
+    door: &Door,
+    ending: &Ending,
+)
+    requires { IsSync H.row × IsSend B.row × IsSync G.row × IsSync E.row }
+{
+    if accept_each(rt, scope, house, door, 0).is_err() {
+        ending.begin(rt, Call::DoorFault);
+    }
+}
+
+// Wakes the threads at the doors, and gives the sessions time to end; then cuts those that are left.
+fn close_doors<H: Wait + Clock + Net>(rt: &H, doors: &[Door], ending: &Ending) {
+    for door in doors {
+        door.wake(rt);
+    }
+    for _ in 0..LOOKS {
+        if ending.is_empty(rt) {
+            return;
+        }
+        thread::sleep(rt, Duration::from_millis(PAUSE));
+    }
+    ending.cut(rt);
+}
+
+// Admits each connection that comes, until there were so many, the server ends, or none can be accepted any more.
+fn accept_each<
+    's,
+    'e: 's,
+    H: Threads + Wait + Clock + Sync,
+    B: Board + Send,
+    G: Settles + Sync,
+    E: Events + Sync,
+    D: Accepts,
+>(
+    rt: &'e H,
+    scope: &'s Scope<'s, &'e ()>,
+    house: &'e House<'e, B, G, E>,
+    door: &D,
     connections: u64,
 ) -> Result<(), ServerFault>
-    requires { IsSync H.row × IsSend B.row }
+    requires { IsSync H.row × IsSend B.row × IsSync G.row × IsSync E.row }
     ensures served { OnOk result (0 < connections) }
     ensures fault { IfErr result (λ fault. fault ≡ AcceptFault) }
 {
     let mut left = connections;
     let mut patience = PATIENCE;
-    'accepts: for stream in listener.incoming() {
-        match stream {
+    'accepts: for _ in rt.forever() {
+        let accepted = door.accept();
+        if house.ending.has_begun() {
+            break;
+        }
+        match accepted {
             Ok(stream) => {
                 admit(rt, scope, house, stream);
                 if left == 1 {
@@ -110,17 +256,22 @@ fn accept_each<'s, 'e: 's, H: Threads + Wait + Clock + Sync, B: Board + Send>(
 }
 
 // Lends a free seat to a connection, on a thread of its own; where there is none, says so and closes it.
-fn admit<'s, 'e: 's, H: Threads + Wait + Clock + Sync, B: Board + Send>(
-    rt: &'e H,
-    scope: &'s Scope<'s, &'e ()>,
-    house: &'e House<'e, B>,
-    stream: TcpStream,
-)
-    requires { IsSync H.row × IsSend B.row }
+fn admit<
+    's,
+    'e: 's,
+    H: Threads + Wait + Clock + Sync,
+    B: Board + Send,
+    G: Settles + Sync,
+    E: Events + Sync,
+>(rt: &'e H, scope: &'s Scope<'s, &'e ()>, house: &'e House<'e, B, G, E>, stream: Stream)
+    requires { IsSync H.row × IsSend B.row × IsSync G.row × IsSync E.row }
 {
     let found = house.seats.lock(rt).take(house.boards.len());
     match found {
-        None => turn_away(rt, scope, house.settling, stream),
+        None => {
+            house.events.was_full();
+            turn_away(rt, scope, house.settling, stream);
+        }
         Some(seat) => {
             if let Some(board) = house.boards.get(seat) {
                 let started = scope.spawn(move || session(rt, house, seat, board, &stream));
@@ -138,7 +289,7 @@ fn turn_away<'s, 'e: 's, H: Threads + Wait + Clock + Sync>(
     rt: &'e H,
     scope: &'s Scope<'s, &'e ()>,
     settling: &'e Mutex<Settling>,
-    stream: TcpStream,
+    stream: Stream,
 )
     requires { IsSync H.row }
 {
@@ -152,20 +303,14 @@ fn turn_away<'s, 'e: 's, H: Threads + Wait + Clock + Sync>(
 }
 
 // Serves one connection from a seat, and leaves the seat before the connection is settled and closed.
-fn session<H: Threads + Wait + Clock + Sync, B: Board>(
+fn session<H: Threads + Wait + Clock + Sync, B: Board, G: Settles, E: Events>(
     rt: &H,
-    house: &House<B>,
+    house: &House<B, G, E>,
     seat: usize,
     board: &Mutex<B>,
-    stream: &TcpStream,
+    stream: &Stream,
 ) {
-    let told = answer(
-        rt,
-        house.alloc,
-        &mut *board.lock(rt),
-        &house.workers,
-        stream,
-    );
+    let told = answer_visit(rt, house, &mut *board.lock(rt), seat, stream);
     house.seats.lock(rt).give_back(seat);
     if told && house.settling.lock(rt).begin() {
         settle_counted(rt, house.settling, stream);
@@ -173,7 +318,7 @@ fn session<H: Threads + Wait + Clock + Sync, B: Board>(
 }
 
 // Settles a connection that was counted.
-fn settle_counted<H: Wait + Clock>(rt: &H, settling: &Mutex<Settling>, stream: &TcpStream) {
+fn settle_counted<H: Wait + Clock>(rt: &H, settling: &Mutex<Settling>, stream: &Stream) {
     settle(rt, stream);
     settling.lock(rt).end();
 }

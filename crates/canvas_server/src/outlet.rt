@@ -7,8 +7,7 @@ ghost use Rattle.canvas_server.specs.Outlet.{given_to, held_by, writer_of};
 
 use std::alloc::Global;
 use std::io;
-use std::io::{ErrorKind, IoSlice, Write};
-use std::net::TcpStream;
+use std::io::{ErrorKind, Write};
 
 /// How many bytes an outlet gathers.
 const ROOM: usize = 65_536;
@@ -19,13 +18,6 @@ pub trait WriteTwo: Write {
     fn write_two(&mut self, first: &[u8], second: &[u8]) -> io::Result<usize>
         ensures bound { WritesAtMost result (first.now ++ second.now) }
         ensures bytes { WriteAppends (Self.contents self.old) (Self.contents self.new) result (first.now ++ second.now) };
-}
-
-/// One system call for both pieces.
-impl WriteTwo for &TcpStream {
-    fn write_two(&mut self, first: &[u8], second: &[u8]) -> io::Result<usize> {
-        self.write_vectored(&[IoSlice::new(first), IoSlice::new(second)])
-    }
 }
 
 /// A writer that gathers small pieces, and sends them together with the large piece behind them in one call. What its writer

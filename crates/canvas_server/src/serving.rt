@@ -105,8 +105,8 @@ fn serve_line<L: Lines + Send + Sync, H: Threads + Wait + Clock + Sync>(
     ended
 }
 
-// A board for each seat.
-fn boards_of<L: Lines>(
+/// A board for each seat.
+pub fn boards_of<L: Lines>(
     alloc: Global,
     seats: Vec<Seat<L>>,
     keep: u32,

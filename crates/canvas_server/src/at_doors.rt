@@ -1,0 +1,100 @@
+//! Serving a line at its doors, behind a gate.
+
+ghost use Rattle.std.specs.Prelude.{◌≡◌, length, vec_len};
+ghost use Rattle.canvas_server.specs.Doors.{EndsAtDoors, door_fault};
+
+use crate::doors::Door;
+use crate::ending::{Call, Ending};
+use crate::event::Events;
+use crate::gate::Settles;
+use crate::house::serve_until;
+use crate::server_fault::ServerFault;
+use crate::serving::boards_of;
+use crate::workers::Workers;
+use canvas_line::{Lines, Seat};
+use std::alloc::Global;
+use std::net::Net;
+use std::sync::Wait;
+use std::thread::Threads;
+use std::time::Clock;
+
+/// How a line is served at its doors.
+#[derive(Clone, Copy, Debug, PartialEq, Eq)]
+pub struct DoorSettings {
+    /// How many pictures each seat keeps, 0 to 256.
+    pub keep: u32,
+    /// How many threads paint a picture, 1 to 16.
+    pub workers: u32,
+    /// After how many seconds a session ends whose client sends nothing, or takes nothing; 0 is never.
+    pub idle: u64,
+}
+
+impl DoorSettings {
+    /// The first of `BadSetting` and `BadWorkers` that the settings call for at so many doors and seats: there is a door, and 1 to 64 seats.
+    pub fn check(&self, doors: usize, seats: usize) -> Result<(), ServerFault>
+        ensures { result ≡ door_fault doors seats self.now }
+    {
+        if doors < 1 || seats < 1 || 64 < seats || 256 < self.keep {
+            return Err(ServerFault::BadSetting);
+        }
+        if self.workers < 1 || 16 < self.workers {
+            return Err(ServerFault::BadWorkers);
+        }
+        Ok(())
+    }
+}
+
+/// Why a server behind a gate ended, after all its sessions.
+#[derive(Clone, Copy, Debug, Drop, PartialEq, Eq)]
+pub enum Ended {
+    /// The gate said that the server is to end.
+    Asked,
+    /// The gate could not settle, and nobody was sent what is not settled.
+    Unsettled,
+}
+
+/// Serves a line to the connections that come to its doors, each on a thread of its own with one of the seats, until the gate ends that: it
+/// can't settle, or says that the server is to end. No bytes of a session leave before the gate has settled for all that were put in.
+///
+/// A connection that finds all seats taken gets the reply `NoSeats` and is closed; one whose thread can't be
+/// started is closed without a reply. `BadSetting` and then `BadWorkers` come before all else, and `OutOfMemory` before the first connection.
+/// At the end no connection is accepted any more. Where the gate asked for the end, what was answered still leaves, for five seconds at most; then
+/// all sessions are closed, and so are the seats. The doors stay open. `AcceptFault` is such an end too, where a door accepts no connection any more.
+pub fn serve_doors<
+    L: Lines + Send + Sync,
+    G: Settles + Sync,
+    E: Events + Sync,
+    H: Threads + Wait + Clock + Net + Sync,
+>(
+    rt: &H,
+    alloc: Global,
+    doors: &[Door],
+    seats: Vec<Seat<L>>,
+    gate: &G,
+    settings: &DoorSettings,
+    events: &E,
+) -> Result<Ended, ServerFault>
+    ensures { EndsAtDoors (length doors.now) (vec_len seats) settings.now result }
+{
+    let count = seats.len();
+    settings.check(doors.len(), count)?;
+    let DoorSettings {
+        keep,
+        workers,
+        idle,
+    } = *settings;
+    let ending = Ending::new(alloc, count)?;
+    let boards = boards_of(alloc, seats, keep)?;
+    let workers = Workers::new(workers);
+    let call = serve_until(
+        rt, alloc, doors, &boards, count, workers, gate, events, idle, &ending,
+    );
+    for board in boards {
+        board.into_inner().close(rt);
+    }
+    match call {
+        Call::Asked => Ok(Ended::Asked),
+        Call::Unsettled => Ok(Ended::Unsettled),
+        Call::DoorFault => Err(ServerFault::AcceptFault),
+    }
+}

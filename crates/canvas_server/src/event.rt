@@ -1,0 +1,36 @@
+//! What a server tells the program of its sessions.
+
+use canvas_session::Cause;
+
+/// How a connection that had a seat ended.
+#[derive(Clone, Copy, Debug, Drop, PartialEq, Eq)]
+pub enum Parting {
+    /// The client sent all, and was answered.
+    Finished,
+    /// The client sent an HTTP request, and was told that it is none.
+    Http,
+    /// The client sent nothing for too long.
+    Idle,
+    /// Something else ended the session before its input did.
+    Cut(Cause),
+    /// Not all that was answered was sent, or memory could not be had.
+    Unsent,
+}
+
+/// What a server tells of its connections, for a log. Many threads call these, at any time.
+pub trait Events {
+    /// A connection has a seat.
+    fn began(&self, _seat: usize) {}
+
+    /// The connection of a seat has ended.
+    fn ended(&self, _seat: usize, _parting: &Parting) {}
+
+    /// A connection found all seats taken.
+    fn was_full(&self) {}
+}
+
+/// Nobody is told.
+#[derive(Clone, Copy, Debug)]
+pub struct Quiet;
+
+impl Events for Quiet {}

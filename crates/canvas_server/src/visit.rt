@@ -1,0 +1,137 @@
+//! One connection that has a seat: how long it may be silent, who is told of it, and what ends it.
+
+use crate::connection::{Answered, answer};
+use crate::doors::Stream;
+use crate::ending::{Call, Ending};
+use crate::event::{Events, Parting};
+use crate::gate::Settles;
+use crate::house::House;
+use canvas_board::Board;
+use canvas_session::Cause;
+use std::cell::Cell;
+use std::io;
+use std::io::{ErrorKind, Read};
+use std::sync::Wait;
+use std::thread::Threads;
+use std::time::Duration;
+
+/// A gate whose refusal, or whose wish to end, begins the end of the server.
+#[derive(Drop)]
+struct Watch<'a, G: Settles> {
+    gate: &'a G,
+    ending: &'a Ending,
+}
+
+impl<G: Settles> Settles for Watch<'_, G> {
+    ghost settled = { λ watch n. G.settled watch.gate.now n };
+
+    fn settle<R: Wait>(&self, rt: &R, put_in: u64) -> io::Result<()> {
+        let settled = self.gate.settle(rt, put_in);
+        if settled.is_err() {
+            self.ending.begin(rt, Call::Unsettled);
+        } else if self.gate.has_ended(rt) {
+            self.ending.begin(rt, Call::Asked);
+        }
+        settled
+    }
+
+    fn has_ended<R: Wait>(&self, rt: &R) -> bool {
+        self.gate.has_ended(rt)
+    }
+}
+
+/// What a client sends. It ends where the server does.
+#[derive(Drop)]
+struct Input<'a> {
+    stream: &'a Stream,
+    ending: &'a Ending,
+    is_idle: &'a Cell<bool>,
+}
+
+impl Read for Input<'_> {
+    fn read(&mut self, bytes: &mut [u8]) -> io::Result<usize> {
+        if self.ending.has_begun() {
+            return Ok(0);
+        }
+        let mut stream = self.stream;
+        match stream.read(bytes) {
+            Ok(count) => Ok(count),
+            Err(error) => {
+                if error.kind() == ErrorKind::WouldBlock {
+                    self.is_idle.set(true);
+                }
+                Err(error)
+            }
+        }
+    }
+}
+
+/// Answers a client until it has sent all or the server ends, and says whether more may still come. Where the server has ended before, nothing is
+/// answered.
+pub fn answer_visit<H: Threads + Wait + Sync, B: Board, G: Settles, E: Events>(
+    rt: &H,
+    house: &House<B, G, E>,
+    board: &mut B,
+    seat: usize,
+    stream: &Stream,
+) -> bool {
+    if !house.ending.enter(rt, seat, stream) {
+        return false;
+    }
+    set_up(stream, house.idle);
+    house.events.began(seat);
+    let parting = answer_stream(rt, house, board, stream);
+    house.events.ended(seat, &parting);
+    house.ending.leave(rt, seat);
+    house.ending.has_begun()
+        || matches!(
+            parting,
+            Parting::Http | Parting::Cut(Cause::LineTooLong | Cause::TooManyRequests)
+        )
+}
+
+// Sets how a connection sends and how long it may be silent. Where that can't be set it is served all the same.
+fn set_up(stream: &Stream, idle: u64) {
+    // Where small replies are delayed they come all the same.
+    let _ = stream.set_nodelay();
+    if idle > 0 {
+        let patience = Duration::from_secs(idle);
+        let _ = stream.set_read_timeout(patience);
+        let _ = stream.set_write_timeout(patience);
+    }
+}
+
+// Answers a client, and says how that ended.
+fn answer_stream<H: Threads + Wait + Sync, B: Board, G: Settles, E: Events>(
+    rt: &H,
+    house: &House<B, G, E>,
+    board: &mut B,
+    stream: &Stream,
+) -> Parting {
+    let is_idle = Cell::new(false);
+    let gate = Watch {
+        gate: house.gate,
+        ending: house.ending,
+    };
+    let input = Input {
+        stream,
+        ending: house.ending,
+        is_idle: &is_idle,
+    };
+    let (alloc, workers) = (house.alloc, &house.workers);
+    let (_, answered) = answer(rt, alloc, board, workers, &gate, input, stream);
+    match answered {
+        None => Parting::Unsent,
+        Some(Answered::Http) => Parting::Http,
+        Some(Answered::Session(Ok(_))) => Parting::Finished,
+        Some(Answered::Session(Err(fault))) => parting_of(fault.cause, is_idle.get()),
+    }
+}
+
+// How a session ended that did not end with its input.
+fn parting_of(cause: Cause, is_idle: bool) -> Parting {
+    match cause {
+        Cause::ReadFault if is_idle => Parting::Idle,
+        _ => Parting::Cut(cause),
+    }
+}
