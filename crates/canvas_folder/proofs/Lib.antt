@@ -1,0 +1,3 @@
+pub mod Careful
+pub mod Highest
+pub mod Moments

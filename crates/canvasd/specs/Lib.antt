@@ -1,0 +1,4 @@
+pub mod Statuses
+pub mod Seats
+pub mod Addresses
+pub mod History

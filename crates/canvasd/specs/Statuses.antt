@@ -1,0 +1,29 @@
+-- The statuses with which the program ends.
+use Rattle.std.specs.Prelude.{ℕ, Some}
+use Rattle.canvas_keep.specs.declared.fault.ReplayWhy.{ReplayWhy}
+use Rattle.canvas_keep.specs.declared.fault.ReplayWhy.TheVariants as replay
+use Rattle.canvas_server.specs.Faults.{server_fault_code}
+use Rattle.canvas_server.specs.Statuses.{status_of}
+use Rattle.canvasd.specs.declared.fault.Fault.{Fault}
+use Rattle.canvasd.specs.declared.fault.Fault.TheVariants as fault
+
+abbrev pub line_status : ReplayWhy → ℕ
+line_status replay.OutOfMemory = 5
+line_status replay.NoEdit = 3
+line_status (replay.Refused f) = 3
+line_status replay.Busy = 4
+
+abbrev pub status_at : Fault → ℕ
+status_at (fault.Io place deed error) = 4
+status_at (fault.Document place code) = status_of (Some code)
+status_at (fault.Line number line why) = line_status why
+status_at fault.Locked = 4
+status_at fault.Begun = 4
+status_at (fault.Strange n) = 4
+status_at fault.NoDocument = 4
+status_at (fault.NoVersion asked newest) = 4
+status_at fault.Busy = 4
+status_at fault.NoNumber = 4
+status_at (fault.Server f) = status_of (server_fault_code f)
+status_at (fault.Lost number why system) = 6
+status_at fault.Memory = 5

@@ -1,0 +1,161 @@
+//! Why the program ends other than as it was asked to.
+ghost use Rattle.std.specs.Prelude.{◌≡◌};
+ghost use Rattle.canvasd.specs.Statuses.{line_status, status_at};
+
+use canvas_keep::{KeepFault, ReplayWhy};
+use canvas_server::{ServerFault, exit_status};
+use std::alloc::{AllocError, AllocFailed};
+use std::io;
+
+/// What a fault is about.
+#[derive(Clone, Copy, Debug, Drop, PartialEq, Eq)]
+pub enum Place {
+    /// The folder of the document.
+    Folder,
+    /// The folder in which that one is made.
+    Parent,
+    /// The file whose lock one process has.
+    Lock,
+    /// The folder of a generation.
+    Generation(u32),
+    /// The document with which a generation begins.
+    Opening(u32),
+    /// The same, before it has its name.
+    Temporary(u32),
+    /// The edits of a generation.
+    Journal(u32),
+    /// The saved document that the words name.
+    Given,
+    /// One of the addresses, by its place among them.
+    Address(usize),
+    /// Standard output.
+    Output,
+}
+
+/// What could not be done.
+#[derive(Clone, Copy, Debug, Drop, PartialEq, Eq)]
+pub enum Deed {
+    Read,
+    Make,
+    Write,
+    /// To have it put on the disk.
+    Keep,
+    /// To give it its name.
+    Name,
+    Lock,
+    Use,
+}
+
+/// Why the program ends other than as it was asked to.
+#[derive(Clone, Copy, Debug)]
+pub enum Fault {
+    /// The system refused something.
+    Io {
+        place: Place,
+        deed: Deed,
+        error: io::Error,
+    },
+    /// A text is no saved document, with the number of the fault.
+    Document {
+        place: Place,
+        code: u16,
+    },
+    /// A line of a journal is no edit that the document accepts there.
+    Line {
+        number: u32,
+        line: u64,
+        why: ReplayWhy,
+    },
+    /// Another process serves the folder.
+    Locked,
+    /// The folder has a document, and the words name another to begin with.
+    Begun,
+    /// A generation is not what a crash leaves.
+    Strange(u32),
+    /// The folder has no document.
+    NoDocument,
+    /// The journal has fewer versions.
+    NoVersion {
+        asked: u64,
+        newest: u64,
+    },
+    /// Somebody edits the line whose journal is being read. It can't be.
+    Busy,
+    /// There is no further number for a generation.
+    NoNumber,
+    /// The server did not serve, or serves no longer.
+    Server(ServerFault),
+    /// The journal of a generation is kept no longer; the number of the system's error, where there was one.
+    Lost {
+        number: u32,
+        fault: KeepFault,
+        system: i32,
+    },
+    /// Memory could not be had.
+    Memory,
+}
+
+impl Fault {
+    /// The status with which the program ends.
+    pub fn status(&self) -> u8
+        ensures { result ≡ status_at self.now }
+    {
+        match self {
+            Fault::Io { .. } => 4,
+            Fault::Document { code, .. } => exit_status(Some(*code)),
+            Fault::Line { why, .. } => line_status(*why),
+            Fault::Locked => 4,
+            Fault::Begun => 4,
+            Fault::Strange(_) => 4,
+            Fault::NoDocument => 4,
+            Fault::NoVersion { .. } => 4,
+            Fault::Busy => 4,
+            Fault::NoNumber => 4,
+            Fault::Server(fault) => exit_status(fault.code()),
+            Fault::Lost { .. } => 6,
+            Fault::Memory => 5,
+        }
+    }
+}
+
+// The status where a line was not replayed.
+fn line_status(why: ReplayWhy) -> u8
+    ensures { result ≡ line_status why }
+{
+    match why {
+        ReplayWhy::OutOfMemory => 5,
+        ReplayWhy::NoEdit => 3,
+        ReplayWhy::Refused(_) => 3,
+        ReplayWhy::Busy => 4,
+    }
+}
+
+impl From<AllocError> for Fault {
+    ghost use Rattle.std.specs.Prelude.{◌≡◌};
+    ghost use Rattle.canvasd.specs.declared.fault.Fault.TheVariants.{Memory};
+
+    ghost from_gives = { λ _ fault. fault ≡ Memory };
+
+    fn from(_error: AllocError) -> Fault {
+        Fault::Memory
+    }
+}
+
+impl<T: Drop> From<AllocFailed<T>> for Fault {
+    ghost use Rattle.std.specs.Prelude.{◌≡◌};
+    ghost use Rattle.canvasd.specs.declared.fault.Fault.TheVariants.{Memory};
+
+    ghost from_gives = { λ _ fault. fault ≡ Memory };
+
+    fn from(_error: AllocFailed<T>) -> Fault {
+        Fault::Memory
+    }
+}
+
+/// The fault where the system refused something. Where it was memory, that is told.
+pub fn refused(place: Place, deed: Deed, error: io::Error) -> Fault {
+    match error.kind() {
+        io::ErrorKind::OutOfMemory => Fault::Memory,
+        _ => Fault::Io { place, deed, error },
+    }
+}

@@ -1,0 +1,114 @@
+//! The file of a journal.
+ghost use Rattle.std.specs.Prelude.{IfOk};
+ghost use Rattle.canvas_journal.specs.Device.{Only};
+ghost use Rattle.canvas_journal_file.specs.Calls.{may_leave, seen_of};
+
+use crate::fault::{Deed, Fault, Place, refused};
+use crate::folder::path_in;
+use canvas_folder::JOURNAL;
+use canvas_journal_file::{Asked, Backing};
+use std::alloc::{AllocError, Global};
+use std::fs::{File, OpenOptions};
+use std::io;
+use std::io::Read;
+use std::os::unix::fs::FileExt;
+use std::rt::Files;
+use std::sync::Arc;
+use std::sync::atomic::{AtomicI32, Ordering};
+
+/// The number of the system's last error at a journal; 0 where there was none.
+#[derive(Drop)]
+pub struct Reason {
+    number: Arc<AtomicI32, Global>,
+}
+
+impl Reason {
+    /// There was none.
+    pub fn none(alloc: Global) -> Result<Reason, AllocError> {
+        let number = Arc::new(alloc, AtomicI32::new(0))?;
+        Ok(Reason { number })
+    }
+
+    /// The same place for it, in other hands.
+    pub fn shared(&self) -> Result<Reason, AllocError> {
+        Ok(Reason {
+            number: Arc::try_clone(&self.number)?,
+        })
+    }
+
+    /// The number.
+    pub fn number(&self) -> i32 {
+        self.number.load(Ordering::SeqCst)
+    }
+
+    // Notes what a call answered, and says whether it was done.
+    fn note(&self, answer: io::Result<()>) -> bool {
+        match answer {
+            Ok(()) => true,
+            Err(error) => {
+                self.number
+                    .store(error.raw_os_error().unwrap_or(0), Ordering::SeqCst);
+                false
+            }
+        }
+    }
+}
+
+/// An open file, which keeps the reason of a call that failed.
+#[derive(Drop)]
+pub struct JournalFile {
+    file: File,
+    reason: Reason,
+}
+
+impl Backing for JournalFile {
+    fn write(&mut self, at: usize, bytes: &[u8]) -> bool {
+        bytes.is_empty() || self.reason.note(self.file.write_all_at(bytes, at as u64))
+    }
+
+    fn cut(&mut self, len: usize) -> bool {
+        self.reason.note(self.file.set_len(len as u64))
+    }
+
+    fn sync(&mut self) -> bool {
+        self.reason.note(self.file.sync_data())
+    }
+}
+
+/// The journal of a generation, with all that it holds put on the disk, and how many LFs are in it.
+pub fn open_journal<H: Files<File = File>>(
+    rt: &H,
+    alloc: Global,
+    folder: &str,
+    number: u32,
+    reason: &Reason,
+) -> Result<(Asked<JournalFile>, u64), Fault>
+    ensures { IfOk result (λ r. Only (seen_of r.0) (may_leave r.0)) }
+{
+    let place = Place::Journal(number);
+    let path = path_in(alloc, folder, number, JOURNAL)?;
+    let mut file = match OpenOptions::new()
+        .read(true)
+        .write(true)
+        .open(rt, path.as_str())
+    {
+        Ok(file) => file,
+        Err(error) => return Err(refused(place, Deed::Read, error)),
+    };
+    let bytes = read_all(alloc, &mut file, place)?;
+    if let Err(error) = file.sync_all() {
+        return Err(refused(place, Deed::Keep, error));
+    }
+    let lines = bytes.iter().filter(|byte| **byte == b'\n').count() as u64;
+    let reason = reason.shared()?;
+    Ok((Asked::new(JournalFile { file, reason }, bytes), lines))
+}
+
+/// All the bytes of a file.
+pub fn read_all<R: Read>(alloc: Global, file: &mut R, place: Place) -> Result<Vec<u8>, Fault> {
+    let mut bytes = Vec::new(alloc);
+    match file.read_to_end(&mut bytes) {
+        Ok(_) => Ok(bytes),
+        Err(error) => Err(refused(place, Deed::Read, error)),
+    }
+}

@@ -1,0 +1,83 @@
+//! The program `canvasd`: one design document in a folder, where nothing that was answered is lost.
+//!
+//! `canvasd FOLDER` serves the document of a folder. `canvasd check FOLDER` tells what is in it, and `canvasd history FOLDER [VERSION]` writes
+//! the document as it was.
+#![tactic(auto)]
+
+mod addresses;
+mod checking;
+mod doors;
+mod events;
+mod fault;
+mod folder;
+mod gate;
+mod history;
+mod journal;
+mod maker;
+mod message;
+mod opening;
+mod seats;
+mod serving;
+mod words;
+
+use fault::Fault;
+use log::sink::Console;
+use log::{Log, Logged};
+use message::tell;
+use std::alloc::{AllocError, Global};
+use std::process::ExitCode;
+use std::{env, io};
+use words::{Order, read_order};
+
+fn main(rt: HostRuntime) -> ExitCode {
+    let Ok(given) = given_words(&rt) else {
+        return ExitCode::from(2);
+    };
+    let Ok(words) = texts_of(rt.alloc(), &given) else {
+        return ExitCode::from(5);
+    };
+    let order = match read_order(rt.alloc(), &words) {
+        Ok(order) => order,
+        Err(error) => {
+            // Where the stream takes nothing, the status alone tells.
+            let _ = error.print(&rt);
+            return ExitCode::from(if error.exit_code() == 0 { 0 } else { 2 });
+        }
+    };
+    let ended = match &order {
+        Order::Serve(service) => {
+            let lines = Logged::new(rt, service.level, Console(rt));
+            serving::serve(&rt, &lines.with_target("canvasd"), rt.alloc(), service)
+        }
+        Order::Check { folder } => checking::check(&rt, rt.alloc(), folder),
+        Order::History { folder, version } => {
+            history::write_version(&rt, rt.alloc(), folder, *version)
+        }
+    };
+    match ended {
+        Ok(()) => ExitCode::SUCCESS,
+        Err(fault) => {
+            let _ = tell(&rt, &order, &fault);
+            ExitCode::from(fault.status())
+        }
+    }
+}
+
+// The words of the command line, the first of them the program's own name. A word that is not UTF-8 is no word of a command.
+fn given_words(rt: &HostRuntime) -> io::Result<Vec<String>> {
+    let mut words = Vec::new(rt.alloc());
+    for word in env::args(rt)?.skip(1) {
+        words.push(word)?;
+    }
+    Ok(words)
+}
+
+// The same as texts, behind the name of the program.
+fn texts_of(alloc: Global, words: &[String]) -> Result<Vec<&str>, AllocError> {
+    let mut texts = Vec::new(alloc);
+    texts.push("canvasd")?;
+    for word in words {
+        texts.push(word.as_str())?;
+    }
+    Ok(texts)
+}

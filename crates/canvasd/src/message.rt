@@ -1,0 +1,180 @@
+//! What the program says of a fault.
+
+use crate::fault::{Deed, Fault, Place};
+use crate::words::Order;
+use canvas_code::name_of;
+use canvas_folder::{JOURNAL, LOCK, OPENING, TEMPORARY};
+use canvas_journal::DeviceError;
+use canvas_keep::{KeepFault, ReplayWhy};
+use std::fmt::{Display, Formatter, Write};
+use std::{fmt, io};
+
+/// Says on standard error why the program ends.
+pub fn tell<H: Eprint>(rt: &H, order: &Order<'_>, fault: &Fault) -> io::Result<()> {
+    match order {
+        Order::Serve(service) => eprintln!(rt;
+            "canvasd: {}",
+            Told {
+                folder: service.folder,
+                given: service.opening.unwrap_or(""),
+                addresses: service.addresses.as_slice(),
+                fault: *fault,
+            }
+        ),
+        Order::Check { folder } => eprintln!(rt; "canvasd: {}", Told::of(folder, *fault)),
+        Order::History { folder, .. } => eprintln!(rt; "canvasd: {}", Told::of(folder, *fault)),
+    }
+}
+
+/// A fault, and what the words name.
+#[derive(Drop)]
+pub struct Told<'a> {
+    folder: &'a str,
+    given: &'a str,
+    addresses: &'a [&'a str],
+    fault: Fault,
+}
+
+impl<'a> Told<'a> {
+    /// A fault of a folder.
+    pub fn of(folder: &'a str, fault: Fault) -> Told<'a> {
+        Told {
+            folder,
+            given: "",
+            addresses: &[],
+            fault,
+        }
+    }
+
+    // Writes the name of what a fault is about.
+    fn write_place<W: Write>(&self, place: Place, f: &mut Formatter<W>) -> fmt::Result {
+        let folder = self.folder;
+        match place {
+            Place::Folder => write!(f, "the folder {folder}"),
+            Place::Parent => write!(f, "the folder above {folder}"),
+            Place::Lock => write!(f, "{folder}/{LOCK}"),
+            Place::Generation(number) => write!(f, "the folder {folder}/{number}"),
+            Place::Opening(number) => write!(f, "{folder}/{number}/{OPENING}"),
+            Place::Temporary(number) => write!(f, "{folder}/{number}/{TEMPORARY}"),
+            Place::Journal(number) => write!(f, "the journal {folder}/{number}/{JOURNAL}"),
+            Place::Given => f.write_str(self.given),
+            Place::Address(index) => {
+                write!(
+                    f,
+                    "the address {}",
+                    self.addresses.get(index).copied().unwrap_or("")
+                )
+            }
+            Place::Output => f.write_str("standard output"),
+        }
+    }
+
+    // Writes what became of a place of which the system refused something.
+    fn write_refused<W: Write>(
+        &self,
+        place: Place,
+        deed: Deed,
+        error: io::Error,
+        f: &mut Formatter<W>,
+    ) -> fmt::Result {
+        self.write_place(place, f)?;
+        write!(f, " can't be {}: {error}", deed_name(deed))
+    }
+
+    // Writes why a line of a journal was not taken.
+    fn write_line<W: Write>(
+        &self,
+        number: u32,
+        line: u64,
+        why: ReplayWhy,
+        f: &mut Formatter<W>,
+    ) -> fmt::Result {
+        let folder = self.folder;
+        write!(f, "{folder}/{number}/{JOURNAL}: line {line} ")?;
+        match why {
+            ReplayWhy::NoEdit => f.write_str("is no edit"),
+            ReplayWhy::Refused(fault) => write!(
+                f,
+                "is no edit that is accepted there: {} {}",
+                fault.code(),
+                fault.name()
+            ),
+            ReplayWhy::OutOfMemory => f.write_str("is not read: out of memory"),
+            ReplayWhy::Busy => f.write_str("is not read: somebody edits the document meanwhile"),
+        }
+    }
+
+    // Writes why a journal is lost.
+    fn write_lost<W: Write>(
+        &self,
+        number: u32,
+        fault: KeepFault,
+        system: i32,
+        f: &mut Formatter<W>,
+    ) -> fmt::Result {
+        self.write_place(Place::Journal(number), f)?;
+        match fault {
+            KeepFault::Device(DeviceError::Failed) => write!(
+                f,
+                " can't be written: {}",
+                io::Error::from_raw_os_error(system)
+            ),
+            _ => write!(f, " can't be written: {fault}"),
+        }
+    }
+}
+
+/// Writes what was wrong, and what to do.
+impl Display for Told<'_> {
+    fn fmt<W: Write>(&self, f: &mut Formatter<W>) -> fmt::Result {
+        let folder = self.folder;
+        match self.fault {
+            Fault::Io { place, deed, error } => self.write_refused(place, deed, error, f),
+            Fault::Document { place, code } => {
+                self.write_place(place, f)?;
+                write!(f, " is no saved document: {code} {}", name_of(code))
+            }
+            Fault::Line { number, line, why } => self.write_line(number, line, why, f),
+            Fault::Locked => write!(f, "another process serves the folder {folder}"),
+            Fault::Begun => write!(
+                f,
+                "the folder {folder} has a document: --open is for a new one"
+            ),
+            Fault::Strange(number) => write!(
+                f,
+                "{folder}/{number} is not what a crash leaves: see what is in it (canvasd check {folder})"
+            ),
+            Fault::NoDocument => write!(f, "the folder {folder} has no document"),
+            Fault::NoVersion { asked, newest } => {
+                write!(
+                    f,
+                    "the folder {folder} has no version {asked}: the newest is {newest}"
+                )
+            }
+            Fault::Busy => f.write_str("somebody edits the document meanwhile"),
+            Fault::NoNumber => write!(
+                f,
+                "the folder {folder} has no room for a further generation"
+            ),
+            Fault::Server(fault) => write!(f, "the server ended: {fault}"),
+            Fault::Lost {
+                number,
+                fault,
+                system,
+            } => self.write_lost(number, fault, system, f),
+            Fault::Memory => f.write_str("out of memory"),
+        }
+    }
+}
+
+fn deed_name(deed: Deed) -> &'static str {
+    match deed {
+        Deed::Read => "read",
+        Deed::Make => "made",
+        Deed::Write => "written",
+        Deed::Keep => "put on the disk",
+        Deed::Name => "given its name",
+        Deed::Lock => "locked",
+        Deed::Use => "used",
+    }
+}

@@ -1,0 +1,302 @@
+//! Serving the document of a folder.
+ghost use Rattle.std.specs.Prelude.{◌≡◌};
+ghost use Rattle.canvas_journal.specs.Device.{Only};
+ghost use Rattle.canvas_journal_file.specs.Calls.{may_leave, seen_of};
+
+use crate::doors::{bind_all, tell_doors};
+use crate::events::DoorLog;
+use crate::fault::{Deed, Fault, Place, refused};
+use crate::folder::{hold, look, path_in};
+use crate::gate::Gate;
+use crate::journal::{JournalFile, Reason, open_journal};
+use crate::maker::begin;
+use crate::opening::{read_document, saved};
+use crate::seats::{line_fault, take_seat};
+use crate::words::{Service, VERSION};
+use canvas_doc::Document;
+use canvas_folder::{OPENING, State, next_number, state_of};
+use canvas_journal::DeviceError;
+use canvas_journal_file::Asked;
+use canvas_keep::{Keep, KeepFault, OpenFault, open};
+use canvas_line::{Line, Lines, Opened, Seat};
+use canvas_server::{Door, DoorSettings, Ended, ServerFault, Settles, serve_doors};
+use log::{Log, info};
+use std::alloc::Global;
+use std::fs::File;
+use std::marker::Brand;
+use std::net::{Net, TcpListener, TcpStream};
+use std::rt::Files;
+use std::sync::Wait;
+use std::thread::Threads;
+use std::time::{Clock, Instant};
+
+/// Serves the document of a folder, generation after generation, until that can't be done any more.
+pub fn serve<
+    H: Files<File = File>
+        + Alloc
+        + Print
+        + Threads
+        + Wait
+        + Clock
+        + Clone
+        + Drop
+        + Sync
+        + Net<Listener = TcpListener, Stream = TcpStream>,
+    K: Log + Sync,
+>(rt: &H, log: &K, alloc: Global, service: &Service<'_>) -> Result<(), Fault> {
+    info!(*log; "canvasd {VERSION} begins: {}", service.folder);
+    let _held = hold(rt, alloc, service.folder)?;
+    let first = first_number(rt, alloc, service)?;
+    let doors = bind_all(rt, alloc, &service.addresses)?;
+    for number in first..u32::MAX {
+        let next = serve_generation(rt, log, alloc, service, number, &doors, number == first)?;
+        info!(*log; "generation {number} has all its {} edits, and generation {} begins", service.limit, number + 1);
+        begin(rt, alloc, service.folder, number + 1, &next)?;
+    }
+    Err(Fault::NoNumber)
+}
+
+// The generation that is served first. Where there is none, it is made.
+fn first_number<H: Files<File = File> + Alloc + Clone + Drop>(
+    rt: &H,
+    alloc: Global,
+    service: &Service<'_>,
+) -> Result<u32, Fault> {
+    let found = look(rt, alloc, service.folder)?;
+    match state_of(&found.generations) {
+        State::Strange(number) => Err(Fault::Strange(number)),
+        State::Serves(_) if service.opening.is_some() => Err(Fault::Begun),
+        State::Serves(number) => Ok(number),
+        State::Begins => {
+            let document = first_document(rt, alloc, service)?;
+            begin(rt, alloc, service.folder, 1, &saved(alloc, &document)?)?;
+            Ok(1)
+        }
+    }
+}
+
+// The document with which a new folder begins.
+fn first_document<H: Files<File = File>>(
+    rt: &H,
+    alloc: Global,
+    service: &Service<'_>,
+) -> Result<Document, Fault> {
+    let Some(path) = service.opening else {
+        return Ok(Document::empty(alloc));
+    };
+    match File::open(rt, path) {
+        Ok(file) => read_document(alloc, file, Place::Given),
+        Err(error) => Err(refused(Place::Given, Deed::Read, error)),
+    }
+}
+
+/// The document with which a generation begins.
+pub fn opening_document<H: Files<File = File>>(
+    rt: &H,
+    alloc: Global,
+    folder: &str,
+    number: u32,
+) -> Result<Document, Fault> {
+    let place = Place::Opening(number);
+    let path = path_in(alloc, folder, number, OPENING)?;
+    match File::open(rt, path.as_str()) {
+        Ok(file) => read_document(alloc, file, place),
+        Err(error) => Err(refused(place, Deed::Read, error)),
+    }
+}
+
+/// The name of the one line that there is at a time.
+pub const NAME: u64 = 1;
+
+/// The most edits of a line.
+pub const MOST_EDITS: u64 = 1_000_000;
+
+// How a generation is served.
+#[derive(Drop)]
+struct Run<'a> {
+    service: &'a Service<'a>,
+    doors: &'a [Door],
+    number: u32,
+    reason: Reason,
+    begun: Instant,
+    // Whether the doors are told once the journal is open.
+    is_first: bool,
+}
+
+// Serves a generation until it has all its edits. The answer is the saved document with which the next one begins.
+fn serve_generation<
+    H: Files<File = File>
+        + Print
+        + Threads
+        + Wait
+        + Clock
+        + Sync
+        + Net<Listener = TcpListener, Stream = TcpStream>,
+    K: Log + Sync,
+>(
+    rt: &H,
+    log: &K,
+    alloc: Global,
+    service: &Service<'_>,
+    number: u32,
+    doors: &[Door],
+    is_first: bool,
+) -> Result<Vec<u8>, Fault> {
+    let begun = now(rt)?;
+    let document = opening_document(rt, alloc, service.folder, number)?;
+    let run = Run {
+        service,
+        doors,
+        number,
+        reason: Reason::none(alloc)?,
+        begun,
+        is_first,
+    };
+    let (device, lines) = open_journal(rt, alloc, service.folder, number, &run.reason)?;
+    // A journal that was written under a higher limit is read all the same.
+    let limit = service.limit.max(lines).min(MOST_EDITS);
+    serve_line::<Brand, H, K>(rt, log, alloc, Opened::new(), document, limit, device, &run)
+}
+
+fn now<H: Clock>(rt: &H) -> Result<Instant, Fault> {
+    match Instant::now(rt) {
+        Ok(now) => Ok(now),
+        Err(error) => Err(refused(Place::Output, Deed::Use, error)),
+    }
+}
+
+// Serves a document as the line that is opened here.
+fn serve_line<
+    L: Lines + Send + Sync,
+    H: Print + Threads + Wait + Clock + Sync + Net<Listener = TcpListener, Stream = TcpStream>,
+    K: Log + Sync,
+>(
+    rt: &H,
+    log: &K,
+    alloc: Global,
+    opened: Opened,
+    document: Document,
+    limit: u64,
+    device: Asked<JournalFile>,
+    run: &Run<'_>,
+) -> Result<Vec<u8>, Fault>
+    requires line { L.line 1 ≡ record { book = opened.head.word.book; opening = document; limit = limit } }
+    requires durable { Only (seen_of device) (may_leave device) }
+{
+    let count = run.service.seats + 2;
+    let mut seats = match Line::open::<L, H>(rt, alloc, opened, NAME, document, count, limit) {
+        Ok(seats) => seats,
+        Err(fault) => return Err(line_fault(&fault)),
+    };
+    let Some(keeper) = take_seat(&mut seats) else {
+        return Err(Fault::Server(ServerFault::NoSeats));
+    };
+    let Some(watch) = take_seat(&mut seats) else {
+        return Err(Fault::Server(ServerFault::NoSeats));
+    };
+    let keeper = match open(rt, alloc, device, keeper) {
+        Ok(keeper) => keeper,
+        Err(fault) => return Err(open_fault(&fault, run)),
+    };
+    tell_recovery(rt, log, keeper.kept(), run);
+    let gate = Gate {
+        keep: Keep::new(alloc, keeper, watch),
+        limit: run.service.limit,
+    };
+    serve_gate(rt, log, alloc, seats, &gate, run)?;
+    let next = newest_text(rt, alloc, &gate, run)?;
+    let Gate { keep, .. } = gate;
+    match keep.close(rt) {
+        Ok(_) => Ok(next),
+        Err(fault) => Err(run.lost(fault)),
+    }
+}
+
+// Says what was recovered.
+fn tell_recovery<H: Clock, K: Log>(rt: &H, log: &K, kept: u64, run: &Run<'_>) {
+    let folder = run.service.folder;
+    let number = run.number;
+    let passed = match run.begun.elapsed(rt) {
+        Ok(passed) => passed.as_millis(),
+        Err(_) => 0,
+    };
+    info!(*log; "{folder}/{number} is open: {kept} edits in {passed} ms");
+}
+
+// Serves the line until it has all its edits.
+fn serve_gate<
+    L: Lines + Send + Sync,
+    H: Print + Threads + Wait + Clock + Sync + Net<Listener = TcpListener, Stream = TcpStream>,
+    K: Log + Sync,
+>(
+    rt: &H,
+    log: &K,
+    alloc: Global,
+    seats: Vec<Seat<L>>,
+    gate: &Gate<L>,
+    run: &Run<'_>,
+) -> Result<(), Fault> {
+    let service = run.service;
+    if run.is_first {
+        tell_doors(rt, run.doors, &service.addresses)?;
+    }
+    if gate.has_ended(rt) {
+        for seat in seats {
+            seat.close(rt);
+        }
+        return Ok(());
+    }
+    let settings = DoorSettings {
+        keep: service.keep,
+        workers: service.workers,
+        idle: service.idle,
+    };
+    let events = DoorLog::new(rt, log, run.begun);
+    match serve_doors(rt, alloc, run.doors, seats, gate, &settings, &events) {
+        Ok(Ended::Asked) => Ok(()),
+        Ok(Ended::Unsettled) => Ok(()),
+        Err(fault) => Err(Fault::Server(fault)),
+    }
+}
+
+// The text of the newest version, with which the next generation begins.
+fn newest_text<L: Lines, H: Wait>(
+    rt: &H,
+    alloc: Global,
+    gate: &Gate<L>,
+    run: &Run<'_>,
+) -> Result<Vec<u8>, Fault> {
+    if let Some(fault) = gate.keep.fault(rt) {
+        return Err(run.lost(fault));
+    }
+    match gate.keep.newest(rt) {
+        Ok(version) => saved(alloc, &version.document),
+        Err(fault) => Err(run.lost(fault)),
+    }
+}
+
+impl Run<'_> {
+    // The journal is lost.
+    fn lost(&self, fault: KeepFault) -> Fault {
+        Fault::Lost {
+            number: self.number,
+            fault,
+            system: self.reason.number(),
+        }
+    }
+}
+
+// Why a journal could not be opened.
+fn open_fault(fault: &OpenFault, run: &Run<'_>) -> Fault {
+    match fault {
+        OpenFault::Device(DeviceError::Memory) => Fault::Memory,
+        OpenFault::Device(error) => run.lost(KeepFault::Device(*error)),
+        OpenFault::Replay(fault) => Fault::Line {
+            number: run.number,
+            line: fault.line,
+            why: fault.why,
+        },
+        OpenFault::Line(fault) => line_fault(fault),
+        OpenFault::Busy => Fault::Busy,
+    }
+}

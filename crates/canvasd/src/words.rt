@@ -1,0 +1,198 @@
+//! The words of the command line.
+
+use clap::{Arg, ArgAction, ArgMatches, Command, Error, value_parser};
+use log::LevelFilter;
+use std::alloc::{AllocError, Global};
+
+/// The version of the program.
+pub const VERSION: &str = "0.4.0";
+
+/// The address where none is named.
+pub const DEFAULT_ADDRESS: &str = "127.0.0.1:7878";
+
+/// What the program is asked for.
+#[derive(Drop)]
+pub enum Order<'a> {
+    /// Serves the document of a folder.
+    Serve(Service<'a>),
+    /// Tells what is in a folder.
+    Check {
+        folder: &'a str,
+    },
+    /// Writes the document of a folder as of a version, or as it is now.
+    History {
+        folder: &'a str,
+        version: Option<u64>,
+    },
+}
+
+/// How a document is served.
+#[derive(Drop)]
+pub struct Service<'a> {
+    pub folder: &'a str,
+    /// Where connections come, one at least.
+    pub addresses: Vec<&'a str>,
+    /// The saved document with which a new folder begins.
+    pub opening: Option<&'a str>,
+    /// How many sessions may be at once.
+    pub seats: u32,
+    /// How many edits a generation takes.
+    pub limit: u64,
+    /// How many pictures each seat keeps.
+    pub keep: u32,
+    /// How many threads paint a picture.
+    pub workers: u32,
+    /// After how many seconds an idle session ends; 0 is never.
+    pub idle: u64,
+    /// Which lines go to standard error.
+    pub level: LevelFilter,
+}
+
+/// What the words ask for, of which the first is the program's name. The error may be that help or the version was asked for.
+pub fn read_order<'a>(alloc: Global, words: &'a [&'a str]) -> Result<Order<'a>, Error> {
+    let command = whole_command(alloc)?;
+    let matches = command.try_get_matches_from(words)?;
+    if let Some((verb, inner)) = matches.subcommand() {
+        let folder = inner.get_str("folder").unwrap_or("");
+        return match verb {
+            "check" => Ok(Order::Check { folder }),
+            _ => Ok(Order::History {
+                folder,
+                version: inner.get_one::<u64>("version"),
+            }),
+        };
+    }
+    Ok(Order::Serve(service_of(alloc, &matches)?))
+}
+
+// How the document is served, by the words that were found.
+fn service_of<'a>(alloc: Global, matches: &ArgMatches<'a>) -> Result<Service<'a>, AllocError> {
+    let mut addresses = Vec::new(alloc);
+    for address in matches.get_strs("listen").unwrap_or(&[]) {
+        addresses.push(*address)?;
+    }
+    if addresses.is_empty() {
+        addresses.push(DEFAULT_ADDRESS)?;
+    }
+    Ok(Service {
+        folder: matches.get_str("folder").unwrap_or(""),
+        addresses,
+        opening: matches.get_str("open"),
+        seats: matches.get_one::<u32>("seats").unwrap_or(62),
+        limit: matches.get_one::<u64>("limit").unwrap_or(1_000_000),
+        keep: matches.get_one::<u32>("keep").unwrap_or(8),
+        workers: matches.get_one::<u32>("workers").unwrap_or(2),
+        idle: matches.get_one::<u64>("idle").unwrap_or(600),
+        level: matches
+            .get_one::<LevelFilter>("log")
+            .unwrap_or(LevelFilter::Info),
+    })
+}
+
+// All words that there are.
+fn whole_command<'a>(alloc: Global) -> Result<Command<'a>, AllocError> {
+    let check = Command::new(alloc, "check")
+        .about("Tells what is in a folder and whether it opens, and changes nothing")
+        .arg(folder_word(alloc))?;
+    let history = Command::new(alloc, "history")
+        .about("Writes the document as of a version of the newest generation to standard output")
+        .arg(folder_word(alloc))?
+        .arg(version_word(alloc))?;
+    let command = Command::new(alloc, "canvasd")
+        .version(VERSION)
+        .about("Serves the design document of a folder; nothing that was answered is lost")
+        .override_usage(USAGE)
+        .after_help(AFTER_HELP)
+        .args_conflicts_with_subcommands(true)
+        .subcommand_negates_reqs(true)
+        .disable_help_subcommand(true)
+        .arg(folder_word(alloc))?
+        .subcommand(check)?
+        .subcommand(history)?;
+    with_options(alloc, command)
+}
+
+const USAGE: &str =
+    "canvasd FOLDER [OPTIONS]\n       canvasd check FOLDER\n       canvasd history FOLDER [VERSION]";
+
+const AFTER_HELP: &str =
+    "Whoever can reach an address may edit: there are no passwords and no encryption.
+
+Exit status: 0 done; 2 the words are no command; 3 a document or a journal can't be read as one; 4 a file, a folder or an address can't
+be used, or another process serves the folder; 5 memory was refused at the start; 6 the journal can't be written any more.";
+
+fn folder_word<'a>(alloc: Global) -> Arg<'a> {
+    Arg::new(alloc, "folder")
+        .value_name("FOLDER")
+        .required(true)
+        .help("The folder of the document; it is made where it is not there")
+}
+
+fn version_word<'a>(alloc: Global) -> Arg<'a> {
+    Arg::new(alloc, "version")
+        .value_name("VERSION")
+        .value_parser(value_parser!(u64))
+        .help("A version; the newest that is kept, where it is left out")
+}
+
+// The options of a server.
+fn with_options<'a>(alloc: Global, command: Command<'a>) -> Result<Command<'a>, AllocError> {
+    let listen = Arg::new(alloc, "listen")
+        .long("listen")
+        .value_name("ADDRESS")
+        .action(ArgAction::Append)
+        .help("HOST:PORT or unix:PATH, once for each [default: 127.0.0.1:7878]");
+    let open = Arg::new(alloc, "open").long("open").value_name("FILE").help(
+        "A saved document with which a new folder begins; else it begins empty",
+    );
+    let log = Arg::new(alloc, "log")
+        .long("log")
+        .value_name("LEVEL")
+        .value_parser(LEVELS.as_slice())
+        .help("Which lines go to standard error [default: info]");
+    let command = command.arg(listen)?.arg(open)?.arg(log)?;
+    with_numbers(alloc, command)
+}
+
+static LEVELS: [&str; 6] = ["off", "error", "warn", "info", "debug", "trace"];
+
+// The options that are numbers.
+fn with_numbers<'a>(alloc: Global, command: Command<'a>) -> Result<Command<'a>, AllocError> {
+    let seats = number_word(alloc, "seats", "Sessions at once, 1 to 62 [default: 62]").value_parser(
+        value_parser!(u32).range(1..=62),
+    );
+    let workers = number_word(
+        alloc,
+        "workers",
+        "Threads that paint one picture, 1 to 16 [default: 2]",
+    )
+    .value_parser(value_parser!(u32).range(1..=16));
+    let keep = number_word(
+        alloc,
+        "keep",
+        "Pictures that each seat keeps, 0 to 256 [default: 8]",
+    )
+    .value_parser(value_parser!(u32).range(0..=256));
+    let idle = number_word(
+        alloc,
+        "idle",
+        "Seconds after which an idle session ends; 0 is never [default: 600]",
+    )
+    .value_parser(value_parser!(u64).range(0..=1_000_000_000));
+    let limit = number_word(
+        alloc,
+        "limit",
+        "Edits of a generation, 1 to 1000000 [default: 1000000]",
+    )
+    .value_parser(value_parser!(u64).range(1..=1_000_000));
+    command
+        .arg(seats)?
+        .arg(workers)?
+        .arg(keep)?
+        .arg(idle)?
+        .arg(limit)
+}
+
+fn number_word<'a>(alloc: Global, name: &'a str, help: &'a str) -> Arg<'a> {
+    Arg::new(alloc, name).long(name).value_name("N").help(help)
+}
