@@ -23,8 +23,8 @@ from pathlib import Path
 
 from canvas_client import PROGRAM, Canvas
 from check_program import EXAMPLE, readme_example
-from check_server import free_port
 from repository import BUILT, TOP
+from running import free_port
 
 SECONDS = 60
 VERSION = (TOP / "VERSION").read_text().strip()
