@@ -47,14 +47,12 @@ from lossy_disk import Disk
 from plain_model import Model, Refused
 from random_requests import EDITS, Reply, Requests, look_fault
 from repository import BUILT
-from running import EMPTY, Running, build, build_keeper, kept_words, tell
+from running import BAD_DOCUMENT, EMPTY, Running, build, build_keeper, kept_words, tell
 
 POSTER = TOP / "examples" / "poster.json"
 JOURNAL = "journal.jsonl"
 CONTROLS = {"early": {"syncs": "late", "late": 20}, "nosync": {"syncs": "none", "late": 200}}
 CONTROL_ROUNDS = 10
-BAD_JOURNAL = 3
-"""The status where a line of the journal is no edit."""
 GAP = 30
 """How many seconds a server may take until it listens, and a client until it ends."""
 
@@ -263,12 +261,12 @@ class Trial:
         self.model, self.lines, self.known, self.starts = Model.opened(opening), [], [], []
         self.answers = self.edits = self.killed_again = 0
         self.server = None
-        self._start()
-        self._look(Told(0))
+        self.start(self._environment())
+        self.look(Told(0))
 
     # -- starting --
 
-    def _words(self):
+    def words(self):
         begun = [] if (self.folder / "1" / JOURNAL).exists() else ["--open", self._opening]
         return kept_words(self.folder, "--limit", self._given.limit, *begun)
 
@@ -280,42 +278,44 @@ class Trial:
             return self._disk.environment(seed=seed, wait=wait, **self._how)
         return self._disk.environment(seed=seed, wait=wait, **more) if more or self._chance.random() < 0.5 else {}
 
-    def _start(self):
+    def start(self, environment):
         begun = time.monotonic()
-        self.server = Running(self._words(), self._environment())
+        self.server = Running(self.words(), environment)
         self.starts.append(time.monotonic() - begun)
         if self.server.port is None:
             status, said = self.server.end(), self.server.errors()
-            raise Fault(f"{'lost: the journal' if status == BAD_JOURNAL else 'it'} does not open: status {status}, {said!r}")
+            raise Fault(f"{'lost: the journal' if status == BAD_DOCUMENT else 'it'} does not open: status {status}, {said!r}")
 
     def _kill_while_it_opens(self):
         """Kills it at one of its first calls that change the folder, or after a while; it may end up listening."""
         for _ in range(self._chance.choice([1, 1, 3])):
-            run = Running(self._words(), self._environment(kills=self._chance.randrange(1, 7)))
+            run = Running(self.words(), self._environment(kills=self._chance.randrange(1, 7)))
             run.kill()
             self.killed_again += 1
 
     # -- one round --
 
     def round(self, number):
-        told = self._play(number)
+        told = self.play(number, lambda: self._kill(number))
         before = counted((newest(self.folder) / JOURNAL).read_bytes())
         if self._how is None and number % 3 == 0:
             self._kill_while_it_opens()
-        self._start()
-        if told.faults:
-            raise Fault(told.faults[0])
-        self._look(told, before)
+        self.start(self._environment())
+        self.look(told, before)
 
-    def _play(self, number):
-        """Clients at work, until the server is killed."""
+    def _kill(self, number):
+        """Kills the server at a random moment."""
+        time.sleep(self._given.seconds * self._chance.random() * self._chance.choice([0.03, 0.2, 1, 1]) + 0.01)
+        self.server.process.send_signal(signal.SIGTERM if number % 8 == 7 else signal.SIGKILL)
+
+    def play(self, number, stop):
+        """Clients at work, until the server has ended, which `stop` sees to."""
         told = Told(len(self.lines))
         clients = [Client(KINDS[k % len(KINDS)], self.server.port, told, f"{self._given.seed} {number} {k}", self.known)
                    for k in range(self._given.clients)]
         for client in clients:
             client.start()
-        time.sleep(self._given.seconds * self._chance.random() * self._chance.choice([0.03, 0.2, 1, 1]) + 0.01)
-        self.server.process.send_signal(signal.SIGTERM if number % 8 == 7 else signal.SIGKILL)
+        stop()
         self.server.end()
         for client in clients:
             client.is_over.set()
@@ -327,8 +327,10 @@ class Trial:
         self.edits += len(told.edits)
         return told
 
-    def _look(self, told, before=None):
+    def look(self, told, before=None):
         """Compares what was told, what the journal holds, and what the server now says."""
+        if told.faults:
+            raise Fault(told.faults[0])
         lines = counted((newest(self.folder) / JOURNAL).read_bytes())
         if len(lines) < told.newest:
             raise Fault(f"lost: version {told.newest} was told, and {len(lines)} edits are kept")

@@ -11,7 +11,7 @@
                    late: a sync of a journal returns at once, and what it covers comes into the file DISK_LATE milliseconds later
                    none: a sync of a journal does nothing; what is written comes into the file DISK_LATE milliseconds later
    DISK_FAILS      the call of this number fails by the error DISK_ERROR, and so do DISK_TIMES - 1 calls after it. A sync that fails drops what
-                   it should have synced, as a system may
+                   it should have synced, as a system may. Where the error is that the disk is full, the first write that fails is done by half
    DISK_KILLS      the process is killed before the call of this number
    DISK_TOLD       a file that is made when a call fails or kills
 
@@ -250,7 +250,10 @@ static void be_late(int file) {
 
 static ssize_t write_at(int fd, const void *bytes, size_t length, off_t at) {
     pthread_mutex_lock(&lock);
-    if (is_failing()) return refuse();
+    if (is_failing()) {
+        if (error != ENOSPC || calls != fails || length < 2) return refuse();
+        length /= 2;
+    }
     hold(fd, bytes, length, at);
     pthread_mutex_unlock(&lock);
     return length;

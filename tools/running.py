@@ -14,6 +14,7 @@ import subprocess
 import tempfile
 import threading
 import time
+import traceback
 from pathlib import Path
 
 from canvas_client import PROGRAM, Canvas
@@ -24,8 +25,9 @@ IS_KEPT = os.environ.get("CANVAS_SERVER") == "canvasd"
 """Whether servers are runs of canvasd."""
 SEATS = 62 if IS_KEPT else 63
 """How many sessions a server has at once. One more seat of a kept document is the journal's."""
-LOST_JOURNAL = 6
-"""The status of canvasd where a journal can't be kept any longer."""
+BAD_WORDS, BAD_DOCUMENT, BAD_PLACE, NO_MEMORY, LOST_JOURNAL = range(2, 7)
+"""How canvasd ends, by its status: words that are no command, a document or a journal that is none, a file, a folder or an address that can't be used,
+memory that was refused at the start, and a journal that can't be kept any longer."""
 EMPTY = b'{"format":2,"next":1,"shapes":[]}'
 NO_SEATS = b'{"body":0,"code":19,"name":"NoSeats","ok":false}\n'
 POINT = b'{"verb":"point","x":0,"y":0}\n'
@@ -105,6 +107,16 @@ def tell(cases):
             print(f"{name}: {fault}", flush=True)
     print(f"{passed} passed, {failed} failed")
     return 1 if failed else 0
+
+
+def guarded(stages):
+    """The cases of all stages. One that ends by an exception is a case that fails, and the next one goes on."""
+    for stage in stages:
+        try:
+            yield from stage
+        except Exception as fault:
+            where = traceback.extract_tb(fault.__traceback__)[-1]
+            yield f"{stage.__name__}", f"{fault!r} at {Path(where.filename).name}:{where.lineno}"
 
 
 # -- servers -----------------------------------------------------------------------------------------------------------
