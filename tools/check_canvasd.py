@@ -38,6 +38,7 @@ from running import (
     BAD_PLACE,
     BAD_WORDS,
     EMPTY,
+    LOST_JOURNAL,
     NO_SEATS,
     POINT,
     SECONDS,
@@ -80,10 +81,10 @@ def started(folder, *more, environment=None):
 def fault_of(end, status, *parts):
     """What is wrong with how a run ended that was to write nothing to standard output, and on standard error these parts; or None."""
     out, said, got = end
-    if out or got != status:
+    if out or got not in (status if isinstance(status, tuple) else (status,)):
         return f"it ends with {got} and writes {out[:200]!r} and {said[:300]!r}, wanted status {status}"
-    if not said.startswith((b"canvasd: ", b"error: ")) and status != BAD_WORDS:
-        return f"it says {said[:300]!r}"
+    if status != BAD_WORDS and not (said.splitlines() or [b""])[-1].startswith(b"canvasd: "):
+        return f"its last line is not what it ends by: {said[:300]!r}"
     missing = [it for it in parts if str(it).encode() not in said]
     return f"it says {said[:300]!r}, and not {missing}" if missing else None
 
@@ -176,7 +177,7 @@ def new_folders(room):
         yield f"a new folder with {name}", difference(served(folder, *opening), (0, saved(file)))
         there = content(folder)
         yield f"what is in a new folder with {name}", difference(sorted(there), ["1/journal.jsonl", "1/opening.json", "lock"])
-        yield f"the opening of {name}", difference(there["1/opening.json"].strip(), (file.read_bytes() if file else EMPTY).strip())
+        yield f"the opening of {name}", difference(there["1/opening.json"], saved(file))
         yield f"the journal of {name}", difference(counted(there["1/journal.jsonl"]), [])
         yield f"the folder with {name} again", difference(served(folder), (0, saved(file)))
         make(folder, [GROUP])
@@ -216,7 +217,7 @@ def unfinished(room):
                 yield f"a run in which nothing {how}", None if has_begun else f"it ends with {end}"
                 break
             if how == "fails" and not has_begun:
-                yield f"step {step} {how}", fault_of(end, BAD_PLACE, folder, "nput/output error")
+                yield f"step {step} {how}", fault_of(end, (BAD_PLACE, LOST_JOURNAL), folder, "nput/output error")
             begun = (folder / "1" / JOURNAL).exists()
             again = served(folder, *([] if begun else ["--open", POSTER]))
             yield f"the folder after step {step} {how}", difference(again, (0, saved(POSTER)))
@@ -242,7 +243,7 @@ def foreign_files(room):
     before = content(folder)
     yield "a folder with foreign files", difference(served(folder), (len(EDITS), models(EDITS)[-1]))
     yield "they stay", difference({**content(folder), "1/journal.jsonl": b""}, {**before, "1/journal.jsonl": b""})
-    for name, files in [("a journal without an opening", ["2/journal.jsonl"]), ("a generation that does not follow", ["3/opening.json", "3/journal.jsonl"])]:
+    for name, files in [("a journal without an opening", ["2/journal.jsonl"]), ("a part of a generation that does not follow", ["3/opening.json"])]:
         other = Path(room, name)
         shutil.copytree(folder, other)
         for file in files:
@@ -396,18 +397,19 @@ def http(room):
 
 def seats(room):
     with started(Path(room, "seats"), "--seats", "2") as server, contextlib.ExitStack() as held:
-        for _ in range(2):
-            sock = held.enter_context(server.socket())
-            sock.sendall(POINT)
-            yield "a seat of two", difference(read_line(sock), WHITE)
+        guests = [held.enter_context(server.socket()) for _ in range(2)]
+        for guest in guests:
+            guest.sendall(POINT)
+            yield "a seat of two", difference(read_line(guest), WHITE)
         refusals = set()
         for _ in range(30):
             with server.socket() as sock:
                 refusals.add(read_all(sock))
         yield "a third one, thirty times", difference(refusals, {NO_SEATS})
-        sock.close()
+        guests[0].close()
         yield "a seat that was left", None if wait_for(lambda: has_seat(server)) else "none"
-    with started(Path(room, "seats"), "--seats", "1", "--log", "info") as server, server.socket() as sock:
+    words = [BUILT_KEEPER, Path(room, "seats"), "--listen", "127.0.0.1:0", "--seats", "1"]
+    with Running(words) as server, server.socket() as sock:
         sock.sendall(POINT)
         read_line(sock)
         before = server.errors().count(b"\n")
@@ -543,14 +545,15 @@ def killed_between(room):
                     told += len(until_it_ends(server, 3)[0])
                     wait_for(lambda: server.process.poll() is not None or next_is_served(server))
                     told += len(until_it_ends(server, 2)[0]) if server.process.poll() is None else 0
-                status = server.process.poll()
+                status, said = server.end(10 if disk.has_told() else 0), server.errors()
             if not disk.has_told():
                 yield f"a run in which nothing {how}", difference((told, status), (5, None))
                 break
             made = len(json.loads(served(folder, "--limit", "3")[1])["shapes"])
             yield f"edits after step {step} {how}", None if told <= made <= told + 1 else f"{told} were answered, and {made} are there"
             if how == "fails":
-                yield f"the end after step {step} {how}", None if status in (BAD_PLACE, 6) else f"status {status}"
+                is_right = status in (BAD_PLACE, LOST_JOURNAL)
+                yield f"the end after step {step} {how}", None if is_right else f"status {status}, {said!r}, {told} edits were answered"
         yield f"how many steps {how}", None if 12 < step < 2 * MOST_STEPS - 1 else f"{step}"
 
 
