@@ -29,7 +29,7 @@ from pathlib import Path
 
 from canvas_client import TOP, Canvas, Refused, line_of
 from check_server import bad_documents
-from crash_test import JOURNAL, counted, newest
+from crash_test import JOURNAL, counted
 from lossy_disk import Disk
 from plain_model import Model
 from repository import BUILT_KEEPER

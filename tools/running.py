@@ -25,6 +25,8 @@ IS_KEPT = os.environ.get("CANVAS_SERVER") == "canvasd"
 """Whether servers are runs of canvasd."""
 SEATS = 62 if IS_KEPT else 63
 """How many sessions a server has at once. One more seat of a kept document is the journal's."""
+STILL_THREADS = 2 if IS_KEPT else 1
+"""How many threads a server with one door has while it has no session."""
 BAD_WORDS, BAD_DOCUMENT, BAD_PLACE, NO_MEMORY, LOST_JOURNAL = range(2, 7)
 """How canvasd ends, by its status: words that are no command, a document or a journal that is none, a file, a folder or an address that can't be used,
 memory that was refused at the start, and a journal that can't be kept any longer."""
@@ -155,6 +157,10 @@ class Running:
         text = Path(f"/proc/{self.process.pid}/status").read_text()
         return int(re.search(rf"^{word}:\s+(\d+)", text, re.MULTILINE).group(1))
 
+    def is_still(self):
+        """Whether it has no thread for a session."""
+        return self.number("Threads") == STILL_THREADS
+
     def files(self):
         return len(list(Path(f"/proc/{self.process.pid}/fd").iterdir()))
 
@@ -215,11 +221,6 @@ class Server(Running):
         super().__init__(serving_words(PROGRAM, port, file, folder, workers), environment, port)
         if self.port is None:
             raise RuntimeError(f"the server says {self.first_line!r} and {self.errors()!r}")
-        self._still_threads = self.number("Threads")
-
-    def is_still(self):
-        """Whether it has no thread but those that it began with."""
-        return self.number("Threads") == self._still_threads
 
 
 def seats_left(server, most):
