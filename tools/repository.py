@@ -6,6 +6,8 @@ while others are. A crate's built library and what its checks kept hold no path,
 
 import os
 import shutil
+import subprocess
+import sys
 from pathlib import Path
 
 TOP = Path(__file__).resolve().parent.parent
@@ -72,6 +74,26 @@ def copy_for(name, folder):
         copy_crate(it, folder / "crates" / it, ["rlib"])
     copy_crate(name, folder / "crates" / name, ["rlib", "incremental"])
     return folder / "crates" / name
+
+
+STAMPS = """
+import os, sys
+sys.path.insert(0, os.path.dirname(os.path.realpath(sys.argv[1])))
+import rtlib
+for crate in rtlib.crates_below(os.getcwd()):
+    stamp = f"{crate.folder}/out/rlib/stamp"
+    if os.path.isdir(crate.rlib) and not os.path.exists(stamp):
+        with open(stamp, "w", encoding="utf-8") as it:
+            it.write(crate.stamp())
+"""
+
+
+def stamp_libraries(folder):
+    """Has `rt` take the built libraries of such a repository for those of its sources. `rt ci` builds them so, and leaves no stamp beside them. Where
+    this `rt` keeps stamps in another way nothing is written, and it builds the libraries anew."""
+    rt = shutil.which("rt")
+    if rt:
+        subprocess.run([sys.executable, "-c", STAMPS, rt], cwd=folder, stdin=subprocess.DEVNULL, stdout=subprocess.DEVNULL, stderr=subprocess.DEVNULL)
 
 
 def copy_again(folder, target):

@@ -3,7 +3,7 @@
 
 usage: tools/try_wrong_bodies.py NAME [EDIT..] [--all] [--jobs N] [--together N]
        tools/try_wrong_bodies.py --record [--dry-run] [NAME..] [--jobs N] [--together N]
-       tools/try_wrong_bodies.py --check [--minutes N] [--jobs N] [--together N]
+       tools/try_wrong_bodies.py --check [--built] [--minutes N] [--jobs N] [--together N]
 
 A wrong body is an edit of crates/NAME/wrong-bodies/ (with --all or by its name also of must-fail/): a line 'file: src/..', and
 pairs of lines 'old: TEXT' and 'new: TEXT', where TEXT stands once in the file. Each is applied to a copy of the crate and
@@ -19,7 +19,8 @@ these sources and says of each body that it is refused, so it can be stopped and
 
 --check compares the records with the sources. Where a record is of others, it tries the crate's bodies, lowest first, and begins no check after
 so many minutes (60); the crates that are then left have failed. Before that it tries again 24 of the recorded bodies, of at most three crates, which the commit chooses
-(or, where there is no git, the sources). It writes nothing. Its last line is 'N passed, M failed'.
+(or, where there is no git, the sources). It writes nothing. Its last line is 'N passed, M failed'. With --built it takes the libraries that stand in out/ for
+those of the sources, as they are just after `rt ci`; else those with no stamp are built anew.
 """
 
 import argparse
@@ -38,7 +39,7 @@ from queue import Queue
 
 import verdicts
 from functions import changed_functions, refused_function
-from repository import TOP, below, copy_again, copy_for
+from repository import TOP, below, copy_again, copy_for, stamp_libraries
 
 # A goal or an import of a proof that names what the edit took away.
 NAMES_WHAT_IS_GONE = re.compile(r"(\./)?proofs/.*(has no field|is not in scope|has no `|was not admitted)")
@@ -218,23 +219,27 @@ class NotProved(Exception):
     """The crate itself is not proved, so no wrong body was tried."""
 
 
-def proved_copy(name, room, jobs):
+def proved_copy(name, room, jobs, built=False):
     """A repository of the crate in which it is proved, which is made in the room where that has none. While it stands there, `rt` takes
     the libraries that it built for those of other crates."""
     folder = room / name
     if not folder.is_dir():
-        status, lines = check(copy_for(name, folder), jobs)
+        crate = copy_for(name, folder)
+        if built:
+            stamp_libraries(folder)
+        status, lines = check(crate, jobs)
         if status != 0:
             shutil.rmtree(folder)
             raise NotProved("\n".join([*lines[-20:], f"{name} itself is not proved, so no wrong body was tried"]))
     return folder
 
 
-def try_all(name, edits, jobs, most, room, deadline=None):
-    """Tries the edits in groups of up to so many, several groups side by side, each in a copy of its own that later ones use again. Gives what is
-    said of each edit by its name, and leaves out those whose check would begin after the deadline."""
-    proved = proved_copy(name, room, jobs)
-    groups = in_groups(edits, proved / "crates" / name, most)
+def try_all(name, edits, given, room, deadline=None):
+    """Tries the edits in groups of up to `given.together`, `given.jobs` groups side by side, each in a copy of its own that later ones use again. Gives what
+    is said of each edit by its name, and leaves out those whose check would begin after the deadline."""
+    jobs = given.jobs
+    proved = proved_copy(name, room, jobs, given.built)
+    groups = in_groups(edits, proved / "crates" / name, given.together)
     with tempfile.TemporaryDirectory(dir=room) as copies:
         crates = Queue()
         for number in range(min(jobs, len(groups))):
@@ -280,7 +285,7 @@ def record(names, given, room):
             continue
         begun, total = time.monotonic(), verdicts.checksum(name)
         try:
-            found = try_all(name, edits[name], given.jobs, given.together, room)
+            found = try_all(name, edits[name], given, room)
         except NotProved as why:
             good = bool(print(why))
             continue
@@ -298,7 +303,7 @@ def check_crate(name, edits, given, room, deadline):
     if deadline and time.monotonic() > deadline:
         return 0, [f"{name}: no time was left to try {len(edits)} bodies"]
     try:
-        found = try_all(name, edits, given.jobs, given.together, room, deadline)
+        found = try_all(name, edits, given, room, deadline)
     except NotProved as why:
         return 0, [str(why)]
     faults = [f"{name}: {it} is {said}" for it, said in found.items() if said != verdicts.REFUSED]
@@ -332,7 +337,7 @@ def try_named(given, room):
     name, *words = given.names
     edits = chosen(name, [it.removesuffix(".edit") for it in words], given.all)
     try:
-        found = try_all(name, edits, given.jobs, given.together, room) if edits else {}
+        found = try_all(name, edits, given, room) if edits else {}
     except NotProved as why:
         print(why)
         return 2
@@ -347,6 +352,7 @@ def main():
     asked.add_argument("--record", action="store_true", help="write the records of these crates, or of all")
     asked.add_argument("--dry-run", action="store_true", help="with --record: say only what would be tried")
     asked.add_argument("--check", action="store_true", help="check the records of all crates")
+    asked.add_argument("--built", action="store_true", help="with --check: the libraries in out/ are of these sources, though they have no stamp")
     asked.add_argument("--minutes", type=int, default=60, metavar="N", help="with --check: begin no check of a crate with no record after so many minutes (60)")
     asked.add_argument("--jobs", type=int, metavar="N", help="checks that run side by side (1, with --check one for each processor)")
     asked.add_argument("--together", type=int, default=8, metavar="N", help="edits that one check tries at most (8)")

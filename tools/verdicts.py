@@ -14,9 +14,10 @@ HEAD = "sources: "
 
 
 @cache
-def kit():
-    """The kit's version."""
-    return subprocess.run(["rt", "version"], stdin=subprocess.DEVNULL, stdout=subprocess.PIPE, text=True, check=True).stdout.strip()
+def logic():
+    """The sum of the kit's logic, as `rt version` and the last line of each check print it. Two kits that share it judge alike, whatever their names."""
+    version = subprocess.run(["rt", "version"], stdin=subprocess.DEVNULL, stdout=subprocess.PIPE, text=True, check=True).stdout
+    return version.split()[-1]
 
 
 def edits_of(name):
@@ -35,7 +36,7 @@ def checksum(name):
     Of the crates below it that is all of their src/, specs/ and proofs/. Contracts stand in src/ beside the bodies, and proofs name lemmas of
     lower proofs/, so less could be told from the rest only by a reader of both languages."""
     known = lines()
-    found = hashlib.sha256(repr([kit(), [known[it] for it in [*below(name), name]]]).encode())
+    found = hashlib.sha256(repr([logic(), [known[it] for it in [*below(name), name]]]).encode())
     files = [TOP / "HANDLES", *edits_of(name)]
     for crate in [*below(name), name]:
         for part in SOURCES:
