@@ -14,9 +14,7 @@ Prints each case that fails, and a last line 'N passed, M failed'; the status is
 import hashlib
 import itertools
 import multiprocessing
-import os
 import random
-import re
 import socket
 import statistics
 import subprocess
@@ -677,22 +675,6 @@ def bad_neighbours(folder, rounds=3):
         yield "a viewer beside bad neighbours", None if min(ratios) <= 3 else f"{min(ratios):.1f} times as long"
 
 
-# -- the examples of the page ------------------------------------------------------------------------------------------
-
-def examples(folder):
-    """The blocks of docs/CLIENT.md, each beside a server of its own at the address that the page names."""
-    page = (TOP / "docs" / "CLIENT.md").read_text()
-    blocks = re.findall(r"```(python|bash)\n(.*?)```", page, re.DOTALL)
-    for number, (language, block) in enumerate(blocks, start=1):
-        with Server(folder, (TOP / "examples" / "poster.json").read_bytes()) as server:
-            script = block.replace("127.0.0.1:7878", server.address).replace("127.0.0.1/7878", f"127.0.0.1/{server.port}")
-            words = [sys.executable, "-c", script] if language == "python" else ["bash", "-ec", script]
-            done = subprocess.run(words, cwd=folder, capture_output=True, text=True, timeout=SECONDS,
-                                  env={**os.environ, "PYTHONPATH": str(TOP / "tools")})
-            yield f"example {number} of docs/CLIENT.md", difference((done.returncode, done.stderr), (0, ""))
-    yield "examples in docs/CLIENT.md", None if len(blocks) >= 5 else f"only {len(blocks)}"
-
-
 def main():
     seconds = float(sys.argv[1]) if len(sys.argv) > 1 else 20
     seed = int(sys.argv[2]) if len(sys.argv) > 2 else 1
@@ -708,7 +690,6 @@ def main():
             small_sessions(folder),
             kept_level(folder),
             *of_canvas,
-            examples(folder),
             full_house(folder),
             comings_and_goings(folder, seed),
             history(folder, 8, seconds, seed, 24_000),

@@ -25,7 +25,7 @@ from repository import TOP
 
 VERSION = (TOP / "VERSION").read_text().strip()
 SHARED = ("README.md", "CHANGELOG.md", "VERSION", "bin/canvas-demo", "docs/*.md", "docs/pictures/*.png", "examples/*.json*", "examples/visit.py",
-          "tools/bodies.py", "tools/canvas_client.py", "tools/viewer/gateway.py", "tools/viewer/relay/*.py", "tools/viewer/setup.sh",
+          "tools/bodies.py", "tools/canvas_client.py", "tools/canvas_client.mjs", "tools/viewer/gateway.py", "tools/viewer/relay/*.py", "tools/viewer/setup.sh",
           "tools/viewer/page/*")
 """The files of the repository that both packages have."""
 PROGRAMS = ("canvas", "canvasd")
