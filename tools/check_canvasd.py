@@ -6,7 +6,7 @@ usage: tools/check_canvasd.py [PART ..]      the parts are the functions that PA
 - its words: help, version, and what is no command;
 - new folders, empty or with a document, and folders whose making was killed or failed at each step;
 - a second process, foreign files, a journal with a torn end, and one with a line that is no edit;
-- `canvasd check` and `canvasd history`, which change nothing;
+- `canvasd check` and `canvasd history`, which change nothing, and copies of a folder that is served;
 - its doors: TCP and unix, several at once, a port that the system chooses, HTTP, seats, idle sessions;
 - the last edit of a generation and the next generation, also where the process is killed at each step of making it.
 
@@ -24,6 +24,7 @@ import socket
 import subprocess
 import sys
 import tempfile
+import threading
 import time
 from pathlib import Path
 
@@ -331,6 +332,37 @@ def looks(room):
         yield "its session goes on", difference(canvas.ask(**GROUP)[0]["version"], len(EDITS) + 2)
 
 
+def copies(room):
+    """A folder that is copied while edits are made: each copy opens, with all that was answered before it was begun. And a way back to a version."""
+    folder, answered, is_over = Path(room, "copied"), [0], threading.Event()
+
+    def edit(server):
+        with server.connect() as canvas:
+            while not is_over.is_set():
+                answered[0] = max(answered[0], canvas.ask(**GROUP)[0]["version"])
+                time.sleep(0.01)
+
+    with started(folder) as server:
+        editors = [threading.Thread(target=edit, args=(server,)) for _ in range(3)]
+        for editor in editors:
+            editor.start()
+        for number in range(10):
+            before, copy = answered[0], Path(room, f"copy {number}")
+            subprocess.run(["cp", "-r", str(folder), str(copy)], check=True)
+            kept = len(counted((copy / "1" / JOURNAL).read_bytes()))
+            yield f"edits in copy {number}", None if before <= kept <= answered[0] + 3 else f"{kept}, and {before} were answered before"
+            yield f"check of copy {number}", difference(run("check", copy)[1:], (b"", 0))
+            yield f"copy {number}", difference(run("history", copy), run("history", folder, kept))
+        is_over.set()
+        for editor in editors:
+            editor.join()
+    yield "a copy that is served", difference(served(copy), (kept, groups(kept)))
+    yield "the folder itself", None if served(folder)[0] >= answered[0] else "it has lost edits"
+    then = Path(room, "then.json")
+    then.write_bytes(run("history", folder, 3)[0])
+    yield "back to a version", difference(served(Path(room, "then"), "--open", then), (0, groups(3)))
+
+
 # -- doors -------------------------------------------------------------------------------------------------------------
 
 def asked_at(path):
@@ -474,7 +506,11 @@ def until_it_ends(server, count):
 
 
 def groups(count):
-    return models([GROUP] * count)[-1]
+    """The saved text of so many groups."""
+    model = Model()
+    for _ in range(count):
+        model.edit(GROUP)
+    return model.saved()
 
 
 def generations(room):
@@ -569,7 +605,7 @@ def signals(room):
         yield f"the folder after {number.name}", difference(served(folder), (1, groups(1)))
 
 
-PARTS = (words, new_folders, bad_openings, unfinished, second_process, foreign_files, torn_ends, bad_lines, looks, doors, http, seats, idle, levels,
+PARTS = (words, new_folders, bad_openings, unfinished, second_process, foreign_files, torn_ends, bad_lines, looks, copies, doors, http, seats, idle, levels,
          generations, pipelined, killed_between, signals)
 
 
