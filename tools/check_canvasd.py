@@ -62,7 +62,7 @@ OPTIONS = ("--listen", "--open", "--seats", "--workers", "--keep", "--idle", "--
 GROUP = {"verb": "create", "shape": {"kind": "group"}}
 BAD_JSON = b'{"body":0,"code":50,"name":"BadJson","ok":false}\n'
 MOST_STEPS = 60
-MOST_SECONDS = 15
+MOST_SECONDS = 60
 
 
 def run(*words):

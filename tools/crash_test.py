@@ -1,7 +1,7 @@
 #!/usr/bin/env python3
 """Kills canvasd again and again while clients of all kinds edit and look, and checks that nothing is lost that any of them was told.
 
-usage: tools/crash_test.py [--rounds 20] [--clients 12] [--seed 1] [--seconds 0.6] [--limit 1000000] [--program FILE] [--control early|nosync]
+usage: tools/crash_test.py [--rounds 20] [--clients 12] [--seed 1] [--seconds 0.6] [--control early|nosync]
 
 Clients edit one by one and in bursts, break off with edits on their way, look at points, patches, tiles and exports, and read slowly. At a
 random moment of each round the server is killed (kill -9; one in eight by SIGTERM). In a third of the rounds it is then killed again while it
@@ -24,13 +24,12 @@ Two controls show that this finds losses. Each is the same program on a disk tha
 - `nosync`: a sync does nothing, and what is written reaches the file 200 ms later, as it would if the program never synced.
 
 Prints what it did, each fault, and a last line 'N passed, M failed', in which a control passes where it was caught; the status is 1 where
-something failed. With --control it runs that control alone. --program is the built canvasd, if it is not the one in its crate's out/. It
-takes a C compiler.
+something failed. With --control it runs that control alone. The program is the one that the environment's CANVASD names, or the built one. It takes a
+C compiler.
 """
 
 import argparse
 import json
-import os
 import random
 import signal
 import socket
@@ -268,7 +267,7 @@ class Trial:
 
     def words(self):
         begun = [] if (self.folder / "1" / JOURNAL).exists() else ["--open", self._opening]
-        return kept_words(self.folder, "--limit", self._given.limit, *begun)
+        return kept_words(self.folder, *begun)
 
     def _environment(self, **more):
         """No disk of our own, or one that is honest; that of the control where this is one."""
@@ -445,13 +444,8 @@ def main():
     words.add_argument("--clients", type=int, default=12)
     words.add_argument("--seed", default="1")
     words.add_argument("--seconds", type=float, default=0.6, help="how long clients work in a round at most")
-    words.add_argument("--limit", type=int, default=1_000_000, help="how many edits a generation takes")
-    words.add_argument("--program", help="the built canvasd")
     words.add_argument("--control", choices=list(CONTROLS), help="run this control alone")
     given = words.parse_args()
-    if given.program:
-        os.environ["CANVASD"] = given.program
-        os.execv(sys.executable, [sys.executable, __file__, *[it for k, it in enumerate(sys.argv) if k and it != "--program" and sys.argv[k - 1] != "--program"]])
     build()
     build_keeper()
     with tempfile.TemporaryDirectory() as room:

@@ -1,7 +1,7 @@
 #!/usr/bin/env python3
 """Lets canvasd's disk fail while clients of all kinds are at work, and checks that nobody is answered by what is not kept.
 
-usage: tools/fail_disk.py [--clients 6] [--seed 1] [--limit 1000000]
+usage: tools/fail_disk.py [--clients 6] [--seed 1]
 
 - Each write and each sync fails in turn, once and for good, by a fault of the disk or since it is full (lossy_disk.c; a failed sync drops what it
   should have kept, and a full disk takes half of a write);
@@ -128,7 +128,6 @@ def main():
     words = argparse.ArgumentParser(description="lets the disk of canvasd fail")
     words.add_argument("--clients", type=int, default=6)
     words.add_argument("--seed", default="1")
-    words.add_argument("--limit", type=int, default=1_000_000, help="how many edits a generation takes")
     given = words.parse_args()
     given.seconds = 0
     build_keeper()
