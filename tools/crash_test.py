@@ -1,7 +1,7 @@
 #!/usr/bin/env python3
 """Kills canvasd again and again while clients of all kinds edit and look, and checks that nothing is lost that any of them was told.
 
-usage: tools/crash_test.py [--rounds 20] [--clients 12] [--seed 1] [--seconds 0.6] [--control early|nosync]
+usage: tools/crash_test.py [--rounds 20] [--clients 12] [--seed 1] [--seconds 3] [--control early|nosync]
 
 Clients edit one by one and in bursts, break off with edits on their way, look at points, patches, tiles and exports, and read slowly. At a
 random moment of each round the server is killed (kill -9; one in eight by SIGTERM). In a third of the rounds it is then killed again while it
@@ -295,26 +295,29 @@ class Trial:
     # -- one round --
 
     def round(self, number):
-        told = self.play(number, lambda: self._kill(number))
+        told = self.play(number, lambda told: self._kill(number, told))
         before = counted((newest(self.folder) / JOURNAL).read_bytes())
         if self._how is None and number % 3 == 0:
             self._kill_while_it_opens()
         self.start(self._environment())
         self.look(told, before)
 
-    def _kill(self, number):
-        """Kills the server at a random moment."""
-        time.sleep(self._given.seconds * self._chance.random() * self._chance.choice([0.03, 0.2, 1, 1]) + 0.01)
+    def _kill(self, number, told):
+        """Kills the server at a random moment: after some replies, or after a while."""
+        replies, end = self._chance.choice([1, 10, 100, 1000]) * self._chance.random(), time.monotonic() + self._given.seconds
+        while told.replies < replies and time.monotonic() < end:
+            time.sleep(0.001)
+        time.sleep(0.02 * self._chance.random())
         self.server.process.send_signal(signal.SIGTERM if number % 8 == 7 else signal.SIGKILL)
 
     def play(self, number, stop):
-        """Clients at work, until the server has ended, which `stop` sees to."""
+        """Clients at work, until the server has ended, which `stop` sees to; it is given what they are told."""
         told = Told(len(self.lines))
         clients = [Client(KINDS[k % len(KINDS)], self.server.port, told, f"{self._given.seed} {number} {k}", self.known)
                    for k in range(self._given.clients)]
         for client in clients:
             client.start()
-        stop()
+        stop(told)
         self.server.end()
         for client in clients:
             client.is_over.set()
@@ -443,7 +446,7 @@ def main():
     words.add_argument("--rounds", type=int, default=20)
     words.add_argument("--clients", type=int, default=12)
     words.add_argument("--seed", default="1")
-    words.add_argument("--seconds", type=float, default=0.6, help="how long clients work in a round at most")
+    words.add_argument("--seconds", type=float, default=3, help="how long clients work in a round at most")
     words.add_argument("--control", choices=list(CONTROLS), help="run this control alone")
     given = words.parse_args()
     build()

@@ -51,7 +51,7 @@ def fails_at(trial, disk, call, number, times):
         trial.start({})
         wanted = os.strerror(number)[1:].encode()
         return None if status in (BAD_PLACE, LOST_JOURNAL) and wanted in said else f"while it opened: status {status}, {said!r}"
-    told = trial.play(call, lambda: trial.server.end(20) or trial.server.kill())
+    told = trial.play(call, lambda told: trial.server.end(20) or trial.server.kill())
     fault = end_fault(trial.server, number, JOURNAL)
     before = counted((newest(trial.folder) / JOURNAL).read_bytes())
     trial.start({})
@@ -104,7 +104,7 @@ def until_full(folder, given):
     for number in range(3):
         (folder / "rest").write_bytes(b"")
         fill(folder / "rest", 200_000 if number == 0 else 100_000)
-        told = trial.play(number, lambda: trial.server.end(60) or trial.server.kill())
+        told = trial.play(number, lambda told: trial.server.end(60) or trial.server.kill())
         yield f"a full disk, the end of run {number}", end_fault(trial.server, errno.ENOSPC, JOURNAL)
         before = counted((newest(trial.folder) / JOURNAL).read_bytes())
         (folder / "rest").unlink()
