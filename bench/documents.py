@@ -31,9 +31,9 @@ from serve import started
 sys.path.insert(0, str(TOP / "tools"))
 import key_rows  # noqa: E402
 from canvas_client import PROGRAM, Canvas  # noqa: E402
-from check_server import EMPTY, free_port  # noqa: E402
 from check_streams import BUILT  # noqa: E402
 from plain_model import Model  # noqa: E402
+from running import EMPTY, free_port  # noqa: E402
 
 MOST = 16_384
 KINDS = [

@@ -21,8 +21,8 @@ from serve import TILE, asked, document, started
 sys.path.insert(0, str(TOP / "tools"))
 import key_rows  # noqa: E402
 from canvas_client import PROGRAM  # noqa: E402
-from check_server import free_port  # noqa: E402
 from plain_model import Model  # noqa: E402
+from running import free_port  # noqa: E402
 
 SQUARES = 4000
 MOVES = 500

@@ -24,8 +24,8 @@ from requests import TOP, hundred
 
 sys.path.insert(0, str(TOP / "tools"))
 from canvas_client import PROGRAM  # noqa: E402
-from check_server import free_port  # noqa: E402
 from plain_model import Model  # noqa: E402
+from running import free_port  # noqa: E402
 
 WORKERS = "1"
 TILE = 196_623

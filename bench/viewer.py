@@ -22,8 +22,8 @@ from pathlib import Path
 TOP = Path(__file__).resolve().parent.parent
 sys.path[:0] = [str(TOP / "tools"), str(TOP / "tools" / "viewer")]
 from browser import Browser  # noqa: E402
-from check_server import free_port  # noqa: E402
 from puppet import Counter  # noqa: E402
+from running import free_port  # noqa: E402
 
 VIEWS, EDITS, SECONDS = 10, 30, 5
 SETTLED = "new Promise((done) => { const look = () => window.app?.picture.isSettled ? done(performance.now()) : setTimeout(look, 1); look(); })"

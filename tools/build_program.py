@@ -1,7 +1,7 @@
 #!/usr/bin/env python3
-"""Builds the program canvas, which proves it, and says on standard error how far it is.
+"""Builds the program canvas or canvasd, which proves it, and says on standard error how far it is.
 
-usage: tools/build_program.py [COMMAND [WORD..]]     where it is built, the command runs in the place of this one
+usage: tools/build_program.py canvas|canvasd [COMMAND [WORD..]]     where it is built, the command runs in the place of this one
 
 Libraries that do not wait for each other are built side by side, at most as many as there are processors, each in a copy of what
 it needs; what is built goes to the crate's out/, and beside the program what it was made from (tools/made_from.sh). On a terminal one
@@ -24,7 +24,9 @@ from pathlib import Path
 
 from repository import SOURCES, TOP, below, copy_for, uses
 
-PROGRAM = "canvas"
+FIRST_RUNS = {"canvas": ["script", "1"], "canvasd": ["--version"]}
+"""The words of a run that ends by itself, with nothing on standard input."""
+PROGRAM = sys.argv[1] if sys.argv[1:] and sys.argv[1] in FIRST_RUNS else sys.exit("usage: build_program.py canvas|canvasd [COMMAND [WORD..]]")
 OUT = TOP / "crates" / PROGRAM / "out"
 # What a check beside others should find free, in bytes.
 ENOUGH = 4_000_000_000
@@ -92,7 +94,7 @@ def end_sessions(leaders):
 
 
 def say(text):
-    print(f"canvas: {text}", file=sys.stderr, flush=True)
+    print(f"{PROGRAM}: {text}", file=sys.stderr, flush=True)
 
 
 def free_memory():
@@ -141,7 +143,7 @@ class Progress:
         return f"{minutes} min {seconds} s"
 
     def show(self, done, running):
-        text = f"canvas: {done} of {self._count} crates proved and built, now {', '.join(sorted(running))}; {self.passed()} so far"
+        text = f"{PROGRAM}: {done} of {self._count} crates proved and built, now {', '.join(sorted(running))}; {self.passed()} so far"
         now = time.monotonic()
         if self._on_terminal:
             print(f"\r\x1b[K{text[:os.get_terminal_size(2).columns - 1]}", end="", file=sys.stderr, flush=True)
@@ -186,14 +188,14 @@ def build_library(name, is_first):
 
 
 def build_program():
-    """Builds the program over its libraries. The run that follows serves an empty input and ends."""
+    """Builds the program over its libraries, and runs it once."""
     with tempfile.TemporaryDirectory(prefix="canvas-build-") as room:
-        call(["rt", "run", "--", "script", "1"], TOP / "crates" / PROGRAM, room)
+        call(["rt", "run", "--", *FIRST_RUNS[PROGRAM]], TOP / "crates" / PROGRAM, room)
 
 
 def made_from():
     """The checksums of the program and of what it is made from, as they are now."""
-    done = subprocess.run([TOP / "tools" / "made_from.sh"], stdout=subprocess.PIPE, stderr=subprocess.DEVNULL, text=True, check=True)
+    done = subprocess.run([TOP / "tools" / "made_from.sh", PROGRAM], stdout=subprocess.PIPE, stderr=subprocess.DEVNULL, text=True, check=True)
     return done.stdout.splitlines()
 
 
@@ -262,9 +264,10 @@ def run_instead(words):
 
 
 def build_in_turn(pool):
-    """Builds once no other build works here. Where a crate fails the others that are being built go on to their end."""
+    """Builds once no other build works here, of either program, since they share libraries: this file has the lock. Where a crate fails the others that
+    are being built go on to their end."""
     OUT.mkdir(exist_ok=True)
-    with open(OUT / "building", "w") as lock:
+    with open(__file__) as lock:
         fcntl.flock(lock, fcntl.LOCK_EX)
         try:
             build(pool)
@@ -286,8 +289,8 @@ def main():
         COMMANDS.end()
         pool.shutdown()
         end_by(stopped.args[0])
-    if sys.argv[1:]:
-        run_instead(sys.argv[1:])
+    if sys.argv[2:]:
+        run_instead(sys.argv[2:])
 
 
 if __name__ == "__main__":

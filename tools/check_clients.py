@@ -2,6 +2,7 @@
 """Tries the clients in Python and in JavaScript, beside servers that are made up and beside the built program.
 
 usage: tools/check_clients.py
+       CANVAS_SERVER=canvasd tools/check_clients.py      beside canvasd (tools/running.py)
 
 - the tests of tools/client_tests: replies cut at every place, refusals, sessions that end, a server that says nothing;
 - each call of tools/client_tests/calls.json, in Python and in JavaScript, gives the same answer, and every call of a client is among them;
@@ -17,20 +18,19 @@ import os
 import re
 import shutil
 import signal
-import socket
 import subprocess
 import sys
 import tempfile
 from contextlib import contextmanager
 from pathlib import Path
 
-from canvas_client import PROGRAM, TOP, Canvas, Refused
+from canvas_client import TOP, Canvas, Refused
 from repository import BUILT
+from running import EMPTY, Server, build, difference, tell
 
 TESTS = TOP / "tools" / "client_tests"
 PAGE = TOP / "docs" / "CLIENT.md"
 CLIENTS = (TOP / "tools" / "canvas_client.py", TOP / "tools" / "canvas_client.mjs")
-EMPTY = b'{"format":2,"next":1,"shapes":[]}'
 FAULTS = {"EOFError": "Ended", "TimeoutError": "TimedOut", "ValueError": "BadReply", "RuntimeError": "Error"}
 """What a fault of Python is in JavaScript."""
 LEAST_NODE = 18
@@ -49,20 +49,8 @@ def node_fault():
 @contextmanager
 def served(text):
     """The address of a server of a saved document."""
-    with tempfile.TemporaryDirectory() as folder:
-        file = Path(folder) / "document.json"
-        file.write_bytes(text)
-        with socket.create_server(("127.0.0.1", 0)) as found:
-            address = f"127.0.0.1:{found.getsockname()[1]}"
-        process = subprocess.Popen([str(BUILT), "serve", address, str(file)], stdout=subprocess.PIPE)
-        try:
-            if process.stdout.readline() != b"listening\n":
-                raise RuntimeError("the server does not listen")
-            yield address
-        finally:
-            process.kill()
-            process.wait()
-            process.stdout.close()
+    with tempfile.TemporaryDirectory() as folder, Server(folder, text) as server:
+        yield server.address
 
 
 def run(words, folder=TOP, environment=None):
@@ -77,10 +65,6 @@ def run(words, folder=TOP, environment=None):
         out, said = process.communicate()
         said += f"it took longer than {SECONDS} seconds"
     return subprocess.CompletedProcess(words, process.returncode, out, said)
-
-
-def difference(got, wanted):
-    return None if got == wanted else f"got {str(got)[:400]}, wanted {str(wanted)[:400]}"
 
 
 # -- the tests of each client --------------------------------------------------------------------------------------------
@@ -200,16 +184,8 @@ def main():
     if fault:
         print(f"{fault}\n0 passed, 1 failed")
         return 1
-    subprocess.run([str(PROGRAM), "script"], stdin=subprocess.DEVNULL, check=True)  # builds it where it is not built
-    passed = failed = 0
-    for name, fault in all_cases():
-        if fault is None:
-            passed += 1
-        else:
-            failed += 1
-            print(f"FAIL {name}: {fault}", flush=True)
-    print(f"{passed} passed, {failed} failed")
-    return 1 if failed else 0
+    build()
+    return tell(all_cases())
 
 
 if __name__ == "__main__":

@@ -2,6 +2,7 @@
 """Runs the built program as a server and tries to get in by HTTP, as a web page in somebody's browser can.
 
 usage: tools/check_doors.py
+       CANVAS_SERVER=canvasd tools/check_doors.py      the same of canvasd (tools/running.py)
 
 An HTTP request gets one reply, none of its lines is read as a request, and it keeps no seat. Lines that only resemble HTTP are answered one
 by one. tools/viewer/check_attack.py tries the same with pages in a browser.
@@ -16,7 +17,8 @@ import tempfile
 import time
 
 from canvas_client import line_of
-from check_server import NO_SEATS, POINT, SEATS, WHITE_POINT, Server, difference, read_all, read_line
+from check_server import WHITE_POINT
+from running import NO_SEATS, POINT, SEATS, Server, build, difference, read_all, read_line, tell
 
 METHODS = ("GET", "HEAD", "POST", "PUT", "PATCH", "DELETE", "OPTIONS", "CONNECT", "TRACE", "PRI")
 EDIT = line_of({"verb": "create", "shape": {"kind": "rect", "w": 9, "h": 9, "fill": "ff0000"}})
@@ -153,17 +155,6 @@ def all_cases():
             yield from cases(folder)
 
 
-def main():
-    passed = failed = 0
-    for name, fault in all_cases():
-        if fault is None:
-            passed += 1
-        else:
-            failed += 1
-            print(f"FAIL {name}: {fault}", flush=True)
-    print(f"{passed} passed, {failed} failed")
-    return 1 if failed else 0
-
-
 if __name__ == "__main__":
-    sys.exit(main())
+    build()
+    sys.exit(tell(all_cases()))

@@ -2,6 +2,7 @@
 """Feeds the examples of docs/PROTOCOL.md to the built program and compares its replies.
 
 usage: tools/check_protocol.py
+       CANVAS_SERVER=canvasd tools/check_protocol.py      over connections to canvasd (tools/running.py)
 
 A block marked `session` is a session of its own: a line `> ..` is sent, a line `< ..` is the reply's line, and a line in brackets
 after it says what the body is: a JSON text, which is compared, or a picture with its sides and the names of its colours, all of whose
@@ -10,10 +11,10 @@ bin/canvas. Prints what differs, and a last line 'N passed, M failed'; the statu
 """
 
 import re
-import subprocess
 import sys
 
-from canvas_client import PROGRAM, TOP
+from canvas_client import TOP
+from running import answers_to, build
 
 PAGE = TOP / "docs" / "PROTOCOL.md"
 
@@ -52,8 +53,7 @@ def fault(block):
     if len(sent) != len(wanted):
         return "as many requests as replies must stand in a block"
     given = "".join(line + "\n" for line in sent).encode()
-    done = subprocess.run([str(PROGRAM), "script"], input=given, capture_output=True, timeout=60)
-    rest = done.stdout
+    rest, status = answers_to(given)
     for request, reply in zip(sent, wanted):
         line, _, rest = rest.partition(b"\n")
         if line.decode() != reply:
@@ -66,12 +66,13 @@ def fault(block):
             named = bodies.pop(0)
             if body != named_body(named):
                 return f"the body of {reply} is {body[:400]}, and not {named}"
-    if rest or done.returncode != 0:
-        return f"the program ends with status {done.returncode}, and {len(rest)} bytes are left"
+    if rest or status != 0:
+        return f"the program ends with status {status}, and {len(rest)} bytes are left"
     return None
 
 
 def main():
+    build()
     passed = failed = 0
     for number, block in blocks(PAGE.read_text()):
         found = fault(block)

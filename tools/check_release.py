@@ -3,8 +3,9 @@
 
 usage: tools/check_release.py
 
-The release is of the program that the environment's CANVAS names, or else of the one that bin/canvas builds. The tarball is unpacked into an
-empty folder, the Debian package into a root folder that has the C library and nothing else; both run the example of README.md and a server.
+The release is of the programs that the environment's CANVAS and CANVASD name, or else of those that bin/canvas and bin/canvasd build. The tarball is
+unpacked into an empty folder, the Debian package into a root folder that has the C library and nothing else; both run the example of README.md and
+servers, and canvasd again on the folder that it made.
 The second takes the right to change the root, so it runs as root or in a user namespace.
 
 Prints each case that fails, and a last line 'N passed, M failed'; the status is 1 where something failed.
@@ -21,10 +22,11 @@ import urllib.request
 from contextlib import contextmanager
 from pathlib import Path
 
-from canvas_client import PROGRAM, Canvas
+from canvas_client import Canvas
 from check_program import EXAMPLE, readme_example
-from check_server import free_port
-from repository import BUILT, TOP
+from release import PROGRAMS
+from repository import BUILT, BUILT_KEEPER, TOP
+from running import build, build_keeper, free_port, port_of
 
 SECONDS = 60
 VERSION = (TOP / "VERSION").read_text().strip()
@@ -32,6 +34,7 @@ TARBALL = f"canvas-{VERSION}-x86_64-linux"
 PACKAGE = f"canvas_{VERSION}_amd64.deb"
 C_LIBRARY = ("/lib/x86_64-linux-gnu/libc.so.6", "/lib64/ld-linux-x86-64.so.2")
 NEWEST_GLIBC = (2, 34)
+FILES = {"canvas": BUILT, "canvasd": BUILT_KEEPER}
 PLAIN = {"PATH": "/usr/sbin:/usr/bin:/sbin:/bin", "LANG": "C.UTF-8"}
 
 
@@ -46,7 +49,7 @@ def releases(folder):
     made = []
     for number, mask in enumerate((0o022, 0o077)):
         target = folder / str(number)
-        words = [str(TOP / "tools" / "release.py"), "--program", str(BUILT), "--to", str(target)]
+        words = [str(TOP / "tools" / "release.py"), "--canvas", str(BUILT), "--canvasd", str(BUILT_KEEPER), "--to", str(target)]
         done = subprocess.run(words, umask=mask, capture_output=True, text=True, timeout=SECONDS)
         yield f"release {number}", (done.stderr, done.returncode), ("", 0)
         made.append({it.name: it.read_bytes() for it in target.iterdir()})
@@ -54,7 +57,8 @@ def releases(folder):
     for name, content in made[0].items():
         yield f"{name}, made twice", made[1].get(name) == content, True
     yield "the checksums", call(["sha256sum", "--check", "--quiet", "SHA256SUMS"], folder / "0"), (b"", b"", 0)
-    yield "no program to release", call([str(TOP / "tools" / "release.py"), "--program", "/nowhere"])[2], 1
+    for name in PROGRAMS:
+        yield f"no {name} to release", call([str(TOP / "tools" / "release.py"), f"--{name}", "/nowhere"])[2], 1
 
 
 # -- what runs in both -------------------------------------------------------------------------------------------------
@@ -64,10 +68,10 @@ def serving(words, folder=None):
     """A server, and the address at which it listens."""
     address = f"127.0.0.1:{free_port()}"
     process = subprocess.Popen([address if it == "ADDRESS" else it for it in words], cwd=folder, env=PLAIN, stdin=subprocess.DEVNULL,
-                               stdout=subprocess.PIPE)
+                               stdout=subprocess.PIPE, stderr=subprocess.DEVNULL)
     try:
-        process.stdout.readline()
-        yield address
+        port = port_of(process.stdout.readline())
+        yield f"127.0.0.1:{port}" if port else address
     finally:
         process.kill()
         process.communicate()
@@ -83,6 +87,14 @@ def served(address):
 
 
 SERVED = (True, 1, 1, b"P6\n256 256\n255\n")
+
+
+def kept(name, keeper, folder, poster, where=None):
+    """What canvasd does on a new folder, and again when it was killed; `keeper` are the words that start it."""
+    with serving([*keeper, folder, "--open", poster, "--listen", "127.0.0.1:0"], where) as address:
+        yield f"canvasd of {name}", served(address), SERVED
+    with serving([*keeper, folder, "--listen", "127.0.0.1:0"], where) as address, Canvas.connect(address) as canvas:
+        yield f"canvasd of {name} again", canvas.ask(verb="point", x=0, y=0)[0]["version"], 1
 
 
 def shown(demo):
@@ -111,15 +123,16 @@ def tarball(folder):
     yield "its checksums", call(["sha256sum", "--check", "--quiet", "SHA256SUMS"], top), (b"", b"", 0)
     named = {line.split("  ")[1] for line in (top / "SHA256SUMS").read_text().splitlines()} | {"SHA256SUMS"}
     yield "each file has a checksum", {str(it.relative_to(top)) for it in top.rglob("*") if it.is_file()} ^ named, set()
-    yield "the program", (top / "libexec" / "canvas").read_bytes() == BUILT.read_bytes(), True
+    for name in PROGRAMS:
+        yield f"the program {name}", (top / "libexec" / name).read_bytes() == FILES[name].read_bytes(), True
+        yield f"the version of {name}", call([str(top / "bin" / name), "--version"]), (f"{name} {VERSION}\n".encode(), b"", 0)
+        yield f"the help of {name}", call([str(top / "bin" / name), "--help"])[1:], (b"", 0)
+        yield f"the man page of {name} tells what the help tells", words_missing(name, (top / "share" / "man" / "man1" / f"{name}.1").read_text()), []
     yield "README.md's example", call(["bash", "-c", EXAMPLE], top), (readme_example(), b"", 0)
-    yield "its version", call([str(top / "bin" / "canvas"), "--version"]), (f"canvas {VERSION}\n".encode(), b"", 0)
-    yield "its help", call([str(top / "bin" / "canvas"), "--help"])[1:], (b"", 0)
     yield "a command that is none", call([str(top / "bin" / "canvas"), "paint"])[::2], (b"", 2)
     yield "a document that is none", call([str(top / "bin" / "canvas"), "serve", "127.0.0.1:0", "none"])[1:], (b"canvas: there is no file none\n", 4)
     yield from served_by_tarball(top)
-    page = (top / "share" / "man" / "man1" / "canvas.1").read_text()
-    yield "the man page tells what the help tells", words_missing(page), []
+    yield from kept("the tarball", ["bin/canvasd"], "drawing", "examples/poster.json", top)
 
 
 def served_by_tarball(top):
@@ -129,10 +142,10 @@ def served_by_tarball(top):
     yield from shown(top / "bin" / "canvas-demo")
 
 
-def words_missing(page):
-    """The words of the help that its man page lacks."""
+def words_missing(name, page):
+    """The words of a program's help that its man page lacks."""
     text = page.replace("\\-", "-").replace("\\&", "").replace("\\e", "\\").split()
-    return [it for it in (TOP / "tools" / "canvas.help").read_text().split() if it not in text and it not in ("VERSION", "$")]
+    return [it for it in (TOP / "tools" / f"{name}.help").read_text().split() if it not in text and it not in ("VERSION", "$")]
 
 
 # -- the Debian package ------------------------------------------------------------------------------------------------
@@ -143,11 +156,11 @@ def package(folder):
     needs = f"Depends: libc6 (>= {NEWEST_GLIBC[0]}.{NEWEST_GLIBC[1]})"
     yield "what the package says of itself", told, ["Package: canvas", f"Version: {VERSION}", "Architecture: amd64", needs]
     yield "the package is unpacked", call(["dpkg-deb", "--extract", str(file), str(root)]), (b"", b"", 0)
-    used = {tuple(map(int, it)) for it in re.findall(rb"GLIBC_(\d+)\.(\d+)", (root / "usr" / "bin" / "canvas").read_bytes())}
-    yield "the newest version of the C library that it uses", max(used) <= NEWEST_GLIBC, True
-    shared = root / "usr" / "share"
-    page = gzip.decompress((shared / "man" / "man1" / "canvas.1.gz").read_bytes()).decode()
-    yield "the man page of the package", words_missing(page), []
+    for name in PROGRAMS:
+        used = {tuple(map(int, it)) for it in re.findall(rb"GLIBC_(\d+)\.(\d+)", (root / "usr" / "bin" / name).read_bytes())}
+        yield f"the newest version of the C library that {name} uses", bool(used) and max(used) <= NEWEST_GLIBC, True
+        page = gzip.decompress((root / "usr" / "share" / "man" / "man1" / f"{name}.1.gz").read_bytes()).decode()
+        yield f"the man page of {name} in the package", words_missing(name, page), []
     for name in ("bin/canvas-demo", "share/canvas/bin/canvas"):
         yield f"the link {name}", (root / "usr" / name).resolve().is_relative_to(root / "usr") and (root / "usr" / name).exists(), True
     yield from shown(root / "usr" / "bin" / "canvas-demo")
@@ -160,16 +173,19 @@ def bare_root(unpacked, root):
         (root / name[1:]).parent.mkdir(parents=True, exist_ok=True)
         shutil.copy(name, root / name[1:])
     shutil.copytree(unpacked / "usr", root / "usr", symlinks=True)
-    inside = [*([] if os.geteuid() == 0 else ["unshare", "--map-root-user"]), "chroot", str(root), "/usr/bin/canvas"]
+    outside = [*([] if os.geteuid() == 0 else ["unshare", "--map-root-user"]), "chroot", str(root)]
+    inside = [*outside, "/usr/bin/canvas"]
     with (TOP / "examples" / "red-rectangle.jsonl").open("rb") as given:
         yield "README.md's example in a bare root", call([*inside, "script"], stdin=given), (readme_example(), b"", 0)
     yield "a command that is none in a bare root", call(inside)[::2], (b"", 2)
     with serving([*inside, "serve", "ADDRESS", "/usr/share/canvas/examples/poster.json"]) as address:
         yield "a server in a bare root", served(address), SERVED
+    yield from kept("a bare root", [*outside, "/usr/bin/canvasd"], "/drawing", "/usr/share/canvas/examples/poster.json")
 
 
 def main():
-    subprocess.run([str(PROGRAM), "script"], stdin=subprocess.DEVNULL, check=True)  # builds it where it is not built
+    build()
+    build_keeper()
     passed = failed = 0
     with tempfile.TemporaryDirectory() as folder:
         for cases in (releases, tarball, package):

@@ -2,6 +2,7 @@
 """Runs the built program as a server on the loopback and checks what its sessions are answered.
 
 usage: tools/check_server.py [seconds of each history check, 20 where it is left out] [seed, 1 where it is left out]
+       CANVAS_SERVER=canvasd tools/check_server.py ..      the same of canvasd (tools/running.py)
 
 The heart of it is the history check: many clients make random edits and look at the document at once; afterwards the accepted
 edits are replayed, in the order of their versions, in plain_model.py, and each picture, colour, refusal and id is compared with
@@ -11,10 +12,9 @@ Prints each case that fails, and a last line 'N passed, M failed'; the status is
 """
 
 import hashlib
+import itertools
 import multiprocessing
-import os
 import random
-import re
 import socket
 import statistics
 import subprocess
@@ -25,85 +25,35 @@ import time
 from pathlib import Path
 
 import key_rows
-from canvas_client import PROGRAM, TOP, Canvas, Refused, line_of
+from canvas_client import TOP, Refused, line_of
 from plain_model import Model
 from plain_model import Refused as Disallowed
 from plain_session import window_of
+from random_requests import BAD_LINES, EDITS, Reply, Requests, look_fault
 from repository import BUILT
+from running import (
+    EMPTY,
+    IS_KEPT,
+    NO_SEATS,
+    POINT,
+    SEATS,
+    SECONDS,
+    Server,
+    build,
+    difference,
+    free_port,
+    is_refusal,
+    read_all,
+    read_line,
+    seats_left,
+    serve,
+    tell,
+    wait_for,
+)
 
-SEATS = 63
-SECONDS = 60
-EMPTY = b'{"format":2,"next":1,"shapes":[]}'
 MOST_BYTES = 134_217_728
-NO_SEATS = b'{"body":0,"code":19,"name":"NoSeats","ok":false}\n'
 LONG_LINE = b'{"body":0,"code":70,"name":"LineTooLong","ok":false}\n'
-POINT = b'{"verb":"point","x":0,"y":0}\n'
 WHITE_POINT = b'{"body":0,"colour":"ffffff","ok":true,"version":0}\n'
-
-
-# -- the server --------------------------------------------------------------------------------------------------------
-
-def free_port():
-    with socket.create_server(("127.0.0.1", 0)) as found:
-        return found.getsockname()[1]
-
-
-class Server:
-    """A run of the program that serves a saved document."""
-
-    def __init__(self, folder, text=EMPTY, workers="1"):
-        file = Path(folder) / "document.json"
-        file.write_bytes(text)
-        self.port = free_port()
-        self.address = f"127.0.0.1:{self.port}"
-        self._process = subprocess.Popen([str(PROGRAM), "serve", self.address, str(file), workers], stdout=subprocess.PIPE)
-        line = self._process.stdout.readline()
-        if line != b"listening\n":
-            raise RuntimeError(f"the server says {line!r}")
-
-    def __enter__(self):
-        return self
-
-    def __exit__(self, *_):
-        self._process.kill()
-        self._process.wait()
-        self._process.stdout.close()
-
-    def connect(self):
-        return Canvas.connect(self.address, SECONDS)
-
-    def socket(self):
-        return socket.create_connection(("127.0.0.1", self.port), timeout=SECONDS)
-
-    def status(self, word):
-        """A number of the process, as VmRSS in KiB or Threads."""
-        text = Path(f"/proc/{self._process.pid}/status").read_text()
-        return int(re.search(rf"^{word}:\s+(\d+)", text, re.MULTILINE).group(1))
-
-    def files(self):
-        return len(list(Path(f"/proc/{self._process.pid}/fd").iterdir()))
-
-
-def read_all(sock):
-    """What comes until the other side ends."""
-    parts = []
-    while part := sock.recv(1 << 16):
-        parts.append(part)
-    return b"".join(parts)
-
-
-def read_line(sock):
-    line = b""
-    while not line.endswith(b"\n"):
-        part = sock.recv(1)
-        if not part:
-            break
-        line += part
-    return line
-
-
-def difference(got, wanted):
-    return None if got == wanted else f"got {str(got)[:300]}, wanted {str(wanted)[:300]}"
 
 
 # -- saved documents of both formats ------------------------------------------------------------------------------------
@@ -201,27 +151,33 @@ def run(words):
     return done.stdout, done.stderr, done.returncode
 
 
+def refusal_of(file, folder, code):
+    """What is wrong with how a server refuses the document of a file, or None."""
+    with serve(file, folder) as server:
+        return None if is_refusal(server, code) else f"it says {server.first_line!r} and {server.errors()!r}, wanted {code}"
+
+
+def refused_documents(folder):
+    """Documents that a server can't serve."""
+    bad, large = Path(folder) / "bad.json", Path(folder) / "large.json"
+    for name, code, text in bad_documents():
+        bad.write_bytes(text)
+        yield f"a document with {name}", refusal_of(bad, folder, code)
+    with large.open("wb") as hole:
+        hole.truncate(MOST_BYTES + 1)
+    yield "a document too large", refusal_of(large, folder, BAD_FORMAT)
+    large.unlink()
+
+
 def starts(folder):
-    """What the program says where it can't serve."""
+    """What `canvas serve` says where it can't serve."""
     usage = b"usage: canvas script [workers] | canvas serve <address> <file> [workers]\n"
     io = b"canvas: input or output fault\n"
     address = f"127.0.0.1:{free_port()}"
-
-    def file(name, text):
-        path = Path(folder) / name
-        path.write_bytes(text)
-        return str(path)
-
-    good = file("empty.json", EMPTY)
+    good = str(Path(folder) / "empty.json")
+    Path(good).write_bytes(EMPTY)
     for words in [["serve"], ["serve", "a"], ["serve", address, good, "0"], ["serve", address, good, "2", "3"]]:
         yield f"usage at {words}", difference(run(words), (b"", usage, 2))
-    for name, code, text in bad_documents():
-        yield f"a document with {name}", difference(run(["serve", address, file("bad.json", text)]), (b"", b"canvas: %s\n" % code, 3))
-    large = Path(folder) / "large.json"
-    with large.open("wb") as hole:
-        hole.truncate(MOST_BYTES + 1)
-    yield "a document too large", difference(run(["serve", address, str(large)]), (b"", b"canvas: 60 BadFormat\n", 3))
-    large.unlink()
     yield "no file", difference(run(["serve", address, str(Path(folder) / "none")]), (b"", io, 4))
     yield "a folder for a file", difference(run(["serve", address, folder]), (b"", io, 4))
     yield "no address", difference(run(["serve", "127.0.0.1", good]), (b"", io, 4))
@@ -324,28 +280,6 @@ def most_versions(folder):
 
 # -- histories ---------------------------------------------------------------------------------------------------------
 
-MOST_SHAPES = 60
-BAD_LINES = [
-    ({"verb": "paint"}, 52),
-    ({"verb": "delete"}, 53),
-    ({"verb": "respace", "parent": None, "extra": 1}, 54),
-    ({"verb": "patch", "x": 0, "y": 0, "w": 257, "h": 1}, 30),
-    ({"verb": "patch", "x": 0, "y": 0, "w": 257, "h": 1, "level": 7}, 34),
-    ({"verb": "tile", "col": 128, "row": 0, "level": 6}, 30),
-    ({"verb": "tile", "col": 0, "row": 0, "level": 256}, 53),
-]
-EDITS = ("create", "move", "pose", "reshape", "show", "delete", "respace")
-
-
-class Reply:
-    """What one request of a session was answered; of a tile a few pixels are kept."""
-
-    def __init__(self, request, reply, body):
-        self.request = request
-        self.reply = reply
-        self.body = body
-
-
 class Client(threading.Thread):
     """A session that makes random edits and looks at the document, and keeps what it was answered."""
 
@@ -354,7 +288,7 @@ class Client(threading.Thread):
         self.replies = []
         self.fault = None
         self._server, self._chance, self._known = server, random.Random(seed), known
-        self._requests, self._end = requests, end
+        self._random, self._requests, self._end = Requests(self._chance, known), requests, end
 
     def run(self):
         try:
@@ -365,7 +299,7 @@ class Client(threading.Thread):
             self.fault = repr(fault)
 
     def _burst(self, canvas, count):
-        requests = [self._request() for _ in range(count)]
+        requests = [self._random.request() for _ in range(count)]
         for request in requests:
             canvas.send(**request)
         for request in requests:
@@ -373,76 +307,9 @@ class Client(threading.Thread):
                 reply, body = canvas.read()
             except Refused as refused:
                 reply, body = refused.reply, b""
-            self._keep(request, reply, body)
-
-    def _keep(self, request, reply, body):
-        if request["verb"] == "tile" and body:
-            size = len(body)
-            places = [(self._chance.randrange(256), self._chance.randrange(256)) for _ in range(12)]
-            at = [15 + 3 * (256 * y + x) for x, y in places]
-            body = (body[:15], size, [(x, y, body[k : k + 3].hex()) for (x, y), k in zip(places, at)])
-        if "id" in reply:
-            self._known.append(reply["id"])
-        self.replies.append(Reply(request, reply, body))
-
-    def _request(self):
-        chance = self._chance
-        what = chance.random()
-        if what < 0.45:
-            return self._edit()
-        if what < 0.75:
-            return {"verb": "point", "x": chance.randrange(-10, 300), "y": chance.randrange(-10, 300)}
-        if what < 0.95:
-            level = chance.choice([0, 0, 0, 1, 2, 3, 4, 5, 6])
-            x, y = (chance.randrange(-10, 290) >> level for _ in range(2))
-            w, h = (chance.randrange(*ends) for ends in ((1, 13), (1, 9)))
-            return {"verb": "patch", "x": x, "y": y, "w": w, "h": h, "level": level}
-        if what < 0.98:
-            tile = {"verb": "tile", "col": chance.randrange(-1, 2), "row": chance.randrange(-1, 2)}
-            return {**tile, "level": chance.randrange(7)} if chance.random() < 0.5 else tile
-        return chance.choice(BAD_LINES)[0]
-
-    def _edit(self):
-        chance, known = self._chance, self._known
-        number = chance.choice(known[-MOST_SHAPES:]) if known else 1
-        parent = chance.choice([None, None, number, chance.choice(known[-20:] or [1])])
-        spot = chance.choice(["front", "front", "back", {"over": number}, {"at": chance.choice(["a0", "a1", "a5", "Zz", "a0V"])}])
-        what = chance.random()
-        if what < 0.30:
-            return {"verb": "create", "shape": self._shape(), "pose": self._pose(), "hidden": chance.random() < 0.05,
-                    "parent": parent, "spot": spot}
-        if what < 0.50:
-            return {"verb": "move", "id": number, "parent": parent, "spot": spot}
-        if what < 0.65:
-            return {"verb": "pose", "id": number, "pose": self._pose()}
-        if what < 0.75:
-            return {"verb": "reshape", "id": number, "shape": self._shape()}
-        if what < 0.80:
-            return {"verb": "show", "id": number, "hidden": chance.random() < 0.3}
-        if what < 0.95:
-            return {"verb": "delete", "id": known.pop(0) if len(known) > MOST_SHAPES else number}
-        return {"verb": "respace", "parent": parent}
-
-    def _pose(self):
-        chance = self._chance
-        pose = {"dx": chance.randrange(-20, 300), "dy": chance.randrange(-20, 300)}
-        if chance.random() < 0.02:
-            pose["dx"] = 1048577
-        if chance.random() < 0.3:
-            pose.update(quarter=chance.randrange(4), flip=chance.random() < 0.5)
-        return pose
-
-    def _shape(self):
-        chance = self._chance
-        kind = chance.choice(["group", "frame", "frame", "rect", "rect", "ellipse", "polygon"])
-        fill = f"{chance.randrange(1 << 24):06x}"
-        if kind == "group":
-            return {"kind": kind}
-        if kind == "polygon":
-            corners = chance.choice([2, 3, 4, 5, 6])
-            return {"kind": kind, "points": [[chance.randrange(-40, 80), chance.randrange(-40, 80)] for _ in range(corners)], "fill": fill}
-        sides = {"w": chance.choice([0, 5, 20, 50, 120, 250]), "h": chance.choice([5, 20, 50, 120, 250])}
-        return {"kind": kind, **sides, "fill": None if kind == "frame" and chance.random() < 0.5 else fill}
+            if "id" in reply:
+                self._known.append(reply["id"])
+            self.replies.append(Reply(self._chance, request, reply, body))
 
 
 class History:
@@ -515,7 +382,9 @@ class History:
             if version:
                 self._replay(model, self._edits[version])
             for entry in self._looks.pop(version, []):
-                self._compare(model, entry)
+                fault = look_fault(model, entry)
+                if fault:
+                    self._say(fault)
             pending = self._still_pending(model, version, pending + begins.get(version, []))
         for _, _, request, code in pending:
             self._say(f"{request} was refused by {code}, which is right at no version")
@@ -545,20 +414,6 @@ class History:
             else:
                 left.append(refusal)
         return left
-
-    def _compare(self, model, entry):
-        request, reply = entry.request, entry.reply
-        if request["verb"] == "point":
-            got, wanted = reply["colour"], model.colour(request["x"], request["y"])
-        elif request["verb"] == "patch":
-            got, wanted = entry.body, model.image(*window_of(request))
-        else:
-            left, top, _, _, level = window_of(request)
-            got = entry.body
-            colours = [(x, y, model.colour((left + x) << level, (top + y) << level)) for x, y, _ in entry.body[2]]
-            wanted = (b"P6\n256 256\n255\n", 15 + 3 * 256 * 256, colours)
-        if got != wanted:
-            self._say(f"{request} was answered {reply} and {got}, and the model has {wanted}")
 
 
 def history(folder, count, seconds, seed, most):
@@ -725,48 +580,22 @@ def come_and_go(server, chance):
             pass  # closed by the server, as it may
 
 
-def seats_left(server, most):
-    """The connections that are answered while all of them are open, and the first that is not, if there is one."""
-    open_ones, refusal = [], None
-    try:
-        for _ in range(most):
-            sock = server.socket()
-            open_ones.append(sock)
-            sock.sendall(POINT)
-            line = read_line(sock)
-            if b'"ok":true' not in line:
-                refusal = line
-                break
-        return len(open_ones) - (refusal is not None), refusal
-    finally:
-        for sock in open_ones:
-            sock.close()
-
-
-def wait_for(test):
-    for _ in range(500):
-        if test():
-            return True
-        time.sleep(0.01)
-    return False
-
-
 def comings_and_goings(folder, seed):
     """A thousand connections; all seats are there afterwards, and nothing has grown."""
     with Server(folder) as server:
         chance = random.Random(seed)
         for _ in range(100):
             come_and_go(server, chance)
-        wait_for(lambda: server.status("Threads") == 1)
-        files, memory = server.files(), server.status("VmRSS")
+        wait_for(server.is_still)
+        files, memory = server.files(), server.number("VmRSS")
         crowd = [threading.Thread(target=lambda: [come_and_go(server, random.Random(chance.random())) for _ in range(125)]) for _ in range(8)]
         for part in crowd:
             part.start()
         for part in crowd:
             part.join()
-        yield "threads after 1,000 connections", None if wait_for(lambda: server.status("Threads") == 1) else f"{server.status('Threads')} are left"
+        yield "threads after 1,000 connections", None if wait_for(server.is_still) else f"{server.number('Threads')} are left"
         yield "open files after 1,000 connections", difference(server.files(), files)
-        grown = server.status("VmRSS") - memory
+        grown = server.number("VmRSS") - memory
         yield "memory after 1,000 connections", None if grown < 20_000 else f"{grown} KiB more"
         yield "seats after 1,000 connections", difference(seats_left(server, 70), (SEATS, NO_SEATS))
         yield "a seat after a full house", None if wait_for(lambda: seats_left(server, 1) == (1, None)) else "none"
@@ -846,37 +675,21 @@ def bad_neighbours(folder, rounds=3):
         yield "a viewer beside bad neighbours", None if min(ratios) <= 3 else f"{min(ratios):.1f} times as long"
 
 
-# -- the examples of the page ------------------------------------------------------------------------------------------
-
-def examples(folder):
-    """The blocks of docs/CLIENT.md, each beside a server of its own at the address that the page names."""
-    page = (TOP / "docs" / "CLIENT.md").read_text()
-    blocks = re.findall(r"```(python|bash)\n(.*?)```", page, re.DOTALL)
-    for number, (language, block) in enumerate(blocks, start=1):
-        with Server(folder, (TOP / "examples" / "poster.json").read_bytes()) as server:
-            script = block.replace("127.0.0.1:7878", server.address).replace("127.0.0.1/7878", f"127.0.0.1/{server.port}")
-            words = [sys.executable, "-c", script] if language == "python" else ["bash", "-ec", script]
-            done = subprocess.run(words, cwd=folder, capture_output=True, text=True, timeout=SECONDS,
-                                  env={**os.environ, "PYTHONPATH": str(TOP / "tools")})
-            yield f"example {number} of docs/CLIENT.md", difference((done.returncode, done.stderr), (0, ""))
-    yield "examples in docs/CLIENT.md", None if len(blocks) >= 5 else f"only {len(blocks)}"
-
-
 def main():
     seconds = float(sys.argv[1]) if len(sys.argv) > 1 else 20
     seed = int(sys.argv[2]) if len(sys.argv) > 2 else 1
-    subprocess.run([str(PROGRAM), "script"], stdin=subprocess.DEVNULL, check=True)  # builds it where it is not built
-    passed = failed = 0
+    build()
     with tempfile.TemporaryDirectory() as folder:
+        # (what the words of `canvas serve` are, and what comes after its last version, is otherwise with canvasd: tools/check_canvasd.py)
+        of_canvas = [] if IS_KEPT else [starts(folder), most_versions(folder)]
         stages = [
-            starts(folder),
+            refused_documents(folder),
             opened(folder),
             full_document(folder),
             two_editors_and_a_viewer(folder),
             small_sessions(folder),
             kept_level(folder),
-            most_versions(folder),
-            examples(folder),
+            *of_canvas,
             full_house(folder),
             comings_and_goings(folder, seed),
             history(folder, 8, seconds, seed, 24_000),
@@ -884,14 +697,7 @@ def main():
             kept_pictures(folder, min(seconds, 10), seed),
             bad_neighbours(folder),
         ]
-        for stage in stages:
-            for name, fault in stage:
-                passed += fault is None
-                failed += fault is not None
-                if fault is not None:
-                    print(f"{name}: {fault}", flush=True)
-    print(f"{passed} passed, {failed} failed")
-    sys.exit(1 if failed else 0)
+        sys.exit(tell(itertools.chain(*stages)))
 
 
 if __name__ == "__main__":

@@ -26,8 +26,8 @@ from contextlib import contextmanager, suppress
 from pathlib import Path
 
 from canvas_client import PROGRAM
-from check_server import EMPTY, free_port, read_all, read_line
 from repository import BUILT
+from running import EMPTY, free_port, read_all, read_line
 
 SECONDS = 30
 CREATE = b'{"verb":"create","shape":{"kind":"rect","w":2,"h":1,"fill":"ff0000"}}\n'

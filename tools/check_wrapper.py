@@ -1,12 +1,12 @@
 #!/usr/bin/env python3
-"""Runs bin/canvas and bin/canvas-demo in small trees, with a stub in the place of `rt`, and checks what they say and do.
+"""Runs bin/canvas, bin/canvasd and bin/canvas-demo in small trees, with a stub in the place of `rt`, and checks what they say and do.
 
 usage: tools/check_wrapper.py
 
-- bin/canvas answers --help and --version with nothing built;
-- it builds where the program is missing or was made from other sources, whatever the times of the files are, and else needs no `rt`;
+- bin/canvas and bin/canvasd answer --help and --version with nothing built;
+- they build where the program is missing or was made from other sources, whatever the times of the files are, and else need no `rt`;
 - a signal during a build ends all that it started, and leaves no temporary folder;
-- before it serves it says what is wrong with the address or the file;
+- before it serves bin/canvas says what is wrong with the address or the file;
 - bin/canvas-demo, over the program that CANVAS names or that bin/canvas builds, ends with status 1 when one of its programs ends.
 
 Prints each case that fails, and a last line 'N passed, M failed'; the status is 1 where something failed.
@@ -29,8 +29,8 @@ from repository import BUILT, TOP
 
 SECONDS = 60
 VERSION = (TOP / "VERSION").read_text().strip()
-PARTS = ("VERSION", "HANDLES", "bin/canvas", "bin/canvas-demo", "tools/build_program.py", "tools/repository.py", "tools/made_from.sh",
-         "tools/before_serve.py", "tools/canvas.help", "tools/canvas_client.py", "examples")
+PARTS = ("VERSION", "HANDLES", "bin/canvas", "bin/canvasd", "bin/canvas-demo", "tools/program.sh", "tools/build_program.py", "tools/repository.py", "tools/made_from.sh",
+         "tools/before_serve.py", "tools/canvas.help", "tools/canvasd.help", "tools/canvas_client.py", "examples")
 """What of the repository a small tree has."""
 
 RT = """#!/bin/bash
@@ -41,7 +41,7 @@ hang) mktemp -d >/dev/null; mkdir -p out/rt-work-$$-1; (trap "" TERM; sleep 600)
 esac
 mkdir -p out
 if [ "$1" = run ]; then
-    cp src/main.rt out/canvas && chmod +x out/canvas
+    cp src/main.rt "out/${PWD##*/}" && chmod +x "out/${PWD##*/}"
 else
     mkdir -p out/rlib && echo built >out/rlib/stamp
 fi
@@ -59,15 +59,16 @@ exec sleep 600
 class Tree:
     """A repository of two crates, with a stub for `rt`, whose calls it notes, and a folder for temporary files."""
 
-    def __init__(self, folder):
+    def __init__(self, folder, name):
+        self.name = name
         self.top, self.stubs, self.log, self.temporary = folder / "tree", folder / "stubs", folder / "log", folder / "temporary"
         for part in PARTS:
             target = self.top / part
             target.parent.mkdir(parents=True, exist_ok=True)
             (shutil.copytree if (TOP / part).is_dir() else shutil.copy2)(TOP / part, target)
-        self.write("crates.txt", "# lowest first\nlow:\ncanvas: low\n")
+        self.write("crates.txt", f"# lowest first\nlow:\n{name}: low\n")
         self.write("crates/low/src/lib.rt", "low\n")
-        self.write("crates/canvas/src/main.rt", MAIN)
+        self.write(f"crates/{name}/src/main.rt", MAIN)
         self.write("tools/viewer/gateway.py", FAKE_GATEWAY).chmod(0o755)
         self.stubs.mkdir()
         (self.stubs / "rt").write_text(RT)
@@ -86,8 +87,8 @@ class Tree:
         return {**found, "PATH": path, "TMPDIR": str(self.temporary), "STUB_LOG": str(self.log), "STUB_DOES": does}
 
     def run(self, *words, has_rt=True, does="", top=None, **how):
-        """What bin/canvas writes to standard output and standard error, and its status."""
-        done = subprocess.run([str((top or self.top) / "bin" / "canvas"), *words], env=self.environment(has_rt, does), text=True,
+        """What the program's script writes to standard output and standard error, and its status."""
+        done = subprocess.run([str((top or self.top) / "bin" / self.name), *words], env=self.environment(has_rt, does), text=True,
                               stdin=subprocess.DEVNULL, capture_output=True, timeout=SECONDS, **how)
         return done.stdout, done.stderr, done.returncode
 
@@ -99,17 +100,17 @@ class Tree:
 
 
 @contextmanager
-def tree(is_built=False):
+def tree(is_built=False, name="canvas"):
     with tempfile.TemporaryDirectory() as folder:
         os.chmod(folder, 0o755)
-        made = Tree(Path(folder))
+        made = Tree(Path(folder), name)
         if is_built:
             made.run("script")
             made.calls()
         yield made
 
 
-# -- words that bin/canvas answers itself ------------------------------------------------------------------------------
+# -- words that the scripts answer themselves --------------------------------------------------------------------------
 
 TOLD = ("canvas script [WORKERS]", "canvas serve ADDRESS FILE [WORKERS]", "HOST:PORT", "1 to 16", "63 connections", "16,384",
         "$ canvas serve 127.0.0.1:7878 examples/poster.json", "1,000,000 accepted edits", "65,536", "134,217,728", "docs/PROTOCOL.md",
@@ -128,12 +129,29 @@ def words():
         yield "nothing is built for a word of help", (made.calls(), (made.top / "crates" / "canvas" / "out").exists()), ([], False)
         named = re.findall(r"[\w./-]+\.(?:md|jsonl|json)\b", made.run("help")[0])
         yield "the files that the help names", (len(named) > 5, [it for it in named if not (TOP / it).exists()]), (True, [])
+    yield from words_of_canvasd()
+
+
+TOLD_BY_CANVASD = ("canvasd FOLDER [OPTIONS]", "canvasd check FOLDER", "canvasd history FOLDER [VERSION]", "--listen ADDRESS", "--open FILE", "--seats N",
+                   "--workers N", "--keep N", "--idle SECONDS", "--limit N", "--log LEVEL", "docs/KEEPING.md", "128 and a signal's number")
+
+
+def words_of_canvasd():
+    with tree(name="canvasd") as made:
+        for word in ("--help", "-h"):
+            out, said, status = made.run(word, has_rt=False)
+            missing = [it for it in TOLD_BY_CANVASD if it not in out]
+            yield f"bin/canvasd {word}", (out.partition(" - ")[0], missing, said, status), (f"canvasd {VERSION}", [], "", 0)
+        yield "bin/canvasd --version", made.run("--version", has_rt=False), (f"canvasd {VERSION}\n", "", 0)
+        yield "nothing is built for a word of help", (made.calls(), (made.top / "crates" / "canvasd" / "out").exists()), ([], False)
+        for given in (("help",), ("version",), ("folder", "--help"), ()):
+            out, said, status = made.run(*given)
+            yield f"words that are left to canvasd: {given}", (out, status), (f"first program: {' '.join(given)}\n", 7)
 
 
 # -- when it builds ----------------------------------------------------------------------------------------------------
 
 FIRST = ("first program: script 2\n", 7)
-BUILDS = ["lib in low", "run in canvas"]
 
 
 def ran(made, **how):
@@ -143,16 +161,21 @@ def ran(made, **how):
 
 
 def builds():
-    with tree() as made:
+    for name in ("canvas", "canvasd"):
+        yield from builds_of(name)
+
+
+def builds_of(name):
+    with tree(name=name) as made:
         yield "no program and no rt", made.run("script", has_rt=False)[::2], ("", 4)
-        yield "a first run", ran(made), (FIRST, BUILDS)
+        yield "a first run", ran(made), (FIRST, ["lib in low", f"run in {name}"])
         yield "a second run", ran(made), (FIRST, [])
         yield "a second run without rt", ran(made, has_rt=False), (FIRST, [])
         os.utime(made.top / "crates" / "low" / "src" / "lib.rt")
         yield "a source that was touched", ran(made, has_rt=False), (FIRST, [])
         shutil.copytree(made.top, made.top.parent / "copy", copy_function=shutil.copyfile)
-        for name in ("bin/canvas", "tools/made_from.sh", "crates/canvas/out/canvas"):
-            (made.top.parent / "copy" / name).chmod(0o755)
+        for file in (f"bin/{name}", "tools/made_from.sh", f"crates/{name}/out/{name}"):
+            (made.top.parent / "copy" / file).chmod(0o755)
         yield "a copy with new times, without rt", ran(made, has_rt=False, top=made.top.parent / "copy"), (FIRST, [])
         yield "no temporary folder is left", os.listdir(made.temporary), []
 

@@ -2,6 +2,7 @@
 """Compares pictures of the built program with the plain model of plain_model.py on random documents.
 
 usage: tools/compare_with_model.py [documents, 40 where it is left out] [seed, 1 where it is left out]
+       CANVAS_SERVER=canvasd tools/compare_with_model.py ..      over connections to canvasd (tools/running.py)
 
 Of each document a random window is painted at each level from 0 to 6. The documents are of all sizes: small ones, which are a pixel or
 none at the high levels, and ones that fill windows of the high levels. Shapes have sides of any length, so their edges fall between the
@@ -13,9 +14,10 @@ Prints what differs, and a last line 'N passed, M failed'; the status is 1 where
 import random
 import sys
 
-from canvas_client import Canvas, Refused
+from canvas_client import Refused
 from plain_model import Model
 from plain_session import window_of
+from running import build, own_session
 
 
 def colour(chance):
@@ -69,7 +71,7 @@ def window(chance, model, level):
 def differs(chance):
     """What differs for one random document, or None."""
     model, containers, scale = Model(), [None], 1 << chance.choice([0, *LEVELS])
-    with Canvas() as canvas:
+    with own_session() as canvas:
         for _ in range(chance.randrange(1, 40)):
             line = request(chance, containers[-8:], scale)
             try:
@@ -89,6 +91,7 @@ def differs(chance):
 
 
 def main():
+    build()
     count = int(sys.argv[1]) if len(sys.argv) > 1 else 40
     chance = random.Random(int(sys.argv[2]) if len(sys.argv) > 2 else 1)
     failures = [found for found in (differs(chance) for _ in range(count)) if found]

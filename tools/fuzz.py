@@ -2,6 +2,7 @@
 """Random sessions and random saved documents, by grammar, against the plain model of plain_session.py, byte by byte.
 
 usage: tools/fuzz.py [sessions, 300 where it is left out] [seed, 1 where it is left out]
+       CANVAS_SERVER=canvasd tools/fuzz.py ..      sessions of canvasd, and saved texts that it is to open (tools/running.py)
 
 A session goes to a run of `canvas script`; what the program writes to standard output and standard error and its status must be
 exactly what the model says. For every five sessions a saved text, of format 2 or 1, is opened by `canvas serve`, which must refuse it
@@ -15,17 +16,17 @@ import json
 import multiprocessing
 import os
 import random
-import socket
 import subprocess
 import sys
 import tempfile
-import threading
+from pathlib import Path
 
 import key_rows
-from canvas_client import PROGRAM
-from check_streams import BUILT
+import running
 from plain_model import Refused
 from plain_session import NAMES, Session, open_document, run_script
+from repository import BUILT
+from running import IS_KEPT, answers_to, build, talk
 
 SECONDS = 60
 MOST_SHRINKING_RUNS = 600
@@ -381,14 +382,21 @@ def pieces_of(chance, session, most):
 # -- sessions of `canvas script` ---------------------------------------------------------------------------------------
 
 def run_program(data):
-    """What the program writes for the bytes of a session, and its status."""
+    """What the program writes for the bytes of a session, and its status; of a server the answers alone."""
+    if IS_KEPT:
+        return answers_to(data)[:1]
     words = [str(BUILT), "script", "1"]
     done = subprocess.run(words, input=data, capture_output=True, timeout=SECONDS)
     return done.stdout, done.stderr, done.returncode
 
 
+def wanted_of(data):
+    """What `run_program` is to give."""
+    return run_script(data)[:1] if IS_KEPT else run_script(data)
+
+
 def differs(data):
-    return run_program(data) != run_script(data)
+    return run_program(data) != wanted_of(data)
 
 
 def fuzz_session(chance):
@@ -397,7 +405,8 @@ def fuzz_session(chance):
     pieces = pieces_of(chance, session, chance.choice([6, 14, 14, 30, 70]))
     out, code, status = session.end()
     said = b"" if code is None else b"canvas: %d %s\n" % (code, NAMES[code].encode())
-    return None if run_program(b"".join(pieces)) == (out, said, status) else pieces
+    wanted = (out,) if IS_KEPT else (out, said, status)
+    return None if run_program(b"".join(pieces)) == wanted else pieces
 
 
 def shorter(parts, test, runs):
@@ -435,7 +444,7 @@ def told_session(pieces):
     if not differs(b"".join(pieces)):
         return f"the answers to {b''.join(pieces)!r} differed once, and not again"
     data = shrunk(pieces, differs)
-    parts = zip(("standard output", "standard error", "status"), run_program(data), run_script(data))
+    parts = zip(("standard output", "standard error", "status"), run_program(data), wanted_of(data))
     faults = [f"{name} {first_difference(got, wanted) if isinstance(got, bytes) else f'got {got}, wanted {wanted}'}"
               for name, got, wanted in parts if got != wanted]
     return f"the session {data!r}: {'; '.join(faults)}"
@@ -543,50 +552,20 @@ def opened_code(data):
     return None
 
 
-def serve(data):
-    """A program that serves these bytes as a saved document, with its port; or what it wrote and its status, where it ended."""
-    for _ in range(20):
-        with socket.create_server(("127.0.0.1", 0)) as found:
-            port = found.getsockname()[1]
-        with tempfile.NamedTemporaryFile() as file:
-            file.write(data)
-            file.flush()
-            words = [str(BUILT), "serve", f"127.0.0.1:{port}", file.name, "1"]
-            process = subprocess.Popen(words, stdout=subprocess.PIPE, stderr=subprocess.PIPE)
-            if process.stdout.readline() == b"listening\n":
-                return process, port
-            out, said = process.communicate(timeout=SECONDS)
-        if said != b"canvas: input or output fault\n":
-            break  # else another program took the port
-    return (said, process.returncode), None
-
-
-def talk(port, data):
-    """What a session with a server writes for these bytes."""
-    with socket.create_connection(("127.0.0.1", port), timeout=SECONDS) as sock:
-        sender = threading.Thread(target=lambda: (sock.sendall(data), sock.shutdown(socket.SHUT_WR)))
-        sender.start()
-        parts = []
-        while part := sock.recv(1 << 16):
-            parts.append(part)
-        sender.join()
-    return b"".join(parts)
-
-
 def opening_fault(data, lines, wanted=None):
     """What is wrong with how the program opens a saved text and answers the lines then, or None; `wanted` are these answers, if known."""
     code = None if wanted else opened_code(data)
-    process, port = serve(data)
-    if port is None:
-        refusal = (b"canvas: %d %s\n" % (code, NAMES[code].encode()), 3) if code else "that it serves"
-        return None if process == refusal else f"got {process}, wanted {refusal}"
-    try:
-        if code:
-            return f"it serves, wanted {code} {NAMES[code]}"
-        got = talk(port, lines)
-    finally:
-        process.kill()
-        process.communicate()
+    with tempfile.TemporaryDirectory() as room:
+        file = Path(room, "document.json")
+        file.write_bytes(data)
+        with running.serve(file, room) as server:
+            if server.port is None:
+                is_right = code and running.is_refusal(server, b"%d %s" % (code, NAMES[code].encode()))
+                return None if is_right else f"it ends with {server.end()} and {server.errors()!r}, wanted {code or 'that it serves'}"
+            if code:
+                return f"it serves, wanted {code} {NAMES[code]}"
+            with server.socket() as sock:
+                got = talk(sock, lines)
     if wanted is None:
         session = Session(open_document(data))
         session.feed(lines)
@@ -648,7 +627,7 @@ def jobs_of(count, seed):
 def main():
     count = int(sys.argv[1]) if len(sys.argv) > 1 else 300
     seed = int(sys.argv[2]) if len(sys.argv) > 2 else 1
-    subprocess.run([str(PROGRAM), "script"], stdin=subprocess.DEVNULL, check=True)  # builds it where it is not built
+    build()
     passed = failed = 0
     with multiprocessing.Pool(len(os.sched_getaffinity(0))) as pool:
         for (kind, number), found in pool.imap_unordered(one, jobs_of(count, seed), chunksize=10):

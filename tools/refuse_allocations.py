@@ -2,6 +2,7 @@
 """Refuses every allocation of the built program in turn, and checks what it answers.
 
 usage: tools/refuse_allocations.py [long]
+       CANVAS_SERVER=canvasd tools/refuse_allocations.py [long]      servers of canvasd (tools/running.py)
 
 Runs the program again and again with the N-th allocation refused, N rising until a run meets no refusal. A run of `canvas script` must
 end by itself in one of these ways:
@@ -18,6 +19,9 @@ A run of `canvas serve` must end with status 5 and that message before it answer
 in turns. One request of it may be answered by want of memory, or one connection be closed before its first reply and made anew; all
 else is answered as plain_session.py says for the edits that were accepted, by both sessions. Afterwards the saved document has exactly
 these edits, and all seats are free.
+
+A run of canvasd may besides end with its status for a lost journal, where memory was refused for that. Then its folder is opened again, and has
+exactly the edits that were answered, and perhaps the one that was not.
 
 Another conversation asks for one window again and again, whose pictures a seat may keep: it is answered by the picture of the
 version that it names, whether that was kept or not.
@@ -36,10 +40,25 @@ import sys
 import tempfile
 from pathlib import Path
 
-from canvas_client import PROGRAM, TOP, line_of, replies
-from check_server import EMPTY, NO_SEATS, SEATS, free_port, seats_left, wait_for
-from check_streams import BUILT
+from canvas_client import TOP, line_of, replies
+from lossy_disk import preload
 from plain_session import Session, open_document
+from repository import BUILT
+from running import (
+    EMPTY,
+    IS_KEPT,
+    LOST_JOURNAL,
+    NO_MEMORY,
+    NO_SEATS,
+    SEATS,
+    Running,
+    build,
+    free_port,
+    kept_words,
+    seats_left,
+    serving_words,
+    wait_for,
+)
 
 SECONDS = 20
 WANT_OF_MEMORY = {"body": 0, "code": 1, "name": "OutOfMemory", "ok": False}
@@ -191,32 +210,24 @@ class Wrong(Exception):
     """Something that no refused allocation allows."""
 
 
-class Server:
+class Server(Running):
     """A run that serves a document, with some allocations refused."""
 
     def __init__(self, shim, number, count, file, workers):
         self.refused = shim.with_suffix(".refused")
         self.refused.unlink(missing_ok=True)
-        self.port = free_port()
-        environment = {**os.environ, "LD_PRELOAD": str(shim), "REFUSE_AT": str(number), "REFUSE_COUNT": str(count),
-                       "REFUSED_FILE": str(self.refused)}
-        words = [str(BUILT), "serve", f"127.0.0.1:{self.port}", str(file), str(workers)]
-        self.process = subprocess.Popen(words, stdout=subprocess.PIPE, stderr=subprocess.PIPE, env=environment)
-        self.is_listening = self.process.stdout.readline() == b"listening\n"
+        environment = {"LD_PRELOAD": str(shim), "REFUSE_AT": str(number), "REFUSE_COUNT": str(count), "REFUSED_FILE": str(self.refused)}
+        self._room = tempfile.TemporaryDirectory()
+        port = free_port()
+        words = serving_words(BUILT, port, file, self._room.name, workers)
+        self.folder = words[1] if IS_KEPT else None
+        super().__init__(words, environment, port)
+        self.is_listening = self.port is not None
         self.has_answered = False
 
-    def __enter__(self):
-        return self
-
     def __exit__(self, *_):
-        self.process.kill()
-        self.process.communicate()
-
-    def socket(self):
-        return socket.create_connection(("127.0.0.1", self.port), timeout=SECONDS)
-
-    def threads(self):
-        return len(list(Path(f"/proc/{self.process.pid}/task").iterdir()))
+        super().__exit__()
+        self._room.cleanup()
 
 
 class Client:
@@ -274,16 +285,24 @@ def answer(model, known, request):
     return LOOKS[key]
 
 
-def converse(server, text, requests, most):
-    """The model after the conversation, if each answer is the model's or one for want of memory, and these are not too many."""
-    model, clients, known, spared = model_of(text), [Client(server), Client(server)], [text], 0
+class Story:
+    """A document's model after all that was answered, and the request that waits for its answer."""
+
+    def __init__(self, text):
+        self.text, self.model, self.waiting = text, model_of(text), None
+
+
+def converse(server, story, requests, most):
+    """A conversation. Raises Wrong unless each answer is the model's or one for want of memory, and these are not too many."""
+    clients, known, spared = [Client(server), Client(server)], [story.text], 0
     try:
         for number, request in requests:
+            story.waiting = request
             got = clients[number].ask(request)
             if got == WANT_LINE:
                 spared += 1
                 continue
-            wanted = answer(model, known, request)
+            wanted = answer(story.model, known, request)
             if got != wanted:
                 raise Wrong(f"{request} is answered {got[:200]}, wanted {wanted[:200]}")
         disturbed = spared + sum(client.turned_away for client in clients)
@@ -292,7 +311,6 @@ def converse(server, text, requests, most):
     finally:
         for client in clients:
             client.close()
-    return model
 
 
 EXPORT = {"verb": "export"}
@@ -300,8 +318,9 @@ EXPORT = {"verb": "export"}
 
 def serving_fault(server, text, requests, most):
     """What is wrong with a run that serves, or None, and whether the conversation met a refusal."""
+    story = Story(text)
     try:
-        model = converse(server, text, requests, most)
+        converse(server, story, requests, most)
         is_refused = server.refused.exists()
         if not is_refused:
             return None, False
@@ -309,22 +328,37 @@ def serving_fault(server, text, requests, most):
         client = Client(server)
         saved = next((got for got in (client.ask(EXPORT) for _ in range(most)) if got != WANT_LINE), client.ask(EXPORT))
         client.close()
-        if saved != model.reply(line_of(EXPORT)[:-1]):
+        if saved != story.model.reply(line_of(EXPORT)[:-1]):
             return f"the saved document is {saved[:300]}", True
-        if not wait_for(lambda: server.threads() == 1):
-            return f"{server.threads()} threads are left", True
+        if not wait_for(server.is_still):
+            return f"{server.number('Threads')} threads are left", True
         left = seats_left(server, SEATS + 1)
         return (None if left == (SEATS, NO_SEATS) else f"{left} seats are free"), True
     except (Wrong, OSError, ValueError) as wrong:
-        has_ended = not server.has_answered and wait_for(lambda: server.process.poll() is not None)
-        return starting_fault(server) if has_ended else f"{wrong!r}", True
+        has_ended = (IS_KEPT or not server.has_answered) and wait_for(lambda: server.process.poll() is not None)
+        if has_ended and server.process.returncode == LOST_JOURNAL:
+            return lost_fault(server, story), True
+        return starting_fault(server) if has_ended and not server.has_answered else f"{wrong!r}", True
 
 
 def starting_fault(server):
     """What is wrong with a run that ends before it answers, or None."""
-    out, said = server.process.communicate(timeout=SECONDS)
-    end = (out, said, server.process.returncode)
-    return None if end == (b"", b"canvas: 1 OutOfMemory\n", 5) else f"ends with {end}"
+    status, said = server.end(SECONDS), server.errors()
+    is_told = b"memory" in said if IS_KEPT else said == b"canvas: 1 OutOfMemory\n"
+    return None if is_told and status == NO_MEMORY else f"ends with status {status} and {said!r}"
+
+
+def lost_fault(server, story):
+    """What is wrong with a run of canvasd that lost its journal for want of memory, or with the folder that it leaves; or None."""
+    said = server.errors()
+    if b"memory" not in said:
+        return f"the journal is lost: {said!r}"
+    with Running(kept_words(server.folder)) as again, again.connect() as canvas:
+        text = canvas.ask(verb="export")[1]
+    answered = story.model.model.saved()
+    if story.waiting["verb"] in EDITS:
+        story.model.reply(line_of(story.waiting)[:-1])
+    return None if text in (answered, story.model.model.saved()) else f"the folder has {text[:300]!r}"
 
 
 def sweep_server(shim, name, file, requests, workers=1, count=1):
@@ -348,8 +382,9 @@ def sweep_server(shim, name, file, requests, workers=1, count=1):
 
 
 def sweeps(shim, folder, is_long):
-    yield sweep(shim, "the first path", FIRST_PATH)
-    yield sweep(shim, "every verb", EVERY_VERB)
+    if not IS_KEPT:
+        yield sweep(shim, "the first path", FIRST_PATH)
+        yield sweep(shim, "every verb", EVERY_VERB)
     file = folder / "document.json"
     file.write_bytes(EMPTY)
     yield sweep_server(shim, "two clients", file, CONVERSATION)
@@ -368,11 +403,9 @@ def sweeps(shim, folder, is_long):
 
 def main():
     is_long = sys.argv[1:] == ["long"]
-    subprocess.run([str(PROGRAM), "script", "1"], stdin=subprocess.DEVNULL, check=True)  # builds it where it is not built
+    build()
     with tempfile.TemporaryDirectory() as folder:
-        shim = Path(folder) / "refuse_allocation.so"
-        source = TOP / "tools" / "refuse_allocation.c"
-        subprocess.run(["cc", "-shared", "-fPIC", "-O1", "-o", shim, source, "-ldl"], check=True)
+        shim = preload("refuse_allocation.c", folder)
         counts = list(sweeps(shim, Path(folder), is_long))
     passed, failed = (sum(column) for column in zip(*counts))
     print(f"{passed} passed, {failed} failed")

@@ -1,10 +1,10 @@
 #!/usr/bin/env python3
-"""Makes a release from the built program: a tarball, a Debian package, and a file with their checksums.
+"""Makes a release from the two built programs: a tarball, a Debian package, and a file with their checksums.
 
-usage: tools/release.py [--program crates/canvas/out/canvas] [--to dist]
+usage: tools/release.py [--canvas crates/canvas/out/canvas] [--canvasd crates/canvasd/out/canvasd] [--to dist]
 
-The same program and files give the same bytes: times are the day of the version in CHANGELOG.md, owners are root, and names are in order.
-The text of the man page is tools/canvas.help. Prints the names of the files that it made.
+The same programs and files give the same bytes: times are the day of the version in CHANGELOG.md, owners are root, and names are in order.
+The texts of the man pages are tools/canvas.help and tools/canvasd.help. Prints the names of the files that it made.
 """
 
 import argparse
@@ -25,11 +25,12 @@ from repository import TOP
 
 VERSION = (TOP / "VERSION").read_text().strip()
 SHARED = ("README.md", "CHANGELOG.md", "VERSION", "bin/canvas-demo", "docs/*.md", "docs/pictures/*.png", "examples/*.json*", "examples/visit.py",
-          "tools/bodies.py", "tools/canvas_client.py", "tools/viewer/gateway.py", "tools/viewer/relay/*.py", "tools/viewer/setup.sh",
+          "tools/bodies.py", "tools/canvas_client.py", "tools/canvas_client.mjs", "tools/viewer/gateway.py", "tools/viewer/relay/*.py", "tools/viewer/setup.sh",
           "tools/viewer/page/*")
 """The files of the repository that both packages have."""
-OF_SCRIPT = ("bin/canvas", "tools/canvas.help", "tools/before_serve.py")
-"""What bin/canvas is, which the tarball has over the program."""
+PROGRAMS = ("canvas", "canvasd")
+OF_SCRIPTS = ("bin/canvas", "bin/canvasd", "tools/program.sh", "tools/canvas.help", "tools/canvasd.help", "tools/before_serve.py")
+"""What bin/canvas and bin/canvasd are, which the tarball has over the programs."""
 CONTROL = f"""Package: canvas
 Version: {VERSION}
 Architecture: amd64
@@ -41,7 +42,8 @@ Recommends: python3, python3-aiohttp, python3-pil
 Installed-Size: SIZE
 Description: proved server behind a shared drawing tool
  It keeps one design document of frames, groups and shapes, takes edits as
- lines of JSON, and paints rectangles of the document as P6 images.
+ lines of JSON, and paints rectangles of the document as P6 images. canvasd
+ keeps the document in a folder, where no crash loses what was answered.
 """
 COPYRIGHT = "canvas, of Yurdepla. No licence has been chosen yet.\n"
 
@@ -54,10 +56,10 @@ def escaped(text):
     return "\\&" + text if text.startswith((".", "'")) else text
 
 
-def man_page(text, day):
-    """The man page of the help: its headings, terms with what they mean, commands, and paragraphs."""
-    title, *lines = text.splitlines()
-    out = [f'.TH CANVAS 1 {day} "canvas {VERSION}"', ".SH NAME", escaped(title.replace(" VERSION", "")), ".SH DESCRIPTION"]
+def man_page(name, day):
+    """The man page of a program's help: its headings, terms with what they mean, commands, and paragraphs."""
+    title, *lines = (TOP / "tools" / f"{name}.help").read_text().splitlines()
+    out = [f'.TH {name.upper()} 1 {day} "canvas {VERSION}"', ".SH NAME", escaped(title.replace(" VERSION", "")), ".SH DESCRIPTION"]
     for number, line in enumerate(lines):
         following = lines[number + 1] if number + 1 < len(lines) else ""
         words = line.strip()
@@ -106,19 +108,21 @@ def all_files(folder):
     return sorted(str(it.relative_to(folder)) for it in folder.rglob("*") if it.is_file() and not it.is_symlink())
 
 
-def fill_tarball(folder, program, page):
-    put_files(folder, SHARED + OF_SCRIPT)
-    put(folder, "libexec/canvas", program, True)
-    put(folder, "share/man/man1/canvas.1", page)
+def fill_tarball(folder, programs, pages):
+    put_files(folder, SHARED + OF_SCRIPTS)
+    for name in PROGRAMS:
+        put(folder, f"libexec/{name}", programs[name], True)
+        put(folder, f"share/man/man1/{name}.1", pages[name])
     put(folder, "SHA256SUMS", checksums(folder, all_files(folder)))
 
 
-def fill_package(folder, program, page):
+def fill_package(folder, programs, pages):
     put_files(folder / "usr/share/canvas", SHARED)
-    put(folder, "usr/bin/canvas", program, True)
+    for name in PROGRAMS:
+        put(folder, f"usr/bin/{name}", programs[name], True)
+        put(folder, f"usr/share/man/man1/{name}.1.gz", gzip.compress(pages[name], mtime=0))
     (folder / "usr/bin/canvas-demo").symlink_to("../share/canvas/bin/canvas-demo")
     (folder / "usr/share/canvas/bin/canvas").symlink_to("../../../bin/canvas")
-    put(folder, "usr/share/man/man1/canvas.1.gz", gzip.compress(page, mtime=0))
     put(folder, "usr/share/doc/canvas/copyright", COPYRIGHT.encode())
     put(folder, "usr/share/doc/canvas/changelog.gz", gzip.compress((TOP / "CHANGELOG.md").read_bytes(), mtime=0))
     size = sum((folder / it).stat().st_size for it in all_files(folder))
@@ -154,33 +158,37 @@ def make_package(folder, target, seconds):
     subprocess.run(words, env={**os.environ, "SOURCE_DATE_EPOCH": str(seconds)}, stdout=subprocess.DEVNULL, check=True)
 
 
-def make(program, to):
-    """Makes the release of a program, and gives the names of its files."""
+def make(files, to):
+    """Makes the release of the programs in these files, and gives the names of its own."""
     day = day_of_version()
     seconds = int(datetime.fromisoformat(day).replace(tzinfo=timezone.utc).timestamp())
-    page = man_page((TOP / "tools" / "canvas.help").read_text(), day).encode()
+    pages = {name: man_page(name, day).encode() for name in PROGRAMS}
+    programs = {name: files[name].read_bytes() for name in PROGRAMS}
     top = f"canvas-{VERSION}-x86_64-linux"
     names = [f"{top}.tar.gz", f"canvas_{VERSION}_amd64.deb"]
     to.mkdir(parents=True, exist_ok=True)
     with tempfile.TemporaryDirectory(prefix="canvas-release-") as room:
-        fill_tarball(Path(room, top), program.read_bytes(), page)
+        fill_tarball(Path(room, top), programs, pages)
         (to / names[0]).write_bytes(tarball(Path(room, top), top, seconds))
-        fill_package(Path(room, "package"), program.read_bytes(), page)
+        fill_package(Path(room, "package"), programs, pages)
         make_package(Path(room, "package"), to / names[1], seconds)
     (to / "SHA256SUMS").write_bytes(checksums(to, names))
     return [*names, "SHA256SUMS"]
 
 
 def main():
-    words = argparse.ArgumentParser(description="makes a release from the built program")
-    words.add_argument("--program", type=Path, default=TOP / "crates" / "canvas" / "out" / "canvas", metavar="FILE", help="the built program")
+    words = argparse.ArgumentParser(description="makes a release from the built programs")
+    for name in PROGRAMS:
+        words.add_argument(f"--{name}", type=Path, default=TOP / "crates" / name / "out" / name, metavar="FILE", help=f"the built program {name}")
     words.add_argument("--to", type=Path, default=TOP / "dist", metavar="FOLDER", help="where the release is put")
     given = words.parse_args()
-    if not given.program.is_file():
-        sys.exit(f"release.py: there is no program {given.program}; bin/canvas builds it")
+    files = {name: getattr(given, name) for name in PROGRAMS}
+    for name, file in files.items():
+        if not file.is_file():
+            sys.exit(f"release.py: there is no program {file}; bin/{name} builds it")
     if not shutil.which("dpkg-deb"):
         sys.exit("release.py: there is no dpkg-deb, which Debian's package dpkg has")
-    for name in make(given.program, given.to):
+    for name in make(files, given.to):
         print(given.to / name)
 
 

@@ -15,6 +15,8 @@ SOURCES = ("src", "specs", "proofs")
 BUILT = Path(os.environ.get("CANVAS", TOP / "crates" / "canvas" / "out" / "canvas"))
 """The program itself, where the script bin/canvas would be in the way: it has words, streams and allocations of its own. The environment's
 CANVAS names another one."""
+BUILT_KEEPER = Path(os.environ.get("CANVASD", TOP / "crates" / "canvasd" / "out" / "canvasd"))
+"""The same of the program canvasd."""
 
 
 def lines():

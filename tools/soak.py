@@ -3,7 +3,7 @@
 
 usage: tools/soak.py [minutes, 1 where it is left out] [clients, 60 where it is left out]
 
-The clients are editors, viewers, clients that send hundreds of requests before they read, clients that break off inside a request or
+With CANVAS_SERVER=canvasd it is canvasd that serves. The clients are editors, viewers, clients that send hundreds of requests before they read, clients that break off inside a request or
 inside a body, clients that send garbage or lines without end, silent and slow ones, and crowds that find no seat. Each makes one session
 after another. They all stop each minute: then the server must be back at one thread and at the open files that it began with, and its
 resident memory may not be more than 8 MiB and the pictures that its seats may keep (63 seats, 8 tiles each) above what it was after a first
@@ -16,6 +16,7 @@ body, and versions of one session never go back. At the end all seats must be fr
 Prints what it measured, each case that fails, and a last line 'N passed, M failed'; the status is 1 where something failed.
 """
 
+import itertools
 import json
 import random
 import socket
@@ -27,7 +28,7 @@ import time
 
 import key_rows
 from canvas_client import line_of, replies
-from check_server import NO_SEATS, SEATS, Server, seats_left, wait_for
+from running import NO_SEATS, SEATS, Server, build, seats_left, tell, wait_for
 
 WARM_UP = 10
 KEPT_PICTURES = 63 * 8 * 196_623 // 1024
@@ -266,8 +267,8 @@ class Sizes:
     """The server's resident memory in KiB, its threads and its open files, when it has no connection."""
 
     def __init__(self, server):
-        wait_for(lambda: server.status("Threads") == 1)
-        self.memory, self.threads, self.files = server.status("VmRSS"), server.status("Threads"), server.files()
+        wait_for(server.is_still)
+        self.memory, self.threads, self.files = server.number("VmRSS"), server.number("Threads"), server.files()
 
     def __str__(self):
         return f"{self.memory} KiB, {self.threads} threads, {self.files} files"
@@ -327,16 +328,9 @@ def saved_again(server, folder):
 def main():
     minutes = float(sys.argv[1]) if len(sys.argv) > 1 else 1
     count = int(sys.argv[2]) if len(sys.argv) > 2 else 60
-    passed = failed = 0
+    build()
     with tempfile.TemporaryDirectory() as folder, Server(folder, first_document(), "2") as server:
-        for cases in (rounds(server, minutes, count), saved_again(server, folder)):
-            for name, fault in cases:
-                passed += fault is None
-                failed += fault is not None
-                if fault is not None:
-                    print(f"{name}: {fault}", flush=True)
-    print(f"{passed} passed, {failed} failed")
-    sys.exit(1 if failed else 0)
+        sys.exit(tell(itertools.chain(rounds(server, minutes, count), saved_again(server, folder))))
 
 
 if __name__ == "__main__":

@@ -21,8 +21,8 @@ HERE = Path(__file__).resolve().parent
 sys.path.insert(0, str(HERE.parent))
 from browser import Browser  # noqa: E402
 from canvas_client import line_of  # noqa: E402
-from check_server import Server, difference  # noqa: E402
 from puppet import until  # noqa: E402
+from running import Server, difference  # noqa: E402
 
 PAGE = b"<!DOCTYPE html><title>A page</title><iframe name=hidden></iframe>"
 EDIT = line_of({"verb": "create", "shape": {"kind": "rect", "w": 9, "h": 9, "fill": "ff0000"}}).decode()

@@ -16,7 +16,7 @@ from PIL import Image
 sys.path.insert(0, str(Path(__file__).resolve().parent.parent))
 from browser import CONTROL, Browser  # noqa: E402
 from canvas_client import TOP, Canvas  # noqa: E402
-from check_server import free_port  # noqa: E402
+from running import free_port  # noqa: E402
 
 PICTURES = TOP / "docs" / "pictures"
 FLOWER = ["d9412f", "ef7d2d", "f6c13c", "7cb342", "19a5a0", "2f6fde", "7a4fc9"]

@@ -24,7 +24,7 @@ HERE = Path(__file__).resolve().parent
 sys.path.insert(0, str(HERE.parent))
 from browser import Browser, Fault  # noqa: E402
 from canvas_client import PROGRAM  # noqa: E402
-from check_server import difference  # noqa: E402
+from running import difference  # noqa: E402
 from tests import drags, drawing, files, grid, layers, looking, night, outages, selecting, sharing, small_things, svg, undo  # noqa: E402
 from tests.desk import POSTER, Desk, Gateway, Server  # noqa: E402
 

@@ -11,7 +11,7 @@ from PIL import Image, ImageChops
 
 from browser import CONTROL
 from canvas_client import Canvas, PROGRAM, TOP
-from check_server import free_port
+from running import free_port
 
 HERE = Path(__file__).resolve().parent.parent
 SECONDS = 30

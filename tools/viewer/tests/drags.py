@@ -2,7 +2,7 @@
 
 import asyncio
 
-from check_server import difference
+from running import difference
 from tests.desk import BOX, at, back, boxes, sheet
 
 MOST = 30

@@ -8,7 +8,7 @@ import time
 from PIL import ImageChops
 
 from browser import SHIFT
-from check_server import difference
+from running import difference
 from tests.desk import BOX, seen
 
 

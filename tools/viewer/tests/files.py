@@ -10,7 +10,7 @@ from pathlib import Path
 from PIL import Image, ImageChops
 
 from browser import CONTROL
-from check_server import difference
+from running import difference
 from tests.desk import Desk, Gateway, MIDDLE, POSTER, SECONDS, Server, back, patches
 
 

@@ -6,7 +6,7 @@ import io
 from PIL import Image
 
 from browser import ALT, SHIFT
-from check_server import difference
+from running import difference
 from tests.desk import at, back, boxes, sheet
 
 LINES = "(({hidden, style}) => hidden ? null : style.backgroundSize)(document.getElementById('grid'))"

@@ -4,7 +4,7 @@ import asyncio
 import json
 
 from browser import ALT, CONTROL
-from check_server import difference
+from running import difference
 from tests.desk import back, boxes, sheet
 
 

@@ -6,7 +6,7 @@ import time
 import aiohttp
 
 from browser import CONTROL
-from check_server import difference
+from running import difference
 from tests.desk import EDGE, LEVELS
 
 

@@ -5,7 +5,7 @@ import tempfile
 from pathlib import Path
 
 from browser import ALT, CONTROL
-from check_server import difference
+from running import difference
 from tests.desk import POSTER, Desk, Gateway, Server, patches
 
 RECORDS = {record["id"]: record for record in json.loads(POSTER.read_text())["shapes"]}

@@ -8,7 +8,7 @@ import subprocess
 import aiohttp
 
 from canvas_client import TOP
-from check_server import difference, free_port
+from running import difference, free_port
 from tests.desk import SECONDS, seen
 
 

@@ -1,7 +1,7 @@
 """Selecting, moving, copying, resizing, points, and aligning."""
 
 from browser import ALT, CONTROL, SHIFT
-from check_server import difference
+from running import difference
 from tests.desk import at, back, boxes, sheet
 
 

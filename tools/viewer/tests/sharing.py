@@ -5,8 +5,8 @@ import time
 
 import aiohttp
 
-from check_server import difference
 from puppet import BareTab, Counter, Puppet
+from running import difference
 from tests.desk import Desk, Gateway
 
 TABS, EDITS = 4, 12

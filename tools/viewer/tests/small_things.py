@@ -3,7 +3,7 @@
 import asyncio
 
 from browser import SHIFT
-from check_server import difference
+from running import difference
 from tests.desk import MIDDLE, boxes, sheet
 
 PHONE = {"width": 390, "height": 780, "deviceScaleFactor": 2, "mobile": True}

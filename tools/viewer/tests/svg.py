@@ -7,7 +7,7 @@ from pathlib import Path
 
 from PIL import Image, ImageChops, ImageDraw
 
-from check_server import difference
+from running import difference
 from tests.desk import patches
 from tests.files import downloaded
 

@@ -2,7 +2,7 @@
 
 import json
 
-from check_server import difference
+from running import difference
 from tests.desk import back, looks_of, sheet
 
 
