@@ -19,9 +19,9 @@ new folder, half on one that began with a poster.
 
 Two controls show that this finds losses. Each is the same program on a disk that lies, and has to be caught:
 
-- `early`: a sync returns at once, and what it covers reaches the file 20 ms later. So replies leave before their bytes are kept, as
+- `early`: a sync returns at once, and what it covers reaches the file 100 ms later. So replies leave before their bytes are kept, as
   they would if the program sent them before the sync;
-- `nosync`: a sync does nothing, and what is written reaches the file 200 ms later, as it would if the program never synced.
+- `nosync`: a sync does nothing, and what is written reaches the file 400 ms later, as it would if the program never synced.
 
 Prints what it did, each fault, and a last line 'N passed, M failed', in which a control passes where it was caught; the status is 1 where
 something failed. With --control it runs that control alone. The program is the one that the environment's CANVASD names, or the built one. It takes a
@@ -50,8 +50,8 @@ from running import BAD_DOCUMENT, EMPTY, Running, build, build_keeper, kept_word
 
 POSTER = TOP / "examples" / "poster.json"
 JOURNAL = "journal.jsonl"
-CONTROLS = {"early": {"syncs": "late", "late": 20}, "nosync": {"syncs": "none", "late": 200}}
-CONTROL_ROUNDS = 10
+CONTROLS = {"early": {"syncs": "late", "late": 100}, "nosync": {"syncs": "none", "late": 400}}
+CONTROL_ROUNDS = 20
 GAP = 30
 """How many seconds a server may take until it listens, and a client until it ends."""
 
@@ -252,7 +252,7 @@ class Trial:
 
     def __init__(self, room, name, opening, given, chance, how):
         self._given, self._chance, self._how = given, chance, how
-        self._room = Path(room, name)
+        self._room = Path(room, name.replace(" ", "-"))
         self._room.mkdir()
         self.folder, self._disk = self._room / "kept", Disk(self._room)
         self._opening = self._room / "opening.json"
@@ -271,7 +271,7 @@ class Trial:
 
     def _environment(self, **more):
         """No disk of our own, or one that is honest; that of the control where this is one."""
-        wait = self._chance.choice([0, 0, 300, 3000])
+        wait = self._chance.choice([0, 300, 3000, 20_000])
         seed = self._chance.randrange(1 << 30)
         if self._how is not None:
             return self._disk.environment(seed=seed, wait=wait, **self._how)
@@ -303,11 +303,11 @@ class Trial:
         self.look(told, before)
 
     def _kill(self, number, told):
-        """Kills the server at a random moment: after some replies, or after a while."""
+        """Kills the server at a random moment: right after some reply, or a little or a while later."""
         replies, end = self._chance.choice([1, 10, 100, 1000]) * self._chance.random(), time.monotonic() + self._given.seconds
         while told.replies < replies and time.monotonic() < end:
-            time.sleep(0.001)
-        time.sleep(0.02 * self._chance.random())
+            time.sleep(0.0005)
+        time.sleep(self._chance.choice([0, 0, 0.02, 0.2]) * self._chance.random())
         self.server.process.send_signal(signal.SIGTERM if number % 8 == 7 else signal.SIGKILL)
 
     def play(self, number, stop):

@@ -10,6 +10,8 @@ from repository import TOP
 def preload(source, folder):
     """The library of a C file of tools/, built in a folder, which a program can be started with."""
     library = Path(folder) / f"{Path(source).stem}.so"
+    if set(str(library)) & set(" :"):
+        raise ValueError(f"no program can be started with {library}: a blank or a colon ends its name")
     subprocess.run(["cc", "-shared", "-fPIC", "-O1", "-o", library, TOP / "tools" / source, "-ldl", "-lpthread"], check=True)
     return library
 

@@ -43,9 +43,11 @@ def build():
 
 
 def build_keeper():
-    """Builds canvasd where it is not built and none is named."""
+    """Builds canvasd where it is not built and none is named. (Its script answers --help and --version itself; of no folder it says so.)"""
     if "CANVASD" not in os.environ:
-        subprocess.run([str(TOP / "bin" / "canvasd"), "--version"], stdin=subprocess.DEVNULL, stdout=subprocess.DEVNULL, check=True)
+        subprocess.run([str(TOP / "bin" / "canvasd"), "check", "/nowhere"], stdin=subprocess.DEVNULL, stderr=subprocess.DEVNULL, check=False)
+    if not BUILT_KEEPER.is_file():
+        raise SystemExit("canvasd is not built")
 
 
 # -- bytes and cases ---------------------------------------------------------------------------------------------------
