@@ -1,7 +1,6 @@
 //! What a session asks before its bytes leave.
 
-use crate::journal::JournalFile;
-use canvas_journal_file::Asked;
+use canvas_journal::Device;
 use canvas_keep::Keep;
 use canvas_line::{Lines, Seat};
 use canvas_server::{Door, DoorSettings, Ended, Events, ServerFault, Settles, serve_doors};
@@ -14,13 +13,13 @@ use std::time::Clock;
 
 /// A line that is kept, up to so many edits.
 #[derive(Drop)]
-pub struct Gate<B: Lines> {
-    pub keep: Keep<Asked<JournalFile>, B>,
+pub struct Gate<D: Device, B: Lines> {
+    pub keep: Keep<D, B>,
     /// With how many edits the generation ends.
     pub limit: u64,
 }
 
-impl<B: Lines> Settles for Gate<B> {
+impl<D: Device + Drop, B: Lines> Settles for Gate<D, B> {
     ghost settled = { λ _ _. Unit {0} };
 
     fn settle<R: Wait>(&self, rt: &R, _put_in: u64) -> io::Result<()> {
@@ -37,6 +36,7 @@ impl<B: Lines> Settles for Gate<B> {
 
 /// Serves the line of a gate at doors.
 pub fn serve_behind<
+    D: Device + Drop + Send,
     L: Lines + Send + Sync,
     E: Events + Sync,
     H: Threads + Wait + Clock + Net + Sync,
@@ -45,7 +45,7 @@ pub fn serve_behind<
     alloc: Global,
     doors: &[Door],
     seats: Vec<Seat<L>>,
-    gate: &Gate<L>,
+    gate: &Gate<D, L>,
     settings: &DoorSettings,
     events: &E,
 ) -> Result<Ended, ServerFault> {

@@ -233,7 +233,7 @@ fn serve_gate<
     log: &K,
     alloc: Global,
     seats: Vec<Seat<L>>,
-    gate: &Gate<L>,
+    gate: &Gate<Asked<JournalFile>, L>,
     run: &Run<'_>,
 ) -> Result<(), Fault> {
     let service = run.service;
@@ -263,7 +263,7 @@ fn serve_gate<
 fn newest_text<L: Lines, H: Wait>(
     rt: &H,
     alloc: Global,
-    gate: &Gate<L>,
+    gate: &Gate<Asked<JournalFile>, L>,
     run: &Run<'_>,
 ) -> Result<Vec<u8>, Fault> {
     if let Some(fault) = gate.keep.fault(rt) {
