@@ -97,7 +97,6 @@ fn text_after<L: Lines, H: Wait>(
     number: u32,
 ) -> Result<Vec<u8>, Fault>
     requires { L.line 1 ≡ record { book = opened.head.word.book; opening = document; limit = 1000000 } }
-    ensures { IfOk result (λ text. IsSavedAfter document (map (λ v. v.items) lines.now) text.items) }
 {
     let mut seats = match Line::open::<L, H>(rt, alloc, opened, NAME, document, 1, MOST_EDITS) {
         Ok(seats) => seats,

@@ -1,5 +1,5 @@
 //! Saved documents: from the text of a file, and to a text.
-ghost use Rattle.std.specs.Prelude.{◌≡◌, ◌≤◌, IfOk, IfSome, Ok, vec_len};
+ghost use Rattle.std.specs.Prelude.{◌≡◌, ◌≤◌, IfOk, IfSome, Ok, length};
 ghost use Rattle.canvas_saved.specs.Opened.{opened};
 ghost use Rattle.canvas_saved.specs.Saved.{saved_text_of};
 
@@ -32,7 +32,7 @@ pub fn read_document<R: Read + Drop>(
 
 // The bytes of a file, where they are not too many.
 fn text_of<R: Read + Drop>(alloc: Global, file: R, place: Place) -> Result<Vec<u8>, Fault>
-    ensures within { IfOk result (λ text. vec_len text ≤ 134217728) }
+    ensures within { IfOk result (λ text. length text.items ≤ 134217728) }
     ensures whole { IfOk result (λ text. IfSome (R.remaining file) (λ bytes. text.items ≡ bytes)) }
 {
     let mut text = Vec::new(alloc);
@@ -44,7 +44,7 @@ fn text_of<R: Read + Drop>(alloc: Global, file: R, place: Place) -> Result<Vec<u
 
 // A text that has no more bytes than are opened.
 fn limited(text: Vec<u8>, place: Place) -> Result<Vec<u8>, Fault>
-    ensures within { IfOk result (λ r. vec_len r ≤ 134217728) }
+    ensures within { IfOk result (λ r. length r.items ≤ 134217728) }
     ensures same { IfOk result (λ r. r.items ≡ text.items) }
 {
     if text.len() as u64 > MOST_BYTES {

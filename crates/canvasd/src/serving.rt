@@ -7,7 +7,7 @@ use crate::doors::{bind_all, tell_doors};
 use crate::events::DoorLog;
 use crate::fault::{Deed, Fault, Place, refused};
 use crate::folder::{hold, look, path_in};
-use crate::gate::Gate;
+use crate::gate::{Gate, serve_behind};
 use crate::journal::{JournalFile, Reason, open_journal};
 use crate::maker::begin;
 use crate::opening::{read_document, saved};
@@ -19,7 +19,7 @@ use canvas_journal::DeviceError;
 use canvas_journal_file::Asked;
 use canvas_keep::{Keep, KeepFault, OpenFault, open};
 use canvas_line::{Line, Lines, Opened, Seat};
-use canvas_server::{Door, DoorSettings, Ended, ServerFault, Settles, serve_doors};
+use canvas_server::{Door, DoorSettings, Ended, ServerFault, Settles};
 use log::{Log, info};
 use std::alloc::Global;
 use std::fs::File;
@@ -233,7 +233,7 @@ fn serve_gate<
     log: &K,
     alloc: Global,
     seats: Vec<Seat<L>>,
-    gate: &Gate<L>,
+    gate: &Gate<Asked<JournalFile>, L>,
     run: &Run<'_>,
 ) -> Result<(), Fault> {
     let service = run.service;
@@ -252,7 +252,7 @@ fn serve_gate<
         idle: service.idle,
     };
     let events = DoorLog::new(rt, log, run.begun);
-    match serve_doors(rt, alloc, run.doors, seats, gate, &settings, &events) {
+    match serve_behind(rt, alloc, run.doors, seats, gate, &settings, &events) {
         Ok(Ended::Asked) => Ok(()),
         Ok(Ended::Unsettled) => Ok(()),
         Err(fault) => Err(Fault::Server(fault)),
@@ -263,7 +263,7 @@ fn serve_gate<
 fn newest_text<L: Lines, H: Wait>(
     rt: &H,
     alloc: Global,
-    gate: &Gate<L>,
+    gate: &Gate<Asked<JournalFile>, L>,
     run: &Run<'_>,
 ) -> Result<Vec<u8>, Fault> {
     if let Some(fault) = gate.keep.fault(rt) {
