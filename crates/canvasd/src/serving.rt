@@ -183,7 +183,7 @@ fn serve_line<
     requires line { L.line 1 ≡ record { book = opened.head.word.book; opening = document; limit = limit } }
     requires durable { Only (seen_of device) (may_leave device) }
 {
-    let count = run.service.seats + 2;
+    let count = run.service.seats.saturating_add(2);
     let mut seats = match Line::open::<L, H>(rt, alloc, opened, NAME, document, count, limit) {
         Ok(seats) => seats,
         Err(fault) => return Err(line_fault(&fault)),
