@@ -9,7 +9,8 @@ of 256 vertices with coordinates of seven digits. Their texts are written here. 
 - Opening: `canvas serve` is started on the text's file; the time is that from its start until it says `listening`, the least of three
   starts, less that of the empty document.
 - Saving: a session of that server asks for an export; the time is that from the request until its last byte is there, over the loopback,
-  the least of five. The bytes must be those that were opened (in format 2).
+  the least of five, each after an edit that changes nothing, since the text of a version is kept. The bytes must be those that were opened
+  (in format 2).
 - Beside both, in the same run: the time in which Python's json (a reader and a writer in C that build values) reads the same text, and
   writes it again, the least of three; and the ratios to it.
 - Memory: the greatest size in memory that the program has had (VmHWM in /proc/PID/status) when it listens, and after the exports; in KiB.
@@ -125,7 +126,11 @@ def saving(file, wanted):
     with Serving(file) as serving, Canvas.connect(serving.address) as canvas:
         if canvas.ask(verb="export")[1] != wanted:
             sys.exit(f"{file} is saved otherwise")
-        return least(5, lambda: canvas.ask(verb="export")), serving.memory()
+        found = []
+        for _ in range(5):
+            canvas.ask(verb="show", id=1, hidden=False)
+            found.append(least(1, lambda: canvas.ask(verb="export")))
+        return min(found), serving.memory()
 
 
 def measure(file, name, text, wanted, start):

@@ -1,5 +1,5 @@
 /**
- * A client of canvas: sends requests, reads replies and their bodies. It starts the program, or connects to one that serves.
+ * A client of canvas: sends requests, reads replies and their bodies, and follows a feed. It starts the program, or connects to one that serves.
  * It needs Node 18 or newer, and no package.
  *
  *     const canvas = new Canvas();                                    // starts `canvas script`
@@ -11,8 +11,11 @@
  *     const canvas = await Canvas.connect("127.0.0.1:7878");          // a session with `canvas serve`
  *     const [reply, image] = await canvas.ask({ verb: "tile", col: 0, row: 0 });
  *
+ *     const feed = await Feed.connect("127.0.0.1:7879", { since: 12 }); // a feed door of canvasd
+ *     for await (const { version, edit, damage } of feed) console.log(version, edit, damage); // each edit behind the twelfth one, as soon as it is kept
+ *
  * A reply is the object of its line; a body is a Buffer. Nothing is pushed: each request has one reply, in order. A reply that refuses
- * is thrown as `Refused`, with its code and name, and the session goes on. After any other fault the session is over.
+ * is thrown as `Refused`, with its code and name, and the session goes on. After any other fault the session is over. A feed is read only.
  * Calls need not wait for each other: those that are made together are sent together.
  *
  * canvas_client.py has the same calls in Python.
@@ -39,14 +42,26 @@ import { fileURLToPath } from "node:url";
  *   three bytes a pixel, red, green and blue, row by row from the top left.
  */
 /** @typedef {{ version: number, text: string }} Saved The document of a version as a saved text. */
+/**
+ * @typedef {{ version: number, id: number | null, damage: number[], edit: Request, text: string }} KeptEdit An edit of a feed: the version that it
+ *   made, the id of the shape that it made, or null, the box of the page outside of which it changed no pixel (left, top, right and bottom, the last
+ *   two outside), the edit as a request, and the text of that, as the journal has it.
+ */
+/** @typedef {{ since?: number, opening?: boolean, generation?: number | null, seconds?: number | null }} Wanted What is asked of a feed. */
 
 const BESIDE = fileURLToPath(new URL("../bin/canvas", import.meta.url));
 
 /** The program: what the environment's CANVAS names, or bin/canvas beside this folder, or else `canvas` on the path. */
 export const PROGRAM = process.env.CANVAS || (existsSync(BESIDE) ? BESIDE : "canvas");
 
-/** No line of a reply is longer. */
+/** No line of a reply, and no edit's line of a feed, is longer. */
 const MOST_LINE = 65_536;
+/** No line of a feed that has a saved document is longer. */
+const MOST_OPENING = 134_217_728 + 100;
+const OPENING_LINE = /^\{"generation":(\d{1,10}),"opening":(\{.*\})\}$/;
+const EDIT_LINE = /^\{"damage":\[((?:-?\d{1,10},){3}-?\d{1,10})\],"edit":(\{.*\}),"id":(null|\d{1,10}),"version":(\d{1,10})\}$/;
+/** After how many milliseconds of silence a follower asks whether the server's machine is there. */
+const KEEP_ALIVE = 60_000;
 /** While so many bytes wait for `read`, no more are taken from the other side. */
 const MOST_WAITING = 1 << 22;
 const MOST_MILLISECONDS = 2 ** 31 - 1;
@@ -64,17 +79,22 @@ export class Refused extends Error {
   }
 }
 
+/** A feed that was refused, in the server's words. */
+export class FeedRefused extends Error {
+  name = "FeedRefused";
+}
+
 /** The session is over: the other side ended it, or it was closed. */
 export class Ended extends Error {
   name = "Ended";
 }
 
-/** Nothing came for so long that the session was given up. */
+/** Nothing came for so long that the session or the feed was given up. */
 export class TimedOut extends Error {
   name = "TimedOut";
 }
 
-/** What came is no reply of canvas. */
+/** What came is no reply of canvas, or no line of a feed. */
 export class BadReply extends Error {
   name = "BadReply";
 }
@@ -198,14 +218,34 @@ export function pictureOf(reply, body) {
 }
 
 /**
- * The host and the port of `host:port`.
+ * The host and the port of `host:port`, or the path of `unix:path`.
  * @param {string} address
  */
 function placeOf(address) {
+  if (address.startsWith("unix:")) return { path: address.slice("unix:".length) };
   const found = /^(.+):(\d{1,5})$/.exec(address);
   const port = Number(found?.[2]);
-  if (found === null || port > 65_535) throw new TypeError(`${JSON.stringify(address)} is not HOST:PORT`);
+  if (found === null || port > 65_535) throw new TypeError(`${JSON.stringify(address)} is neither HOST:PORT nor unix:PATH`);
   return { host: found[1].replace(/^\[/, "").replace(/\]$/, ""), port };
+}
+
+/**
+ * A socket that is connected within so many seconds (null: however long it takes).
+ * @param {string} address
+ * @param {number | null} seconds
+ * @returns {Promise<import("node:net").Socket>}
+ */
+async function connected(address, seconds) {
+  if (seconds !== null && !(seconds > 0)) throw new RangeError(`${seconds} seconds are no time to wait`);
+  const socket = connect({ ...placeOf(address), noDelay: true });
+  await new Promise((resolve, reject) => {
+    const timer = seconds === null ? undefined : setTimeout(() => socket.destroy(new TimedOut(`no connection to ${address}`)), milliseconds(seconds));
+    socket.on("error", reject);
+    socket.on("connect", resolve);
+    socket.on("close", () => clearTimeout(timer));
+    socket.on("connect", () => clearTimeout(timer));
+  });
+  return socket;
 }
 
 /** @typedef {[reply: Reply | Refusal, body: Buffer]} Found */
@@ -270,15 +310,7 @@ class Session {
    * @returns {Promise<Session>}
    */
   static async connected(address, seconds) {
-    if (seconds !== null && !(seconds > 0)) throw new RangeError(`${seconds} seconds are no time to wait`);
-    const socket = connect({ ...placeOf(address), noDelay: true });
-    await new Promise((resolve, reject) => {
-      const timer = seconds === null ? undefined : setTimeout(() => socket.destroy(new TimedOut(`no connection to ${address}`)), milliseconds(seconds));
-      socket.on("error", reject);
-      socket.on("connect", resolve);
-      socket.on("close", () => clearTimeout(timer));
-      socket.on("connect", () => clearTimeout(timer));
-    });
+    const socket = await connected(address, seconds);
     return new Session(socket, socket, seconds, Promise.resolve(null));
   }
 
@@ -423,7 +455,7 @@ export class Canvas {
   }
 
   /**
-   * A session with a server at `host:port`. Where a call waits and nothing comes for so many seconds (null: for ever) it throws `TimedOut`.
+   * A session with a server at `host:port` or `unix:path`. Where a call waits and nothing comes for so many seconds (null: for ever) it throws `TimedOut`.
    * @param {string} address
    * @param {number | null} [seconds]
    */
@@ -574,5 +606,194 @@ export class Canvas {
    */
   close() {
     return this.#session.end();
+  }
+}
+
+/**
+ * The kept edits of a document, one after another, by a feed door of canvasd: an async iterator of them, which waits for the next one.
+ * It ends when the server ends the connection. Whoever goes on then connects again, with `version` as `since` and with the generation.
+ */
+export class Feed {
+  /** The version of the edit that was given last, or `since` before the first one. */
+  version;
+  /** @type {number | null} which generation is followed; null where `opening` was not asked for */
+  generation = null;
+  /** @type {string | null} the saved text of the document with which the generation began; null where it was not asked for */
+  opening = null;
+  #socket;
+  #seconds;
+  /** @type {AsyncIterator<Buffer>} what comes, piece by piece */
+  #coming;
+  /** Of what came the bytes that were not given yet. */
+  #rest = Buffer.alloc(0);
+  #edits = this.#each();
+
+  /**
+   * @param {import("node:net").Socket} socket
+   * @param {number} since
+   * @param {number | null} seconds
+   */
+  constructor(socket, since, seconds) {
+    this.version = since;
+    this.#socket = socket;
+    this.#seconds = seconds;
+    this.#coming = socket[Symbol.asyncIterator]();
+  }
+
+  /**
+   * A feed of all edits behind the version `since`, from a door at `host:port` or `unix:path`. It asks for the generation's opening document too
+   * where `opening` is true, and is refused where another generation than the one named is served. A refusal is thrown as `FeedRefused`: here where
+   * an opening was asked for, or else in the place of the first edit. Where a call waits and nothing comes for so many seconds (null: for ever) it
+   * throws `TimedOut`, and the feed is over.
+   * @param {string} address
+   * @param {Wanted} [wanted]
+   */
+  static async connect(address, { since = 0, opening = false, generation = null, seconds = null } = {}) {
+    const socket = await connected(address, seconds);
+    socket.setKeepAlive(true, KEEP_ALIVE);
+    const feed = new Feed(socket, since, seconds);
+    socket.write(`${JSON.stringify({ since, ...(opening && { opening }), ...(generation !== null && { generation }) })}\n`);
+    if (opening) await feed.#open();
+    return feed;
+  }
+
+  [Symbol.asyncIterator]() {
+    return this;
+  }
+
+  /**
+   * The next edit, as iterators give it.
+   * @returns {Promise<IteratorResult<KeptEdit, undefined>>}
+   */
+  next() {
+    return this.#edits.next();
+  }
+
+  /** The end of a loop that is left before the feed ends. */
+  async return() {
+    await this.close();
+    return { done: true, value: undefined };
+  }
+
+  /**
+   * The edits that have come: it waits for one at least. None of them where the feed has ended.
+   * @returns {Promise<KeptEdit[]>}
+   */
+  async batch() {
+    const edits = [];
+    do {
+      const { done, value } = await this.next();
+      if (done) break;
+      edits.push(value);
+    } while (this.#rest.includes(LF));
+    return edits;
+  }
+
+  /** Ends the feed. */
+  async close() {
+    this.#rest = Buffer.alloc(0);
+    if (this.#socket.closed) return;
+    const closed = new Promise((resolve) => this.#socket.once("close", resolve));
+    this.#socket.destroy();
+    await closed;
+  }
+
+  /** @returns {AsyncGenerator<KeptEdit, undefined>} */
+  async *#each() {
+    for (let line; (line = await this.#line(MOST_LINE)) !== null; ) {
+      const [, damage, text, made, version] = EDIT_LINE.exec(line) ?? this.#refuse(line);
+      if (Number(version) !== this.version + 1) this.#end(new BadReply(`version ${version} came after ${this.version}`));
+      const edit = this.#parsed(text, line);
+      this.version += 1;
+      yield { version: this.version, id: made === "null" ? null : Number(made), damage: damage.split(",").map(Number), edit, text };
+    }
+  }
+
+  async #open() {
+    const line = await this.#line(MOST_OPENING);
+    if (line === null) throw new Ended("the feed has ended before its opening document");
+    const [, generation, text] = OPENING_LINE.exec(line) ?? this.#refuse(line);
+    this.generation = Number(generation);
+    this.opening = text;
+  }
+
+  /**
+   * The next line without its LF, or null where the feed has ended before it was whole.
+   * @param {number} most how many bytes it may have
+   */
+  async #line(most) {
+    if (!this.#rest.includes(LF) && !(await this.#fill(most))) return null;
+    const end = this.#rest.indexOf(LF);
+    const line = this.#rest.toString("utf8", 0, end);
+    this.#rest = this.#rest.subarray(end + 1);
+    return line;
+  }
+
+  /**
+   * Waits until a line is whole; false where the feed has ended before.
+   * @param {number} most how many bytes it may have
+   */
+  async #fill(most) {
+    const pieces = [this.#rest];
+    for (let count = this.#rest.length, last = this.#rest; !last.includes(LF); count += last.length) {
+      if (count > most) this.#refuse(Buffer.concat(pieces, 100).toString("latin1"));
+      const piece = await this.#piece();
+      if (piece === null) return false;
+      pieces.push((last = piece));
+    }
+    this.#rest = Buffer.concat(pieces);
+    return true;
+  }
+
+  /** The bytes that come next, or null at the end. */
+  async #piece() {
+    const late = () => this.#socket.destroy(new TimedOut(`nothing came for ${this.#seconds} seconds`));
+    const timer = this.#seconds === null ? undefined : setTimeout(late, milliseconds(this.#seconds));
+    try {
+      const { done, value } = await this.#coming.next();
+      return done ? null : value;
+    } catch (fault) {
+      if (fault instanceof TimedOut) throw fault;
+      return null; // it was reset, or closed here
+    } finally {
+      clearTimeout(timer);
+    }
+  }
+
+  /**
+   * @param {string} text
+   * @param {string} line
+   */
+  #parsed(text, line) {
+    try {
+      return JSON.parse(text);
+    } catch {
+      return this.#refuse(line);
+    }
+  }
+
+  /**
+   * Ends the feed, and throws what a line that is not wanted stands for: the server's words where it refuses.
+   * @param {string} line
+   * @returns {never}
+   */
+  #refuse(line) {
+    let value = null;
+    try {
+      value = JSON.parse(line);
+    } catch {
+      // it is no JSON
+    }
+    const isRefusal = value?.ok === false && typeof value.error === "string";
+    return this.#end(isRefusal ? new FeedRefused(value.error) : new BadReply(`this is no line of a feed: ${JSON.stringify(line.slice(0, 100))}`));
+  }
+
+  /**
+   * @param {Error} fault
+   * @returns {never}
+   */
+  #end(fault) {
+    this.#socket.destroy();
+    throw fault;
   }
 }

@@ -1,4 +1,4 @@
-"""A client of canvas: sends requests, reads replies and their bodies. It starts the program, or connects to one that serves.
+"""A client of canvas: sends requests, reads replies and their bodies, and follows a feed. It starts the program, or connects to one that serves.
 
     with Canvas() as canvas:                              # starts `canvas script`
         made = canvas.create({"kind": "rect", "w": 2, "h": 1, "fill": "ff0000"})
@@ -8,8 +8,12 @@
     with Canvas.connect("127.0.0.1:7878") as canvas:      # a session with `canvas serve`
         reply, image = canvas.ask(verb="tile", col=0, row=0)
 
+    with Feed.connect("127.0.0.1:7879", since=12) as feed:    # a feed door of canvasd
+        for kept in feed:                                     # each edit behind the twelfth one, as soon as it is kept
+            print(kept.version, kept.edit, kept.damage)
+
 A reply is the dict of its line; a body is bytes. Nothing is pushed: each request has one reply, in order. A reply that refuses
-is raised as `Refused`, with its code and name, and the session goes on. After any other fault the session is over.
+is raised as `Refused`, with its code and name, and the session goes on. After any other fault the session is over. A feed is read only.
 
 tools/canvas_client.mjs has the same calls in JavaScript.
 """
@@ -21,7 +25,7 @@ import socket
 import subprocess
 from contextlib import suppress
 from pathlib import Path
-from typing import NamedTuple
+from typing import NamedTuple, Optional, Tuple
 
 TOP = Path(__file__).resolve().parent.parent
 
@@ -34,7 +38,14 @@ def program():
 
 PROGRAM = program()
 MOST_LINE = 65_536
-"""No line of a reply is longer."""
+"""No line of a reply, and no edit's line of a feed, is longer."""
+MOST_OPENING = 134_217_728 + 100
+"""No line of a feed that has a saved document is longer."""
+NUMBER = "(-?[0-9]{1,10})"
+OPENING_LINE = re.compile(rf'{{"generation":{NUMBER},"opening":({{.*}})}}\n')
+EDIT_LINE = re.compile(rf'{{"damage":\[{NUMBER},{NUMBER},{NUMBER},{NUMBER}\],"edit":({{.*}}),"id":(?:null|{NUMBER}),"version":{NUMBER}}}\n')
+KEEP_ALIVE = {"TCP_KEEPIDLE": 60, "TCP_KEEPINTVL": 10, "TCP_KEEPCNT": 6}
+"""After how many seconds of silence a follower asks whether the server's machine is there, how often, and how many times."""
 
 
 class Refused(Exception):
@@ -45,6 +56,10 @@ class Refused(Exception):
         self.code = reply["code"]
         self.name = reply["name"]
         self.reply = reply
+
+
+class FeedRefused(Exception):
+    """A feed that was refused, in the server's words."""
 
 
 class Picture(NamedTuple):
@@ -60,6 +75,17 @@ class Saved(NamedTuple):
     """The document of a version as a saved text."""
 
     version: int
+    text: str
+
+
+class KeptEdit(NamedTuple):
+    """An edit of a feed: the version that it made, the id of the shape that it made, or None, the box of the page outside of which it changed no pixel
+    (left, top, right and bottom, the last two outside), the edit as a request, and the text of that, as the journal has it."""
+
+    version: int
+    id: Optional[int]
+    damage: Tuple[int, int, int, int]
+    edit: dict
     text: str
 
 
@@ -111,8 +137,34 @@ def place_of(address):
     """The host and the port of `host:port`."""
     host, _, port = address.rpartition(":")
     if not host or not re.fullmatch("[0-9]{1,5}", port) or int(port) > 65_535:
-        raise ValueError(f"{address!r} is not HOST:PORT")
+        raise ValueError(f"{address!r} is neither HOST:PORT nor unix:PATH")
     return host.removeprefix("[").removesuffix("]"), int(port)
+
+
+def connected(address, seconds):
+    """A socket that is connected to `host:port` or `unix:path`, and waits so many seconds each time (None: for ever)."""
+    if seconds is not None and not seconds > 0:
+        raise ValueError(f"{seconds} seconds are no time to wait")
+    if not address.startswith("unix:"):
+        try:
+            sock = socket.create_connection(place_of(address), timeout=seconds)
+        except OSError as fault:
+            raise as_raised(fault)
+        sock.setsockopt(socket.IPPROTO_TCP, socket.TCP_NODELAY, 1)
+        return sock
+    sock = socket.socket(socket.AF_UNIX)
+    try:
+        sock.settimeout(seconds)
+        sock.connect(address[len("unix:"):])
+    except OSError as fault:
+        sock.close()
+        raise as_raised(fault)
+    return sock
+
+
+def as_raised(fault):
+    """A fault of a socket. That a time is over is a TimeoutError; before Python 3.10 it is none by itself."""
+    return TimeoutError(str(fault)) if isinstance(fault, socket.timeout) else fault
 
 
 class Canvas:
@@ -126,13 +178,11 @@ class Canvas:
 
     @classmethod
     def connect(cls, address, seconds=60):
-        """A session with a server at `host:port`. Where a call waits and nothing comes for so many seconds (None: for ever) it raises TimeoutError."""
-        if seconds is not None and not seconds > 0:
-            raise ValueError(f"{seconds} seconds are no time to wait")
+        """A session with a server at `host:port` or `unix:path`. Where a call waits and nothing comes for so many seconds (None: for ever) it
+        raises TimeoutError."""
         canvas = cls.__new__(cls)
         canvas._process = None
-        canvas._socket = socket.create_connection(place_of(address), timeout=seconds)
-        canvas._socket.setsockopt(socket.IPPROTO_TCP, socket.TCP_NODELAY, 1)
+        canvas._socket = connected(address, seconds)
         canvas._begin(canvas._socket.makefile("wb"), canvas._socket.makefile("rb"))
         return canvas
 
@@ -185,9 +235,9 @@ class Canvas:
             put()
         except ConnectionError:
             pass
-        except OSError:
+        except OSError as fault:
             self._end()
-            raise
+            raise as_raised(fault)
 
     def _take(self):
         try:
@@ -195,9 +245,9 @@ class Canvas:
         except (StopIteration, ConnectionError) as fault:
             self._end()
             raise EOFError("the session has ended") from fault
-        except (OSError, EOFError, ValueError):
+        except (OSError, EOFError, ValueError) as fault:
             self._end()
-            raise
+            raise as_raised(fault)
 
     def _end(self):
         """After a fault: nothing more is sent or read, and a server is told so."""
@@ -267,3 +317,131 @@ class Canvas:
             self._socket.close()
             return None
         return self._process.wait()
+
+
+class Feed:
+    """The kept edits of a document, one after another, by a feed door of canvasd: an iterator of KeptEdit, which waits for the next one.
+
+    It ends when the server ends the connection. Whoever goes on then connects again, with `version` as `since` and with the generation.
+
+    version      that of the edit which was given last, or `since` before the first one
+    generation   which generation is followed, and
+    opening      the saved text of the document with which it began; both None where `opening` was not asked for
+    """
+
+    @classmethod
+    def connect(cls, address, since=0, opening=False, generation=None, seconds=None):
+        """A feed of all edits behind the version `since`, from a door at `host:port` or `unix:path`.
+
+        It asks for the generation's opening document too where `opening` is true, and is refused where another generation than the one named is
+        served. A refusal is raised as FeedRefused: here where an opening was asked for, or else in the place of the first edit. Where a call waits and
+        nothing comes for so many seconds (None: for ever) it raises TimeoutError, and the feed is over.
+        """
+        feed = cls.__new__(cls)
+        feed.version, feed.generation, feed.opening = since, None, None
+        feed._rest, feed._seconds = bytearray(), seconds
+        feed._socket = connected(address, seconds)
+        feed._keep_alive()
+        feed._ask({"since": since, **({"opening": True} if opening else {}), **({} if generation is None else {"generation": generation})})
+        if opening:
+            feed._open()
+        return feed
+
+    def __enter__(self):
+        return self
+
+    def __exit__(self, *_):
+        self.close()
+
+    def __iter__(self):
+        return self
+
+    def __next__(self):
+        line = self._line(MOST_LINE)
+        if line is None:
+            raise StopIteration
+        found = EDIT_LINE.fullmatch(line)
+        if found is None:
+            raise self._fault(line)
+        *damage, text, made, version = found.groups()
+        if int(version) != self.version + 1:
+            self.close()
+            raise ValueError(f"version {version} came after {self.version}")
+        edit = self._edit(text, line)
+        self.version += 1
+        return KeptEdit(self.version, made and int(made), tuple(map(int, damage)), edit, text)
+
+    def batch(self):
+        """The edits that have come: it waits for one at least. None of them where the feed has ended."""
+        edits = [kept for kept in [next(self, None)] if kept]
+        while b"\n" in self._rest:
+            edits.append(next(self))
+        return edits
+
+    def close(self):
+        """Ends the feed."""
+        self._socket.close()
+        self._rest.clear()
+
+    def _keep_alive(self):
+        """Has the system notice a server whose machine is gone, and so says nothing."""
+        self._socket.setsockopt(socket.SOL_SOCKET, socket.SO_KEEPALIVE, 1)
+        for name, value in KEEP_ALIVE.items():
+            if self._socket.family != socket.AF_UNIX and hasattr(socket, name):
+                self._socket.setsockopt(socket.IPPROTO_TCP, getattr(socket, name), value)
+
+    def _ask(self, request):
+        with suppress(ConnectionError):  # a refusal may be there to be read
+            self._socket.sendall(line_of(request))
+
+    def _open(self):
+        line = self._line(MOST_OPENING)
+        if line is None:
+            raise EOFError("the feed has ended before its opening document")
+        found = OPENING_LINE.fullmatch(line)
+        if found is None:
+            raise self._fault(line)
+        self.generation, self.opening = int(found[1]), found[2]
+
+    def _line(self, most):
+        """The next line, or None where the feed has ended before it was whole."""
+        at = 0
+        while (end := self._rest.find(b"\n", at)) < 0:
+            at = len(self._rest)
+            if at > most:
+                raise self._fault(self._rest[:100].decode(errors="backslashreplace"))
+            part = self._part()
+            if not part:
+                self.close()
+                return None
+            self._rest += part
+        line = self._rest[: end + 1].decode(errors="backslashreplace")
+        del self._rest[: end + 1]
+        return line
+
+    def _part(self):
+        """What comes next, or nothing at the end."""
+        try:
+            return self._socket.recv(1 << 16)
+        except socket.timeout:
+            self.close()
+            raise TimeoutError(f"nothing came for {self._seconds} seconds") from None
+        except OSError:  # it was reset, or closed here
+            return b""
+
+    def _edit(self, text, line):
+        try:
+            return json.loads(text)
+        except (ValueError, RecursionError):
+            raise self._fault(line) from None
+
+    def _fault(self, line):
+        """Ends the feed; gives what is raised of a line that is not wanted: the server's words where it refuses."""
+        self.close()
+        try:
+            value = json.loads(line)
+        except (ValueError, RecursionError):
+            value = None
+        if type(value) is dict and value.get("ok") is False and type(value.get("error")) is str:
+            return FeedRefused(value["error"])
+        return ValueError(f"this is no line of a feed: {line[:100]!r}")

@@ -6,7 +6,8 @@ usage: tools/check_clients.py
 
 - the tests of tools/client_tests: replies cut at every place, refusals, sessions that end, a server that says nothing;
 - each call of tools/client_tests/calls.json, in Python and in JavaScript, gives the same answer, and every call of a client is among them;
-- each block of docs/CLIENT.md, in a folder with nothing but a copy of the clients, beside a server of its own.
+- each feed of tools/client_tests/feeds.json gives the same in both, where the server is canvasd;
+- each block of docs/CLIENT.md, in a folder with nothing but a copy of the clients, beside a server of its own; one with a feed where it is canvasd.
 
 It runs the program that the environment's CANVAS names, or else the one that bin/canvas builds. Prints each case that fails, and a last line
 'N passed, M failed'; the status is 1 where something failed.
@@ -24,15 +25,17 @@ import tempfile
 from contextlib import contextmanager
 from pathlib import Path
 
-from canvas_client import TOP, Canvas, Refused
+from canvas_client import TOP, Canvas, Feed, FeedRefused, Refused
 from repository import BUILT
-from running import EMPTY, Server, build, difference, tell
+from running import EMPTY, FEED, IS_KEPT, Server, build, difference, tell
 
 TESTS = TOP / "tools" / "client_tests"
 PAGE = TOP / "docs" / "CLIENT.md"
 CLIENTS = (TOP / "tools" / "canvas_client.py", TOP / "tools" / "canvas_client.mjs")
 FAULTS = {"EOFError": "Ended", "TimeoutError": "TimedOut", "ValueError": "BadReply", "RuntimeError": "Error"}
 """What a fault of Python is in JavaScript."""
+PLACES = ("127.0.0.1:7878", "127.0.0.1:7879")
+"""Where the page has a server listen, and where it has its feed door."""
 LEAST_NODE = 18
 SECONDS = 300
 
@@ -48,9 +51,9 @@ def node_fault():
 
 @contextmanager
 def served(text):
-    """The address of a server of a saved document."""
-    with tempfile.TemporaryDirectory() as folder, Server(folder, text) as server:
-        yield server.address
+    """The address of a server of a saved document, and that of its feed door, which canvasd has."""
+    with tempfile.TemporaryDirectory() as folder, Server(folder, text, more=FEED if IS_KEPT else ()) as server:
+        yield server.address, *server.feeds
 
 
 def run(words, folder=TOP, environment=None):
@@ -123,21 +126,50 @@ def compared(calls, where, canvas, words):
 
 def each_call():
     calls = json.loads((TESTS / "calls.json").read_text())
-    with served(EMPTY) as one, served(EMPTY) as other:
+    with served(EMPTY) as (one, *_), served(EMPTY) as (other, *_):
         yield from compared(calls, "of a server", Canvas.connect(one, SECONDS), [other])
     yield from compared(calls, "of a program of its own", Canvas(), [])
 
 
+def feed_answer(address, wanted, count):
+    """What a feed gives first, and so many edits of it, as calls.mjs tells it."""
+    try:
+        with Feed.connect(address, seconds=SECONDS, **wanted) as feed:
+            edits = [told(next(feed)) for _ in range(count)]
+            return {"generation": feed.generation, "opening": feed.opening, "edits": edits, "version": feed.version}
+    except FeedRefused as refused:
+        return {"refused": str(refused)}
+
+
+def each_feed():
+    """Feeds of one server, whose edits are those of calls.json that it takes."""
+    if not IS_KEPT:
+        return
+    feeds = json.loads((TESTS / "feeds.json").read_text())
+    with served(EMPTY) as (address, door):
+        with Canvas.connect(address, SECONDS) as canvas:
+            made = [answer_of(canvas, *call).get("version") for call in json.loads((TESTS / "calls.json").read_text())[:26]]
+        given = [feed_answer(door, *feed) for feed in feeds]
+        others, said = answers_in_javascript(["feeds", door])
+    yield "feeds in JavaScript", difference((len(others), said), (len(feeds), ""))
+    for feed, got, wanted in zip(feeds, others, given):
+        yield f"{feed} in JavaScript", difference(got, wanted)
+    yield "edits of a feed", difference([it["version"] for it in given[0]["edits"]], sorted(set(filter(None, made))))
+    yield "feeds that are refused", difference(sum("refused" in it for it in given), 6)
+
+
 def names_of_calls():
-    """Each call of the one client is one of the other, and among those that are compared."""
-    names = sorted(name for name in vars(Canvas) if not name.startswith("_"))
+    """Each call of the one client is one of the other, and among those that are compared. (Loops over a feed have names of their own.)"""
+    names, of_feeds = (sorted(name for name in vars(kind) if not name.startswith("_")) for kind in (Canvas, Feed))
     in_javascript = sorted(re.sub(r"_(.)", lambda it: it[1].upper(), name) for name in names)
-    (found,), _ = answers_in_javascript(["names"])
-    yield "the names of the calls", difference(found, in_javascript)
+    found, _ = answers_in_javascript(["names"])
+    yield "the names of the calls", difference(found, [in_javascript, sorted([*of_feeds, "next", "return"])])
     tried = {call[0] for call in json.loads((TESTS / "calls.json").read_text())} | {"connect"}
     yield "calls that are tried", difference(sorted(tried), names)
     table = set(re.findall(r"`(?:await )?(?:new )?[Cc]anvas\.(\w+)\(", PAGE.read_text()))
     yield "calls that docs/CLIENT.md names", difference(sorted(table | {"ask"}), sorted({*names, *in_javascript}))
+    of_page = set(re.findall(r"`(?:await )?[Ff]eed\.(\w+)\(", PAGE.read_text()))
+    yield "calls of feeds that docs/CLIENT.md names", difference(sorted(of_page), of_feeds)
 
 
 # -- the page ------------------------------------------------------------------------------------------------------------
@@ -155,10 +187,12 @@ def words_of(language, script, folder):
 def example(language, block, prints):
     """What is wrong with a block of the page, or None."""
     poster = (TOP / "examples" / "poster.json").read_bytes()
-    with tempfile.TemporaryDirectory() as folder, served(poster) as address:
+    with tempfile.TemporaryDirectory() as folder, served(poster) as addresses:
         for client in CLIENTS:
             shutil.copy(client, folder)
-        script = block.replace("127.0.0.1:7878", address).replace("127.0.0.1/7878", address.replace(":", "/"))
+        script = block
+        for place, address in zip(PLACES, addresses):
+            script = script.replace(place, address).replace(place.replace(":", "/"), address.replace(":", "/"))
         done = run(words_of(language, script, folder), folder, {"PYTHONDONTWRITEBYTECODE": "1"})
         said = done.stdout if prints is not None else ""
         return difference((done.returncode, done.stderr, said), (0, "", prints or ""))
@@ -168,6 +202,8 @@ def examples():
     """The blocks of the page; where a block of plain text follows one directly, that is what it prints."""
     blocks = re.findall(r"```(python|js|bash)\n(.*?)```\n(?:\n```text\n(.*?)```)?", PAGE.read_text(), re.DOTALL)
     for number, (language, block, prints) in enumerate(blocks, start=1):
+        if PLACES[1] in block and not IS_KEPT:
+            continue
         yield f"block {number} of docs/CLIENT.md, {language}", example(language, block, prints or None)
     for language in ("python", "js"):
         count = sum(it[0] == language for it in blocks)
@@ -175,7 +211,7 @@ def examples():
 
 
 def all_cases():
-    for stage in (tests_in_python, tests_in_javascript, names_of_calls, each_call, examples):
+    for stage in (tests_in_python, tests_in_javascript, names_of_calls, each_call, each_feed, examples):
         yield from stage()
 
 

@@ -3,11 +3,16 @@
 
 usage: tools/check_docs.py [--write]
 
-- each wrong body that docs/PROOFS.md names stands in must-fail/ or wrong-bodies/ of a crate of its section, each that stands there is
-  named in a section of its crate, and each can be applied to the sources;
+- each wrong body can be applied to the sources, and the list in crates/NAME/wrong-bodies/README.md is as the crate's edits are, below promises that
+  docs/PROOFS.md has of the crate (tools/body_lists.py); with --write the lists are written so first;
 - each definition that a page shows (`<!-- from FILE: NAME.. -->` before a block of code) is as it stands in its file; with --write the pages
   are written so first;
-- each file, crate and command that README.md, CHANGELOG.md, docs/*.md or a crate's README.md names exists;
+- each file, crate and command that README.md, CHANGELOG.md, docs/*.md or a crate's README.md names exists, and each function that is named
+  behind its file;
+- no page, and not all together, have more words than MOST and MOST_OF_ALL say (count_of says what counts);
+- tools/README.md and examples/README.md name each file beside them;
+- docs/PROOFS.md names each crate of the kit that crates.txt has among those that are trusted;
+- each heading that docs/QUESTIONS.md names stands in its page;
 - the gate that README.md names is what .ci/run runs (tools/check_program.py runs its example);
 - CHANGELOG.md begins with the version in the file VERSION, and the packages that docs/INSTALL.md names are of that version.
 
@@ -17,6 +22,7 @@ Prints what is wrong, and a last line 'N passed, M failed'; the status is 1 wher
 import re
 import sys
 
+from body_lists import faults_of_lists, write_lists
 from excerpts import NoDefinition, as_they_stand, faults_of_excerpts
 from repository import TOP, lines
 from try_wrong_bodies import BadEdit, edited
@@ -26,6 +32,20 @@ FOLDERS = ("must-fail", "wrong-bodies")
 PLACES = ("crates", "docs", "tools", "bin", "bench", "examples", ".ci")
 PARTS = ("src", "specs", "proofs", "must-fail", "wrong-bodies")
 VERBS = "all check ci doc expand fmt lemma lib must-fail new plant run seed test tidy try verdict version".split()
+
+
+MOST = {"README.md": 1_000, "docs/ARCHITECTURE.md": 1_500, "docs/DECISIONS.md": 3_000, "docs/PROOFS.md": 4_500, "docs/SPEED.md": 2_000, "docs/VIEWER.md": 700}
+"""How many words a page may have."""
+MOST_OF_ALL = 27_000
+"""How many words README.md, docs/ and the READMEs of crates, tools, the viewer and examples may have together."""
+
+
+def count_of(text):
+    """How many words a page has to be read: what has a letter and stands outside of blocks of code, of `code` and of comments. Blocks are definitions
+    cut out of the sources, examples and commands, which other checks compare; `code` is names, and tables of figures have numbers."""
+    for part in (r"^```.*?^```$", r"<!--.*?-->", r"`[^`\n]*`"):
+        text = re.sub(part, "", text, flags=re.M | re.S)
+    return sum(bool(re.search(r"[A-Za-z]", it)) for it in text.split())
 
 
 def code_words(text):
@@ -42,39 +62,14 @@ def bodies():
     return found
 
 
-def named_bodies(text):
-    """The wrong bodies that a page names, in the last column of tables with them: the name, and the crates that the row begins with, or
-    else those of the section."""
-    crates, with_bodies = [], False
-    for number, line in enumerate(text.splitlines(), start=1):
-        if line.startswith("## "):
-            crates = [it for it in lines() if re.search(rf"\b{it}\b", line)]
-        cells = line.split(" | ") if line.startswith("| ") else []
-        if not cells:
-            with_bodies = with_bodies and line.startswith("|")
-        elif cells[-1].startswith(("Wrong bodies", "Edits")):
-            with_bodies = True
-        elif with_bodies:
-            of_row = [it for it in code_words(cells[0]) if it in lines()]
-            for name in code_words(cells[-1]):
-                yield number, of_row or crates, name
-
-
 def faults_of_bodies():
     """A line for each thing that is looked at: None, or what is wrong with it."""
-    there, named = bodies(), set()
-    for number, crates, name in named_bodies((TOP / "docs" / "PROOFS.md").read_text()):
-        found = {(crate, name) for crate in crates} & set(there)
-        named |= found
-        yield None if found else f"docs/PROOFS.md:{number}: no wrong body {name} in {' or '.join(crates) or 'a section with no crate'}"
-    for (crate, name), path in there.items():
-        inside = path.relative_to(TOP)
-        yield None if (crate, name) in named else f"{inside}: docs/PROOFS.md does not name it in a section of {crate}"
+    for (crate, _), path in bodies().items():
         try:
             edited(path.read_text(), CRATES / crate)
             yield None
         except BadEdit as why:
-            yield f"{inside}: {why}"
+            yield f"{path.relative_to(TOP)}: {why}"
 
 
 def exists(word, page):
@@ -86,7 +81,7 @@ def exists(word, page):
     if word.split("/")[0] in PARTS:
         folders = [page.parent] if page.parent.parent == CRATES else [it for it in CRATES.iterdir() if it.is_dir()]
     else:
-        folders = [TOP]
+        folders = [CRATES if word.split("/")[0] in {*lines()} - {*PLACES} else TOP]
     return any(next(folder.glob(it), None) for folder in folders for it in (pattern, f"{pattern}.antt", f"{pattern}.rt"))
 
 
@@ -96,7 +91,7 @@ def paths_in(text):
         yield from re.findall(r"(?:^|[|<] ?)((?:bin|tools|bench|examples|\.ci)/[\w./-]+)", block, re.M)
     for word in code_words(text):
         first = word.split()[0]
-        if "/" in first and first.split("/")[0] in (*PLACES, *PARTS) and re.fullmatch(r"[\w./*-]+", first):
+        if "/" in first and first.split("/")[0] in (*PLACES, *PARTS, *lines()) and re.fullmatch(r"[\w./*-]+", first):
             yield first
 
 
@@ -112,6 +107,48 @@ def faults_of_page(page):
             yield None if word in lines() else f"{inside}: no crate {word}"
     for verb in re.findall(r"(?:^|`)rt ([\w-]+)", text, re.M):
         yield None if verb in VERBS else f"{inside}: no command rt {verb}"
+
+
+def faults_of_functions(page):
+    """As faults_of_bodies, for the functions that a page names behind their file, as in `canvas_line/src/desk.rt`: `apply`, `close`."""
+    inside = page.relative_to(TOP)
+    for file, names in re.findall(r"`(\w+/src/[\w/]+\.rt)`:\s+(`\w+`(?:(?:,\s+|\s+and\s+)`\w+`)*)", page.read_text()):
+        source = (CRATES / file).read_text() if (CRATES / file).is_file() else ""
+        yield None if source else f"{inside}: no file {file}"
+        for name in code_words(names):
+            yield None if re.search(rf"\bfn {name}\b", source) else f"{inside}: no function {name} in {file}"
+
+
+def faults_of_questions():
+    """As faults_of_bodies, for the headings that docs/QUESTIONS.md names."""
+    for link, heading in re.findall(r"^\| .* \| \[\w+\]\((\S+)\) \| (.*) \|$", (TOP / "docs" / "QUESTIONS.md").read_text(), re.M):
+        page = (TOP / "docs" / link).resolve()
+        headings = re.findall(r"^#+ (.*)$", page.read_text(), re.M) if page.is_file() else []
+        yield None if heading in headings else f"docs/QUESTIONS.md: {page.relative_to(TOP)} has no heading '{heading}'"
+
+
+def faults_of_index(page):
+    """As faults_of_bodies, for a page that names each file beside it."""
+    named = {it.rstrip("/") for it in code_words(page.read_text())}
+    for it in sorted(page.parent.iterdir()):
+        if it != page and not it.name.startswith((".", "__")):
+            yield None if it.name in named else f"{page.relative_to(TOP)}: it does not name {it.name}"
+
+
+def faults_of_lengths(pages):
+    """As faults_of_bodies, for how many words pages have."""
+    counts = {str(it.relative_to(TOP)): count_of(it.read_text()) for it in pages if it.name != "CHANGELOG.md"}
+    for page, most in [*MOST.items(), ("all pages", MOST_OF_ALL)]:
+        count = counts.get(page, sum(counts.values()))
+        yield None if count <= most else f"{page}: {count} words, and {most} may be"
+
+
+def faults_of_trusted():
+    """As faults_of_bodies, for the crates of the kit that docs/PROOFS.md trusts."""
+    used = {it for line in lines().values() for it in line.partition(":")[2].split()} - {*lines()}
+    named = set(code_words((TOP / "docs" / "PROOFS.md").read_text().partition("## What is trusted")[2].partition("\n## ")[0]))
+    for name in sorted(used):
+        yield None if name in named else f"docs/PROOFS.md: it does not name {name} among the crates that are trusted"
 
 
 def faults_of_gate():
@@ -147,13 +184,19 @@ def write(page):
 def main():
     if sys.argv[1:] not in ([], ["--write"]):
         sys.exit("usage: tools/check_docs.py [--write]")
-    pages = [TOP / "README.md", TOP / "CHANGELOG.md", *sorted((TOP / "docs").glob("*.md")), *sorted(CRATES.glob("*/README.md"))]
+    indexes = [TOP / "tools" / "README.md", TOP / "examples" / "README.md"]
+    others = [*indexes, TOP / "tools" / "viewer" / "README.md"]
+    pages = [TOP / "README.md", TOP / "CHANGELOG.md", *sorted((TOP / "docs").glob("*.md")), *others, *sorted(CRATES.glob("*/README.md"))]
     if sys.argv[1:]:
         for page in pages:
             write(page)
-    found = [*faults_of_bodies(), *faults_of_gate(), *faults_of_version()]
+        write_lists()
+    found = [*faults_of_bodies(), *faults_of_lists(), *faults_of_questions(), *faults_of_trusted(), *faults_of_gate(), *faults_of_version()]
+    found += faults_of_lengths(pages)
+    for page in indexes:
+        found += faults_of_index(page)
     for page in pages:
-        found += [*faults_of_page(page), *faults_of_excerpts(page)]
+        found += [*faults_of_page(page), *faults_of_functions(page), *faults_of_excerpts(page)]
     failures = [it for it in found if it]
     print(*failures, sep="\n", end="\n" if failures else "")
     print(f"{len(found) - len(failures)} passed, {len(failures)} failed")

@@ -6,28 +6,30 @@ usage: tools/check_protocol.py
 
 A block marked `session` is a session of its own: a line `> ..` is sent, a line `< ..` is the reply's line, and a line in brackets
 after it says what the body is: a JSON text, which is compared, or a picture with its sides and the names of its colours, all of whose
-pixels are compared; one colour alone is that of each pixel. It runs the program that the environment's CANVAS names, or else
+pixels are compared; one colour alone is that of each pixel. In a block marked `feed`, which takes canvasd, a line `>> ..` is sent over a new
+connection to a feed door, and the lines `<< ..` behind it are what comes. It runs the program that the environment's CANVAS names, or else
 bin/canvas. Prints what differs, and a last line 'N passed, M failed'; the status is 1 where something failed.
 """
 
 import re
 import sys
+import tempfile
 
-from canvas_client import TOP
-from running import answers_to, build
+from canvas_client import TOP, connected
+from running import FEED, IS_KEPT, SECONDS, Server, answers_to, build, read_line, talk
 
 PAGE = TOP / "docs" / "PROTOCOL.md"
 
 
 def blocks(text):
-    """The lines of each session block, with the number of its first line."""
+    """The lines of each session block and each feed block, with the number of the first line and what is wrong with it, as `fault` tells."""
     lines = text.splitlines()
     begin = None
     for number, line in enumerate(lines, start=1):
-        if line == "```session":
+        if line in TRIED:
             begin = number
         elif line == "```" and begin is not None:
-            yield begin, lines[begin : number - 1]
+            yield begin, lines[begin : number - 1], TRIED[lines[begin - 1]]
             begin = None
 
 
@@ -71,11 +73,31 @@ def fault(block):
     return None
 
 
+def feed_fault(block):
+    """What is wrong with a feed block, or None: first its session is held, and then one connection after another to the feed door."""
+    with tempfile.TemporaryDirectory() as folder, Server(folder, more=FEED) as server:
+        with server.socket() as sock:
+            replies = talk(sock, "".join(line[2:] + "\n" for line in block if line.startswith("> ")).encode()).decode().splitlines()
+        if replies != [line[2:] for line in block if line.startswith("< ")]:
+            return f"the replies are {replies}"
+        sock = None
+        for line in block:
+            if line.startswith(">> "):
+                sock = connected(server.feeds[0], SECONDS)
+                sock.sendall(line[3:].encode() + b"\n")
+            elif line.startswith("<< ") and (got := read_line(sock).decode()) != line[3:] + "\n":
+                return f"{got!r} comes, and not {line[3:]}"
+    return None
+
+
+TRIED = {"```session": fault, **({"```feed": feed_fault} if IS_KEPT else {})}
+
+
 def main():
     build()
     passed = failed = 0
-    for number, block in blocks(PAGE.read_text()):
-        found = fault(block)
+    for number, block, fault_of in blocks(PAGE.read_text()):
+        found = fault_of(block)
         if found:
             failed += 1
             print(f"docs/PROTOCOL.md:{number}: {found}")

@@ -100,13 +100,16 @@ def kept(name, keeper, folder, poster, where=None):
 def shown(demo):
     """What a demo says, and the page that it shows."""
     address = f"127.0.0.1:{free_port()}"
-    process = subprocess.Popen([str(demo), "--listen", address], env=PLAIN, stdin=subprocess.DEVNULL, stdout=subprocess.PIPE)
+    folder = tempfile.TemporaryDirectory()
+    words = [str(demo), "--folder", f"{folder.name}/drawing", "--listen", address]
+    process = subprocess.Popen(words, env=PLAIN, stdin=subprocess.DEVNULL, stdout=subprocess.PIPE)
     try:
         line = process.stdout.readline().decode()
         yield f"what {demo} says", line.partition(" (")[0], f"look at http://{address}/"
         if line:
             with urllib.request.urlopen(f"http://{address}/", timeout=SECONDS) as page:
-                yield "its page", page.read(), (TOP / "tools" / "viewer" / "page" / "index.html").read_bytes()
+                wanted = (TOP / "tools" / "viewer" / "page" / "index.html").read_text().replace("<title>", "<title>drawing – ")
+                yield "its page", page.read().decode(), wanted
     finally:
         process.terminate()
         process.communicate(timeout=SECONDS)
@@ -133,6 +136,17 @@ def tarball(folder):
     yield "a document that is none", call([str(top / "bin" / "canvas"), "serve", "127.0.0.1:0", "none"])[1:], (b"canvas: there is no file none\n", 4)
     yield from served_by_tarball(top)
     yield from kept("the tarball", ["bin/canvasd"], "drawing", "examples/poster.json", top)
+    yield from copied(top)
+
+
+def copied(top):
+    """A copy of a document that the tarball's canvasd serves, by its feed."""
+    feed = f"127.0.0.1:{free_port()}"
+    words = ["bin/canvasd", "followed", "--open", "examples/poster.json", "--listen", "127.0.0.1:0", "--feed", feed]
+    with serving(words, top) as address:
+        yield "a document that is followed", served(address), SERVED
+        yield "its copy is made", call(["tools/backup.py", feed, "copy", "--once"], top)[1:], (b"", 0)
+    yield "its copy", call(["bin/canvasd", "history", "copy", "1"], top), call(["bin/canvasd", "history", "followed", "1"], top)
 
 
 def served_by_tarball(top):
@@ -161,7 +175,7 @@ def package(folder):
         yield f"the newest version of the C library that {name} uses", bool(used) and max(used) <= NEWEST_GLIBC, True
         page = gzip.decompress((root / "usr" / "share" / "man" / "man1" / f"{name}.1.gz").read_bytes()).decode()
         yield f"the man page of {name} in the package", words_missing(name, page), []
-    for name in ("bin/canvas-demo", "share/canvas/bin/canvas"):
+    for name in ("bin/canvas-demo", "share/canvas/bin/canvas", "share/canvas/bin/canvasd"):
         yield f"the link {name}", (root / "usr" / name).resolve().is_relative_to(root / "usr") and (root / "usr" / name).exists(), True
     yield from shown(root / "usr" / "bin" / "canvas-demo")
     yield from bare_root(root, folder / "bare")

@@ -4,7 +4,7 @@
 usage: tools/check_streams.py
 
 Standard input, output and error are files, pipes, sockets, terminals, closed, full, or lose their other side; and the program is stopped
-and continued while it waits for a stream. Each case has the status of the table in README.md: 0 at the end of the input, 2 for words that
+and continued while it waits for a stream. Each case has the status of the table in docs/STATUS.md: 0 at the end of the input, 2 for words that
 are no command, 3 for a file that is no saved document, 4 where reading or writing fails.
 
 Prints each case that fails, and a last line 'N passed, M failed'; the status is 1 where something failed.

@@ -32,7 +32,7 @@ from random_requests import Requests
 from running import SECONDS, Running, build_keeper, kept_words, tell
 
 CLIENTS = 6
-LIMIT = 200
+LIMIT = 60  # edits of a generation: about a third of the requests are accepted, so a run goes over the end of several
 CALLS = "pwrite64,write,writev,sendto,sendmsg,sendfile,fdatasync,fsync,openat,open,creat,rename,renameat,renameat2,mkdir,mkdirat,ftruncate,accept,accept4"
 HEX = re.compile(r"\\x([0-9a-f]{2})")
 FIRST_FD = re.compile(r"^(\d+)<([^>]*)>")

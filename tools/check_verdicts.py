@@ -1,5 +1,5 @@
 #!/usr/bin/env python3
-"""Tries how tools/try_wrong_bodies.py reads what the prover prints, and how records are written, read and sampled.
+"""Tries how tools/try_wrong_bodies.py reads what the prover prints, how records are written, read and sampled, and how lists name what a body changes.
 
 usage: tools/check_verdicts.py
 
@@ -9,7 +9,8 @@ Prints what is wrong, and a last line 'N passed, M failed'; the status is 1 wher
 import sys
 
 import verdicts
-from functions import refused_function
+from body_lists import place_in
+from functions import refused_function, without_bodies
 from try_wrong_bodies import judged, told
 
 NOT_PROVED = "logic=not-proved"
@@ -65,6 +66,34 @@ def faults_of_parsing():
     yield None if len(told(f"{TRIVIAL}\nlogic: x\n  set in".split("\n"))[0].split("\n")) == 4 else "a line that is set in goes to the wrong place"
 
 
+def faults_of_contracts():
+    """As faults_of_parsing."""
+    bare = "pub fn read(\n    side: u32,\n) -> u32 {\n}\n\nfn other() {\n}\n"
+    yield None if without_bodies(SOURCE) == bare else f"without bodies a source reads {without_bodies(SOURCE)!r}"
+    for what, text, is_same in (
+        ("a comment and a body", "// why\n" + SOURCE.replace("    side\n", "    side + 1\n"), True),
+        ("a parameter", SOURCE.replace("side: u32,", "side: u64,"), False),
+        ("a clause", SOURCE.replace(") -> u32 {", ") -> u32\n    ensures { result ≡ side }\n{"), False),
+    ):
+        yield None if (without_bodies(text) == bare) == is_same else f"{what}: without bodies it reads {without_bodies(text)!r}"
+    constant = SOURCE.replace("pub fn", "pub const fn")
+    yield None if "    side\n" in without_bodies(constant) else "the body of a const fn is gone"
+
+
+def faults_of_places():
+    """As faults_of_parsing."""
+    source = f"const LIMIT: u32 = 1;\n\n{SOURCE}"
+    for old, new, wanted in (
+        ("    side\n", "    0\n", "`read`"),
+        (") -> u32 {", ") -> u32 { return 0;", "`read`"),
+        ("    side: u32", "    side: u8", "the contract of `read`"),
+        ("LIMIT", "MOST", ""),
+        ("none of it", "some", "a text that is gone"),
+    ):
+        found = place_in(source, old, new)
+        yield None if found == wanted else f"{old!r} stands in {found!r}, not {wanted!r}"
+
+
 def faults_of_records():
     """As faults_of_parsing."""
     said = {"b": "refused", "a": "PROVED", "c": "not judged"}
@@ -92,7 +121,7 @@ def faults_of_samples():
 
 
 def main():
-    found = [*faults_of_parsing(), *faults_of_records(), *faults_of_samples()]
+    found = [*faults_of_parsing(), *faults_of_contracts(), *faults_of_places(), *faults_of_records(), *faults_of_samples()]
     failures = [it for it in found if it]
     print(*failures, sep="\n", end="\n" if failures else "")
     print(f"{len(found) - len(failures)} passed, {len(failures)} failed")

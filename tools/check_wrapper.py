@@ -7,7 +7,7 @@ usage: tools/check_wrapper.py
 - they build where the program is missing or was made from other sources, whatever the times of the files are, and else need no `rt`;
 - a signal during a build ends all that it started, and leaves no temporary folder;
 - before it serves bin/canvas says what is wrong with the address or the file;
-- bin/canvas-demo, over the program that CANVAS names or that bin/canvas builds, ends with status 1 when one of its programs ends.
+- bin/canvas-demo, over the program that CANVASD names or that bin/canvasd builds, keeps its drawing, and ends with status 1 when one of its programs ends.
 
 Prints each case that fails, and a last line 'N passed, M failed'; the status is 1 where something failed.
 """
@@ -24,8 +24,9 @@ import time
 from contextlib import contextmanager, suppress
 from pathlib import Path
 
-from canvas_client import PROGRAM, Canvas
-from repository import BUILT, TOP
+from canvas_client import Canvas
+from repository import BUILT_KEEPER, TOP
+from running import build, build_keeper
 
 SECONDS = 60
 VERSION = (TOP / "VERSION").read_text().strip()
@@ -306,8 +307,9 @@ def has_other_place(address):
 
 @contextmanager
 def demo(made, *words):
-    """A running demo over the real program, and a stub for the gateway."""
-    environment = {**made.environment(has_rt=False), "CANVAS": str(BUILT)}
+    """A running demo over the real program, a stub for the gateway, and no bots."""
+    environment = {**made.environment(has_rt=False), "CANVASD": str(BUILT_KEEPER)}
+    words = ["--no-bots", "--folder", str(made.top / "drawing"), *words]
     process = subprocess.Popen([str(made.top / "bin" / "canvas-demo"), *words], env=environment, text=True, start_new_session=True,
                                stdin=subprocess.DEVNULL, stdout=subprocess.PIPE, stderr=subprocess.PIPE,
                                preexec_fn=lambda: signal.signal(signal.SIGINT, signal.SIG_DFL))
@@ -340,12 +342,12 @@ def below_with(process, name):
 
 def demos():
     with tree() as made:
-        for name, killed in (("server", "canvas"), ("gateway", "sleep")):
+        for name, killed in (("server", "canvasd"), ("gateway", "sleep")):
             with demo(made) as process:
                 line = process.stdout.readline()
                 started = below_with(process, killed)
-                with Canvas.connect(line.partition("server is at ")[2].partition(")")[0]) as canvas:
-                    yield "the demo's address", canvas.ask(verb="export")[1][:12], b'{"format":2,'
+                with Canvas.connect(line.partition("server is at ")[2].partition(";")[0]) as canvas:
+                    yield "the demo's drawing, made once", canvas.ask(verb="point", x=0, y=0)[0], {"body": 0, "colour": "f4ead5", "ok": True, "version": 1069}
                 os.kill(started[killed], signal.SIGKILL)
                 _, said = process.communicate(timeout=SECONDS)
                 alive = [it for it in started.values() if Path(f"/proc/{it}").exists()]
@@ -358,13 +360,14 @@ def demos():
                 _, said = process.communicate(timeout=SECONDS)
                 alive = [it for it in started.values() if Path(f"/proc/{it}").exists()]
                 yield f"a demo at {name}", (len(started), said, process.returncode, alive), (2, "", 0, [])
-        with demo(made, "--document", "/nowhere/at.json") as process:
+        with demo(made, "--folder", str(made.top / "other"), "--document", "/nowhere/at.json") as process:
             _, said = process.communicate(timeout=SECONDS)
             yield "a demo without its document", (said.splitlines()[-1], process.returncode), ("canvas-demo: the server did not start", 1)
 
 
 def main():
-    subprocess.run([str(PROGRAM), "script"], stdin=subprocess.DEVNULL, check=True)  # builds it where it is not built
+    build()
+    build_keeper()
     passed = failed = 0
     for cases in (words, builds, changes, built_by_rt_alone, failing_builds, signals, servings, demos):
         for name, got, wanted in cases():

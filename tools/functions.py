@@ -1,4 +1,5 @@
-"""In which functions of a source, as `rt fmt` lays it out, a change lies, and which function a line of the prover refuses."""
+"""In which functions of a source, as `rt fmt` lays it out, a change lies, what a source says without their bodies, and which function a line of the
+prover refuses."""
 
 import re
 from dataclasses import dataclass
@@ -47,6 +48,15 @@ def innermost(found, number):
     """The function that has this line and none of those inside it has."""
     inside = [it for it in found if it.begins <= number <= it.ends]
     return max(inside, key=lambda it: it.begins, default=None)
+
+
+def without_bodies(text):
+    """What the crates above see of a source: no bodies of functions and no comments. What a `const fn` gives may stand in a type, so its body stays."""
+    lines = text.split("\n")
+    for it in reversed(functions(text)):
+        if not re.search(r"\bconst fn ", lines[it.begins - 1]):
+            del lines[it.opens:it.ends - 1]
+    return "\n".join(it for it in lines if not it.lstrip().startswith("//"))
 
 
 def changed_functions(old, new):

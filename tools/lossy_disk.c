@@ -3,7 +3,7 @@
 
    What the program writes to such a file is held back until the file is synced, and comes into the file then. Of each write a part may come at
    once, by chance: nothing of it, a slice or all. So a kill (kill -9) leaves what a cut of the power may leave: all that was synced, and any part of
-   what was not.
+   what was not. The program itself reads what it has written (by pread), as from the memory of a system.
 
    DISK_SEED       begins the chances
    DISK_WAIT       how many microseconds a sync takes
@@ -61,6 +61,7 @@ static unsigned seed;
 static long calls, fails, times, kills, error, wait_time, late;
 
 static ssize_t (*real_pwrite)(int, const void *, size_t, off_t);
+static ssize_t (*real_pread)(int, void *, size_t, off_t);
 static ssize_t (*real_write)(int, const void *, size_t);
 static int (*real_cut)(int, off_t);
 static int (*real_sync)(int);
@@ -79,6 +80,7 @@ static double now(void) {
 
 static void find_real_calls(void) {
     real_pwrite = dlsym(RTLD_NEXT, "pwrite64");
+    real_pread = dlsym(RTLD_NEXT, "pread64");
     real_write = dlsym(RTLD_NEXT, "write");
     real_cut = dlsym(RTLD_NEXT, "ftruncate64");
     real_sync = dlsym(RTLD_NEXT, "fdatasync");
@@ -119,7 +121,7 @@ static int is_ours(int fd, int or_folder) {
     struct stat about;
     char path[PATH_MAX];
     if (!folder_length || fstat(fd, &about) != 0 || !(S_ISREG(about.st_mode) || (or_folder && S_ISDIR(about.st_mode)))) return 0;
-    return is_inside(path_of(fd, path));
+    return about.st_nlink > 0 && is_inside(path_of(fd, path)); /* a file without a name is lost at a kill, whatever was synced */
 }
 
 static int is_journal(int fd) {
@@ -305,6 +307,46 @@ int fdatasync(int fd) {
 
 int fsync(int fd) {
     return fdatasync(fd);
+}
+
+/* -- reading ---------------------------------------------------------------------------------------------------------- */
+
+/* Puts what is held of a file over what was read of it from a place on, where the file itself has so many bytes; gives how many it has then. */
+static off_t put_held(int file, char *bytes, off_t at, off_t end, off_t size) {
+    for (const Held *held = first; held; held = held->next) {
+        if (held->file != file) continue;
+        if (!held->bytes) {
+            if (held->at < end) memset(bytes + (held->at > at ? held->at - at : 0), 0, end - (held->at > at ? held->at : at));
+            size = held->at;
+            continue;
+        }
+        off_t from = held->at > at ? held->at : at, to = held->at + (off_t)held->length;
+        if (to > size) size = to;
+        if (to > end) to = end;
+        if (from < to) memcpy(bytes + (from - at), held->bytes + (from - held->at), to - from);
+    }
+    return size;
+}
+
+ssize_t pread64(int fd, void *bytes, size_t length, off_t at) {
+    struct stat about;
+    int file = -1;
+    if (!is_ours(fd, 0) || fstat(fd, &about) != 0) return real_pread(fd, bytes, length, at);
+    pthread_mutex_lock(&lock);
+    for (int n = 0; n < file_count; n++)
+        if (files[n].device == about.st_dev && files[n].number == about.st_ino) file = n;
+    ssize_t got = real_pread(fd, bytes, length, at);
+    if (file >= 0 && got >= 0 && fstat(fd, &about) == 0) {
+        memset((char *)bytes + got, 0, length - got);
+        off_t left = put_held(file, bytes, at, at + (off_t)length, about.st_size) - at;
+        got = left < 0 ? 0 : left < (off_t)length ? left : (off_t)length;
+    }
+    pthread_mutex_unlock(&lock);
+    return got;
+}
+
+ssize_t pread(int fd, void *bytes, size_t length, off_t at) {
+    return pread64(fd, bytes, length, at);
 }
 
 /* -- calls of folders ------------------------------------------------------------------------------------------------- */

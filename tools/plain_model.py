@@ -52,6 +52,12 @@ def meet(a, b):
     return max(a[0], b[0]), max(a[1], b[1]), min(a[2], b[2]), min(a[3], b[3])
 
 
+def least_box(boxes):
+    """The least box round some boxes, to which empty ones add nothing: four times 0 where there is none."""
+    full = [it for it in boxes if it[0] < it[2] and it[1] < it[3]]
+    return box_of([corner for it in full for corner in (it[:2], it[2:])]) if full else (0, 0, 0, 0)
+
+
 def in_box(box, x, y):
     left, top, right, bottom = box
     return left <= x < right and top <= y < bottom
@@ -145,6 +151,14 @@ class Model:
         made = getattr(self, "_" + request["verb"])(request)
         self._leaves = None
         return made
+
+    def damage(self, request):
+        """Makes an edit; gives what `edit` does, and the box of the page outside of which it can change no pixel: that round the changed shape and
+        all below it, hidden and clipped ones too, before and after. New keys alone change none."""
+        number = request.get("id", self.next)
+        before = self._extent(number)
+        made = self.edit(request)
+        return made, least_box([*before, *self._extent(number)] if request["verb"] != "respace" else [])
 
     def refusal(self, request):
         """The code that an edit is refused with, or None where it is allowed; the document stays."""
@@ -314,6 +328,25 @@ class Model:
             return head_of(w, h) + bytes.fromhex(WHITE) * (w * h)
         rows = ("".join(first_colour(near, (x + i) * scale, (y + j) * scale) for i in range(w)) for j in range(h))
         return head_of(w, h) + bytes.fromhex("".join(rows))
+
+    def _extent(self, number):
+        """The boxes of a shape and of all below it, on the page."""
+        above = [self.records[it]["pose"] for it in self._line(number)[1:]] if number in self.records else []
+
+        def to_page(point):
+            for pose in above:
+                point = carried(pose, point)
+            return point
+
+        return list(self._boxes_of(self._all_children(), number, to_page)) if number in self.records else []
+
+    def _boxes_of(self, children, number, out):
+        shape, pose = self.records[number]["shape"], self.records[number]["pose"]
+        inner = lambda point: out(carried(pose, point))
+        if shape["kind"] != "group":
+            yield box_of([inner(tuple(it)) for it in shape.get("points") or ((0, 0), (shape["w"], shape["h"]))])
+        for child in children.get(number, ()):
+            yield from self._boxes_of(children, child, inner)
 
     # -- the saved text ----------------------------------------------------------------------------------------------
 

@@ -1,10 +1,11 @@
 # Sourced by bin/canvas and bin/canvasd, which set `name`: runs the program of that name. Builds it first where it is missing or was made from other
 # sources; building proves it.
+# shellcheck shell=bash
 set -u
 
 top=$(cd "$(dirname "$(readlink -f "${BASH_SOURCE[0]}")")/.." && pwd)
 if [ -d "$top/crates" ]; then
-    program=$top/crates/$name/out/$name
+    program=$top/crates/${name:?}/out/$name
 else
     program=$top/libexec/$name # an unpacked release
 fi

@@ -21,7 +21,8 @@ else is answered as plain_session.py says for the edits that were accepted, by b
 these edits, and all seats are free.
 
 A run of canvasd may besides end with its status for a lost journal, where memory was refused for that. Then its folder is opened again, and has
-exactly the edits that were answered, and perhaps the one that was not.
+exactly the edits that were answered, and perhaps the one that was not. Before it answers it may end with its own words for want of memory, or say
+that it accepts nothing, where the thread of its door could not be started.
 
 Another conversation asks for one window again and again, whose pictures a seat may keep: it is answered by the picture of the
 version that it names, whether that was kept or not.
@@ -34,7 +35,6 @@ Prints a last line 'N passed, M failed'. Needs a C compiler.
 import io
 import json
 import os
-import socket
 import subprocess
 import sys
 import tempfile
@@ -45,6 +45,7 @@ from lossy_disk import preload
 from plain_session import Session, open_document
 from repository import BUILT
 from running import (
+    BAD_PLACE,
     EMPTY,
     IS_KEPT,
     LOST_JOURNAL,
@@ -344,8 +345,13 @@ def serving_fault(server, text, requests, most):
 def starting_fault(server):
     """What is wrong with a run that ends before it answers, or None."""
     status, said = server.end(SECONDS), server.errors()
-    is_told = b"memory" in said if IS_KEPT else said == b"canvas: 1 OutOfMemory\n"
-    return None if is_told and status == NO_MEMORY else f"ends with status {status} and {said!r}"
+    is_right = is_want_at_start(status, said) if IS_KEPT else (status, said) == (NO_MEMORY, b"canvas: 1 OutOfMemory\n")
+    return None if is_right else f"ends with status {status} and {said!r}"
+
+
+def is_want_at_start(status, said):
+    """Whether canvasd ends so where memory is refused before it serves. Of a door whose thread can't be started it says that it can't be served."""
+    return status == NO_MEMORY and b"memory" in said.lower() or (status, said) == (BAD_PLACE, b"canvasd: the server ended: AcceptFault\n")
 
 
 def lost_fault(server, story):

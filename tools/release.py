@@ -25,7 +25,7 @@ from repository import TOP
 
 VERSION = (TOP / "VERSION").read_text().strip()
 SHARED = ("README.md", "CHANGELOG.md", "VERSION", "bin/canvas-demo", "docs/*.md", "docs/pictures/*.png", "examples/*.json*", "examples/visit.py",
-          "tools/bodies.py", "tools/canvas_client.py", "tools/canvas_client.mjs", "tools/viewer/gateway.py", "tools/viewer/relay/*.py", "tools/viewer/setup.sh",
+          "tools/bodies.py", "tools/canvas_client.py", "tools/canvas_client.mjs", "tools/backup.py", "tools/viewer/gateway.py", "tools/viewer/bots.py", "tools/viewer/relay/*.py", "tools/viewer/setup.sh",
           "tools/viewer/page/*")
 """The files of the repository that both packages have."""
 PROGRAMS = ("canvas", "canvasd")
@@ -122,7 +122,8 @@ def fill_package(folder, programs, pages):
         put(folder, f"usr/bin/{name}", programs[name], True)
         put(folder, f"usr/share/man/man1/{name}.1.gz", gzip.compress(pages[name], mtime=0))
     (folder / "usr/bin/canvas-demo").symlink_to("../share/canvas/bin/canvas-demo")
-    (folder / "usr/share/canvas/bin/canvas").symlink_to("../../../bin/canvas")
+    for name in PROGRAMS:
+        (folder / "usr/share/canvas/bin" / name).symlink_to(f"../../../bin/{name}")
     put(folder, "usr/share/doc/canvas/copyright", COPYRIGHT.encode())
     put(folder, "usr/share/doc/canvas/changelog.gz", gzip.compress((TOP / "CHANGELOG.md").read_bytes(), mtime=0))
     size = sum((folder / it).stat().st_size for it in all_files(folder))

@@ -6,6 +6,7 @@ built.
 """
 
 import contextlib
+import functools
 import os
 import re
 import signal
@@ -131,6 +132,12 @@ def port_of(line):
     return int(found[1]) if found else None
 
 
+def feed_of(line):
+    """The address that a line of canvasd names as that of a feed door."""
+    found = re.fullmatch(rb"feeding on (\S+)\n", line)
+    return found[1].decode() if found else None
+
+
 class Running:
     """A program that says on its first line that it listens; `port` is where, or None where it says anything else or ends."""
 
@@ -141,6 +148,12 @@ class Running:
         self.first_line = self.process.stdout.readline()
         self.port = port if self.first_line == b"listening\n" else port_of(self.first_line)
         self.address = f"127.0.0.1:{self.port}"
+        self._doors = words.count("--feed")
+
+    @functools.cached_property
+    def feeds(self):
+        """The addresses of the feed doors, which it says behind that of the one other door; none where it has ended."""
+        return [feed_of(self.process.stdout.readline()) for _ in range(self._doors if self.port else 0)]
 
     def __enter__(self):
         return self
@@ -196,6 +209,10 @@ def kept_words(folder, *more):
     return [BUILT_KEEPER, folder, "--listen", "127.0.0.1:0", "--log", "error", *more]
 
 
+FEED = ("--feed", "127.0.0.1:0")
+"""Has canvasd open a feed door too."""
+
+
 def serving_words(program, port, file, room, workers):
     """The words that start a server of a saved document: the program at a port, or canvasd with a new folder in a room."""
     if IS_KEPT:
@@ -216,11 +233,11 @@ def serve(file, room, workers="1", environment=None):
 class Server(Running):
     """A run of a program that serves a saved document."""
 
-    def __init__(self, folder, text=EMPTY, workers="1", environment=None):
+    def __init__(self, folder, text=EMPTY, workers="1", environment=None, more=()):
         file = Path(folder) / "document.json"
         file.write_bytes(text)
         port = free_port()
-        super().__init__(serving_words(PROGRAM, port, file, folder, workers), environment, port)
+        super().__init__([*serving_words(PROGRAM, port, file, folder, workers), *more], environment, port)
         if self.port is None:
             raise RuntimeError(f"the server says {self.first_line!r} and {self.errors()!r}")
 

@@ -3,7 +3,7 @@
 
 usage: tools/try_wrong_bodies.py NAME [EDIT..] [--all] [--jobs N] [--together N]
        tools/try_wrong_bodies.py --record [--dry-run] [NAME..] [--jobs N] [--together N]
-       tools/try_wrong_bodies.py --check [--built] [--minutes N] [--jobs N] [--together N]
+       tools/try_wrong_bodies.py --check [--known] [--built] [--minutes N] [--jobs N] [--together N]
 
 A wrong body is an edit of crates/NAME/wrong-bodies/ (with --all or by its name also of must-fail/): a line 'file: src/..', and
 pairs of lines 'old: TEXT' and 'new: TEXT', where TEXT stands once in the file. Each is applied to a copy of the crate and
@@ -14,12 +14,13 @@ edit that it says nothing of there, or that changes anything else, is tried by i
 Each edit has a line 'refused', 'PROVED' or 'not judged' with the reason; the last line is 'N refused, M proved, K not judged'. The
 status is 0 only where all are refused, and 2 where the crate itself is not proved.
 
---record tries the bodies of these crates, or of all, and writes crates/NAME/wrong-bodies/verdicts. It leaves out a crate whose record is of
-these sources and says of each body that it is refused, so it can be stopped and begun again. --dry-run only says what it would try.
+--record tries the bodies of these crates, or of all, and writes crates/NAME/wrong-bodies/verdicts, a body at a time. It leaves out those of which
+a record of these sources says that they are refused, so it can be stopped and begun again. --dry-run only says what it would try.
 
 --check compares the records with the sources. Where a record is of others, it tries the crate's bodies, lowest first, and begins no check after
 so many minutes (60); the crates that are then left have failed. Before that it tries again 24 of the recorded bodies, of at most three crates, which the commit chooses
-(or, where there is no git, the sources). It writes nothing. Its last line is 'N passed, M failed'. With --built it takes the libraries that stand in out/ for
+(or, where there is no git, the sources). It writes nothing. Its last line is 'N passed, M failed'. With --known it only names
+the crates that no whole record covers, and tries none of their other bodies. With --built it takes the libraries that stand in out/ for
 those of the sources, as they are just after `rt ci`; else those with no stamp are built anew.
 """
 
@@ -234,9 +235,9 @@ def proved_copy(name, room, jobs, built=False):
     return folder
 
 
-def try_all(name, edits, given, room, deadline=None):
+def try_all(name, edits, given, room, deadline=None, keep=lambda _: None):
     """Tries the edits in groups of up to `given.together`, `given.jobs` groups side by side, each in a copy of its own that later ones use again. Gives what
-    is said of each edit by its name, and leaves out those whose check would begin after the deadline."""
+    is said of each edit by its name, and leaves out those whose check would begin after the deadline. `keep` is given what is known after each edit."""
     jobs = given.jobs
     proved = proved_copy(name, room, jobs, given.built)
     groups = in_groups(edits, proved / "crates" / name, given.together)
@@ -257,6 +258,7 @@ def try_all(name, edits, given, room, deadline=None):
         with ThreadPoolExecutor(jobs) as pool:
             for edit, said, why in chain.from_iterable(pool.map(work, groups)):
                 found[edit.stem] = said
+                keep(found)
                 print(f"{edit.stem}: {said}{': ' + why.splitlines()[0][:200] if why else ''}", flush=True)
         return found
 
@@ -272,30 +274,45 @@ def all_refused(found):
     return found is not None and all(it == verdicts.REFUSED for it in found.values())
 
 
+def left_to_try(name):
+    """The wrong bodies of a crate of which no record of these sources says that they are refused."""
+    found = verdicts.begun(name)
+    return [it for it in verdicts.edits_of(name) if found.get(it.stem) != verdicts.REFUSED]
+
+
 def record(names, given, room):
     """Writes the records of crates, and gives whether all their bodies are refused."""
-    todo = [it for it in names if not all_refused(verdicts.recorded(it))]
-    edits = {it: verdicts.edits_of(it) for it in todo}
-    groups = {it: len(in_groups(edits[it], TOP / "crates" / it, given.together)) for it in todo}
-    print(f"{len(names) - len(todo)} records stand; to try: {sum(map(len, edits.values()))} bodies of {len(todo)} crates in {sum(groups.values())} checks or more")
+    todo = {it: edits for it in names if (edits := left_to_try(it))}
+    groups = {it: len(in_groups(edits, TOP / "crates" / it, given.together)) for it, edits in todo.items()}
+    print(f"{len(names) - len(todo)} records stand; to try: {sum(map(len, todo.values()))} bodies of {len(todo)} crates in {sum(groups.values())} checks or more")
     good = True
-    for name in todo:
-        print(f"== {name}: {len(edits[name])} bodies, {groups[name]} checks or more", flush=True)
-        if given.dry_run:
-            continue
-        begun, total = time.monotonic(), verdicts.checksum(name)
-        try:
-            found = try_all(name, edits[name], given, room)
-        except NotProved as why:
-            good = bool(print(why))
-            continue
-        print(f"{name}: {summed(found)}, in {time.monotonic() - begun:.0f} s", flush=True)
-        if verdicts.checksum(name) != total:
-            good = bool(print(f"{name}: its sources changed meanwhile, so nothing was written"))
-            continue
-        verdicts.place_of(name).write_text(verdicts.written(total, found))
-        good = good and all_refused(found)
+    for name, edits in todo.items():
+        print(f"== {name}: {len(edits)} bodies, {groups[name]} checks or more", flush=True)
+        good = (given.dry_run or record_crate(name, edits, given, room)) and good
     return good
+
+
+class Changed(Exception):
+    """The sources are no longer those that the verdicts are of."""
+
+
+def record_crate(name, edits, given, room):
+    """Tries these bodies of a crate, writes each verdict into its record as soon as it is there, and gives whether all are refused."""
+    begun, total, known = time.monotonic(), verdicts.checksum(name), verdicts.begun(name)
+
+    def keep(found):
+        if verdicts.checksum(name) != total:
+            raise Changed
+        verdicts.place_of(name).write_text(verdicts.written(total, known | found))
+
+    try:
+        found = try_all(name, edits, given, room, keep=keep)
+    except NotProved as why:
+        return bool(print(why))
+    except Changed:
+        return bool(print(f"{name}: its sources changed meanwhile, so nothing more was written"))
+    print(f"{name}: {summed(found)}, in {time.monotonic() - begun:.0f} s", flush=True)
+    return all_refused(found)
 
 
 def check_crate(name, edits, given, room, deadline):
@@ -321,7 +338,11 @@ def check_records(given, room):
     passed = sum(map(all_refused, current.values()))
     again = verdicts.sample(verdicts.seed(), current, {it: below(it) for it in names})
     work = [(f"{name}: {len(words)} recorded bodies again", name, chosen(name, words, False), None) for name, words in again.items()]
-    work += [(f"{name}: no record of these sources", name, verdicts.edits_of(name), deadline) for name in names if name not in current]
+    left = {name: left_to_try(name) for name in names if name not in current}
+    if given.known:
+        print(*(f"{name}: no record of these sources has {len(edits)} of its bodies" for name, edits in left.items()), sep="\n")
+    else:
+        work += [(f"{name}: no whole record of these sources", name, edits, deadline) for name, edits in left.items()]
     for why, name, edits, until in work:
         print(f"== {why}", flush=True)
         refused, wrong = check_crate(name, edits, given, room, until)
@@ -352,6 +373,7 @@ def main():
     asked.add_argument("--record", action="store_true", help="write the records of these crates, or of all")
     asked.add_argument("--dry-run", action="store_true", help="with --record: say only what would be tried")
     asked.add_argument("--check", action="store_true", help="check the records of all crates")
+    asked.add_argument("--known", action="store_true", help="with --check: only name the crates that no whole record of these sources covers")
     asked.add_argument("--built", action="store_true", help="with --check: the libraries in out/ are of these sources, though they have no stamp")
     asked.add_argument("--minutes", type=int, default=60, metavar="N", help="with --check: begin no check of a crate with no record after so many minutes (60)")
     asked.add_argument("--jobs", type=int, metavar="N", help="checks that run side by side (1, with --check one for each processor)")

@@ -7,10 +7,13 @@ import hashlib
 import subprocess
 from functools import cache
 
+from functions import without_bodies
 from repository import SOURCES, TOP, below, lines
 
 REFUSED = "refused"
 HEAD = "sources: "
+OF_ONE_FUNCTION = {"Answers.antt", "Invariants.antt", "Proof.antt"}
+"""The files of proofs/ that belong to one function's body."""
 
 
 @cache
@@ -30,19 +33,28 @@ def crates_with_bodies():
     return [it for it in lines() if edits_of(it)]
 
 
-def checksum(name):
-    """The checksum of what the verdicts of a crate's wrong bodies rest on.
+def seen_from_above(crate):
+    """The files of a crate on which the proofs of the crates above rest, and their texts: types and contracts, definitions, and lemmas, which
+    proofs above may name. Bodies of functions and what proves them are left out: no proof above rests on them."""
+    for part in SOURCES:
+        for path in sorted((TOP / "crates" / crate / part).rglob("*")):
+            if path.is_file() and not (part == "proofs" and path.name in OF_ONE_FUNCTION):
+                yield path, without_bodies(path.read_text()) if path.suffix == ".rt" else path.read_text()
 
-    Of the crates below it that is all of their src/, specs/ and proofs/. Contracts stand in src/ beside the bodies, and proofs name lemmas of
-    lower proofs/, so less could be told from the rest only by a reader of both languages."""
-    known = lines()
-    found = hashlib.sha256(repr([logic(), [known[it] for it in [*below(name), name]]]).encode())
-    files = [TOP / "HANDLES", *edits_of(name)]
-    for crate in [*below(name), name]:
-        for part in SOURCES:
-            files += sorted(it for it in (TOP / "crates" / crate / part).rglob("*") if it.is_file())
-    for path in files:
-        found.update(repr((str(path.relative_to(TOP)), path.read_bytes())).encode())
+
+def all_of(crate):
+    """The files of a crate's sources, and their texts."""
+    for part in SOURCES:
+        yield from ((it, it.read_text()) for it in sorted((TOP / "crates" / crate / part).rglob("*")) if it.is_file())
+
+
+def checksum(name):
+    """The checksum of what the verdicts of a crate's wrong bodies rest on: all of its sources, the edits, and what it sees of the crates below."""
+    known, under = lines(), below(name)
+    found = hashlib.sha256(repr([logic(), [known[it] for it in [*under, name]], (TOP / "HANDLES").read_text()]).encode())
+    texts = [*((it, it.read_text()) for it in edits_of(name)), *all_of(name), *(pair for it in under for pair in seen_from_above(it))]
+    for path, text in texts:
+        found.update(repr((str(path.relative_to(TOP)), text)).encode())
     return found.hexdigest()
 
 
@@ -65,13 +77,19 @@ def written(total, verdicts):
     return "".join(f"{it}\n" for it in [HEAD + total, *(f"{name}: {verdicts[name]}" for name in sorted(verdicts))])
 
 
-def recorded(name):
-    """The verdicts of a crate's record, or None where there is none of these sources and these bodies."""
-    place = place_of(name)
+def begun(name):
+    """The verdicts of a crate's record that are of these sources, of these bodies: it may have been stopped before all were tried."""
+    place, known = place_of(name), {it.stem for it in edits_of(name)}
     found = read(place.read_text()) if place.is_file() else None
-    if not found or found[0] != checksum(name) or set(found[1]) != {it.stem for it in edits_of(name)}:
-        return None
-    return found[1]
+    if not found or found[0] != checksum(name):
+        return {}
+    return {it: said for it, said in found[1].items() if it in known}
+
+
+def recorded(name):
+    """The verdicts of a crate's record, or None where there is none of these sources and of all its bodies."""
+    found = begun(name)
+    return found if len(found) == len(edits_of(name)) else None
 
 
 def seed():

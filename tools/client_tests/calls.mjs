@@ -1,14 +1,16 @@
 // Makes the calls of calls.json one after another, with a server at ADDRESS or, without one, with a program of its own, and prints what each gives
 // as a line of JSON. tools/check_clients.py makes the same calls in Python and compares.
 //
-// usage: node calls.mjs [ADDRESS]     or `node calls.mjs names`, which prints the names of all calls
+// usage: node calls.mjs [ADDRESS]
+//        node calls.mjs feeds ADDRESS     follows the feeds of feeds.json, one after another, at a feed door
+//        node calls.mjs names             prints the names of all calls, of sessions and of feeds
 
 import { createHash } from "node:crypto";
 import { readFileSync } from "node:fs";
 
-import { Canvas, Refused } from "../canvas_client.mjs";
+import { Canvas, Feed, FeedRefused, Refused } from "../canvas_client.mjs";
 
-const calls = JSON.parse(readFileSync(new URL("calls.json", import.meta.url), "utf8"));
+const read = (name) => JSON.parse(readFileSync(new URL(name, import.meta.url), "utf8"));
 const inCamelCase = (name) => name.replace(/_(.)/g, (_, letter) => letter.toUpperCase());
 
 /** What a call gives, with bytes as their number and their hash. */
@@ -29,10 +31,29 @@ async function answerOf(canvas, [name, given, more]) {
   }
 }
 
-if (process.argv[2] === "names") {
-  const names = [...Object.getOwnPropertyNames(Canvas.prototype), ...Object.getOwnPropertyNames(Canvas)];
-  console.log(JSON.stringify(names.filter((name) => !["constructor", "prototype", "length", "name"].includes(name)).sort()));
+/** What a feed gives first, and so many edits of it. */
+async function feedAnswer(address, [wanted, count]) {
+  try {
+    const feed = await Feed.connect(address, wanted);
+    const edits = [];
+    while (edits.length < count) edits.push(told((await feed.next()).value));
+    await feed.close();
+    return { generation: feed.generation, opening: feed.opening, edits, version: feed.version };
+  } catch (fault) {
+    if (fault instanceof FeedRefused) return { refused: fault.message };
+    throw fault;
+  }
+}
+
+const [first, second] = process.argv.slice(2);
+if (first === "names") {
+  for (const kind of [Canvas, Feed]) {
+    const names = [...Object.getOwnPropertyNames(kind.prototype), ...Object.getOwnPropertyNames(kind)];
+    console.log(JSON.stringify(names.filter((name) => !["constructor", "prototype", "length", "name"].includes(name)).sort()));
+  }
+} else if (first === "feeds") {
+  for (const feed of read("feeds.json")) console.log(JSON.stringify(await feedAnswer(second, feed)));
 } else {
-  const canvas = process.argv[2] === undefined ? new Canvas() : await Canvas.connect(process.argv[2]);
-  for (const call of calls) console.log(JSON.stringify(await answerOf(canvas, call)));
+  const canvas = first === undefined ? new Canvas() : await Canvas.connect(first);
+  for (const call of read("calls.json")) console.log(JSON.stringify(await answerOf(canvas, call)));
 }

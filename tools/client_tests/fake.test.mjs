@@ -3,11 +3,14 @@
 
 import assert from "node:assert/strict";
 import { once } from "node:events";
+import { mkdtempSync, rmSync } from "node:fs";
 import { createServer } from "node:net";
+import { tmpdir } from "node:os";
+import { join } from "node:path";
 import { test } from "node:test";
 import { setTimeout as sleep } from "node:timers/promises";
 
-import { BadReply, Canvas, Ended, Refused, TimedOut, lineOf, pictureOf, replies } from "../canvas_client.mjs";
+import { BadReply, Canvas, Ended, Feed, FeedRefused, Refused, TimedOut, lineOf, pictureOf, replies } from "../canvas_client.mjs";
 
 const MADE = '{"body":0,"id":1,"ok":true,"version":1}\n';
 const PATCH = '{"body":20,"ok":true,"version":1}\n';
@@ -17,26 +20,69 @@ const REFUSAL = '{"body":0,"code":2,"name":"NoSuchShape","ok":false}\n';
 const NO_SEATS = '{"body":0,"code":19,"name":"NoSeats","ok":false}\n';
 const BAD_JSON = '{"body":0,"code":50,"name":"BadJson","ok":false}\n';
 const ALL = Buffer.concat([MADE, PATCH, IMAGE, REFUSAL, POINT].map((it) => Buffer.from(it)));
+const GROUP = '{"hidden":false,"parent":null,"pose":{"dx":0,"dy":0,"flip":false,"quarter":0},"shape":{"kind":"group"},"spot":"front","verb":"create"}';
+const SHOW = '{"hidden":true,"id":1,"verb":"show"}';
+const FIRST = `{"damage":[0,0,0,0],"edit":${GROUP},"id":1,"version":1}\n`;
+const SECOND = `{"damage":[-12,3,40,1048576],"edit":${SHOW},"id":null,"version":2}\n`;
+/** The edits of FIRST and SECOND. */
+const KEPT = [
+  { version: 1, id: 1, damage: [0, 0, 0, 0], edit: JSON.parse(GROUP), text: GROUP },
+  { version: 2, id: null, damage: [-12, 3, 40, 1_048_576], edit: JSON.parse(SHOW), text: SHOW },
+];
+const DOCUMENT = '{"format":2,"next":1,"shapes":[]}';
+const OPENING = `{"generation":3,"opening":${DOCUMENT}}\n`;
+const BEYOND = "since 15 is beyond the history: 12 edits are kept";
 
-/** Runs a test beside a server that treats each connection so. */
-async function beside(serve, run, seconds = 20) {
+/** Runs a test with the address of a server that treats each connection so, at a port, or at a path where one is given. */
+async function served(serve, run, path) {
   const sockets = new Set();
   const server = createServer({ noDelay: true }, (socket) => {
     sockets.add(socket);
     socket.on("error", () => {});
     serve(socket);
   });
-  server.listen(0, "127.0.0.1");
+  server.listen(path === undefined ? { port: 0, host: "127.0.0.1" } : { path });
   await once(server, "listening");
-  const canvas = await Canvas.connect(`127.0.0.1:${server.address().port}`, seconds);
   try {
-    await run(canvas, server);
+    await run(path === undefined ? `127.0.0.1:${server.address().port}` : `unix:${path}`);
   } finally {
-    await canvas.close();
     for (const socket of sockets) socket.destroy();
     server.close();
   }
 }
+
+/** Runs a test with a session of such a server. */
+async function beside(serve, run, seconds = 20) {
+  await served(serve, async (address) => {
+    const canvas = await Canvas.connect(address, seconds);
+    try {
+      await run(canvas);
+    } finally {
+      await canvas.close();
+    }
+  });
+}
+
+/** Runs a test with a feed of such a server. */
+async function following(serve, wanted, run) {
+  await served(serve, async (address) => {
+    const feed = await Feed.connect(address, { seconds: 20, ...wanted });
+    try {
+      await run(feed);
+    } finally {
+      await feed.close();
+    }
+  });
+}
+
+/** All edits that a feed gives until it ends. */
+async function all(feed) {
+  const edits = [];
+  for await (const kept of feed) edits.push(kept);
+  return edits;
+}
+
+const endSending = (socket) => socket.end();
 
 /** A server that answers the first bytes that come by pieces, one after another, and may end then. */
 function answering(pieces, end = () => {}) {
@@ -261,11 +307,16 @@ test("more replies than are read wait at the server", async () => {
 
 test("addresses, times, and nobody there", async () => {
   for (const address of ["localhost", "127.0.0.1", ":7878", "127.0.0.1:", "127.0.0.1:http", "127.0.0.1:65536", "127.0.0.1:-1", ""]) {
-    const fault = await faultOf(Canvas.connect(address));
-    assert.ok(fault instanceof TypeError, String(fault));
-    assert.equal(fault.message, `${JSON.stringify(address)} is not HOST:PORT`);
+    for (const connecting of [Canvas.connect(address), Feed.connect(address)]) {
+      const fault = await faultOf(connecting);
+      assert.ok(fault instanceof TypeError, String(fault));
+      assert.equal(fault.message, `${JSON.stringify(address)} is neither HOST:PORT nor unix:PATH`);
+    }
   }
-  for (const seconds of [0, -1, Number.NaN]) assert.ok((await faultOf(Canvas.connect("127.0.0.1:7878", seconds))) instanceof RangeError);
+  for (const seconds of [0, -1, Number.NaN]) {
+    assert.ok((await faultOf(Canvas.connect("127.0.0.1:7878", seconds))) instanceof RangeError);
+    assert.ok((await faultOf(Feed.connect("127.0.0.1:7878", { seconds }))) instanceof RangeError);
+  }
   const server = createServer();
   server.listen(0, "localhost");
   await once(server, "listening");
@@ -274,7 +325,10 @@ test("addresses, times, and nobody there", async () => {
   await (await Canvas.connect(place, null)).close();
   server.close();
   await once(server, "close");
-  assert.equal((await faultOf(Canvas.connect(place))).code, "ECONNREFUSED");
+  for (const { connect } of [Canvas, Feed]) {
+    assert.equal((await faultOf(connect(place))).code, "ECONNREFUSED");
+    assert.equal((await faultOf(connect("unix:/nowhere/door"))).code, "ENOENT");
+  }
 });
 
 test("the end, while somebody waits and after it", async () => {
@@ -291,5 +345,162 @@ test("the end, while somebody waits and after it", async () => {
     assert.equal(await canvas.close(), null);
     await sleep(50);
     assert.equal(came, '{"verb":"point","x":0,"y":0}\n{"verb":"export"}\n'); // what was sent before is on its way
+  });
+});
+
+// -- feeds
+
+test("a feed that is cut anywhere", async () => {
+  const whole = FIRST + SECOND;
+  for (const cut of [0, 1, FIRST.length - 1, FIRST.length, FIRST.length + 1, whole.length - 1]) {
+    await following(answering([whole.slice(0, cut), whole.slice(cut)], endSending), {}, async (feed) => {
+      assert.deepEqual([feed.version, feed.generation, feed.opening], [0, null, null]);
+      assert.deepEqual(await all(feed), KEPT);
+      assert.equal(feed.version, 2);
+      assert.deepEqual([await feed.next(), await feed.batch()], [{ done: true, value: undefined }, []]);
+    });
+  }
+});
+
+test("a feed that ends inside a line", async () => {
+  for (const end of [endSending, (socket) => socket.resetAndDestroy()]) {
+    for (const cut of [1, SECOND.length - 1]) {
+      await following(answering([FIRST, SECOND.slice(0, cut)], end), {}, async (feed) => {
+        assert.deepEqual((await feed.next()).value, KEPT[0]);
+        await sleep(50);
+        assert.deepEqual([await all(feed), feed.version], [[], 1]);
+      });
+    }
+  }
+});
+
+test("what is asked of a feed", async () => {
+  const asked = [
+    [{}, '{"since":0}\n'], [{ since: 12 }, '{"since":12}\n'], [{ since: 12, generation: 3 }, '{"since":12,"generation":3}\n'],
+    [{ opening: true }, '{"since":0,"opening":true}\n'],
+  ];
+  for (const [wanted, line] of asked) {
+    let came = "";
+    const serve = (socket) => socket.once("data", (bytes) => {
+      came += bytes;
+      socket.write(OPENING);
+    });
+    await following(serve, wanted, async (feed) => {
+      assert.deepEqual([feed.generation, feed.opening], wanted.opening ? [3, DOCUMENT] : [null, null]);
+      assert.equal(feed.version, wanted.since ?? 0);
+      while (came === "") await sleep(5);
+    });
+    assert.equal(came, line);
+  }
+});
+
+test("a feed with its opening", async () => {
+  const whole = OPENING + SECOND;
+  for (const cut of [1, OPENING.length - 1, OPENING.length, OPENING.length + 1, whole.length - 1]) {
+    const wanted = { since: 1, opening: true, generation: 3 };
+    await following(answering([whole.slice(0, cut), whole.slice(cut)], endSending), wanted, async (feed) => {
+      assert.deepEqual([feed.generation, feed.opening, await all(feed)], [3, DOCUMENT, KEPT.slice(1)]);
+    });
+  }
+  const text = JSON.stringify({ format: 2, next: 1, shapes: ["x".repeat(300_000)] });
+  await following(answering([`{"generation":1,"opening":${text}}\n`]), { opening: true }, (feed) => {
+    assert.deepEqual([feed.generation, feed.opening], [1, text]);
+  });
+  const fault = await faultOf(following(answering([OPENING.slice(0, -1)], endSending), { opening: true }, () => {}));
+  assert.ok(fault instanceof Ended);
+  assert.equal(fault.message, "the feed has ended before its opening document");
+});
+
+test("a feed that is refused", async () => {
+  const refusal = `{"error":"${BEYOND}","ok":false}\n`;
+  await following(answering([refusal], endSending), { since: 15 }, async (feed) => {
+    const fault = await faultOf(feed.next());
+    assert.ok(fault instanceof FeedRefused);
+    assert.equal(fault.message, BEYOND);
+    assert.deepEqual(await all(feed), []);
+  });
+  const fault = await faultOf(following(answering([refusal], endSending), { since: 15, opening: true }, () => {}));
+  assert.equal(String(fault), `FeedRefused: ${BEYOND}`);
+  await following((socket) => socket.end('{"error":"all 256 feeds are taken","ok":false}\n'), {}, async (feed) => {
+    assert.equal((await faultOf(feed.batch())).message, "all 256 feeds are taken");
+  });
+});
+
+test("lines that are none of a feed", async () => {
+  const others = [
+    "HTTP/1.1 400 Bad Request\r\n\r\n", "[]\n", NO_SEATS, FIRST.replace(":1}", ':"1"}'), FIRST.replace(":1}", ":1,}"), FIRST.replace("[0,", "[0, "),
+    FIRST.replace("[0,", "["), FIRST.replace('"kind"', "kind"), FIRST.replace("null", "["), OPENING, '{"error":1,"ok":false}\n', "9".repeat(70_000),
+  ];
+  for (const other of others) {
+    await following(answering([other]), { seconds: 5 }, async (feed) => {
+      const fault = await faultOf(feed.next());
+      assert.ok(fault instanceof BadReply, String(fault));
+      assert.match(fault.message, /^this is no line of a feed: /);
+      assert.ok(fault.message.length < 250);
+      assert.deepEqual([await all(feed), feed.version], [[], 0]);
+    });
+  }
+  assert.ok((await faultOf(following(answering([FIRST]), { opening: true }, () => {}))) instanceof BadReply);
+  for (const [line, since] of [[SECOND, 0], [FIRST, 1], [FIRST, 2]]) {
+    await following(answering([line]), { since }, async (feed) => {
+      assert.match((await faultOf(feed.next())).message, new RegExp(`^version . came after ${since}$`));
+    });
+  }
+});
+
+test("edits that come together", async () => {
+  await following(answering([FIRST + SECOND.slice(0, 9)]), {}, async (feed) => assert.deepEqual(await feed.batch(), KEPT.slice(0, 1)));
+  const third = SECOND.replace(":2}", ":3}");
+  await following(answering([FIRST + SECOND + third], endSending), {}, async (feed) => {
+    const both = await Promise.all([feed.next(), feed.next()]);
+    assert.deepEqual([...both.map(({ value }) => value), ...(await feed.batch())].map(({ version }) => version), [1, 2, 3]);
+    assert.deepEqual(await feed.batch(), []);
+  });
+});
+
+test("a feed that says nothing, and one that is slow", async () => {
+  await following(answering([FIRST]), { seconds: 0.2 }, async (feed) => {
+    assert.deepEqual((await feed.next()).value, KEPT[0]);
+    const fault = await faultOf(feed.next());
+    assert.ok(fault instanceof TimedOut);
+    assert.equal(fault.message, "nothing came for 0.2 seconds");
+    assert.deepEqual([await all(feed), feed.version], [[], 1]);
+  });
+  assert.ok((await faultOf(following(answering([]), { seconds: 0.1, opening: true }, () => {}))) instanceof TimedOut);
+  await following(answering([...FIRST]), { seconds: 1 }, async (feed) => assert.deepEqual((await feed.next()).value, KEPT[0]));
+});
+
+test("a feed and a session by a unix socket", async () => {
+  const folder = mkdtempSync(join(tmpdir(), "canvas-"));
+  await served(answering([FIRST]), async (address) => {
+    const feed = await Feed.connect(address);
+    for await (const kept of feed) {
+      assert.deepEqual(kept, KEPT[0]);
+      break; // which ends the feed
+    }
+    assert.deepEqual(await all(feed), []);
+  }, join(folder, "door"));
+  await served(answering([POINT]), async (address) => {
+    const canvas = await Canvas.connect(address);
+    assert.deepEqual(await canvas.point(0, 0), JSON.parse(POINT));
+    await canvas.close();
+  }, join(folder, "other"));
+  rmSync(folder, { recursive: true });
+});
+
+test("the end of a feed, while somebody waits and after it", async () => {
+  let isOpen = false;
+  const listening = (socket) => {
+    isOpen = true;
+    socket.resume().on("close", () => (isOpen = false));
+  };
+  await following(listening, {}, async (feed) => {
+    while (!isOpen) await sleep(5);
+    const waiting = feed.next();
+    await feed.close();
+    assert.deepEqual(await waiting, { done: true, value: undefined });
+    assert.deepEqual([await all(feed), await feed.batch()], [[], []]);
+    await feed.close();
+    while (isOpen) await sleep(5);
   });
 });

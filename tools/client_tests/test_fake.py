@@ -8,6 +8,7 @@ import json
 import socket
 import struct
 import sys
+import tempfile
 import threading
 import time
 import unittest
@@ -15,7 +16,7 @@ from contextlib import contextmanager, suppress
 from pathlib import Path
 
 sys.path.insert(0, str(Path(__file__).resolve().parent.parent))
-from canvas_client import Canvas, Refused, line_of, picture_of, replies  # noqa: E402
+from canvas_client import Canvas, Feed, FeedRefused, Refused, line_of, picture_of, replies  # noqa: E402
 
 MADE = b'{"body":0,"id":1,"ok":true,"version":1}\n'
 PATCH = b'{"body":20,"ok":true,"version":1}\n'
@@ -26,17 +27,25 @@ NO_SEATS = b'{"body":0,"code":19,"name":"NoSeats","ok":false}\n'
 BAD_JSON = b'{"body":0,"code":50,"name":"BadJson","ok":false}\n'
 ALL = MADE + PATCH + IMAGE + REFUSAL + POINT
 LOOK = {"verb": "point", "x": 0, "y": 0}
+GROUP = '{"hidden":false,"parent":null,"pose":{"dx":0,"dy":0,"flip":false,"quarter":0},"shape":{"kind":"group"},"spot":"front","verb":"create"}'
+FIRST = b'{"damage":[0,0,0,0],"edit":%s,"id":1,"version":1}\n' % GROUP.encode()
+SECOND = b'{"damage":[-12,3,40,1048576],"edit":{"hidden":true,"id":1,"verb":"show"},"id":null,"version":2}\n'
+KEPT = [(1, 1, (0, 0, 0, 0), json.loads(GROUP), GROUP),
+        (2, None, (-12, 3, 40, 1_048_576), {"hidden": True, "id": 1, "verb": "show"}, '{"hidden":true,"id":1,"verb":"show"}')]
+"""The edits of FIRST and SECOND."""
+DOCUMENT = '{"format":2,"next":1,"shapes":[]}'
+OPENING = b'{"generation":3,"opening":%s}\n' % DOCUMENT.encode()
+BEYOND = "since 15 is beyond the history: 12 edits are kept"
 
 
 @contextmanager
-def beside(serve, seconds=20):
-    """A session with a server that treats its connection so."""
-    with socket.create_server(("127.0.0.1", 0)) as listener:
+def served(serve, listener=None):
+    """The address of a server that treats its connection so."""
+    with listener or socket.create_server(("127.0.0.1", 0)) as listener:
         done = threading.Event()
 
         def accept():
             sock, _ = listener.accept()
-            sock.setsockopt(socket.IPPROTO_TCP, socket.TCP_NODELAY, 1)
             with sock, suppress(OSError):
                 serve(sock)
                 done.wait(20)
@@ -44,11 +53,25 @@ def beside(serve, seconds=20):
         server = threading.Thread(target=accept)
         server.start()
         try:
-            with Canvas.connect(f"127.0.0.1:{listener.getsockname()[1]}", seconds) as canvas:
-                yield canvas
+            name = listener.getsockname()
+            yield f"unix:{name}" if listener.family == socket.AF_UNIX else f"127.0.0.1:{name[1]}"
         finally:
             done.set()
             server.join()
+
+
+@contextmanager
+def beside(serve, seconds=20):
+    """A session with such a server."""
+    with served(serve) as address, Canvas.connect(address, seconds) as canvas:
+        yield canvas
+
+
+@contextmanager
+def following(serve, seconds=20, **wanted):
+    """A feed of such a server."""
+    with served(serve) as address, Feed.connect(address, seconds=seconds, **wanted) as feed:
+        yield feed
 
 
 def answering(*pieces, end=lambda sock: None):
@@ -232,16 +255,21 @@ class Fake(unittest.TestCase):
 
     def test_addresses_times_and_nobody_there(self):
         for address in ("localhost", "127.0.0.1", ":7878", "127.0.0.1:", "127.0.0.1:http", "127.0.0.1:65536", "127.0.0.1:-1", ""):
-            with self.assertRaisesRegex(ValueError, " is not HOST:PORT$"):
-                Canvas.connect(address)
+            for connect in (Canvas.connect, Feed.connect):
+                with self.assertRaisesRegex(ValueError, " is neither HOST:PORT nor unix:PATH$"):
+                    connect(address)
         for seconds in (0, -1, float("nan")):
-            with self.assertRaisesRegex(ValueError, " are no time to wait$"):
-                Canvas.connect("127.0.0.1:7878", seconds)
+            for connect in (Canvas.connect, Feed.connect):
+                with self.assertRaisesRegex(ValueError, " are no time to wait$"):
+                    connect("127.0.0.1:7878", seconds=seconds)
         with socket.create_server(("127.0.0.1", 0)) as listener:
             address = f"127.0.0.1:{listener.getsockname()[1]}"
             Canvas.connect(address, None).close()
-        with self.assertRaises(ConnectionRefusedError):
-            Canvas.connect(address)
+        for connect in (Canvas.connect, Feed.connect):
+            with self.assertRaises(ConnectionRefusedError):
+                connect(address)
+            with self.assertRaises(FileNotFoundError):
+                connect("unix:/nowhere/door")
 
     def test_the_end(self):
         came = []
@@ -258,6 +286,130 @@ class Fake(unittest.TestCase):
                     call()
             self.assertIsNone(canvas.close())
         self.assertEqual(b"".join(came), line_of(LOOK))  # what was sent before is on its way
+
+    # -- feeds -----------------------------------------------------------------------------------------------------------
+
+    def test_a_feed_that_is_cut_anywhere(self):
+        whole = FIRST + SECOND
+        for cut in (0, 1, len(FIRST) - 1, len(FIRST), len(FIRST) + 1, len(whole) - 1):
+            with following(answering(whole[:cut], whole[cut:], end=end_sending)) as feed:
+                self.assertEqual([(feed.version, feed.generation, feed.opening)], [(0, None, None)])
+                self.assertEqual(list(feed), KEPT)
+                self.assertEqual(feed.version, 2)
+                self.assertEqual((next(feed, None), feed.batch()), (None, []))
+
+    def test_a_feed_that_ends_inside_a_line(self):
+        for end in (end_sending, reset):
+            for cut in (1, len(SECOND) - 1):
+                with following(answering(FIRST, SECOND[:cut], end=end)) as feed:
+                    self.assertEqual(next(feed), KEPT[0])
+                    time.sleep(0.05)
+                    self.assertEqual((list(feed), feed.version), ([], 1))
+
+    def test_what_is_asked_of_a_feed(self):
+        for wanted, line in [({}, b'{"since":0}\n'), ({"since": 12}, b'{"since":12}\n'),
+                             ({"since": 12, "generation": 3}, b'{"since":12,"generation":3}\n'),
+                             ({"opening": True}, b'{"since":0,"opening":true}\n')]:
+            came = []
+
+            def serve(sock):
+                came.append(sock.recv(1 << 16))
+                sock.sendall(OPENING)
+
+            with following(serve, **wanted) as feed:
+                self.assertEqual((feed.generation, feed.opening), (3, DOCUMENT) if "opening" in wanted else (None, None))
+                self.assertEqual(feed.version, wanted.get("since", 0))
+            self.assertEqual(came, [line])
+
+    def test_a_feed_with_its_opening(self):
+        whole = OPENING + SECOND
+        for cut in (1, len(OPENING) - 1, len(OPENING), len(OPENING) + 1, len(whole) - 1):
+            with following(answering(whole[:cut], whole[cut:], end=end_sending), since=1, opening=True, generation=3) as feed:
+                self.assertEqual((feed.generation, feed.opening, list(feed)), (3, DOCUMENT, KEPT[1:]))
+        text = json.dumps({"format": 2, "next": 1, "shapes": ["x" * 300_000]})
+        with following(answering(b'{"generation":1,"opening":%s}\n' % text.encode()), opening=True) as feed:
+            self.assertEqual((feed.generation, feed.opening), (1, text))
+        with self.assertRaisesRegex(EOFError, "^the feed has ended before its opening document$"):
+            with following(answering(OPENING[:-1], end=end_sending), opening=True):
+                pass
+
+    def test_a_feed_that_is_refused(self):
+        refusal = b'{"error":"%s","ok":false}\n' % BEYOND.encode()
+        with following(answering(refusal, end=end_sending), since=15) as feed:
+            with self.assertRaisesRegex(FeedRefused, f"^{BEYOND}$"):
+                next(feed)
+            self.assertEqual(list(feed), [])
+        with self.assertRaisesRegex(FeedRefused, f"^{BEYOND}$"):
+            with following(answering(refusal, end=end_sending), since=15, opening=True):
+                pass
+
+        def full(sock):
+            sock.sendall(b'{"error":"all 256 feeds are taken","ok":false}\n')
+            end_sending(sock)
+
+        with following(full) as feed, self.assertRaisesRegex(FeedRefused, "^all 256 feeds are taken$"):
+            feed.batch()
+
+    def test_lines_that_are_none_of_a_feed(self):
+        first = FIRST.decode()
+        others = ["HTTP/1.1 400 Bad Request\r\n\r\n", "[]\n", NO_SEATS.decode(), first.replace(":1}", ':"1"}'), first.replace(":1}", ":1,}"),
+                  first.replace("[0,", "[0, "), first.replace("[0,", "["), first.replace('"kind"', "kind"), first.replace('"front"', '"\xff"'),
+                  first.replace("null", "[" * 40_000), OPENING.decode(), '{"error":1,"ok":false}\n', "9" * 70_000]
+        for other in others:
+            with following(answering(other.encode("latin1")), 5) as feed:
+                with self.assertRaisesRegex(ValueError, "^this is no line of a feed: ") as found:
+                    next(feed)
+                self.assertLess(len(str(found.exception)), 250)
+                self.assertEqual((list(feed), feed.version), ([], 0))
+        with self.assertRaisesRegex(ValueError, "^this is no line of a feed: "):
+            with following(answering(FIRST), opening=True):
+                pass
+        for line, since in ((SECOND, 0), (FIRST, 1), (FIRST, 2)):
+            with following(answering(line), since=since) as feed, self.assertRaisesRegex(ValueError, f"^version . came after {since}$"):
+                next(feed)
+
+    def test_edits_that_come_together(self):
+        with following(answering(FIRST + SECOND[:9])) as feed:
+            self.assertEqual(feed.batch(), KEPT[:1])
+        third = SECOND.replace(b":2}", b":3}")
+        with following(answering(FIRST + SECOND + third, end=end_sending)) as feed:
+            self.assertEqual([kept.version for kept in [*feed.batch(), *feed.batch()]], [1, 2, 3])
+            self.assertEqual(feed.batch(), [])
+
+    def test_a_feed_that_says_nothing_and_one_that_is_slow(self):
+        with following(answering(FIRST), 0.2) as feed:
+            self.assertEqual(next(feed), KEPT[0])
+            with self.assertRaisesRegex(TimeoutError, "^nothing came for 0.2 seconds$"):
+                next(feed)
+            self.assertEqual((list(feed), feed.version), ([], 1))
+        with self.assertRaises(TimeoutError):
+            with following(answering(), 0.1, opening=True):
+                pass
+        with following(answering(*(bytes([byte]) for byte in FIRST)), 1) as feed:
+            self.assertEqual(next(feed), KEPT[0])
+
+    def test_a_feed_by_a_unix_socket(self):
+        with tempfile.TemporaryDirectory() as folder:
+            listener = socket.create_server(f"{folder}/door", family=socket.AF_UNIX)
+            with served(answering(FIRST), listener) as address, Feed.connect(address) as feed:
+                self.assertEqual(next(feed), KEPT[0])
+            listener = socket.create_server(f"{folder}/other", family=socket.AF_UNIX)
+            with served(answering(POINT), listener) as address, Canvas.connect(address) as canvas:
+                self.assertEqual(canvas.point(0, 0), json.loads(POINT))
+
+    def test_the_end_of_a_feed(self):
+        came = []
+
+        def listening(sock):
+            while piece := sock.recv(1 << 16):
+                came.append(piece)
+            came.append(b"end")
+
+        with following(listening) as feed:
+            feed.close()
+            self.assertEqual((list(feed), feed.batch()), ([], []))
+            feed.close()
+        self.assertEqual(came, [b'{"since":0}\n', b"end"])
 
 
 if __name__ == "__main__":

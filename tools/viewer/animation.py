@@ -1,5 +1,5 @@
 #!/usr/bin/python3
-"""Takes the moving picture that README.md shows, docs/pictures/viewer-night.png: the night scene of the poster, drawn as tests/night.py draws it.
+"""Takes the moving picture that README.md shows, docs/pictures/viewer-demo.png: the demo, in which the two bots draw, and then its past, played.
 
 usage: tools/viewer/animation.py
 
@@ -12,7 +12,6 @@ import io
 import itertools
 import struct
 import sys
-import tempfile
 import zlib
 from pathlib import Path
 
@@ -21,14 +20,15 @@ from PIL import Image, ImageChops, ImageDraw
 sys.path.insert(0, str(Path(__file__).resolve().parent.parent))
 from browser import Browser  # noqa: E402
 from canvas_client import TOP  # noqa: E402
-from tests.desk import Desk, Gateway, Server  # noqa: E402
-from tests.night import Hand, land, sky, things  # noqa: E402
+from pictures import running_demo  # noqa: E402
 
-PICTURE = TOP / "docs" / "pictures" / "viewer-night.png"
-SIZE = (880, 640)
+PICTURE = TOP / "docs" / "pictures" / "viewer-demo.png"
+SIZE = (1112, 768)
 COLOURS, APART = 160, 8
-PAUSE, LAST = 60, 3000
+PAUSE, LAST = 100, 3000
 """How long a frame is shown, and the last one, in milliseconds."""
+DRAWN, BACK, FORTH = 30, 8, 36
+"""How many frames the bots draw, and in how many the slider goes back and comes again."""
 ARROW = [(0, 0), (0, 17), (4, 13), (7, 20), (10, 19), (7, 12), (12, 12)]
 
 
@@ -124,36 +124,53 @@ def apng(frames):
 
 # -- the scene ---------------------------------------------------------------------------------------------------------
 
-async def film(server, gateway):
-    """The frames of the scene as it is drawn."""
-    async with Browser(*SIZE) as browser:
-        desk = await Desk.open(browser, gateway, server)
-        await desk.press("Escape")
-        found = Film(desk.tab)
-        hand = Hand(desk, "+", found.take)
+async def press(found, tab, selector):
+    """Goes with the pointer to the middle of an element, and presses there."""
+    (x1, y1), (left, top, w, h) = tab.place, await tab.box_of(selector)
+    x2, y2 = left + w / 2, top + h / 2
+    for step in range(1, 6):
+        await tab.pointer("mouseMoved", x1 + (x2 - x1) * step / 5, y1 + (y2 - y1) * step / 5, held=False)
         await found.take()
-        for part in (sky, land, things):
-            await part(hand)
-        await desk.tab.value("document.activeElement.blur()")
-        await desk.settle(0)
-        await found.take(has_pointer=False)
-        if desk.tab.faults:
-            sys.exit(f"the console says {desk.tab.faults}")
+    await tab.click(x2, y2)
+    await found.take()
+
+
+async def slide(found, tab, version):
+    """Goes to a version with the pointer on the slider."""
+    left, top, w, h = await tab.box_of("#past-slider")
+    newest = await tab.value("app.past.newest")
+    await tab.pointer("mouseMoved", left + 8 + (w - 16) * version / newest, top + h / 2, held=False)
+    await tab.value(f"app.past.go({version})")
+    await tab.until(f"app.past.picture.versions[0] === {version} && app.past.picture.isFull")
+    await found.take()
+
+
+async def film(page):
+    """The frames: the bots draw, and the slider goes back to an empty page and comes again."""
+    async with Browser(*SIZE) as browser:
+        tab = await browser.open(page)
+        await tab.until("app.picture.isSettled")
+        await tab.pointer("mouseMoved", 420, 700, held=False)
+        await asyncio.sleep(25)
+        found = Film(tab)
+        for _ in range(DRAWN):
+            await found.take()
+        await press(found, tab, '[data-act="past"]')
+        await tab.until("app.past.isOn && app.past.picture.isFull")
+        newest = await tab.value("app.past.version")
+        for step in [*range(BACK, -1, -1), *(BACK * it / FORTH for it in range(1, FORTH + 1))]:
+            await slide(found, tab, round(newest * step / BACK))
+        await press(found, tab, '#past [data-act="cancel"]')
+        await tab.until("!app.past.isOn && app.picture.isSettled")
+        await found.take()
+        if tab.faults:
+            sys.exit(f"the console says {tab.faults}")
         return found.frames
 
 
 async def main():
-    with tempfile.TemporaryDirectory() as folder:
-        file = Path(folder) / "empty.json"
-        file.write_text('{"format":2,"next":1,"shapes":[]}')
-        server = Server(file)
-        server.start()
-        gateway = Gateway(server)
-        try:
-            frames = await film(server, gateway)
-        finally:
-            gateway.close()
-            server.kill()
+    with running_demo() as (page, _):
+        frames = await film(page)
     data = apng(frames)
     PICTURE.write_bytes(data)
     print(f"{PICTURE.relative_to(TOP)}: {len(frames)} frames, {len(data):,} bytes")

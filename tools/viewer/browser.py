@@ -195,6 +195,12 @@ class Tab:
         """Fingers: touchStart, touchMove, touchEnd."""
         await self.command("Input.dispatchTouchEvent", type=kind, touchPoints=[{"x": x, "y": y, "id": k} for k, (x, y) in enumerate(points)])
 
+    async def tap(self, x, y):
+        """Taps. A finger that stays for no time makes no click."""
+        await self.touch("touchStart", (x, y))
+        await asyncio.sleep(0.05)
+        await self.touch("touchEnd")
+
     async def key(self, key, modifiers=0, **more):
         """Presses a key: a character, or a name of KEYS; `commands` names what the browser does with it, as copy or paste."""
         code, number, text = KEYS.get(key, (key, ord(key[0].upper()), key))
@@ -206,8 +212,8 @@ class Tab:
     # -- pictures --------------------------------------------------------------------------------------------------
 
     async def box_of(self, selector):
-        """The box of an element: x, y, width, height."""
-        box = f"document.querySelector({json.dumps(selector)}).getBoundingClientRect()"
+        """The box of an element, which is brought into view: x, y, width, height."""
+        box = f"(it => (it.scrollIntoView({{block: 'nearest'}}), it.getBoundingClientRect()))(document.querySelector({json.dumps(selector)}))"
         return await self.value(f"(({{x, y, width, height}}) => [x, y, width, height])({box})")
 
     async def screenshot(self, box=None):

@@ -1,7 +1,7 @@
 """What stands between the viewer's parts or in their place, for its test and its bench.
 
-`Counter` passes connections on to a server and counts the requests; `Puppet` is a server that a test leads; `BareTab` is a tab without
-a page.
+`Counter` passes connections on to a server and counts the requests; `Cable` passes any bytes on, until it is cut; `Puppet` is a server that a test leads; `BareTab` is a tab without
+a page; `LiveTab` is one that follows the edits, and asks for the pictures of a view as the page does.
 """
 
 import asyncio
@@ -9,6 +9,9 @@ import collections
 import contextlib
 import hashlib
 import json
+import time
+
+import aiohttp
 
 SECONDS = 30
 
@@ -61,6 +64,41 @@ class Counter:
             rest = count(rest + piece)
             writer.write(piece)
             await writer.drain()
+        writer.close()
+
+
+class Cable:
+    """Passes connections on to an address until it is cut; then there is nobody until it is mended."""
+
+    def __init__(self, address):
+        self._to, self._port, self._writers, self._server = address, 0, set(), None
+
+    async def mend(self):
+        """Listens, always at the same address, and gives it."""
+        self._server = await asyncio.start_server(self._pass_on, "127.0.0.1", self._port)
+        self._port = self._server.sockets[0].getsockname()[1]
+        return f"127.0.0.1:{self._port}"
+
+    def cut(self):
+        self._server.close()
+        for writer in self._writers:
+            writer.close()
+
+    async def _pass_on(self, reader, writer):
+        host, _, port = self._to.rpartition(":")
+        other_reader, other_writer = await asyncio.open_connection(host, int(port))
+        both = {writer, other_writer}
+        self._writers |= both
+        with contextlib.suppress(OSError):
+            await asyncio.gather(self._copy(reader, other_writer), self._copy(other_reader, writer))
+        self._writers -= both
+
+    @staticmethod
+    async def _copy(reader, writer):
+        with contextlib.suppress(OSError):
+            while piece := await reader.read(1 << 16):
+                writer.write(piece)
+                await writer.drain()
         writer.close()
 
 
@@ -153,7 +191,7 @@ class BareTab:
     @classmethod
     async def open(cls, client, page):
         tab = cls()
-        tab.said, tab._waiting, tab._number = [], {}, 0
+        tab.said, tab.edits, tab._waiting, tab._number = [], [], {}, 0
         tab._socket = await client.ws_connect(f"{page}session", max_msg_size=0)
         tab._reader = asyncio.create_task(tab._read())
         await tab.told("here")
@@ -161,11 +199,17 @@ class BareTab:
 
     async def _read(self):
         async for message in self._socket:
+            if message.type == aiohttp.WSMsgType.BINARY:
+                continue  # (a picture)
             found = message.json()
             if "say" in found:
-                self.said.append(found)
+                self.take(found)
             else:
                 self._waiting.pop(found["batch"]).set_result(found["replies"])
+
+    def take(self, found):
+        """Takes what it did not ask for."""
+        self.said.append(found)
 
     async def ask(self, *requests):
         """Sends a batch at once; gives a future of its replies."""
@@ -182,3 +226,61 @@ class BareTab:
     async def close(self):
         await self._socket.close()
         await self._reader
+
+
+def is_touched(damage, level, col, row):
+    """Whether an edit may have changed a pixel that a tile shows."""
+    scale = 1 << level
+    meets = lambda begin, end, first: -(-max(begin, first) // scale) * scale < min(end, first + 256 * scale)
+    return meets(damage[0], damage[2], 256 * scale * col) and meets(damage[1], damage[3], 256 * scale * row)
+
+
+class LiveTab(BareTab):
+    """A tab without a page that looks at some tiles, each a level, a column and a row, and has each tile's picture that an edit may have changed."""
+
+    @classmethod
+    async def open(cls, client, page, tiles):
+        tab = await super().open(client, page)
+        tab._tiles, tab._times, tab._end = tiles, {}, 0
+        await tab._look(tab._tiles)
+        tab._told = asyncio.Event()
+        tab._following = asyncio.create_task(tab._follow())
+        return tab
+
+    async def _look(self, tiles):
+        """Asks for tiles; gives their replies, or None where the connection is over."""
+        with contextlib.suppress(ConnectionError, asyncio.TimeoutError):
+            return await (await self.ask(*({"verb": "tile", "col": col, "row": row, "level": level} for level, col, row in tiles)))
+
+    async def _follow(self):
+        while True:
+            edits, self.edits = self.edits, []
+            if not edits:
+                self._told.clear()
+                await self._told.wait()
+                continue
+            touched = [tile for tile in self._tiles if any(is_touched(edit["damage"], *tile) for edit in edits)]
+            newest = edits[-1]["version"]
+            if touched and await self._look(touched) is None:
+                break
+            for version in range(self._end + 1, newest + 1):
+                self._times[version] = time.time()
+            self._end = newest
+
+    def take(self, found):
+        super().take(found)
+        if found["say"] == "edits":
+            self.edits += found["edits"]
+            if getattr(self, "_told", None) is not None:
+                self._told.set()
+
+    async def reached(self, version):
+        """Waits until it has the picture of a version."""
+        await until(lambda: version in self._times)
+
+    def when(self, version):
+        return self._times[version]
+
+    async def close(self):
+        self._following.cancel()
+        await super().close()

@@ -23,12 +23,11 @@ from pathlib import Path
 HERE = Path(__file__).resolve().parent
 sys.path.insert(0, str(HERE.parent))
 from browser import Browser, Fault  # noqa: E402
-from canvas_client import PROGRAM  # noqa: E402
-from running import difference  # noqa: E402
-from tests import drags, drawing, files, grid, layers, looking, night, outages, selecting, sharing, small_things, svg, undo  # noqa: E402
+from running import build, build_keeper, difference  # noqa: E402
+from tests import demo, drags, drawing, files, grid, layers, live, looking, night, outages, past, selecting, sharing, small_things, svg, undo  # noqa: E402
 from tests.desk import POSTER, Desk, Gateway, Server  # noqa: E402
 
-MODULES = (drawing, undo, selecting, drags, grid, files, svg, small_things, looking, layers, night, sharing, outages)
+MODULES = (drawing, undo, selecting, drags, grid, files, svg, small_things, looking, layers, night, sharing, outages, live, past, demo)
 STOPS = (Fault, TimeoutError, asyncio.TimeoutError, KeyError, TypeError)
 """What ends a stage, and no other one."""
 
@@ -104,7 +103,8 @@ def of_gateway():
 
 async def main():
     words = sys.argv[1:]
-    subprocess.run([str(PROGRAM), "script"], stdin=subprocess.DEVNULL, check=True)  # builds it where it is not built
+    build()
+    build_keeper()
     passed = failed = 0
     for more in [] if words else [of_page(), of_gateway()]:
         passed, failed = passed + more[0], failed + more[1]

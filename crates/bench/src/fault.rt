@@ -5,7 +5,7 @@ use canvas_doc::{Refusal, TreeFault};
 use canvas_line::LineFault;
 use canvas_paint::PaintFault;
 use canvas_plane::WindowFault;
-use canvas_store::StoreFault;
+use canvas_saved::StoreFault;
 use std::alloc::{AllocError, AllocFailed};
 use std::io;
 

@@ -3,7 +3,7 @@
 use crate::fault::Fault;
 use crate::times::{now, since};
 use canvas_doc::Document;
-use canvas_store::{export, import};
+use canvas_saved::{export, import};
 use std::io::Read;
 
 const ROUNDS: u32 = 20;

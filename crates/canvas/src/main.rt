@@ -18,10 +18,11 @@ ghost use Rattle.canvas.specs.Statuses.{fault_of_code, status_at};
 mod opening;
 
 use canvas_board::{Alone, BoardFault};
+use canvas_code::Coded;
 use canvas_doc::Document;
+use canvas_saved::StoreFault;
 use canvas_server::{Command, ServerFault, Settings, exit_status, serve_connections};
 use canvas_session::{Served, SessionFault, serve};
-use canvas_store::StoreFault;
 use opening::read_document;
 use std::alloc::{AllocError, AllocFailed, Global};
 use std::fs::{File, Files};

@@ -5,7 +5,7 @@ ghost use Rattle.canvas_saved.specs.Opened.{opened};
 
 use crate::Fault;
 use canvas_doc::Document;
-use canvas_store::import;
+use canvas_saved::import;
 use std::alloc::Global;
 use std::io::Read;
 

@@ -15,7 +15,7 @@ use Rattle.canvas_line.specs.declared.fault.Edited.{Edited}
 use Rattle.canvas_line.specs.declared.fault.LineFault.{LineFault}
 use Rattle.canvas_line.specs.declared.fault.LineFault.TheVariants as line
 use Rattle.canvas_line.specs.Lines.{Sight, with_front}
-use Rattle.canvas_line.specs.Seats.{EditAccepted, EditRefused, Looks}
+use Rattle.canvas_line.specs.Seats.{Begins, EditAccepted, EditRefused, Looks}
 use Rattle.canvas_line.proofs.Prefixes.{prefix_self, prefix_trans, prefix_length, take_more_same, take_all}
 use Rattle.canvas_line.specs.declared.recent.Damage.{Damage}
 use Rattle.canvas_line.specs.Recent.{recent_of}
@@ -26,28 +26,24 @@ use Rattle.canvas_board.specs.Raster.{file_of}
 use Rattle.canvas_board.specs.Shared.{board_at, known_after, shared_board}
 use Rattle.canvas_board.proofs.Spared.{DamageKeeps, file-key, still-shows}
 
--- the seat's front goes on, and nothing else changes
-abbrev pub GoesOnTo : Sight → Sight → Type 0
-GoesOnTo s t = IsPrefix s.front t.front × (t ≡ with_front s t.front)
+pub goes-nowhere : (s t : Sight) → t ≡ s → Begins s t
+goes-nowhere s t is = subst (λ (x : Sight). Begins s x) (sym is) (prefix_self s.front, refl)
 
-pub goes-nowhere : (s t : Sight) → t ≡ s → GoesOnTo s t
-goes-nowhere s t is = subst (λ (x : Sight). GoesOnTo s x) (sym is) (prefix_self s.front, refl)
-
-pub goes-by-look : (s t : Sight) (v : Version) → Looks s t v → GoesOnTo s t
+pub goes-by-look : (s t : Sight) (v : Version) → Looks s t v → Begins s t
 goes-by-look s t v l = (l.0.0, l.0.2)
 
 -- what the board shows of the old front stays
-pub board-stays : (s t : Sight) (known : ℕ) → GoesOnTo s t → known ≤ length s.front → board_at t known ≡ board_at s known
+pub board-stays : (s t : Sight) (known : ℕ) → Begins s t → known ≤ length s.front → board_at t known ≡ board_at s known
 board-stays s t known goes within = ap (λ (x : Sight). board_at x known) goes.1 ∙ ap (shared_board s.opening s.limit) (take_more_same known s.front t.front goes.0 within)
 
-goes-by-edit : (s t : Sight) (edit : Edit) (edited : Edited) → EditAccepted s edit t edited → GoesOnTo s t
+goes-by-edit : (s t : Sight) (edit : Edit) (edited : Edited) → EditAccepted s edit t edited → Begins s t
 goes-by-edit s t edit edited a =
     let more : List Change = a.0 ++ a.1 ∷ [] in
     let is : t ≡ with_front s more = a.5 in
     let front : t.front ≡ more = ap (λ (x : Sight). x.front) is in
     (subst (IsPrefix s.front) (sym front) (prefix_trans s.front a.0 more a.2 (a.1 ∷ [], refl)), is ∙ ap (with_front s) (sym front))
 
-goes-by-refusal : (s t : Sight) (edit : Edit) (fault : LineFault) → EditRefused s edit t fault → GoesOnTo s t
+goes-by-refusal : (s t : Sight) (edit : Edit) (fault : LineFault) → EditRefused s edit t fault → Begins s t
 goes-by-refusal s t edit line.OutOfMemory r = goes-nowhere s t r.0
 goes-by-refusal s t edit line.VersionsSpent r = (r.0.0, r.0.2)
 goes-by-refusal s t edit (line.Refused why) r = (r.0.0, r.0.2)
@@ -57,17 +53,17 @@ goes-by-refusal s t edit line.NoSeats r = absurd r
 goes-by-refusal s t edit line.BadSetting r = absurd r
 goes-by-refusal s t edit line.NoView r = absurd r
 
-pub goes-by-answer : (s t : Sight) (edit : Edit) (answer : Result Edited LineFault) → IfOk answer (λ edited. EditAccepted s edit t edited) → MatchResult answer (λ _. Unit {0}) (λ fault. EditRefused s edit t fault) → GoesOnTo s t
+pub goes-by-answer : (s t : Sight) (edit : Edit) (answer : Result Edited LineFault) → IfOk answer (λ edited. EditAccepted s edit t edited) → MatchResult answer (λ _. Unit {0}) (λ fault. EditRefused s edit t fault) → Begins s t
 goes-by-answer s t edit (Ok edited) accepted refused = goes-by-edit s t edit edited accepted
 goes-by-answer s t edit (Err fault) accepted refused = goes-by-refusal s t edit fault refused
 
 -- a version that the front has is the same after it went on
-same-version : (s t : Sight) → GoesOnTo s t → (n : ℕ) → n ≤ length s.front → replay_of t.opening (take n t.front) ≡ replay_of s.opening (take n s.front)
+same-version : (s t : Sight) → Begins s t → (n : ℕ) → n ≤ length s.front → replay_of t.opening (take n t.front) ≡ replay_of s.opening (take n s.front)
 same-version s t on n le =
     let opening : t.opening ≡ s.opening = ap (λ (x : Sight). x.opening) on.1 in
     ap (λ (d : Contents). replay_of d (take n t.front)) opening ∙ ap (replay_of s.opening) (take_more_same n s.front t.front on.0 le)
 
-right-on : (s t : Sight) → GoesOnTo s t → (key : WindowKey) (picture : Picture) → IsRight s key picture → IsRight t key picture
+right-on : (s t : Sight) → Begins s t → (key : WindowKey) (picture : Picture) → IsRight s key picture → IsRight t key picture
 right-on s t on key picture r =
     let same = same-version s t on picture.version r.within in
     record {
@@ -77,7 +73,7 @@ right-on s t on key picture r =
     }
 
 -- what is right stays right
-pub are-right-on : (s t : Sight) → GoesOnTo s t → (entries : List (WindowKey × Picture)) → AreRight s entries → AreRight t entries
+pub are-right-on : (s t : Sight) → Begins s t → (entries : List (WindowKey × Picture)) → AreRight s entries → AreRight t entries
 are-right-on s t on entries all = λ e h. right-on s t on e.0 e.1 (all e h)
 
 pub are-right-more : (t : Sight) (old new : List (WindowKey × Picture)) (window : Window) (Is : Picture → Type 0) → AreRight t old → ((p : Picture) → Is p → IsRight t (key_of window) p) → BringsIn old window Is new → AreRight t new
@@ -97,7 +93,7 @@ at-end t window p well version shows =
     }
 
 -- the version's document is the one after the front
-front-document : (s t : Sight) (v : Version) → Looks s t v → v.document ≡ replay_of t.opening t.front
+pub front-document : (s t : Sight) (v : Version) → Looks s t v → v.document ≡ replay_of t.opening t.front
 front-document s t v l = l.1.document ∙ ap (λ (x : Sight). replay_of x.opening t.front) (sym l.0.2)
 
 -- a painted picture is right
@@ -153,7 +149,7 @@ known-within known seen (Err line.NoSeats) le = le
 known-within known seen (Err line.BadSetting) le = le
 known-within known seen (Err line.NoView) le = le
 
-pub within-on : (s t : Sight) (known : ℕ) → GoesOnTo s t → known ≤ length s.front → known ≤ length t.front
+pub within-on : (s t : Sight) (known : ℕ) → Begins s t → known ≤ length s.front → known ≤ length t.front
 within-on s t known on le = omega (arith, le, prefix_length s.front t.front on.0)
 
 -- the recent damage of a version that was looked at is that of its history
@@ -175,7 +171,7 @@ keep-right s t v l old new window p well shows all brings =
     are-right-more t old new window (IsCopyOf p) all (λ q copy. copy-right t (key_of window) p q (painted-right s t v l window p well shows.0 shows.1) copy) brings
 
 -- what holds of a board goes on to hold with its seat
-pub board-on : (s t : Sight) (known : ℕ) (entries : List (WindowKey × Picture)) → GoesOnTo s t → (known ≤ length s.front) × AreRight s entries → (known ≤ length t.front) × AreRight t entries
+pub board-on : (s t : Sight) (known : ℕ) (entries : List (WindowKey × Picture)) → Begins s t → (known ≤ length s.front) × AreRight s entries → (known ≤ length t.front) × AreRight t entries
 board-on s t known entries on is = (within-on s t known on is.0, are-right-on s t on entries is.1)
 
 -- a board that has answered about a version

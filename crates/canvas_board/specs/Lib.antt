@@ -6,3 +6,4 @@ pub mod Alone
 pub mod Shared
 pub mod Past
 pub mod Kept
+pub mod Exports

@@ -77,7 +77,7 @@ Looks s x y (Err BadSetting) t = ⊥
 
 -- what saving may answer, and what it leaves
 abbrev pub Saves : Seen → Result Saved BoardFault → Seen → Type 0
-Saves s (Ok saved) t = Grows s t × (saved.version ≡ length t.front) × (saved.text.items ≡ saved_text_of (document_of t))
+Saves s (Ok saved) t = Grows s t × (saved.version ≡ length t.front) × ((arc_value saved.text).items ≡ saved_text_of (document_of t))
 Saves s (Err NoView) t = (t ≡ s) × (s.alone ≡ false)
 Saves s (Err OutOfMemory) t = t ≡ s
 Saves s (Err VersionsSpent) t = ⊥

@@ -4,16 +4,16 @@ ghost use Rattle.std.specs.Prelude.{◌≡◌, IfOk, OnErr};
 ghost use Rattle.canvas_record.specs.Effect.{effect_of};
 ghost use Rattle.canvas_board.specs.Alone.{Makes, Opens};
 
-use crate::answers::{Dot, MOST_BYTES, Picture, Saved};
+use crate::answers::{Dot, Picture, Saved};
 use crate::board::Board;
 use crate::fault::BoardFault;
 use crate::history::History;
 use crate::picture::file_of;
+use crate::saving::text_of;
 use bumpalo::Bump;
 use canvas_doc::{Change, Document, Edit, Refusal};
 use canvas_line::Edited;
 use canvas_plane::Window;
-use canvas_store::export;
 use std::alloc::Global;
 use std::marker::Model;
 use std::mem;
@@ -116,9 +116,9 @@ impl Board for Alone {
 
     fn saved(&mut self) -> Result<Saved, BoardFault> {
         let version = self.number;
-        match export(self.alloc, &self.document) {
-            Ok(text) if text.len() <= MOST_BYTES => Ok(Saved { version, text }),
-            _ => Err(BoardFault::OutOfMemory),
+        match text_of(self.alloc, &self.document) {
+            Ok(text) => Ok(Saved { version, text }),
+            Err(_) => Err(BoardFault::OutOfMemory),
         }
     }
 }

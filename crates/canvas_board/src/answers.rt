@@ -33,7 +33,7 @@ pub struct Dot {
 pub struct Saved {
     /// The version that is saved.
     pub version: u64,
-    /// The saved document.
-    pub text: Vec<u8>,
-    pub ghost small: { vec_len text ≤ 2 ^ 40 },
+    /// The saved document. A board that keeps it shares it.
+    pub text: Arc<Vec<u8>, Global>,
+    pub ghost small: { vec_len (arc_value text) ≤ 2 ^ 40 },
 }

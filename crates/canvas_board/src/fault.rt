@@ -1,16 +1,16 @@
 //! Why a board does not answer.
 
 ghost use Rattle.std.specs.Prelude.{◌≡◌};
-ghost use Rattle.canvas_code.specs.Names.{name_of};
 ghost use Rattle.canvas_board.specs.Fault.{board_fault_code};
 
+use canvas_code::Coded;
 use canvas_doc::Refusal;
 use canvas_line::LineFault;
-use std::fmt::{Display, Formatter, Write};
 use thiserror::Error;
 
 /// Why a board does not answer. After any of them the document is as it was.
 #[derive(Clone, Copy, Debug, Drop, PartialEq, Eq, Error)]
+#[error("{}", self.name())]
 pub enum BoardFault {
     /// Memory could not be had.
     OutOfMemory,
@@ -30,11 +30,10 @@ pub enum BoardFault {
     NoView,
 }
 
-impl BoardFault {
-    /// The number of the refusal.
-    pub fn code(&self) -> u16
-        ensures { result ≡ board_fault_code self.now }
-    {
+impl Coded for BoardFault {
+    ghost code_of = { board_fault_code };
+
+    fn code(&self) -> u16 {
         match self {
             BoardFault::OutOfMemory => 1,
             BoardFault::Refused(why) => why.code(),
@@ -45,20 +44,6 @@ impl BoardFault {
             BoardFault::BadSetting => 32,
             BoardFault::NoView => 33,
         }
-    }
-
-    /// The name of the refusal, which is also its text.
-    pub fn name(&self) -> &'static str
-        ensures { result.now ≡ name_of (board_fault_code self.now) }
-    {
-        canvas_code::name_of(self.code())
-    }
-}
-
-/// Writes the name.
-impl Display for BoardFault {
-    fn fmt<W: Write>(&self, formatter: &mut Formatter<W>) -> std::fmt::Result {
-        formatter.write_str(self.name())
     }
 }
 

@@ -4,10 +4,13 @@
 mod alone;
 mod answers;
 mod board;
+mod exported;
 mod fault;
 mod history;
 mod kept;
+mod last_export;
 mod picture;
+mod saving;
 mod shared;
 
 pub use alone::Alone;
@@ -15,4 +18,5 @@ pub use answers::{Dot, Picture, Saved};
 pub use board::Board;
 pub use canvas_line::Edited;
 pub use fault::BoardFault;
+pub use last_export::LastExport;
 pub use shared::{MOST_KEPT, Shared};

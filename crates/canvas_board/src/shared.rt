@@ -7,17 +7,17 @@ ghost use Rattle.canvas_paint.specs.Workers.{are_workers};
 ghost use Rattle.canvas_board.specs.Kept.{entries_of, AreRight, ShowsAt};
 ghost use Rattle.canvas_board.specs.Shared.{OpensAt, known_after};
 
-use crate::answers::{Dot, MOST_BYTES, Picture, Saved};
+use crate::answers::{Dot, Picture, Saved};
 use crate::board::Board;
 use crate::fault::BoardFault;
 use crate::kept::KeptPictures;
+use crate::last_export::LastExport;
 use crate::picture::file_of;
 use bumpalo::Bump;
 use canvas_code::OutOfMemory;
 use canvas_doc::Edit;
 use canvas_line::{Edited, LineFault, Lines, Seat, Version};
 use canvas_plane::Window;
-use canvas_store::export;
 use std::alloc::Global;
 use std::marker::Model;
 use std::sync::Wait;
@@ -37,6 +37,7 @@ pub struct Shared<B: Lines> {
     // How many changes the front has.
     known: u64,
     kept: KeptPictures,
+    last_export: LastExport<B>,
     // How many pictures were answered from the kept ones.
     hits: u64,
 }
@@ -60,6 +61,18 @@ impl<B: Lines> Shared<B> {
     pub fn new(alloc: Global, seat: Seat<B>, keep: u32) -> Result<Shared<B>, (BoardFault, Seat<B>)>
         ensures { OpensAt seat keep result }
     {
+        Shared::beside(alloc, seat, keep, LastExport::new(alloc))
+    }
+
+    /// The same, beside other boards of the line that have the same last export.
+    pub fn beside(
+        alloc: Global,
+        seat: Seat<B>,
+        keep: u32,
+        last_export: LastExport<B>,
+    ) -> Result<Shared<B>, (BoardFault, Seat<B>)>
+        ensures { OpensAt seat keep result }
+    {
         if keep > MOST_KEPT {
             return Err((BoardFault::BadSetting, seat));
         }
@@ -69,6 +82,7 @@ impl<B: Lines> Shared<B> {
             seat,
             known,
             kept: KeptPictures::new(keep as usize),
+            last_export,
             hits: 0,
         })
     }
@@ -136,13 +150,17 @@ impl<B: Lines> Board for Shared<B> {
         let Ok(version) = self.seat.look() else {
             return Err(BoardFault::NoView);
         };
-        match export(self.alloc, &version.document) {
-            Ok(text) if text.len() <= MOST_BYTES => {
+        let mark = self.seat.mark();
+        match self
+            .last_export
+            .text_at(self.alloc, mark, &version.document)
+        {
+            Ok(text) => {
                 let version = version.number;
                 self.known = version;
                 Ok(Saved { version, text })
             }
-            _ => Err(BoardFault::OutOfMemory),
+            Err(_) => Err(BoardFault::OutOfMemory),
         }
     }
 }

@@ -5,8 +5,10 @@ ghost use Rattle.std.specs.Prelude.{◌≡◌, ◌≤◌, length};
 ghost use Rattle.canvas_code.specs.Names.{name_of};
 
 mod memory;
+mod refusals;
 
 pub use memory::OutOfMemory;
+pub use refusals::Coded;
 
 /// The name of a refusal's code, as replies give it, or an empty text for a number that is no code.
 #[tactic(auto, unfolding(crate::specs::Names::name_of))]

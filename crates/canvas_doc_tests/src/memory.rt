@@ -10,7 +10,7 @@ use canvas_code::OutOfMemory;
 use canvas_doc::{Document, Edit, Parent, Record, Refusal, Spot, TreeFault};
 use canvas_key::fresh;
 use canvas_shape::Kind;
-use std::alloc::{AllocError, Global};
+use std::alloc::Global;
 use std::process::Abort;
 use std::test::Fail;
 
@@ -298,7 +298,7 @@ fn refusals_with_little_memory(rt: HostRuntime) -> Result<(), Fail> {
 }
 
 // A group, listed behind its child.
-fn pair(alloc: Global) -> Result<Vec<Record>, AllocError> {
+fn pair(alloc: Global) -> Result<Vec<Record>, OutOfMemory> {
     let leaf = record(2, Parent::Shape(1), fresh(0), rectangle(1, 1, RED));
     let group = record(1, Parent::Page, fresh(0), Kind::Group);
     Ok(Vec::from_array(alloc, [leaf, group])?)

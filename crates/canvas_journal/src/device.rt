@@ -4,44 +4,27 @@ ghost use Rattle.std.specs.Prelude.{◌≡◌, ◌≤◌, List, ℕ, length, tak
 ghost use Rattle.canvas_journal.specs.declared.device.DeviceError.TheVariants.{Memory};
 ghost use Rattle.canvas_journal.specs.Device.{Only, Follows, Torn, Cut, Holds, Elapses, HasCause};
 
-use std::alloc::{AllocError, AllocFailed, Global};
-use std::fmt::{Display, Formatter, Write};
+use std::alloc::{AllocError, Global};
 use thiserror::Error;
 
 /// Why a device or a journal did not do what it was asked. After any of them the file has to be opened anew.
 #[derive(Clone, Copy, Debug, Drop, PartialEq, Eq, Error)]
 pub enum DeviceError {
     /// Memory could not be had.
+    #[error("out of memory")]
     Memory,
     /// The disk has failed: a read, a write or a sync did not succeed.
+    #[error("the disk has failed")]
     Failed,
     /// The journal has more than 2^60 bytes.
+    #[error("the journal is full")]
     Full,
-}
-
-/// Writes what was wrong.
-impl Display for DeviceError {
-    fn fmt<W: Write>(&self, formatter: &mut Formatter<W>) -> std::fmt::Result {
-        formatter.write_str(match self {
-            DeviceError::Memory => "out of memory",
-            DeviceError::Failed => "the disk has failed",
-            DeviceError::Full => "the journal is full",
-        })
-    }
 }
 
 impl From<AllocError> for DeviceError {
     ghost from_gives = { λ _ e. e ≡ Memory };
 
     fn from(_error: AllocError) -> DeviceError {
-        DeviceError::Memory
-    }
-}
-
-impl<T: Drop> From<AllocFailed<T>> for DeviceError {
-    ghost from_gives = { λ _ e. e ≡ Memory };
-
-    fn from(_error: AllocFailed<T>) -> DeviceError {
         DeviceError::Memory
     }
 }

@@ -9,4 +9,4 @@ mod reading;
 pub use batch::Batch;
 pub use device::{Device, DeviceError};
 pub use journal::{Journal, recover};
-pub use reading::Lines;
+pub use reading::{Lines, first_line};

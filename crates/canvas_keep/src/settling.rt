@@ -1,5 +1,5 @@
 //! What all threads share: they wait until what they tell of is kept, and one of them at a time makes a turn for all.
-ghost use Rattle.std.specs.Prelude.{◌≡◌, ◌≤◌, IfOk};
+ghost use Rattle.std.specs.Prelude.{◌≡◌, ◌<◌, ◌≤◌, IfOk, IfSome};
 
 use crate::fault::KeepFault;
 use crate::keeper::Keeper;
@@ -65,6 +65,27 @@ impl<D: Device + Drop, B: Lines> Keep<D, B> {
             }
         }
         unreachable!()
+    }
+
+    /// Waits until more versions are kept than so many, and says how many are kept then. It makes no turn: it is told of those that others make. `None`
+    /// where no more are kept, once the journal is lost or `end_waits` was called.
+    pub fn wait_beyond<R: Wait>(&self, rt: &R, has: u64) -> Option<u64>
+        ensures { IfSome result (λ kept. has < kept) }
+    {
+        let mut guard = self.slot.lock(rt);
+        for _ in rt.forever() {
+            if let Some(answer) = guard.more_than(has) {
+                return answer;
+            }
+            guard = self.word.wait(rt, guard);
+        }
+        unreachable!()
+    }
+
+    /// Ends all waits for more versions, those that come later too.
+    pub fn end_waits<R: Wait>(&self, rt: &R) {
+        self.slot.lock(rt).waits_ended = true;
+        self.word.notify_all();
     }
 
     /// The newest published version, kept or not.

@@ -2,7 +2,7 @@
 ghost use Rattle.std.specs.Prelude.{◌≡◌, Some, None, IfOk, MatchResult};
 ghost use Rattle.std.specs.Arc.{arc_value};
 ghost use Rattle.canvas_line.specs.Seats.{Looks};
-ghost use Rattle.canvas_keep.specs.Settling.{Answers};
+ghost use Rattle.canvas_keep.specs.Settling.{Answers, AnswersMore};
 
 use crate::fault::KeepFault;
 use crate::keeper::Keeper;
@@ -21,6 +21,8 @@ pub(crate) struct Slot<D: Device, B: Lines> {
     pub(crate) fault: Option<KeepFault>,
     /// A seat that looks for the newest version.
     pub(crate) watch: Seat<B>,
+    /// Whether nobody is to wait for more versions any longer.
+    pub(crate) waits_ended: bool,
 }
 
 impl<D: Device + Drop, B: Lines> Slot<D, B> {
@@ -36,6 +38,7 @@ impl<D: Device + Drop, B: Lines> Slot<D, B> {
             keeper: Some(keeper),
             fault: None,
             watch,
+            waits_ended: false,
         }
     }
 
@@ -57,6 +60,20 @@ impl<D: Device + Drop, B: Lines> Slot<D, B> {
             return None;
         }
         Some(Ok(self.kept))
+    }
+
+    /// What a thread is told that waits for more versions than it has: how many are kept, or `None` where no more are told; nothing as long as it
+    /// has to wait.
+    pub(crate) fn more_than(&self, has: u64) -> Option<Option<u64>>
+        ensures { AnswersMore self.now.fault self.now.waits_ended self.now.kept has result }
+    {
+        if has < self.kept {
+            return Some(Some(self.kept));
+        }
+        if self.fault.is_some() || self.waits_ended {
+            return Some(None);
+        }
+        None
     }
 
     /// Takes what became of a turn: the keeper comes back, or the journal is lost.

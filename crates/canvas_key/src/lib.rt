@@ -3,7 +3,6 @@
 
 ghost use Rattle.std.specs.Prelude.{◌≡◌, ◌≤◌, Some, MatchResult, length, IfOk};
 ghost use Rattle.std.specs.Option.{option_copied};
-ghost use Rattle.canvas_code.specs.Names.{name_of};
 ghost use Rattle.canvas_key.specs.Order.{is_before, AreApart, IsAbove, IsBelow};
 ghost use Rattle.canvas_key.specs.Fault.{fault_code};
 ghost use Rattle.canvas_key.specs.Text.{IsKey, key_fault};
@@ -17,10 +16,9 @@ mod spaced;
 mod text;
 
 use arrayvec::ArrayVec;
-use canvas_code::name_of;
+use canvas_code::Coded;
 pub use gap::{between, defined_keys_lie_between};
 pub use spaced::{first_fresh, fresh, fresh_keys_rise, parts_are_in_order, ranks_number_the_parts};
-use std::fmt::{Display, Formatter, Write};
 use std::marker::Model;
 use text::{fault_of, text_of};
 use thiserror::Error;
@@ -49,6 +47,7 @@ impl Model for Key {
 
 /// Why a text is no key, or why there is no such key.
 #[derive(Clone, Copy, Debug, PartialEq, Eq, Drop, Error)]
+#[error("{}", self.name())]
 pub enum KeyFault {
     /// The key between the two would have more than 128 bytes.
     NoRoom,
@@ -66,11 +65,10 @@ pub enum KeyFault {
     KeyTooLong,
 }
 
-impl KeyFault {
-    /// The number of the fault.
-    pub fn code(&self) -> u16
-        ensures { result ≡ fault_code self.now }
-    {
+impl Coded for KeyFault {
+    ghost code_of = { fault_code };
+
+    fn code(&self) -> u16 {
         match self {
             KeyFault::NoRoom => 13,
             KeyFault::BadHead => 20,
@@ -80,20 +78,6 @@ impl KeyFault {
             KeyFault::LeastInteger => 24,
             KeyFault::KeyTooLong => 25,
         }
-    }
-
-    /// The name of the fault, as replies give it.
-    pub fn name(&self) -> &'static str
-        ensures { result.now ≡ name_of (fault_code self.now) }
-    {
-        name_of(self.code())
-    }
-}
-
-/// Writes the name.
-impl Display for KeyFault {
-    fn fmt<W: Write>(&self, formatter: &mut Formatter<W>) -> std::fmt::Result {
-        formatter.write_str(self.name())
     }
 }
 

@@ -1,5 +1,5 @@
 -- What a call does to a seat's front.
-use Rattle.std.specs.Prelude.{ℕ, ◌≡◌, ◌≢◌, ◌⊎◌, ◌<◌, ◌≤◌, ◌&&◌, nat_le, Bool, true, false, List, [], ◌∷◌, ◌++◌, length, Option, None, Some, Result, Ok, Err}
+use Rattle.std.specs.Prelude.{ℕ, ◌≡◌, ◌≢◌, ◌⊎◌, ◌<◌, ◌≤◌, ◌&&◌, nat_eq, nat_le, Bool, true, false, List, [], ◌∷◌, ◌++◌, length, Option, None, Some, Result, Ok, Err}
 use mathlib.Core.List.{IsPrefix}
 use Rattle.canvas_record.specs.declared.edits.Change.{Change}
 use Rattle.canvas_record.specs.declared.edits.Edit.{Edit}
@@ -33,6 +33,18 @@ IsHistoryOf s h = AllFit s.opening h × (length h ≤ s.limit)
 -- the front goes on as a history of the line, and nothing else changes
 abbrev pub GoesOn : Sight → Sight → Type 0
 GoesOn s t = IsPrefix s.front t.front × IsHistoryOf s t.front × (t ≡ with_front s t.front)
+
+-- both are of one line, and the front of the second begins with that of the first
+abbrev pub Begins : Sight → Sight → Type 0
+Begins s t = IsPrefix s.front t.front × (t ≡ with_front s t.front)
+
+-- both are of one line, and the second has seen no less than the first
+abbrev pub is_no_further : Sight → Sight → Bool
+is_no_further s t = nat_eq s.name t.name && nat_le (length s.front) (length t.front)
+
+-- both are of one line, and have seen as much
+abbrev pub is_as_far : Sight → Sight → Bool
+is_as_far s t = nat_eq s.name t.name && nat_eq (length s.front) (length t.front)
 
 -- the version stands at the end of the new front, which begins with the old one
 abbrev pub Looks : Sight → Sight → Version → Type 0

@@ -1,12 +1,11 @@
 //! Answers of a line, and its refusals.
 ghost use Rattle.std.specs.Prelude.{◌≡◌};
-ghost use Rattle.canvas_code.specs.Names.{name_of};
 ghost use Rattle.canvas_line.specs.Fault.{line_fault_code};
+ghost use Rattle.canvas_line.specs.declared.fault.LineFault.TheVariants as fault;
 
-use canvas_code::OutOfMemory;
+use canvas_code::{Coded, OutOfMemory};
 use canvas_doc::Refusal;
 use std::alloc::AllocError;
-use std::fmt::{Display, Formatter, Write};
 use thiserror::Error;
 
 /// An edit that was accepted.
@@ -20,6 +19,7 @@ pub struct Edited {
 
 /// Why a line or a seat does not answer. After any of them the document is as it was.
 #[derive(Clone, Copy, Debug, Drop, PartialEq, Eq, Error)]
+#[error("{}", self.name())]
 pub enum LineFault {
     /// Memory could not be had.
     OutOfMemory,
@@ -39,11 +39,10 @@ pub enum LineFault {
     NoView,
 }
 
-impl LineFault {
-    /// The number of the refusal.
-    pub fn code(&self) -> u16
-        ensures { result ≡ line_fault_code self.now }
-    {
+impl Coded for LineFault {
+    ghost code_of = { line_fault_code };
+
+    fn code(&self) -> u16 {
         match self {
             LineFault::OutOfMemory => 1,
             LineFault::Refused(why) => why.code(),
@@ -55,25 +54,9 @@ impl LineFault {
             LineFault::NoView => 33,
         }
     }
-
-    /// The name of the refusal, which is also its text.
-    pub fn name(&self) -> &'static str
-        ensures { result.now ≡ name_of (line_fault_code self.now) }
-    {
-        canvas_code::name_of(self.code())
-    }
-}
-
-/// Writes the name.
-impl Display for LineFault {
-    fn fmt<W: Write>(&self, formatter: &mut Formatter<W>) -> std::fmt::Result {
-        formatter.write_str(self.name())
-    }
 }
 
 impl From<AllocError> for LineFault {
-    ghost use Rattle.canvas_line.specs.declared.fault.LineFault.TheVariants as fault;
-
     ghost from_gives = { λ _ f. f ≡ fault.OutOfMemory };
 
     fn from(_error: AllocError) -> LineFault {
@@ -82,8 +65,6 @@ impl From<AllocError> for LineFault {
 }
 
 impl From<OutOfMemory> for LineFault {
-    ghost use Rattle.canvas_line.specs.declared.fault.LineFault.TheVariants as fault;
-
     ghost from_gives = { λ _ f. f ≡ fault.OutOfMemory };
 
     fn from(_error: OutOfMemory) -> LineFault {

@@ -9,6 +9,7 @@ ghost use Rattle.canvas_line.specs.declared.fault.LineFault.TheVariants as fault
 use crate::desk::Desk;
 use crate::fault::{Edited, LineFault};
 use crate::front::{Lines, Trace};
+use crate::mark::Mark;
 use crate::painters::Painters;
 use crate::published::Latest;
 use crate::recorder::Taken;
@@ -87,6 +88,13 @@ impl<B: Lines> Perch<B> {
         ensures { result ≡ length self.now.front }
     {
         self.trace.len()
+    }
+
+    /// A mark at the front.
+    pub(crate) fn mark(&self) -> Mark<B>
+        ensures { result ≡ self.now }
+    {
+        Mark::new(self.trace.again(), self.name)
     }
 
     /// Of two seats at one line, one front is a beginning of the other.

@@ -8,6 +8,7 @@ ghost use Rattle.canvas_line.specs.declared.fault.LineFault.TheVariants as fault
 use crate::desk::Desk;
 use crate::fault::{Edited, LineFault};
 use crate::front::Lines;
+use crate::mark::Mark;
 use crate::painters::Painters;
 use crate::perch::Perch;
 use crate::recorder::Taken;
@@ -136,6 +137,13 @@ impl<B: Lines> Seat<B> {
         ensures { result ≡ length self.now.front }
     {
         self.perch.number()
+    }
+
+    /// A mark at the front.
+    pub fn mark(&self) -> Mark<B>
+        ensures { result ≡ self.now }
+    {
+        self.perch.mark()
     }
 
     /// Gives the seat up. The last one of a line gives up its memory too. It waits for no reader that could come.

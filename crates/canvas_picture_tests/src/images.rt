@@ -1,6 +1,7 @@
 //! P6 images read and written by hand.
 
 use crate::asserts::equal;
+use canvas_code::Coded;
 use canvas_ppm::{header, read, start, write};
 use std::alloc::Global;
 use std::process::Abort;

@@ -7,7 +7,7 @@ use crate::asserts::{equal, holds, holds_at};
 use crate::painting::span;
 use crate::shapes::{nested, page_box, red_rectangle};
 use bumpalo::Bump;
-use canvas_code::OutOfMemory;
+use canvas_code::{Coded, OutOfMemory};
 use canvas_doc::Document;
 use canvas_paint::{FreeGate, FreeRow, Gate, PaintFault, paint, paint_strip};
 use canvas_plane::{PageBox, Window};

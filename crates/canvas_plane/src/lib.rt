@@ -5,6 +5,7 @@ mod motion;
 mod page_box;
 mod windows;
 
+use canvas_code::Coded;
 use thiserror::Error;
 pub use windows::{Window, WindowFault};
 
@@ -33,6 +34,7 @@ pub struct Pose {
 
 /// Why a pose is refused.
 #[derive(Clone, Copy, Debug, PartialEq, Eq, Drop, Error)]
+#[error("{}", self.name())]
 pub enum PoseFault {
     /// dx or dy is above 2^20 in size, or quarter is above 3.
     BadPose,

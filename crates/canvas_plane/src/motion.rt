@@ -2,37 +2,21 @@
 
 ghost use Rattle.std.specs.Prelude.{◌≡◌, ◌≤◌, ◌+◌, ◌-◌, ◌%◌, ◌^◌, ◌↔◌, ◌+ℤ◌, FitsSigned, IsOk, IfOk, None, Some, MatchResult, nat_le, ◌&&◌};
 ghost use Rattle.std.specs.Int.{w64};
-ghost use Rattle.canvas_code.specs.Names.{name_of};
 ghost use Rattle.canvas_plane.specs.declared.Point.{Point};
 ghost use Rattle.canvas_plane.specs.declared.Pose.{Pose};
 ghost use Rattle.canvas_plane.specs.Motion.{carry, flipped, turned, moved, negated, reach_of, turns_of, turns_back, place_of, size_of};
 ghost use Rattle.canvas_plane.specs.Limits.{is_pose, pose_fault, IsPose};
 
 use crate::{Point, Pose, PoseFault};
-use std::fmt::{Display, Formatter, Write};
+use canvas_code::Coded;
 
-impl PoseFault {
-    /// The number of the refusal.
-    pub fn code(&self) -> u16
-        ensures { result ≡ 9 }
-    {
+impl Coded for PoseFault {
+    ghost code_of = { λ _. 9 };
+
+    fn code(&self) -> u16 {
         match self {
             PoseFault::BadPose => 9,
         }
-    }
-
-    /// The name that stands beside the number in the table of `canvas_code`.
-    pub fn name(&self) -> &'static str
-        ensures { result.now ≡ name_of 9 }
-    {
-        canvas_code::name_of(self.code())
-    }
-}
-
-/// Writes the name.
-impl Display for PoseFault {
-    fn fmt<W: Write>(&self, formatter: &mut Formatter<W>) -> std::fmt::Result {
-        formatter.write_str(self.name())
     }
 }
 

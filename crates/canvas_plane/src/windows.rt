@@ -2,12 +2,11 @@
 
 ghost use Rattle.std.specs.Prelude.{◌≡◌, ◌↔◌, ◌≤◌, ◌<◌, ◌*◌, ◌^◌, ℕ, ◌+ℤ◌, ◌*ℤ◌, ◌≤ℤ◌, ◌<ℤ◌, ◌-ℤ◌, pos, IfOk, MatchResult, None, Some, int_le, int_lt, nat_le, nat_lt};
 ghost use lib.IntN.{neg_ℤ};
-ghost use Rattle.canvas_code.specs.Names.{name_of};
 ghost use Rattle.canvas_plane.specs.Sides.{is_near_enough, is_window, is_window_side, scale_of, IsWindowSide};
 ghost use Rattle.canvas_plane.specs.Limits.{window_fault, window_fault_code};
 
 use crate::PageBox;
-use std::fmt::{Display, Formatter, Write};
+use canvas_code::Coded;
 use thiserror::Error;
 
 /// 1 to 256 by 1 to 256 pixels of the page, each 2^level from the next, level 0 to 6. The edges are
@@ -27,6 +26,7 @@ pub struct Window {
 
 /// Why a window is refused.
 #[derive(Clone, Copy, Debug, PartialEq, Eq, Drop, Error)]
+#[error("{}", self.name())]
 pub enum WindowFault {
     /// The level is above 6.
     BadLevel,
@@ -34,29 +34,14 @@ pub enum WindowFault {
     BadWindow,
 }
 
-impl WindowFault {
-    /// The number of the refusal.
-    pub fn code(&self) -> u16
-        ensures { result ≡ window_fault_code self.now }
-    {
+impl Coded for WindowFault {
+    ghost code_of = { window_fault_code };
+
+    fn code(&self) -> u16 {
         match self {
             WindowFault::BadLevel => 34,
             WindowFault::BadWindow => 30,
         }
-    }
-
-    /// The name that stands beside the number in the table of `canvas_code`.
-    pub fn name(&self) -> &'static str
-        ensures { result.now ≡ name_of (window_fault_code self.now) }
-    {
-        canvas_code::name_of(self.code())
-    }
-}
-
-/// Writes the name.
-impl Display for WindowFault {
-    fn fmt<W: Write>(&self, formatter: &mut Formatter<W>) -> std::fmt::Result {
-        formatter.write_str(self.name())
     }
 }
 

@@ -1,11 +1,10 @@
 //! Why an edit is refused.
 
 ghost use Rattle.std.specs.Prelude.{◌≡◌};
-ghost use Rattle.canvas_code.specs.Names.{name_of};
 ghost use Rattle.canvas_record.specs.Refused.{refusal_code};
+ghost use Rattle.canvas_record.specs.declared.refusals.Refusal.TheVariants.{OutOfMemory};
 
-use std::alloc::AllocError;
-use std::fmt::{Display, Formatter, Write};
+use canvas_code::{Coded, OutOfMemory};
 use thiserror::Error;
 
 /// Why an edit is refused.
@@ -14,6 +13,7 @@ use thiserror::Error;
 /// `NoSuchParent`, `NotAContainer`, `Cycle`, `TooDeep`, `TooMany`, `IdsSpent`, `WrongKind`, `BadSize`,
 /// `BadPose`, `BadPolygon`, `SpotNotSibling`, `IndexTaken`, `NoRoom`, `OutOfMemory`.
 #[derive(Clone, Copy, Debug, PartialEq, Eq, Drop, Error)]
+#[error("{}", self.name())]
 pub enum Refusal {
     /// 1: a growth was refused.
     OutOfMemory,
@@ -47,11 +47,10 @@ pub enum Refusal {
     IdsSpent,
 }
 
-impl Refusal {
-    /// The number of the refusal, 1 to 15.
-    pub fn code(&self) -> u16
-        ensures { result ≡ refusal_code self.now }
-    {
+impl Coded for Refusal {
+    ghost code_of = { refusal_code };
+
+    fn code(&self) -> u16 {
         match self {
             Refusal::OutOfMemory => 1,
             Refusal::NoSuchShape => 2,
@@ -70,38 +69,12 @@ impl Refusal {
             Refusal::IdsSpent => 15,
         }
     }
-
-    /// The name of the refusal, as the table of codes gives it.
-    pub fn name(&self) -> &'static str
-        ensures { result.now ≡ name_of (refusal_code self.now) }
-    {
-        canvas_code::name_of(self.code())
-    }
 }
 
-/// Writes the name.
-impl Display for Refusal {
-    fn fmt<W: Write>(&self, formatter: &mut Formatter<W>) -> std::fmt::Result {
-        formatter.write_str(self.name())
-    }
-}
-
-impl From<AllocError> for Refusal {
-    ghost use Rattle.canvas_record.specs.declared.refusals.Refusal.TheVariants.{OutOfMemory};
-
+impl From<OutOfMemory> for Refusal {
     ghost from_gives = { λ _ refusal. refusal ≡ OutOfMemory };
 
-    fn from(_: AllocError) -> Refusal {
-        Refusal::OutOfMemory
-    }
-}
-
-impl From<canvas_code::OutOfMemory> for Refusal {
-    ghost use Rattle.canvas_record.specs.declared.refusals.Refusal.TheVariants.{OutOfMemory};
-
-    ghost from_gives = { λ _ refusal. refusal ≡ OutOfMemory };
-
-    fn from(_: canvas_code::OutOfMemory) -> Refusal {
+    fn from(_: OutOfMemory) -> Refusal {
         Refusal::OutOfMemory
     }
 }

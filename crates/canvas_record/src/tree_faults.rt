@@ -1,16 +1,15 @@
 //! Why a list of records is no document.
 
 ghost use Rattle.std.specs.Prelude.{◌≡◌};
-ghost use Rattle.canvas_code.specs.Names.{name_of};
 ghost use Rattle.canvas_record.specs.Restored.{tree_fault_code};
+ghost use Rattle.canvas_record.specs.declared.tree_faults.TreeFault.TheVariants.{OutOfMemory};
 
-use canvas_code::OutOfMemory;
-use std::alloc::AllocError;
-use std::fmt::{Display, Formatter, Write};
+use canvas_code::{Coded, OutOfMemory};
 use thiserror::Error;
 
 /// Why a list of records is no document.
 #[derive(Clone, Copy, Debug, PartialEq, Eq, Drop, Error)]
+#[error("{}", self.name())]
 pub enum TreeFault {
     /// There was no memory.
     OutOfMemory,
@@ -20,48 +19,19 @@ pub enum TreeFault {
     BadTree { position: usize },
 }
 
-impl TreeFault {
-    /// The number of the fault.
-    pub fn code(&self) -> u16
-        ensures { result ≡ tree_fault_code self.now }
-    {
+impl Coded for TreeFault {
+    ghost code_of = { tree_fault_code };
+
+    fn code(&self) -> u16 {
         match self {
             TreeFault::OutOfMemory => 1,
             TreeFault::BadRecord { .. } => 61,
             TreeFault::BadTree { .. } => 62,
         }
     }
-
-    /// The name of the fault.
-    pub fn name(&self) -> &'static str
-        ensures { result.now ≡ name_of (tree_fault_code self.now) }
-    {
-        canvas_code::name_of(self.code())
-    }
-}
-
-/// Writes the name.
-impl Display for TreeFault {
-    fn fmt<W: Write>(&self, formatter: &mut Formatter<W>) -> std::fmt::Result {
-        formatter.write_str(self.name())
-    }
-}
-
-impl From<AllocError> for TreeFault {
-    ghost use Rattle.std.specs.Prelude.{◌≡◌};
-    ghost use Rattle.canvas_record.specs.declared.tree_faults.TreeFault.TheVariants.{OutOfMemory};
-
-    ghost from_gives = { λ _ fault. fault ≡ OutOfMemory };
-
-    fn from(_: AllocError) -> TreeFault {
-        TreeFault::OutOfMemory
-    }
 }
 
 impl From<OutOfMemory> for TreeFault {
-    ghost use Rattle.std.specs.Prelude.{◌≡◌};
-    ghost use Rattle.canvas_record.specs.declared.tree_faults.TreeFault.TheVariants.{OutOfMemory};
-
     ghost from_gives = { λ _ fault. fault ≡ OutOfMemory };
 
     fn from(_: OutOfMemory) -> TreeFault {

@@ -1,13 +1,4 @@
-pub mod Chains
 pub mod Elements
-pub mod Json
 pub mod JsonText
-pub mod Lists
 pub mod Opens
-pub mod Plain
 pub mod ReadBack
-pub mod Names
-pub mod RoundTrip
-pub mod DataWritten
-pub mod Vertices
-pub mod Words

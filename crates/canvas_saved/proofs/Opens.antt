@@ -20,16 +20,15 @@ use Rattle.canvas_saved.specs.declared.formats.Format.{Format}
 use Rattle.canvas_saved.specs.declared.formats.Format.TheVariants.{One, Two}
 use Rattle.canvas_saved.specs.declared.formats.Head.{Head}
 use Rattle.canvas_saved.specs.Formats.{number_of, most_of}
-use Rattle.canvas_saved.specs.Json.{has_others}
+use Rattle.canvas_json.specs.Json.{has_others}
 use Rattle.canvas_saved.specs.Kept.{IsKept}
 use Rattle.canvas_saved.specs.Opened.{format_of, head_of, shapes_of, records_from, records_in, records_read, opened}
 use Rattle.canvas_saved.specs.Records.{element_of}
 use Rattle.canvas_saved.specs.Saved.{record_data, data_in, text_in}
-use Rattle.canvas_saved.proofs.Json.{json_some}
-use Rattle.canvas_saved.proofs.DataWritten.{data-written}
-use Rattle.canvas_saved.proofs.Plain.{data-shallow}
-use Rattle.canvas_saved.proofs.ReadBack.{u32-back, kept-back}
-use Rattle.canvas_saved.proofs.RoundTrip.{text-reads}
+use Rattle.canvas_json.proofs.Json.{json_some}
+use Rattle.canvas_json.proofs.Back.{u32-back}
+use Rattle.canvas_saved.proofs.ReadBack.{kept-back, data-written, data-shallow}
+use Rattle.canvas_json.proofs.RoundTrip.{text-reads}
 
 items-length : (f : Record → Data) (rs : List Record) → items_len (items_of (map f rs)) ≡ length rs
 items-length f [] = refl

@@ -1,144 +1,130 @@
--- What is written of a record is read back as that record.
-use Rattle.std.proofs.Common.{◌≡◌, ℕ, ◌^◌, ◌<◌, ◌≤◌, ℤ, pos, negsuc, true, false, List, [], ◌∷◌, map, Option, Some, None, refl, arith}
-use Rattle.std.specs.Prelude.{nat_lt, unsigned_abs, IfSome}
+-- What is written of a document is read back, in either format.
+use Rattle.std.proofs.Common.{◌≡◌, ℕ, ◌^◌, ◌<◌, ◌≤◌, List, [], ◌∷◌, map, Some, All, refl, arith}
+use Rattle.std.specs.Prelude.{codes}
 use Rattle.std.specs.List.{AllByRecursion}
-use Rattle.std.proofs.lemmas.Bool.{lt-ltb}
 use Rattle.std.proofs.lemmas.List.Elements.{recursion_from_All}
-use Rattle.std.proofs.lemmas.Bool.Decides.{nat_tests}
-use Rattle.serde_json.specs.Data.{number, unsigned, string}
-use Rattle.serde_json.specs.Find.{of_integer}
+use Rattle.json.proofs.Printed.Utf8.{IsUtf8-are_ascii}
+use Rattle.serde_json.specs.Data.{string, depth, items_depth}
 use Rattle.serde_json.specs.View.{items_of}
 use Rattle.canvas_key.specs.Text.{IsKey}
-use Rattle.canvas_plane.specs.declared.Point.{Point}
 use Rattle.canvas_plane.specs.declared.Pose.{Pose}
-use Rattle.canvas_plane.specs.Motion.{size_of, reach_of}
-use Rattle.canvas_shape.specs.declared.Colour.{Colour}
 use Rattle.canvas_shape.specs.declared.Kind.{Kind}
 use Rattle.canvas_shape.specs.declared.Kind.TheVariants.{Group, Frame, Rect, Ellipse, Polygon}
-use Rattle.canvas_shape.specs.Box.{AreSides}
-use Rattle.canvas_shape.specs.Inside.{IsSound, AreVertices}
-use Rattle.canvas_shape.specs.Names.{colour_named, colour_text}
-use Rattle.canvas_record.specs.declared.records.Parent.{Parent}
-use Rattle.canvas_record.specs.declared.records.Parent.TheVariants.{Page, Shape}
+use Rattle.canvas_shape.specs.Inside.{IsSound}
+use Rattle.canvas_record.specs.declared.records.Place.{Place}
 use Rattle.canvas_record.specs.declared.records.Record.{Record}
+use Rattle.canvas_record.specs.Contents.{Contents, IsWellFormed}
 use Rattle.canvas_record.specs.Tree.{IsInLimits}
+use Rattle.canvas_json.specs.Fit.{FitsKind, FitsParent, IsKindInRange, IsPoseInRange}
+use Rattle.canvas_json.specs.Json.{has_others}
+use Rattle.canvas_json.specs.Objects.{shape_data, pose_data}
+use Rattle.canvas_json.specs.Places.{key_named}
+use Rattle.canvas_json.proofs.Back.{u32-back, parent-back, parent-written, parent-shallow, pose-back, pose-exact, pose-near, pose-written, kind-back, kind-exact, kind-named, kind-shallow, kind-written, vertices-near}
+use Rattle.canvas_json.proofs.RoundTrip.{IsWritten, AreItemsWritten, boolean-written, unsigned-written, string-written, no-items-written, item-written, array-written, no-members-written, member-written, object-written}
+use Rattle.canvas_json.proofs.Words.{word-text, key-word}
 use Rattle.canvas_saved.specs.declared.formats.Format.{Format}
 use Rattle.canvas_saved.specs.declared.formats.Format.TheVariants.{One, Two}
-use Rattle.canvas_saved.specs.Json.{i32_of, u32_of, u8_of, has_others}
-use Rattle.canvas_saved.specs.Kept.{FitsParent, IsRead, AreColoursRead, IsKept}
-use Rattle.canvas_saved.specs.Records.{parent_of, key_named, index_of, place_in, place_of, place_at, pose_of, record_of}
-use Rattle.canvas_saved.specs.Saved.{colour_data, fill_data, point_data, shape_data, pose_data, parent_data, record_data}
-use Rattle.canvas_saved.specs.Shapes.{colour_of, fill_of, point_of, points_in, points_of, group_of, frame_of, rect_of, ellipse_of, polygon_of, shape_named, shape_of}
+use Rattle.canvas_saved.specs.Formats.{number_of}
+use Rattle.canvas_saved.specs.Kept.{IsKept}
+use Rattle.canvas_saved.specs.Records.{whole_shape_of, whole_pose_of, index_of, place_in, place_of, place_at, record_in, record_of}
+use Rattle.canvas_saved.specs.Saved.{place_data, record_data, data_in}
 
-in-u64 : (n : ℕ) → n < 2 ^ 32 → nat_lt n (2 ^ 63) ≡ true
-in-u64 n h = lt-ltb n (2 ^ 63) (omega arith)
+-- ---- what is read
 
-pub u32-back : (n : ℕ) → n < 2 ^ 32 → u32_of (number (unsigned n)) ≡ Some n
-unfolding u32_of
-u32-back n h = rw (in-u64 n h, lt-ltb n (2 ^ 32) h) refl
+pose-within : (r : Record) → IsInLimits r → IsPoseInRange r.pose
+pose-within r limits = pose-near r.pose limits.reach
 
-u8-back : (n : ℕ) → n < 2 ^ 8 → u8_of (number (unsigned n)) ≡ Some n
-unfolding u8_of
-u8-back n h = let k : n < 2 ^ 32 = omega arith in rw (in-u64 n k, lt-ltb n (2 ^ 8) h) refl
+kind-within : (kind : Kind) → IsSound kind → IsKindInRange kind
+kind-within Group sound = tt
+kind-within (Frame w h fill) sound = tt
+kind-within (Rect w h fill) sound = tt
+kind-within (Ellipse w h fill) sound = tt
+kind-within (Polygon points fill) sound = vertices-near points sound
 
-not-above : (n : ℕ) → n ≤ 2 ^ 20 → nat_lt 2147483647 n ≡ false
-not-above n h = grind (arith, nat_tests)
+shape-back : (kind : Kind) → FitsKind kind → IsKindInRange kind → whole_shape_of (shape_data kind) ≡ Some kind
+unfolding whole_shape_of
+shape-back kind fits near = rw (kind-named kind, kind-exact kind) (kind-back kind fits near)
 
-i32-back : (z : ℤ) → unsigned_abs z ≤ 2 ^ 20 → i32_of (number (of_integer z)) ≡ Some z
-unfolding i32_of
-i32-back (pos n) h = let k : n < 2 ^ 32 = omega arith in rw (in-u64 n k, not-above n h) refl
-i32-back (negsuc n) h = let k : n ≤ 2 ^ 20 = omega arith in rw (not-above n k) refl
-
-colour-back : (c : Colour) → colour_named (colour_text c) ≡ Some c → colour_of (colour_data c) ≡ Some c
-unfolding colour_of
-colour-back c e = e
-
-fill-back : (fill : Option Colour) → IfSome fill IsRead → fill_of (fill_data fill) ≡ Some fill
-unfolding fill_of
-fill-back None read = refl
-fill-back (Some c) read = rw (colour-back c read) refl
-
-parent-page : parent_of (parent_data Page) ≡ Some Page
-unfolding parent_of
-parent-page = refl
-
-parent-shape : (id : ℕ) → id < 2 ^ 32 → parent_of (parent_data (Shape id)) ≡ Some (Shape id)
-unfolding parent_of
-parent-shape id h = rw (u32-back id h) refl
-
-parent-back : (parent : Parent) → FitsParent parent → parent_of (parent_data parent) ≡ Some parent
-parent-back Page h = parent-page
-parent-back (Shape id) h = parent-shape id h
+pose-whole : (pose : Pose) → pose.quarter < 2 ^ 8 → IsPoseInRange pose → whole_pose_of (pose_data pose) ≡ Some pose
+unfolding whole_pose_of
+pose-whole pose quarter near = rw (pose-exact pose) (pose-back pose quarter near)
 
 index-back : (text : List ℕ) → IsKey text → index_of (string text) ≡ Some text
 unfolding index_of key_named
 index-back text h = rw h refl
 
-group-back : shape_of (shape_data Group) ≡ Some Group
-unfolding shape_of shape_named group_of has_others
-group-back = refl
-
-frame-back : (w h : ℕ) (fill : Option Colour) → w < 2 ^ 32 → h < 2 ^ 32 → fill_of (fill_data fill) ≡ Some fill
-    → shape_of (shape_data (Frame w h fill)) ≡ Some (Frame w h fill)
-unfolding shape_of shape_named frame_of has_others
-frame-back w h fill a b e = rw (u32-back w a, u32-back h b, e) refl
-
-rect-back : (w h : ℕ) (fill : Colour) → w < 2 ^ 32 → h < 2 ^ 32 → colour_named (colour_text fill) ≡ Some fill
-    → shape_of (shape_data (Rect w h fill)) ≡ Some (Rect w h fill)
-unfolding shape_of shape_named rect_of has_others
-rect-back w h fill a b e = rw (u32-back w a, u32-back h b, colour-back fill e) refl
-
-ellipse-back : (w h : ℕ) (fill : Colour) → w < 2 ^ 32 → h < 2 ^ 32 → colour_named (colour_text fill) ≡ Some fill
-    → shape_of (shape_data (Ellipse w h fill)) ≡ Some (Ellipse w h fill)
-unfolding shape_of shape_named ellipse_of has_others
-ellipse-back w h fill a b e = rw (u32-back w a, u32-back h b, colour-back fill e) refl
-
-point-back : (p : Point) → size_of p ≤ 2 ^ 20 → point_of (point_data p) ≡ Some p
-unfolding point_of
-point-back p h =
-    let x : unsigned_abs p.x ≤ 2 ^ 20 = omega arith in
-    let y : unsigned_abs p.y ≤ 2 ^ 20 = omega arith in
-    rw (i32-back p.x x, i32-back p.y y) refl
-
-points-back : (ps : List Point) → AllByRecursion (λ p. size_of p ≤ 2 ^ 20) ps → points_in (items_of (map point_data ps)) ≡ Some ps
-points-back [] h = refl
-points-back (p ∷ ps) h = rw (point-back p h.0, points-back ps h.1) refl
-
-polygon-back : (ps : List Point) (fill : Colour) → AllByRecursion (λ p. size_of p ≤ 2 ^ 20) ps → colour_named (colour_text fill) ≡ Some fill
-    → shape_of (shape_data (Polygon ps fill)) ≡ Some (Polygon ps fill)
-unfolding shape_of shape_named polygon_of points_of has_others
-polygon-back ps fill near e = rw (colour-back fill e, points-back ps near) refl
-
-pose-back : (pose : Pose) → pose.quarter ≤ 3 → reach_of pose ≤ 2 ^ 20 → pose_of (pose_data pose) ≡ Some pose
-unfolding pose_of has_others
-pose-back pose q r =
-    let x : unsigned_abs pose.dx ≤ 2 ^ 20 = omega arith in
-    let y : unsigned_abs pose.dy ≤ 2 ^ 20 = omega arith in
-    rw (i32-back pose.dx x, i32-back pose.dy y, u8-back pose.quarter (omega arith)) refl
-
 record-back : (r : Record) → r.id < 2 ^ 32 → IsKey r.place.index → FitsParent r.place.parent
-    → pose_of (pose_data r.pose) ≡ Some r.pose → shape_of (shape_data r.kind) ≡ Some r.kind
+    → whole_pose_of (pose_data r.pose) ≡ Some r.pose → whole_shape_of (shape_data r.kind) ≡ Some r.kind
     → (format : Format) → record_of format (record_data format r) ≡ Some r
-unfolding record_of place_at place_of place_in has_others
+unfolding record_of record_in place_at place_of place_in has_others
 record-back r id key parent pose kind One = rw (kind, u32-back r.id id, index-back r.place.index key, parent-back r.place.parent parent, pose) refl
 record-back r id key parent pose kind Two = rw (kind, u32-back r.id id, index-back r.place.index key, parent-back r.place.parent parent, pose) refl
-
-shape-back : (kind : Kind) → IsSound kind → AreColoursRead kind → shape_of (shape_data kind) ≡ Some kind
-shape-back Group sound read = group-back
-shape-back (Frame w h fill) sound read =
-    let sides : AreSides w h = sound in
-    frame-back w h fill (omega arith) (omega arith) (fill-back fill read)
-shape-back (Rect w h fill) sound read =
-    let sides : AreSides w h = sound in
-    rect-back w h fill (omega arith) (omega arith) read
-shape-back (Ellipse w h fill) sound read =
-    let sides : AreSides w h = sound in
-    ellipse-back w h fill (omega arith) (omega arith) read
-shape-back (Polygon points fill) sound read =
-    let vertices : AreVertices points = sound in
-    polygon-back points fill (recursion_from_All (λ p. size_of p ≤ 2 ^ 20) points vertices.near) read
 
 -- a record that is kept is read as it is written, in either format
 pub kept-back : (r : Record) → r.id < 2 ^ 32 → IsInLimits r → IsKept r → (format : Format) → record_of format (record_data format r) ≡ Some r
 kept-back r id limits kept =
-    record-back r id limits.key kept.parent (pose-back r.pose limits.quarter limits.reach) (shape-back r.kind limits.kind kept.colours)
+    let turns : r.pose.quarter ≤ 3 = limits.quarter in
+    record-back r id limits.key kept.parent (pose-whole r.pose (omega arith) (pose-within r limits)) (shape-back r.kind kept.kind (kind-within r.kind limits.kind))
+
+-- ---- its text is read as its JSON value
+
+index-written : (index : List ℕ) → IsKey index → IsWritten (string index)
+index-written index key = string-written index (word-text index (key-word index key))
+
+place-written : (place : Place) → IsKey place.index → FitsParent place.parent → IsWritten (place_data place)
+place-written place key parent =
+    object-written _ (member-written (codes "index") _ _ (IsUtf8-are_ascii _ refl) (index-written place.index key)
+    (member-written (codes "parent") _ _ (IsUtf8-are_ascii _ refl) (parent-written place.parent parent) no-members-written)) refl
+
+record-written : (format : Format) (r : Record) → r.id < 2 ^ 32 → IsKey r.place.index → FitsParent r.place.parent → IsWritten (pose_data r.pose) → IsWritten (shape_data r.kind) → IsWritten (record_data format r)
+record-written One r id key parent pose kind =
+    object-written _ (member-written (codes "hidden") _ _ (IsUtf8-are_ascii _ refl) (boolean-written r.hidden)
+    (member-written (codes "id") _ _ (IsUtf8-are_ascii _ refl) (unsigned-written r.id (omega arith))
+    (member-written (codes "index") _ _ (IsUtf8-are_ascii _ refl) (index-written r.place.index key)
+    (member-written (codes "parent") _ _ (IsUtf8-are_ascii _ refl) (parent-written r.place.parent parent)
+    (member-written (codes "pose") _ _ (IsUtf8-are_ascii _ refl) pose
+    (member-written (codes "shape") _ _ (IsUtf8-are_ascii _ refl) kind no-members-written)))))) refl
+record-written Two r id key parent pose kind =
+    object-written _ (member-written (codes "hidden") _ _ (IsUtf8-are_ascii _ refl) (boolean-written r.hidden)
+    (member-written (codes "id") _ _ (IsUtf8-are_ascii _ refl) (unsigned-written r.id (omega arith))
+    (member-written (codes "place") _ _ (IsUtf8-are_ascii _ refl) (place-written r.place key parent)
+    (member-written (codes "pose") _ _ (IsUtf8-are_ascii _ refl) pose
+    (member-written (codes "shape") _ _ (IsUtf8-are_ascii _ refl) kind no-members-written))))) refl
+
+kept-written : (format : Format) (r : Record) → r.id < 2 ^ 32 → IsInLimits r → IsKept r → IsWritten (record_data format r)
+kept-written format r id limits kept =
+    let turns : r.pose.quarter ≤ 3 = limits.quarter in
+    record-written format r id limits.key kept.parent (pose-written r.pose (omega arith) (pose-within r limits)) (kind-written r.kind kept.kind (kind-within r.kind limits.kind))
+
+records-written : (format : Format) (next : ℕ) (rs : List Record) → next < 2 ^ 32 → AllByRecursion (λ r. (1 ≤ r.id) × (r.id < next)) rs → AllByRecursion IsInLimits rs → AllByRecursion IsKept rs
+    → AreItemsWritten (items_of (map (record_data format) rs))
+records-written format next [] below ids limits kept = no-items-written
+records-written format next (r ∷ rs) below ids limits kept =
+    let id : r.id < next = ids.0.1 in
+    item-written _ _ (kept-written format r (omega arith) limits.0 kept.0) (records-written format next rs below ids.1 limits.1 kept.1)
+
+number-small : (format : Format) → number_of format < 2 ^ 64
+number-small One = omega arith
+number-small Two = omega arith
+
+pub data-written : (format : Format) (d : Contents) → IsWellFormed d → All IsKept d.records → IsWritten (data_in format d)
+data-written format d well kept =
+    let below : d.next < 2 ^ 32 = well.next_below in
+    object-written _ (member-written (codes "format") _ _ (IsUtf8-are_ascii _ refl) (unsigned-written (number_of format) (number-small format))
+    (member-written (codes "next") _ _ (IsUtf8-are_ascii _ refl) (unsigned-written d.next (omega arith))
+    (member-written (codes "shapes") _ _ (IsUtf8-are_ascii _ refl)
+    (array-written _ (records-written format d.next d.records below (recursion_from_All _ d.records well.ids) (recursion_from_All _ d.records well.limits) (recursion_from_All IsKept d.records kept)))
+    no-members-written))) refl
+
+-- ---- it nests few levels deep
+
+record-shallow : (format : Format) (r : Record) → depth (record_data format r) ≤ 4
+record-shallow One r = omega (arith, parent-shallow r.place.parent, kind-shallow r.kind)
+record-shallow Two r = omega (arith, parent-shallow r.place.parent, kind-shallow r.kind)
+
+records-shallow : (format : Format) (rs : List Record) → items_depth (items_of (map (record_data format) rs)) ≤ 4
+records-shallow format [] = omega arith
+records-shallow format (r ∷ rs) = omega (arith, record-shallow format r, records-shallow format rs)
+
+pub data-shallow : (format : Format) (d : Contents) → depth (data_in format d) ≤ 127
+data-shallow format d = omega (arith, records-shallow format d.records)

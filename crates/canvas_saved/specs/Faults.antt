@@ -1,5 +1,7 @@
 -- The numbers of the faults, and what a reader of saved documents may answer.
 use Rattle.std.specs.Prelude.{◌≡◌, ℕ, Option, Some, None, Result, Ok, Err}
+use Rattle.canvas_json.specs.declared.fault.TextFault.{TextFault}
+use Rattle.canvas_json.specs.declared.fault.TextFault.TheVariants as text
 use Rattle.canvas_saved.specs.declared.fault.StoreFault.{StoreFault}
 use Rattle.canvas_saved.specs.declared.fault.StoreFault.TheVariants.{BadJson, BadFormat, BadRecord, BadTree, OutOfMemory}
 
@@ -10,6 +12,11 @@ fault_code BadFormat = 60
 fault_code (BadRecord position) = 61
 fault_code (BadTree position) = 62
 fault_code OutOfMemory = 1
+
+-- a text that has no tape
+abbrev pub fault_of_text : TextFault → StoreFault
+fault_of_text text.NotJson = BadJson
+fault_of_text text.OutOfMemory = OutOfMemory
 
 -- the value, or the fault where there is none
 abbrev pub or_fault : {T : Type 0} → StoreFault → Option T → Result T StoreFault

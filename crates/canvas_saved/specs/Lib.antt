@@ -1,9 +1,7 @@
 pub mod Faults
 pub mod Formats
-pub mod Json
 pub mod Kept
 pub mod Opened
 pub mod Records
 pub mod Saved
 pub mod SavedText
-pub mod Shapes

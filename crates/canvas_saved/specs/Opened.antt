@@ -15,7 +15,7 @@ use Rattle.canvas_saved.specs.declared.formats.Head.{Head}
 use Rattle.canvas_saved.specs.declared.opening.SavedRecords.{SavedRecords}
 use Rattle.canvas_saved.specs.Faults.{or_fault, ◌>>=◌}
 use Rattle.canvas_saved.specs.Formats.{format_numbered, most_of}
-use Rattle.canvas_saved.specs.Json as json
+use Rattle.canvas_json.specs.Json as json
 use Rattle.canvas_saved.specs.Records.{element_of}
 
 abbrev pub document_members : List (List ℕ)
@@ -27,7 +27,8 @@ format_of d = option_and_then format_numbered (json.u32_of d)
 
 -- the format and the next id of an object, if the id is at least 1 and there are no other members
 abbrev pub head_in : Format → ℕ → Data → Option Head
-head_in format next d = if nat_le 1 next then json.unless_others document_members d (record { format = format; next = next }) else None
+head_in format next d =
+    if nat_le 1 next then (if json.has_others document_members d then None else Some (record { format = format; next = next })) else None
 
 unfoldable pub head_of : Data → Option Head
 head_of d =

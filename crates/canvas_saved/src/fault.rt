@@ -1,17 +1,18 @@
 //! Why a text is no saved document.
 ghost use Rattle.std.specs.Prelude.{◌≡◌};
-ghost use Rattle.canvas_code.specs.Names.{name_of};
-ghost use Rattle.canvas_saved.specs.Faults.{fault_code};
+ghost use Rattle.canvas_saved.specs.Faults.{fault_code, fault_of_text};
 ghost use Rattle.canvas_saved.specs.Opened.{fault_of};
 ghost use Rattle.canvas_saved.specs.declared.fault.StoreFault.TheVariants.{OutOfMemory};
 
+use canvas_code::{Coded, OutOfMemory};
+use canvas_json::TextFault;
 use canvas_record::TreeFault;
 use std::alloc::AllocError;
-use std::fmt::{Display, Formatter, Write};
 use thiserror::Error;
 
 /// Why a text is no saved document.
 #[derive(Clone, Copy, Debug, PartialEq, Eq, Drop, Error)]
+#[error("{}", self.name())]
 pub enum StoreFault {
     /// The text is not JSON.
     BadJson,
@@ -26,11 +27,10 @@ pub enum StoreFault {
     OutOfMemory,
 }
 
-impl StoreFault {
-    /// The number of the fault: 50, 60, 61 or 62 in the order of the checks, or 1.
-    pub fn code(&self) -> u16
-        ensures { result ≡ fault_code self.now }
-    {
+impl Coded for StoreFault {
+    ghost code_of = { fault_code };
+
+    fn code(&self) -> u16 {
         match self {
             StoreFault::BadJson => 50,
             StoreFault::BadFormat => 60,
@@ -38,20 +38,6 @@ impl StoreFault {
             StoreFault::BadTree { .. } => 62,
             StoreFault::OutOfMemory => 1,
         }
-    }
-
-    /// The name of the fault: that of its number.
-    pub fn name(&self) -> &'static str
-        ensures { result.now ≡ name_of (fault_code self.now) }
-    {
-        canvas_code::name_of(self.code())
-    }
-}
-
-/// Writes the name.
-impl Display for StoreFault {
-    fn fmt<W: Write>(&self, formatter: &mut Formatter<W>) -> std::fmt::Result {
-        formatter.write_str(self.name())
     }
 }
 
@@ -63,11 +49,22 @@ impl From<AllocError> for StoreFault {
     }
 }
 
-impl From<canvas_code::OutOfMemory> for StoreFault {
+impl From<OutOfMemory> for StoreFault {
     ghost from_gives = { λ _ fault. fault ≡ OutOfMemory };
 
-    fn from(_error: canvas_code::OutOfMemory) -> StoreFault {
+    fn from(_error: OutOfMemory) -> StoreFault {
         StoreFault::OutOfMemory
+    }
+}
+
+impl From<TextFault> for StoreFault {
+    ghost from_gives = { λ why fault. fault ≡ fault_of_text why };
+
+    fn from(why: TextFault) -> StoreFault {
+        match why {
+            TextFault::NotJson => StoreFault::BadJson,
+            TextFault::OutOfMemory => StoreFault::OutOfMemory,
+        }
     }
 }
 

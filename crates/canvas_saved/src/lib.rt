@@ -1,17 +1,14 @@
-//! Saved documents as one JSON text each: their records and their next id.
+//! Saved documents: a document as one JSON text, and back.
 #![tactic(auto)]
 
-mod extra;
+mod document;
 mod fault;
-mod field;
 mod formats;
-mod json_text;
 mod opening;
-mod parts;
 mod record;
 mod saving;
-mod shape;
 
+pub use document::{export, import};
 pub use fault::StoreFault;
 pub use formats::Format;
 pub use opening::{SavedRecords, read_records};

@@ -1,25 +1,22 @@
 //! From a text to records.
-ghost use Rattle.std.specs.Prelude.{◌≡◌, ◌≤◌, ◌∷◌, ◌++◌, [], codes, option_map, length, false, Err, IfOk, IfSome, OnOk};
+ghost use Rattle.std.specs.Prelude.{◌≡◌, ◌≤◌, ◌∷◌, ◌++◌, [], codes, nat_le, option_map, length, false, None, Some, Err, IfOk, IfSome, OnOk, if◌then◌else◌};
 ghost use Rattle.std.specs.Str.{is_utf8};
-ghost use Rattle.serde_json.specs.Find.{as_array};
-ghost use Rattle.serde_json.specs.Read.{read};
-ghost use Rattle.serde_json.specs.View.{view, items_view};
-ghost use Rattle.canvas_saved.specs.Faults.{GivesSeen, or_fault};
-ghost use Rattle.canvas_saved.specs.Json.{json_of, required};
-ghost use Rattle.canvas_saved.specs.Opened.{format_of, head_of, if_few, shapes_of, records_from, contents_of, records_in, records_read};
+ghost use Rattle.serde_json.specs.Events.{items_len};
+ghost use Rattle.canvas_json.specs.Given.{view, items_view};
+ghost use Rattle.canvas_json.specs.Json.{required};
+ghost use Rattle.canvas_saved.specs.Faults.{GivesSeen};
+ghost use Rattle.canvas_saved.specs.Opened.{format_of, head_of, shapes_of, records_from, contents_of, records_in, records_read};
 ghost use Rattle.canvas_record.specs.Contents.{most_records};
 ghost use Rattle.canvas_saved.specs.declared.fault.StoreFault.TheVariants.{BadJson};
 
-use crate::extra::has_others;
 use crate::fault::StoreFault;
-use crate::field::{u32_at, u32_of};
 use crate::formats::{Format, Head};
 use crate::record::element_of;
 use canvas_code::OutOfMemory;
+use canvas_json::{Given, GivenItems, has_others, tape_of, u32_at, u32_of};
 use canvas_record::Record;
-use serde_json::Value;
+use json::Scratch;
 use std::alloc::Global;
-use std::str;
 
 /// What a saved text has. Its records need not make a document.
 #[derive(Drop)]
@@ -30,43 +27,16 @@ pub struct SavedRecords {
     pub next: u32,
 }
 
-// The value that bytes are, if they are text.
-fn value_of(alloc: Global, bytes: &[u8]) -> Result<Value, StoreFault>
-    ensures value { GivesSeen view result (or_fault BadJson (json_of bytes.now)) }
-    ensures text { is_utf8 bytes.now ≡ false → result ≡ Err BadJson }
-{
-    match str::from_utf8(bytes) {
-        Ok(text) => value_of_text(alloc, text),
-        Err(_) => Err(StoreFault::BadJson),
-    }
-}
-
-// The value that a text is.
-fn value_of_text(alloc: Global, text: &str) -> Result<Value, StoreFault>
-    ensures { GivesSeen view result (or_fault BadJson (read text.now)) }
-{
-    match Value::from_str(alloc, text) {
-        Ok(value) => Ok(value),
-        Err(error) => {
-            if error.is_memory() {
-                Err(StoreFault::OutOfMemory)
-            } else {
-                Err(StoreFault::BadJson)
-            }
-        }
-    }
-}
-
 // The format that a number names.
 #[tactic(auto, unfolding(crate::specs::Opened::format_of))]
-fn format_of(value: &Value) -> Option<Format>
-    ensures { result ≡ format_of (view value.now) }
+fn format_of(value: Given<'_, '_>) -> Option<Format>
+    ensures { result ≡ format_of (view value.entry) }
 {
     u32_of(value).and_then(Format::numbered)
 }
 
 // The format, which has to be there.
-fn format_at(saved: &Value) -> Option<Format>
+fn format_at(saved: &Given<'_, '_>) -> Option<Format>
     ensures { result ≡ required format_of (codes "format") (view saved.now) }
 {
     saved.get("format").and_then(format_of)
@@ -74,7 +44,7 @@ fn format_at(saved: &Value) -> Option<Format>
 
 // The format and the next id of a saved document.
 #[tactic(auto, unfolding(crate::specs::Opened::head_of))]
-fn head_of(saved: &Value) -> Option<Head>
+fn head_of(saved: &Given<'_, '_>) -> Option<Head>
     ensures value { result ≡ head_of (view saved.now) }
     ensures least { IfSome result (λ head. 1 ≤ head.next) }
 {
@@ -86,33 +56,38 @@ fn head_of(saved: &Value) -> Option<Head>
     Some(Head { format, next })
 }
 
-// The list of shapes, which has to be there.
-fn shapes_in(saved: &Value) -> Option<&Vec<Value>>
-    ensures { option_map (λ list. items_view list.now.items) result ≡ required as_array (codes "shapes") (view saved.now) }
+// How many items there are, if they are at most so many.
+fn count_of(most: usize, items: GivenItems<'_, '_>) -> Option<usize>
+    ensures { result ≡ (if nat_le (items_len (items_view items.entry)) most then Some (items_len (items_view items.entry)) else None) }
 {
-    saved.get("shapes").and_then(Value::as_array)
-}
-
-// The elements of a list, if they are at most so many.
-fn few_of(most: usize, list: &Vec<Value>) -> Option<&[Value]>
-    ensures value { option_map (λ shapes. items_view shapes.now) result ≡ if_few most (items_view list.now.items) }
-    ensures few { IfSome result (λ shapes. length shapes.now ≤ most) }
-{
-    let shapes = list.as_slice();
-    if shapes.len() <= most {
-        Some(shapes)
-    } else {
-        None
+    let mut left = items;
+    let mut count = 0;
+    while let Some(_) = left.next() {
+        if count == most {
+            return None;
+        }
+        count += 1;
     }
+    Some(count)
 }
 
-// The elements of a saved document's list of shapes, at most as many as the format has.
+/// The elements of a saved document's list of shapes, and how many they are.
+#[derive(Drop)]
+struct Shapes<'t, 'a> {
+    items: GivenItems<'t, 'a>,
+    count: usize,
+}
+
+// The list of shapes, which has to be there and to have at most as many elements as the format has.
 #[tactic(auto, unfolding(crate::specs::Opened::shapes_of))]
-fn shapes_of(format: Format, saved: &Value) -> Option<&[Value]>
-    ensures value { option_map (λ shapes. items_view shapes.now) result ≡ shapes_of format (view saved.now) }
-    ensures few { IfSome result (λ shapes. length shapes.now ≤ most_records) }
+fn shapes_of<'t, 'a>(format: Format, saved: &Given<'t, 'a>) -> Option<Shapes<'t, 'a>>
+    ensures value { option_map (λ shapes. items_view shapes.items) result ≡ shapes_of format (view saved.now) }
+    ensures few { IfSome result (λ shapes. items_len (items_view shapes.items) ≤ most_records) }
 {
-    few_of(format.most_records(), shapes_in(saved)?)
+    let list = saved.get("shapes")?;
+    let items = list.items()?;
+    let count = count_of(format.most_records(), list.items()?)?;
+    Some(Shapes { items, count })
 }
 
 fn push(records: &mut Vec<Record>, shape: Record) -> Result<(), OutOfMemory>
@@ -122,13 +97,15 @@ fn push(records: &mut Vec<Record>, shape: Record) -> Result<(), OutOfMemory>
 }
 
 // The records of the elements.
-fn records_of(alloc: Global, head: Head, shapes: &[Value]) -> Result<Vec<Record>, StoreFault>
-    ensures value { GivesSeen (λ records. records.items) result (records_from head 0 (items_view shapes.now)) }
-    ensures count { IfOk result (λ records. length records.items ≡ length shapes.now) }
+fn records_of(alloc: Global, head: Head, shapes: Shapes<'_, '_>) -> Result<Vec<Record>, StoreFault>
+    ensures value { GivesSeen (λ records. records.items) result (records_from head 0 (items_view shapes.entry.items)) }
+    ensures count { IfOk result (λ records. length records.items ≡ items_len (items_view shapes.entry.items)) }
 {
-    let mut records = Vec::with_capacity(alloc, shapes.len())?;
-    for (position, element) in shapes.iter().enumerate() {
-        match element_of(alloc, head, element)? {
+    let mut records = Vec::with_capacity(alloc, shapes.count)?;
+    let mut left = shapes.items;
+    while let Some(element) = left.next() {
+        let position = records.len();
+        match element_of(alloc, head, &element)? {
             Some(shape) => push(&mut records, shape)?,
             None => return Err(StoreFault::BadRecord { position }),
         }
@@ -138,7 +115,7 @@ fn records_of(alloc: Global, head: Head, shapes: &[Value]) -> Result<Vec<Record>
 
 // The records of a JSON value and its next id.
 #[tactic(auto, unfolding(crate::specs::Opened::records_in))]
-fn records_in(alloc: Global, saved: &Value) -> Result<SavedRecords, StoreFault>
+fn records_in(alloc: Global, saved: &Given<'_, '_>) -> Result<SavedRecords, StoreFault>
     ensures value { GivesSeen contents_of result (records_in (view saved.now)) }
     ensures least { IfOk result (λ found. 1 ≤ found.next) }
     ensures few { IfOk result (λ found. length found.records.items ≤ most_records) }
@@ -167,6 +144,7 @@ pub fn read_records(alloc: Global, text: &[u8]) -> Result<SavedRecords, StoreFau
     ensures least { IfOk result (λ found. 1 ≤ found.next) }
     ensures few { IfOk result (λ found. length found.records.items ≤ most_records) }
 {
-    let saved = value_of(alloc, text)?;
-    records_in(alloc, &saved)
+    let mut scratch = Scratch::new(alloc);
+    let tape = tape_of(alloc, &mut scratch, text)?;
+    records_in(alloc, &Given::root(&tape))
 }

@@ -1,93 +1,82 @@
 //! Records as they are read.
 ghost use Rattle.std.specs.Prelude.{◌≡◌, Some, codes, IfOk};
-ghost use Rattle.serde_json.specs.View.{view};
-ghost use Rattle.canvas_saved.specs.Json.{has_others, required};
-ghost use Rattle.canvas_saved.specs.Records.{parent_of, key_named, index_of, place_in, place_of, place_at, pose_of, record_members, record_of, if_within, element_of};
-ghost use Rattle.canvas_saved.specs.Shapes.{shape_of};
+ghost use Rattle.canvas_json.specs.Given.{view};
+ghost use Rattle.canvas_json.specs.Json.{has_others, required};
+ghost use Rattle.canvas_saved.specs.Records.{whole_shape_of, whole_pose_of, index_of, place_in, place_of, place_at, record_members, record_in, record_of, if_within, element_of};
 
-use crate::extra::has_others;
-use crate::field::{bool_at, i32_at, u8_at, u32_at, u32_of};
 use crate::formats::{Format, Head};
-use crate::shape::shape_at;
 use canvas_code::OutOfMemory;
+use canvas_json::{
+    Given, bool_at, has_exactly, has_others, key_named, parent_at, pose_of, shape_members,
+    shape_of, u32_at,
+};
 use canvas_key::Key;
 use canvas_plane::Pose;
-use canvas_record::{Parent, Place, Record};
+use canvas_record::{Place, Record};
 use canvas_shape::Kind;
-use serde_json::Value;
 use std::alloc::Global;
 
-#[tactic(auto, unfolding(crate::specs::Records::parent_of))]
-fn parent_of(value: &Value) -> Option<Parent>
-    ensures { result ≡ parent_of (view value.now) }
+// The shape of an object with exactly the members of its kind.
+#[tactic(auto, unfolding(crate::specs::Records::whole_shape_of))]
+fn whole_shape_of(alloc: Global, shape: Given<'_, '_>) -> Result<Option<Kind>, OutOfMemory>
+    ensures { IfOk result (λ kind. kind ≡ whole_shape_of (view shape.entry)) }
 {
-    if value.is_null() {
-        Some(Parent::Page)
+    let Some(kind) = shape.get("kind").and_then(|kind| kind.as_str()) else {
+        return Ok(None);
+    };
+    if has_exactly(shape_members(kind), &shape) {
+        shape_of(alloc, shape)
     } else {
-        u32_of(value).map(Parent::Shape)
+        Ok(None)
     }
 }
 
-// The parent, which has to be there.
-fn parent_at(object: &Value) -> Option<Parent>
-    ensures { result ≡ required parent_of (codes "parent") (view object.now) }
+// The shape, which has to be there.
+fn shape_at(alloc: Global, object: &Given<'_, '_>) -> Result<Option<Kind>, OutOfMemory>
+    ensures { IfOk result (λ kind. kind ≡ required whole_shape_of (codes "shape") (view object.now)) }
 {
-    object.get("parent").and_then(parent_of)
+    match object.get("shape") {
+        Some(shape) => whole_shape_of(alloc, shape),
+        None => Ok(None),
+    }
 }
 
-#[tactic(auto, unfolding(crate::specs::Records::key_named))]
-fn key_named(text: &str) -> Option<Key>
-    ensures { result ≡ key_named text.now }
+// The pose of an object with exactly the members of a pose.
+#[tactic(auto, unfolding(crate::specs::Records::whole_pose_of))]
+fn whole_pose_of(pose: Given<'_, '_>) -> Option<Pose>
+    ensures { result ≡ whole_pose_of (view pose.entry) }
 {
-    match Key::read(text.as_bytes()) {
-        Ok(key) => Some(key),
-        Err(_) => None,
+    if has_exactly(&["dx", "dy", "flip", "quarter"], &pose) {
+        pose_of(pose)
+    } else {
+        None
     }
+}
+
+// The pose, which has to be there.
+fn pose_at(object: &Given<'_, '_>) -> Option<Pose>
+    ensures { result ≡ required whole_pose_of (codes "pose") (view object.now) }
+{
+    object.get("pose").and_then(whole_pose_of)
 }
 
 #[tactic(auto, unfolding(crate::specs::Records::index_of))]
-fn index_of(value: &Value) -> Option<Key>
-    ensures { result ≡ index_of (view value.now) }
+fn index_of(value: Given<'_, '_>) -> Option<Key>
+    ensures { result ≡ index_of (view value.entry) }
 {
-    value.as_str().and_then(key_named)
+    value.as_str().and_then(|text| key_named(text))
 }
 
 // The index, which has to be there.
-fn index_at(object: &Value) -> Option<Key>
+fn index_at(object: &Given<'_, '_>) -> Option<Key>
     ensures { result ≡ required index_of (codes "index") (view object.now) }
 {
     object.get("index").and_then(index_of)
 }
 
-#[tactic(auto, unfolding(crate::specs::Records::pose_of))]
-fn pose_of(value: &Value) -> Option<Pose>
-    ensures { result ≡ pose_of (view value.now) }
-{
-    let dx = i32_at(value, "dx")?;
-    let dy = i32_at(value, "dy")?;
-    let flip = bool_at(value, "flip")?;
-    let quarter = u8_at(value, "quarter")?;
-    if has_others(&["dx", "dy", "flip", "quarter"], value) {
-        return None;
-    }
-    Some(Pose {
-        dx: i64::from(dx),
-        dy: i64::from(dy),
-        quarter,
-        flip,
-    })
-}
-
-// The pose, which has to be there.
-fn pose_at(object: &Value) -> Option<Pose>
-    ensures { result ≡ required pose_of (codes "pose") (view object.now) }
-{
-    object.get("pose").and_then(pose_of)
-}
-
 // The place that an index and a parent make.
 #[tactic(auto, unfolding(crate::specs::Records::place_in))]
-fn place_in(object: &Value) -> Option<Place>
+fn place_in(object: &Given<'_, '_>) -> Option<Place>
     ensures { result ≡ place_in (view object.now) }
 {
     let index = index_at(object)?;
@@ -96,19 +85,19 @@ fn place_in(object: &Value) -> Option<Place>
 }
 
 #[tactic(auto, unfolding(crate::specs::Records::place_of))]
-fn place_of(value: &Value) -> Option<Place>
-    ensures { result ≡ place_of (view value.now) }
+fn place_of(value: Given<'_, '_>) -> Option<Place>
+    ensures { result ≡ place_of (view value.entry) }
 {
-    let place = place_in(value)?;
-    if has_others(&["index", "parent"], value) {
-        return None;
+    if has_others(&["index", "parent"], &value) {
+        None
+    } else {
+        place_in(&value)
     }
-    Some(place)
 }
 
 // The place of a record, as the format has it.
 #[tactic(auto, unfolding(crate::specs::Records::place_at))]
-fn place_at(format: Format, object: &Value) -> Option<Place>
+fn place_at(format: Format, object: &Given<'_, '_>) -> Option<Place>
     ensures { result ≡ place_at format (view object.now) }
 {
     match format {
@@ -118,7 +107,7 @@ fn place_at(format: Format, object: &Value) -> Option<Place>
 }
 
 // Whether a record has a member that the format does not have.
-fn has_unknown(format: Format, object: &Value) -> bool
+fn has_unknown(format: Format, object: &Given<'_, '_>) -> bool
     ensures { result ≡ has_others (record_members format) (view object.now) }
 {
     match format {
@@ -131,18 +120,15 @@ fn has_unknown(format: Format, object: &Value) -> bool
 }
 
 // The record with this shape.
-#[tactic(auto, unfolding(crate::specs::Records::record_of))]
-fn record_with(format: Format, kind: Kind, object: &Value) -> Option<Record>
-    ensures { required shape_of (codes "shape") (view object.now) ≡ Some kind
-        → result ≡ record_of format (view object.now) }
+#[tactic(auto, unfolding(crate::specs::Records::record_in))]
+fn record_with(format: Format, kind: Kind, object: &Given<'_, '_>) -> Option<Record>
+    ensures { required whole_shape_of (codes "shape") (view object.now) ≡ Some kind
+        → result ≡ record_in format (view object.now) }
 {
     let hidden = bool_at(object, "hidden")?;
     let id = u32_at(object, "id")?;
     let place = place_at(format, object)?;
     let pose = pose_at(object)?;
-    if has_unknown(format, object) {
-        return None;
-    }
     Some(Record {
         id,
         kind,
@@ -153,13 +139,32 @@ fn record_with(format: Format, kind: Kind, object: &Value) -> Option<Record>
 }
 
 // The shape is read first: its points alone want memory.
-#[tactic(auto, unfolding(crate::specs::Records::record_of))]
-fn record_of(alloc: Global, format: Format, object: &Value) -> Result<Option<Record>, OutOfMemory>
-    ensures { IfOk result (λ shape. shape ≡ record_of format (view object.now)) }
+#[tactic(auto, unfolding(crate::specs::Records::record_in))]
+fn record_in(
+    alloc: Global,
+    format: Format,
+    object: &Given<'_, '_>,
+) -> Result<Option<Record>, OutOfMemory>
+    ensures { IfOk result (λ shape. shape ≡ record_in format (view object.now)) }
 {
     match shape_at(alloc, object)? {
         Some(kind) => Ok(record_with(format, kind, object)),
         None => Ok(None),
+    }
+}
+
+#[tactic(auto, unfolding(crate::specs::Records::record_of))]
+fn record_of(
+    alloc: Global,
+    format: Format,
+    object: &Given<'_, '_>,
+) -> Result<Option<Record>, OutOfMemory>
+    ensures { IfOk result (λ shape. shape ≡ record_of format (view object.now)) }
+{
+    if has_unknown(format, object) {
+        Ok(None)
+    } else {
+        record_in(alloc, format, object)
     }
 }
 
@@ -179,7 +184,7 @@ fn if_within(next: u32, shape: Record) -> Option<Record>
 pub(crate) fn element_of(
     alloc: Global,
     head: Head,
-    element: &Value,
+    element: &Given<'_, '_>,
 ) -> Result<Option<Record>, OutOfMemory>
     ensures { IfOk result (λ shape. shape ≡ element_of head (view element.now)) }
 {

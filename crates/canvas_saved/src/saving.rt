@@ -1,82 +1,34 @@
 //! From records to a text.
 ghost use Rattle.std.specs.Prelude.{◌≡◌, ◌++◌, ◌≤◌, length, false, All, Ok, IfOk, OnOk};
-ghost use Rattle.canvas_shape.specs.declared.Kind.TheVariants.{Polygon};
 ghost use Rattle.canvas_record.specs.Contents.{IsWellFormed};
+ghost use Rattle.canvas_json.specs.Fit.{FitsParent};
+ghost use Rattle.canvas_json.specs.Texts.{list_text};
 ghost use Rattle.canvas_saved.specs.declared.formats.Format.TheVariants.{One};
 ghost use Rattle.canvas_saved.specs.Formats.{most_of};
-ghost use Rattle.canvas_saved.specs.Kept.{AreColoursRead, IsKept, IsRead};
+ghost use Rattle.canvas_saved.specs.Kept.{IsKept};
 ghost use Rattle.canvas_saved.specs.Opened.{opened, records_read};
 ghost use Rattle.canvas_saved.specs.Saved.{text_in, saved_text_of, contents_with};
-ghost use Rattle.canvas_saved.specs.SavedText.{list_text, point_text, sides_text, shape_text, head_text, record_text, document_text};
+ghost use Rattle.canvas_saved.specs.SavedText.{head_text, place_text, record_text, document_text};
 
-use crate::json_text::{push_bool, push_comma, push_text, push_unsigned};
-use crate::parts::{push_colour, push_fill, push_place, push_point, push_pose};
 use canvas_code::OutOfMemory;
-use canvas_plane::Point;
-use canvas_record::Record;
-use canvas_shape::{Colour, Kind};
+use canvas_json::{
+    push_bool, push_comma, push_kind, push_parent, push_pose, push_quoted, push_text, push_unsigned,
+};
+use canvas_record::{Place, Record};
+use canvas_shape::Kind;
 use std::alloc::{AllocError, Global};
 
-// The points of a list, and its closing bracket.
-fn push_points(out: &mut Vec<u8>, points: &[Point]) -> Result<(), AllocError>
-    ensures { OnOk result (out.new.items ≡ out.old.items ++ list_text point_text false points.now) }
+// The index and the parent.
+#[tactic(auto, unfolding(crate::specs::SavedText::place_text))]
+fn push_place(out: &mut Vec<u8>, place: &Place) -> Result<(), AllocError>
+    ensures text { OnOk result (out.new.items ≡ out.old.items ++ place_text place.now) }
+    ensures fits { OnOk result (FitsParent place.now.parent) }
 {
-    let mut later = false;
-    for point in points {
-        push_comma(out, later)?;
-        push_point(out, point)?;
-        later = true;
-    }
-    push_text(out, "]")
-}
-
-fn push_polygon(out: &mut Vec<u8>, points: &[Point], fill: &Colour) -> Result<(), AllocError>
-    ensures text { OnOk result (out.new.items ≡ out.old.items ++ shape_text (Polygon points.now fill.now)) }
-    ensures colours { OnOk result (IsRead fill.now) }
-{
-    push_text(out, "{\"fill\":")?;
-    push_colour(out, fill)?;
-    push_text(out, ",\"kind\":\"polygon\",\"points\":[")?;
-    push_points(out, points)?;
+    push_text(out, "{\"index\":")?;
+    push_quoted(out, place.index.bytes())?;
+    push_text(out, ",\"parent\":")?;
+    push_parent(out, place.parent)?;
     push_text(out, "}")
-}
-
-// What comes after the fill of a shape with sides.
-fn push_sides(out: &mut Vec<u8>, kind: &str, w: u32, h: u32) -> Result<(), AllocError>
-    ensures { OnOk result (out.new.items ≡ out.old.items ++ sides_text kind.now w h) }
-{
-    push_text(out, ",\"h\":")?;
-    push_unsigned(out, h)?;
-    push_text(out, ",\"kind\":\"")?;
-    push_text(out, kind)?;
-    push_text(out, "\",\"w\":")?;
-    push_unsigned(out, w)?;
-    push_text(out, "}")
-}
-
-fn push_shape(out: &mut Vec<u8>, kind: &Kind) -> Result<(), AllocError>
-    ensures text { OnOk result (out.new.items ≡ out.old.items ++ shape_text kind.now) }
-    ensures colours { OnOk result (AreColoursRead kind.now) }
-{
-    match kind {
-        Kind::Group => push_text(out, "{\"kind\":\"group\"}"),
-        Kind::Frame { w, h, fill } => {
-            push_text(out, "{\"fill\":")?;
-            push_fill(out, fill)?;
-            push_sides(out, "frame", *w, *h)
-        }
-        Kind::Rect { w, h, fill } => {
-            push_text(out, "{\"fill\":")?;
-            push_colour(out, fill)?;
-            push_sides(out, "rect", *w, *h)
-        }
-        Kind::Ellipse { w, h, fill } => {
-            push_text(out, "{\"fill\":")?;
-            push_colour(out, fill)?;
-            push_sides(out, "ellipse", *w, *h)
-        }
-        Kind::Polygon { points, fill } => push_polygon(out, points.as_slice(), fill),
-    }
 }
 
 // What comes before the place of a record.
@@ -99,7 +51,7 @@ fn push_record(out: &mut Vec<u8>, shape: &Record) -> Result<(), AllocError>
     push_text(out, ",\"pose\":")?;
     push_pose(out, &shape.pose)?;
     push_text(out, ",\"shape\":")?;
-    push_shape(out, &shape.kind)?;
+    push_kind(out, &shape.kind)?;
     push_text(out, "}")
 }
 

@@ -84,7 +84,7 @@ pub fn serve_doors<
         idle,
     } = *settings;
     let ending = Ending::new(alloc, count)?;
-    let boards = boards_of(alloc, seats, keep)?;
+    let boards = boards_of(alloc, seats, keep, events)?;
     let workers = Workers::new(workers);
     let call = serve_until(
         rt, alloc, doors, &boards, count, workers, gate, events, idle, &ending,

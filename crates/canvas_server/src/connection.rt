@@ -14,7 +14,7 @@ use crate::outlet::{Outlet, WriteTwo};
 use crate::workers::Workers;
 use canvas_board::Board;
 use canvas_code::name_of;
-use canvas_session::{Cause, Served, SessionFault, serve};
+use canvas_session::{Cause, Served, SessionFault, Witness, serve_before};
 use canvas_wire::{Reply, ReplyLine, write_reply};
 use std::alloc::Global;
 use std::io::{Read, Write};
@@ -33,14 +33,23 @@ pub enum Answered {
     Session(Result<Served, SessionFault>),
 }
 
-/// Answers what a reader brings until that has ended, to a writer that comes back. A gate is asked before any bytes are handed to the writer.
+/// Answers what a reader brings until that has ended, to a writer that comes back. A gate is asked before any bytes are handed to the writer, and
+/// a witness is told of each answer of a session.
 /// `None` where no memory could be had or not all was sent.
-pub fn answer<H: Threads + Wait + Sync, B: Board, G: Settles, R: Read + Drop, W: WriteTwo + Drop>(
+pub fn answer<
+    H: Threads + Wait + Sync,
+    B: Board,
+    G: Settles,
+    O: Witness,
+    R: Read + Drop,
+    W: WriteTwo + Drop,
+>(
     rt: &H,
     alloc: Global,
     board: &mut B,
     workers: &Workers,
     gate: &G,
+    witness: &O,
     reader: R,
     writer: W,
 ) -> (W, Option<Answered>)
@@ -54,7 +63,9 @@ pub fn answer<H: Threads + Wait + Sync, B: Board, G: Settles, R: Read + Drop, W:
     }) answered) }
     ensures settled { ∥ ((n : ℕ) × HasPassed (G.settled gate.now) (W.contents writer) (W.contents result.0) n) ∥₁ }
 {
-    answer_gated::<Brand, H, B, G, R, W>(rt, alloc, board, workers, gate, reader, writer)
+    answer_gated::<Brand, H, B, G, O, R, W>(
+        rt, alloc, board, workers, gate, witness, reader, writer,
+    )
 }
 
 // Answers through the gate of one connection.
@@ -63,6 +74,7 @@ fn answer_gated<
     H: Threads + Wait + Sync,
     B: Board,
     G: Settles,
+    O: Witness,
     R: Read + Drop,
     W: WriteTwo + Drop,
 >(
@@ -71,6 +83,7 @@ fn answer_gated<
     board: &mut B,
     workers: &Workers,
     gate: &G,
+    witness: &O,
     reader: R,
     writer: W,
 ) -> (W, Option<Answered>)
@@ -87,16 +100,17 @@ fn answer_gated<
     ensures settled { ∥ ((n : ℕ) × HasPassed K.settled K.begun (W.contents result.0) n) ∥₁ }
 {
     let gated = Gated::<K, H, G, W>::new(rt, gate, writer);
-    let (gated, answered) = answer_input(rt, alloc, board, workers, reader, gated);
+    let (gated, answered) = answer_input(rt, alloc, board, workers, witness, reader, gated);
     (gated.into_inner(), answered)
 }
 
 // Answers what a reader brings, to a writer that comes back: `None` where no memory could be had or not all was sent.
-fn answer_input<H: Threads + Wait + Sync, B: Board, R: Read + Drop, W: WriteTwo + Drop>(
+fn answer_input<H: Threads + Wait + Sync, B: Board, O: Witness, R: Read + Drop, W: WriteTwo + Drop>(
     rt: &H,
     alloc: Global,
     board: &mut B,
     workers: &Workers,
+    witness: &O,
     mut reader: R,
     mut writer: W,
 ) -> (W, Option<Answered>)
@@ -113,7 +127,7 @@ fn answer_input<H: Threads + Wait + Sync, B: Board, R: Read + Drop, W: WriteTwo 
     let count = read_first(&mut reader, &mut first);
     let (first, _) = first.split_at(count);
     if speaks_http(first) {
-        if !tell(&mut writer, &no_json()) {
+        if !refuse_http(&mut writer) {
             return (writer, None);
         }
         return (writer, Some(Answered::Http));
@@ -122,11 +136,12 @@ fn answer_input<H: Threads + Wait + Sync, B: Board, R: Read + Drop, W: WriteTwo 
         Ok(outlet) => outlet,
         Err(writer) => return (writer, None),
     };
-    let ended = serve(
+    let ended = serve_before(
         rt,
         alloc,
         board,
         workers.count(),
+        witness,
         &mut first.chain(reader),
         &mut outlet,
     );
@@ -141,6 +156,13 @@ pub fn refuse(stream: &Stream) {
     let mut writer = stream;
     // A client that is gone needs no reply.
     let _ = tell(&mut writer, &no_seats());
+}
+
+/// Tells a client that speaks HTTP that its request is none, and says whether the reply went out. It names no version.
+pub fn refuse_http<W: Write>(writer: &mut W) -> bool
+    ensures { IsTrue result → Appends (W.contents writer.old) (W.contents writer.new) (line_of (refused 50)) }
+{
+    tell(writer, &no_json())
 }
 
 // Writes the only reply of a connection, and says whether it went out.

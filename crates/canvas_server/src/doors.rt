@@ -72,8 +72,8 @@ impl Door {
         Ok(())
     }
 
-    // Shuts the door: an accept that waits there fails, and so does each one after it.
-    fn shut(&self) -> io::Result<()> {
+    /// Shuts the door: each accept that waits there fails, and so does each one after it.
+    pub fn shut(&self) -> io::Result<()> {
         match self {
             Door::Tcp(listener) => {
                 let socket = OwnedFd::from(listener.try_clone()?);

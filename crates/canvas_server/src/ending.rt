@@ -19,6 +19,15 @@ pub enum Call {
     DoorFault,
 }
 
+/// Why a session does not begin.
+#[derive(Clone, Copy, Debug, Drop, PartialEq, Eq)]
+pub enum NoEntry {
+    /// All seats are taken.
+    Full,
+    /// The end has begun, or the socket can't be held twice.
+    Ended,
+}
+
 // What ended the server, where something has, and the sockets of the sessions that are open, by seat.
 #[derive(Drop)]
 struct Open {
@@ -101,6 +110,22 @@ impl Ending {
             }
             None => false,
         }
+    }
+
+    /// Notes the socket of a session that begins at the first seat that has none. `Err` is why there is to be no session.
+    pub fn enter_free<H: Wait>(&self, rt: &H, stream: &Stream) -> Result<usize, NoEntry> {
+        let Ok(socket) = stream.try_clone() else {
+            return Err(NoEntry::Ended);
+        };
+        let mut open = self.open.lock(rt);
+        if open.call.is_some() {
+            return Err(NoEntry::Ended);
+        }
+        let Some(seat) = open.sockets.iter().position(|socket| socket.is_none()) else {
+            return Err(NoEntry::Full);
+        };
+        open.sockets[seat] = Some(socket);
+        Ok(seat)
     }
 
     /// Forgets the socket of a session that has ended.

@@ -1,6 +1,6 @@
 //! What a server tells the program of its sessions.
 
-use canvas_session::Cause;
+use canvas_session::{Cause, Witness};
 
 /// How a connection that had a seat ended.
 #[derive(Clone, Copy, Debug, Drop, PartialEq, Eq)]
@@ -17,8 +17,8 @@ pub enum Parting {
     Unsent,
 }
 
-/// What a server tells of its connections, for a log. Many threads call these, at any time.
-pub trait Events {
+/// What a server tells of its connections, for a log and for counts. Many threads call these, at any time.
+pub trait Events: Witness {
     /// A connection has a seat.
     fn began(&self, _seat: usize) {}
 
@@ -27,10 +27,18 @@ pub trait Events {
 
     /// A connection found all seats taken.
     fn was_full(&self) {}
+
+    /// So many bytes of a session were sent.
+    fn sent(&self, _bytes: usize) {}
+
+    /// A picture was painted for a session, or it was answered as it was kept.
+    fn pictured(&self, _was_kept: bool) {}
 }
 
 /// Nobody is told.
 #[derive(Clone, Copy, Debug)]
 pub struct Quiet;
+
+impl Witness for Quiet {}
 
 impl Events for Quiet {}

@@ -21,7 +21,7 @@ use std::thread;
 use std::thread::{Scope, Threads};
 use std::time::{Clock, Duration};
 
-/// How many times in a row an accept may fail before the server ends.
+/// With how many accepts that fail in a row the server ends.
 const PATIENCE: u32 = 100;
 
 /// How many milliseconds the server waits after an accept that failed.
@@ -192,8 +192,8 @@ fn keep_door<
     }
 }
 
-// Wakes the threads at the doors, and gives the sessions time to end; then cuts those that are left.
-fn close_doors<H: Wait + Clock + Net>(rt: &H, doors: &[Door], ending: &Ending) {
+/// Wakes the threads at the doors, and gives the sessions time to end; then cuts those that are left.
+pub fn close_doors<H: Wait + Clock + Net>(rt: &H, doors: &[Door], ending: &Ending) {
     for door in doors {
         door.wake(rt);
     }
@@ -227,32 +227,37 @@ fn accept_each<
     ensures fault { IfErr result (λ fault. fault ≡ AcceptFault) }
 {
     let mut left = connections;
-    let mut patience = PATIENCE;
     'accepts: for _ in rt.forever() {
-        let accepted = door.accept();
-        if house.ending.has_begun() {
+        let Some(stream) = next_stream(rt, door, house.ending) else {
             break;
+        };
+        admit(rt, scope, house, stream);
+        if left == 1 {
+            return Ok(());
         }
-        match accepted {
-            Ok(stream) => {
-                admit(rt, scope, house, stream);
-                if left == 1 {
-                    return Ok(());
-                }
-                left = left.saturating_sub(1);
-                patience = PATIENCE;
-            }
-            // A connection that was given up before it was accepted, or too many open files.
-            Err(_) => {
-                if patience == 0 {
-                    break;
-                }
-                patience -= 1;
-                thread::sleep(rt, Duration::from_millis(PAUSE));
-            }
-        }
+        left = left.saturating_sub(1);
     }
     Err(ServerFault::AcceptFault)
+}
+
+/// Waits for the next connection that comes to a door; `None` once the server ends, or where none can be accepted any more.
+pub fn next_stream<H: Wait + Clock, D: Accepts>(
+    rt: &H,
+    door: &D,
+    ending: &Ending,
+) -> Option<Stream> {
+    for _ in 0..PATIENCE {
+        let accepted = door.accept();
+        if ending.has_begun() {
+            return None;
+        }
+        if let Ok(stream) = accepted {
+            return Some(stream);
+        }
+        // A connection that was given up before it was accepted, or too many open files.
+        thread::sleep(rt, Duration::from_millis(PAUSE));
+    }
+    None
 }
 
 // Lends a free seat to a connection, on a thread of its own; where there is none, says so and closes it.
@@ -317,8 +322,8 @@ fn session<H: Threads + Wait + Clock + Sync, B: Board, G: Settles, E: Events>(
     }
 }
 
-// Settles a connection that was counted.
-fn settle_counted<H: Wait + Clock>(rt: &H, settling: &Mutex<Settling>, stream: &Stream) {
+/// Settles a connection that was counted.
+pub fn settle_counted<H: Wait + Clock>(rt: &H, settling: &Mutex<Settling>, stream: &Stream) {
     settle(rt, stream);
     settling.lock(rt).end();
 }

@@ -3,6 +3,7 @@
 
 mod at_doors;
 mod connection;
+mod counted;
 mod doors;
 mod ending;
 mod event;
@@ -19,9 +20,16 @@ mod words;
 mod workers;
 
 pub use at_doors::{DoorSettings, Ended, serve_doors};
-pub use doors::Door;
+pub use canvas_session::Witness;
+pub use connection::{refuse_http, settle};
+pub use doors::{Accepts, Door, Stream};
+pub use ending::{Call, Ending, NoEntry};
 pub use event::{Events, Parting, Quiet};
+pub use first_bytes::{FIRST_BYTES, read_first, speaks_http};
 pub use gate::{Settles, Unkept};
+pub use house::{close_doors, next_stream, settle_counted};
+pub use seats::Settling;
 pub use server_fault::ServerFault;
 pub use serving::{Settings, serve_connections};
+pub use visit::set_up;
 pub use words::{Command, exit_status};

@@ -5,13 +5,13 @@ ghost use Rattle.canvas_server.specs.declared.server_fault.ServerFault.TheVarian
 ghost use Rattle.canvas_server.specs.Faults.{server_fault_code, server_fault_name};
 
 use canvas_board::BoardFault;
-use canvas_code::{OutOfMemory, name_of};
+use canvas_code::name_of;
 use std::alloc::AllocError;
-use std::fmt::{Display, Formatter, Write};
 use thiserror::Error;
 
 /// Why a server does not serve, or serves no longer.
 #[derive(Clone, Copy, Debug, Drop, PartialEq, Eq, Error)]
+#[error("{}", self.name())]
 pub enum ServerFault {
     /// A setting is outside its range.
     BadSetting,
@@ -50,25 +50,10 @@ impl ServerFault {
     }
 }
 
-/// Writes the name.
-impl Display for ServerFault {
-    fn fmt<W: Write>(&self, formatter: &mut Formatter<W>) -> std::fmt::Result {
-        formatter.write_str(self.name())
-    }
-}
-
 impl From<AllocError> for ServerFault {
     ghost from_gives = { λ _ fault. fault ≡ OutOfMemory };
 
     fn from(_error: AllocError) -> ServerFault {
-        ServerFault::OutOfMemory
-    }
-}
-
-impl From<OutOfMemory> for ServerFault {
-    ghost from_gives = { λ _ fault. fault ≡ OutOfMemory };
-
-    fn from(_error: OutOfMemory) -> ServerFault {
         ServerFault::OutOfMemory
     }
 }

@@ -4,10 +4,12 @@ ghost use Rattle.std.specs.Prelude.{◌≡◌, ◌≤◌, IfErr, IfOk, vec_len};
 ghost use Rattle.canvas_server.specs.declared.server_fault.ServerFault.TheVariants.{OutOfMemory};
 ghost use Rattle.canvas_server.specs.Settings.{Ends, opening_fault, settings_fault};
 
+use crate::counted::Counted;
+use crate::event::{Events, Quiet};
 use crate::house::serve_boards;
 use crate::server_fault::ServerFault;
 use crate::workers::Workers;
-use canvas_board::Shared;
+use canvas_board::LastExport;
 use canvas_doc::Document;
 use canvas_line::{Line, LineFault, Lines, Opened, Seat};
 use std::alloc::Global;
@@ -96,7 +98,7 @@ fn serve_line<L: Lines + Send + Sync, H: Threads + Wait + Clock + Sync>(
         Ok(line) => line,
         Err(fault) => return Err(opening_fault(&fault)),
     };
-    let boards = boards_of(alloc, line, keep)?;
+    let boards = boards_of(alloc, line, keep, &Quiet)?;
     let workers = Workers::new(workers);
     let ended = serve_boards(rt, alloc, listener, &boards, seats, workers, connections);
     for board in boards {
@@ -105,19 +107,21 @@ fn serve_line<L: Lines + Send + Sync, H: Threads + Wait + Clock + Sync>(
     ended
 }
 
-/// A board for each seat.
-pub fn boards_of<L: Lines>(
+/// A board for each seat, which tells of its pictures. They export one text for a version.
+pub fn boards_of<'a, L: Lines, E: Events>(
     alloc: Global,
     seats: Vec<Seat<L>>,
     keep: u32,
-) -> Result<Vec<Mutex<Shared<L>>>, ServerFault>
+    events: &'a E,
+) -> Result<Vec<Mutex<Counted<'a, L, E>>>, ServerFault>
     requires { keep ≤ 256 }
     ensures count { IfOk result (λ boards. vec_len boards ≡ vec_len seats) }
     ensures fault { IfErr result (λ fault. fault ≡ OutOfMemory) }
 {
+    let last_export = LastExport::new(alloc);
     let mut boards = Vec::with_capacity(alloc, seats.len())?;
     for seat in seats {
-        let Ok(board) = Shared::new(alloc, seat, keep) else {
+        let Some(board) = Counted::new(alloc, seat, keep, last_export.again(), events) else {
             return Err(ServerFault::OutOfMemory);
         };
         if boards.push(Mutex::new(board)).is_err() {

@@ -6,11 +6,12 @@ use crate::ending::{Call, Ending};
 use crate::event::{Events, Parting};
 use crate::gate::Settles;
 use crate::house::House;
+use crate::outlet::WriteTwo;
 use canvas_board::Board;
 use canvas_session::Cause;
 use std::cell::Cell;
 use std::io;
-use std::io::{ErrorKind, Read};
+use std::io::{ErrorKind, Read, Write};
 use std::sync::Wait;
 use std::thread::Threads;
 use std::time::Duration;
@@ -70,6 +71,35 @@ impl Read for Input<'_> {
     }
 }
 
+/// What a client is sent. Each piece is told of.
+#[derive(Drop)]
+struct Output<'a, E: Events> {
+    stream: &'a Stream,
+    events: &'a E,
+}
+
+impl<E: Events> Write for Output<'_, E> {
+    fn write(&mut self, bytes: &[u8]) -> io::Result<usize> {
+        let mut stream = self.stream;
+        let sent = stream.write(bytes)?;
+        self.events.sent(sent);
+        Ok(sent)
+    }
+
+    fn flush(&mut self) -> io::Result<()> {
+        Ok(())
+    }
+}
+
+impl<E: Events> WriteTwo for Output<'_, E> {
+    fn write_two(&mut self, first: &[u8], second: &[u8]) -> io::Result<usize> {
+        let mut stream = self.stream;
+        let sent = stream.write_two(first, second)?;
+        self.events.sent(sent);
+        Ok(sent)
+    }
+}
+
 /// Answers a client until it has sent all or the server ends, and says whether more may still come. Where the server has ended before, nothing is
 /// answered.
 pub fn answer_visit<H: Threads + Wait + Sync, B: Board, G: Settles, E: Events>(
@@ -94,8 +124,8 @@ pub fn answer_visit<H: Threads + Wait + Sync, B: Board, G: Settles, E: Events>(
         )
 }
 
-// Sets how a connection sends and how long it may be silent. Where that can't be set it is served all the same.
-fn set_up(stream: &Stream, idle: u64) {
+/// Sets how a connection sends and after how many silent seconds a read or a write fails, 0 for never. Where that can't be set it is served all the same.
+pub fn set_up(stream: &Stream, idle: u64) {
     // Where small replies are delayed they come all the same.
     let _ = stream.set_nodelay();
     if idle > 0 {
@@ -122,8 +152,21 @@ fn answer_stream<H: Threads + Wait + Sync, B: Board, G: Settles, E: Events>(
         ending: house.ending,
         is_idle: &is_idle,
     };
+    let output = Output {
+        stream,
+        events: house.events,
+    };
     let (alloc, workers) = (house.alloc, &house.workers);
-    let (_, answered) = answer(rt, alloc, board, workers, &gate, input, stream);
+    let (_, answered) = answer(
+        rt,
+        alloc,
+        board,
+        workers,
+        &gate,
+        house.events,
+        input,
+        output,
+    );
     match answered {
         None => Parting::Unsent,
         Some(Answered::Http) => Parting::Http,

@@ -261,6 +261,7 @@ fn the_last_reply_leaves_before_the_end(rt: HostRuntime) {
     holds(&rt, "the last reply", is_told);
     holds(&rt, "no seat", is_refused);
     equal(&rt, "told", &counts.told(), &[1, 0, 1, 1]);
+    equal(&rt, "counted", &counts.counted(), &[2, 0, 91]);
 }
 
 // Asks at once for pictures of twelve million bytes in all, and takes nothing of them.

@@ -1,6 +1,7 @@
 //! Gates that tests put before a server, and what they count.
 
-use canvas_server::{Events, Parting, Settles};
+use canvas_server::{Events, Parting, Settles, Witness};
+use canvas_wire::Request;
 use std::io::ErrorKind;
 use std::sync::Wait;
 use std::sync::atomic::{AtomicU64, Ordering};
@@ -80,6 +81,9 @@ pub(crate) struct Counts {
     idle: AtomicU64,
     others: AtomicU64,
     full: AtomicU64,
+    answers: AtomicU64,
+    refusals: AtomicU64,
+    bytes: AtomicU64,
 }
 
 impl Counts {
@@ -89,6 +93,9 @@ impl Counts {
             idle: AtomicU64::new(0),
             others: AtomicU64::new(0),
             full: AtomicU64::new(0),
+            answers: AtomicU64::new(0),
+            refusals: AtomicU64::new(0),
+            bytes: AtomicU64::new(0),
         }
     }
 
@@ -100,6 +107,24 @@ impl Counts {
             self.others.load(Ordering::SeqCst),
             self.full.load(Ordering::SeqCst),
         ]
+    }
+
+    /// Answers, those of them that were refusals, and bytes that were sent to sessions.
+    pub(crate) fn counted(&self) -> [u64; 3] {
+        [
+            self.answers.load(Ordering::SeqCst),
+            self.refusals.load(Ordering::SeqCst),
+            self.bytes.load(Ordering::SeqCst),
+        ]
+    }
+}
+
+impl Witness for Counts {
+    fn answered(&self, _request: Option<&Request>, refusal: Option<u16>) {
+        self.answers.fetch_add(1, Ordering::SeqCst);
+        if refusal.is_some() {
+            self.refusals.fetch_add(1, Ordering::SeqCst);
+        }
     }
 }
 
@@ -118,5 +143,9 @@ impl Events for Counts {
 
     fn was_full(&self) {
         self.full.fetch_add(1, Ordering::SeqCst);
+    }
+
+    fn sent(&self, bytes: usize) {
+        self.bytes.fetch_add(bytes as u64, Ordering::SeqCst);
     }
 }

@@ -16,4 +16,6 @@ mod memory;
 #[cfg(test)]
 mod servers;
 #[cfg(test)]
+mod status;
+#[cfg(test)]
 mod words;

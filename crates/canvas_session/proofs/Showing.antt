@@ -1,4 +1,4 @@
--- All pictures of a transcript are of the board's history at its end.
+-- All that a transcript tells is of the board's history at its end.
 use Rattle.std.proofs.Common.{◌≡◌, ℕ, ℤ, ◌≤◌, inl, inr, List, [], ◌∷◌, ◌++◌, Option, None, Some, Result, Ok, Err, length, take, refl, sym, ap, ◌∙◌, arith, subst, length-append}
 use Rattle.std.specs.Arc.{arc_value}
 use Rattle.std.specs.List.{AllByRecursion}
@@ -29,7 +29,8 @@ use Rattle.canvas_board.specs.Steps.{Accepts, Edits, Looks, Paints, Saves}
 use Rattle.canvas_board.proofs.Spared.{file-key}
 use Rattle.canvas_session.specs.Response.{Response, bare, made, edit_response, picture_response, point_response, saved_response}
 use Rattle.canvas_session.specs.Transcript.{ShowsUnless, Step, Answers, IsTranscript}
-use Rattle.canvas_session.specs.OneHistory.{versions_in, AsksFor, ShowsVersion, EachShowsItsVersion, TellsOneHistory}
+use Rattle.canvas_session.specs.OneHistory.{versions_in, AsksFor, ShowsVersion, EachEditIsMade, EachShowsItsVersion, TellsOneHistory}
+use Rattle.canvas_session.proofs.Making.{made-answer, longer-made}
 
 -- the board of the same document with a front that begins with the old one
 record Later (s t : Seen) : Type 0 where
@@ -244,6 +245,19 @@ each_shows workers s (r ∷ rs) (a ∷ more) t told sound older h =
 each_shows workers s [] (a ∷ more) t told sound older h = absurd h
 each_shows workers s (r ∷ rs) [] t told sound older h = absurd h
 
+each_made : (workers : ℕ) (s : Seen) (rs : List (Result Request WireFault)) (answers : List Response) (t : Seen) → IsSound s
+    → IsTranscript workers s rs answers t → EachEditIsMade s.opening t.front rs answers
+each_made workers s [] [] t sound h = tt
+each_made workers s (r ∷ rs) (a ∷ more) t sound h =
+    let mid = h.0 in
+    let goes = goes-answer workers s r a mid sound h.1 in
+    let after = later-transcript workers mid rs more t goes.later.sound h.2 in (
+      λ edit id v asked reply. longer-made s.opening mid.front t.front edit id v after.begins (made-answer workers s r a mid edit id v h.1 asked reply),
+      subst (λ (d : Contents). EachEditIsMade d t.front rs more) goes.later.opening (each_made workers mid rs more t goes.later.sound h.2),
+    )
+each_made workers s [] (a ∷ more) t sound h = absurd h
+each_made workers s (r ∷ rs) [] t sound h = absurd h
+
 pub one_history : (workers : ℕ) (s t : Seen) (rs : List (Result Request WireFault)) (answers : List Response) → IsSound s → IsTranscript workers s rs answers t
     → TellsOneHistory s.opening s.front t.front rs answers
 one_history workers s t rs answers sound h =
@@ -251,5 +265,6 @@ one_history workers s t rs answers sound h =
     record {
       begins = later.begins;
       fits = subst (λ (d : Contents). AllFit d t.front) later.opening later.sound.fits;
+      edits = each_made workers s rs answers t sound h;
       pictures = each_shows workers s rs answers t (length s.front ∷ []) sound (omega arith, tt) h;
     }

@@ -1,5 +1,6 @@
 -- What sessions tell, by what they did.
 use Rattle.std.proofs.Common.{◌≡◌, ℕ, ◌⊎◌, inl, inr, List, [], ◌∷◌, ◌++◌, Option, Result, Ok, Err, length, map, take, refl, sym, ap, ◌∙◌, arith, subst}
+use Rattle.std.specs.List.{AllByRecursion}
 use Rattle.std.specs.Io.KnownBytes.{Consumes, Appends}
 use Rattle.std.proofs.KnownBytes.{Consumes-nil, Appends-nil}
 use Rattle.std.proofs.Math.Seq.{take-append_seam, take-length}
@@ -11,16 +12,17 @@ use Rattle.canvas_record.specs.History.{replay_of, AllFit}
 use Rattle.canvas_wire.specs.declared.request.Request.{Request}
 use Rattle.canvas_wire.specs.declared.fault.WireFault.{WireFault}
 use Rattle.canvas_wire.specs.Requests.{request_of}
-use Rattle.canvas_line.proofs.Prefixes.{prefix_trans, prefix_length, take_more_same, take_prefix}
+use Rattle.canvas_line.proofs.Prefixes.{prefix_self, prefix_trans, prefix_length, take_more_same, take_prefix}
 use Rattle.canvas_board.specs.Raster.{file_of}
 use Rattle.canvas_board.specs.Seen.{IsSound}
 use Rattle.canvas_session.specs.Response.{Response, texts_of}
 use Rattle.canvas_session.specs.Session.{Ends, Exchange, IsSession, IsClosed, IsBroken, IsUntouched, IsStopped, MayClose, Serves, closing_line}
-use Rattle.canvas_session.specs.OneHistory.{ShowsVersion, EachShowsItsVersion, TellsOneHistory, SessionTells, versions_in}
+use Rattle.canvas_session.specs.OneHistory.{ShowsVersion, EachEditIsMade, EachShowsItsVersion, TellsOneHistory, OneSession, AreOfOneLine, EachTells, SessionTells, versions_in}
 use Rattle.canvas_session.specs.declared.fault.Cause.{Cause}
 use Rattle.canvas_session.specs.declared.fault.Cause.TheVariants.{OutOfMemory, LineTooLong, ReadFault, WriteFault, TooManyRequests, CutLine}
 use Rattle.canvas_session.specs.declared.fault.SessionFault.{SessionFault}
 use Rattle.canvas_session.specs.declared.served.Served.{Served}
+use Rattle.canvas_session.proofs.Making.{longer-made}
 use Rattle.canvas_session.proofs.Showing.{one_history}
 
 -- an exchange, and what was written of it
@@ -101,19 +103,22 @@ longer-each opening a b told (r ∷ rs) (x ∷ more) p h = (
 longer-each opening a b told [] (x ∷ more) p h = absurd h
 longer-each opening a b told (r ∷ rs) [] p h = absurd h
 
+longer-made_each : (opening : Contents) (a b : List Change) (rs : List (Result Request WireFault)) (answers : List Response) → IsPrefix a b → EachEditIsMade opening a rs answers → EachEditIsMade opening b rs answers
+longer-made_each opening a b [] [] p h = tt
+longer-made_each opening a b (r ∷ rs) (x ∷ more) p h = (
+  λ edit id v asked reply. longer-made opening a b edit id v p (h.0 edit id v asked reply),
+  longer-made_each opening a b rs more p h.1,
+)
+longer-made_each opening a b [] (x ∷ more) p h = absurd h
+longer-made_each opening a b (r ∷ rs) [] p h = absurd h
+
 longer-tells : (opening : Contents) (front a b : List Change) (rs : List (Result Request WireFault)) (answers : List Response) → IsPrefix a b → AllFit opening b → TellsOneHistory opening front a rs answers → TellsOneHistory opening front b rs answers
 longer-tells opening front a b rs answers p fits t = record {
   begins = prefix_trans front a b t.begins p;
   fits = fits;
+  edits = longer-made_each opening a b rs answers p t.edits;
   pictures = longer-each opening a b (length front ∷ []) rs answers p t.pictures;
 }
-
--- of two histories of which one begins the other, all pictures are of the longer one
-joined : (opening : Contents) (front front' a b : List Change) (rs rs' : List (Result Request WireFault)) (answers answers' : List Response)
-    → TellsOneHistory opening front a rs answers → TellsOneHistory opening front' b rs' answers' → IsPrefix a b ⊎ IsPrefix b a
-    → (one : List Change) × TellsOneHistory opening front one rs answers × TellsOneHistory opening front' one rs' answers'
-joined opening front front' a b rs rs' answers answers' t t' (inl p) = (b, longer-tells opening front a b rs answers p t'.fits t, t')
-joined opening front front' a b rs rs' answers answers' t t' (inr p) = (a, t, longer-tells opening front' b a rs' answers' p t.fits t')
 
 -- of two beginnings of one list one begins the other
 begin_alike : {A : Type 0} (xs ys zs : List A) → IsPrefix xs zs → IsPrefix ys zs → IsPrefix xs ys ⊎ IsPrefix ys xs
@@ -131,8 +136,59 @@ takes_alike : {A : Type 0} (n m : ℕ) (xs ys : List A) → IsPrefix xs ys ⊎ I
 takes_alike n m xs ys (inl p) = begin_alike (take n xs) (take m ys) ys (prefix_trans (take n xs) xs ys (take_prefix n xs) p) (take_prefix m ys)
 takes_alike n m xs ys (inr p) = begin_alike (take n xs) (take m ys) xs (take_prefix n xs) (prefix_trans (take m ys) ys xs (take_prefix m ys) p)
 
-pub two_tell : (opening : Contents) (front front' seen seen' : List Change) (known known' : ℕ) (rs rs' : List (Result Request WireFault)) (answers answers' : List Response)
-    → TellsOneHistory opening front (take known seen) rs answers → TellsOneHistory opening front' (take known' seen') rs' answers' → IsPrefix seen seen' ⊎ IsPrefix seen' seen
-    → (one : List Change) × TellsOneHistory opening front one rs answers × TellsOneHistory opening front' one rs' answers'
-two_tell opening front front' seen seen' known known' rs rs' answers answers' t t' p =
-    joined opening front front' (take known seen) (take known' seen') rs rs' answers answers' t t' (takes_alike known known' seen seen' p)
+-- what a session told of
+abbrev told_of : OneSession → List Change
+told_of s = take s.known s.seen
+
+-- of two lists one begins the other
+abbrev Agree : List Change → List Change → Type 0
+Agree xs ys = IsPrefix xs ys ⊎ IsPrefix ys xs
+
+agree-each : (s : OneSession) (others : List OneSession) → AllByRecursion (λ t. IsPrefix s.seen t.seen ⊎ IsPrefix t.seen s.seen) others
+    → AllByRecursion (λ t. Agree (told_of s) (told_of t)) others
+agree-each s [] h = tt
+agree-each s (t ∷ others) h = (takes_alike s.known t.known s.seen t.seen h.0, agree-each s others h.1)
+
+-- a history that begins with what each session told of, and agrees with whatever agrees with all of these
+record Longest (opening : Contents) (sessions : List OneSession) (one : List Change) : Type 0 where
+  fits : AllFit opening one
+  begin : AllByRecursion (λ s. IsPrefix (told_of s) one) sessions
+  agrees : (xs : List Change) → AllByRecursion (λ s. Agree xs (told_of s)) sessions → Agree xs one
+
+begin-longer : (sessions : List OneSession) (a b : List Change) → IsPrefix a b → AllByRecursion (λ s. IsPrefix (told_of s) a) sessions
+    → AllByRecursion (λ s. IsPrefix (told_of s) b) sessions
+begin-longer [] a b p h = tt
+begin-longer (s ∷ sessions) a b p h = (prefix_trans (told_of s) a b h.0 p, begin-longer sessions a b p h.1)
+
+longer-of : (opening : Contents) (s : OneSession) (others : List OneSession) (one : List Change) → AllFit opening (told_of s) → Longest opening others one
+    → Agree (told_of s) one → (more : List Change) × Longest opening (s ∷ others) more
+longer-of opening s others one fits rest (inl p) =
+    (one, record { fits = rest.fits; begin = (p, rest.begin); agrees = λ xs h. rest.agrees xs h.1 })
+longer-of opening s others one fits rest (inr p) = (
+  told_of s,
+  record {
+    fits = fits;
+    begin = (prefix_self (told_of s), begin-longer others one (told_of s) p rest.begin);
+    agrees = λ xs h. h.0;
+  },
+)
+
+longest-of : (opening : Contents) (sessions : List OneSession) → EachTells opening told_of sessions → AreOfOneLine sessions → (one : List Change) × Longest opening sessions one
+longest-of opening [] t p = ([], record { fits = tt; begin = tt; agrees = λ xs h. inr (xs, refl) })
+longest-of opening (s ∷ others) t p =
+    let rest = longest-of opening others t.1 p.1 in
+    longer-of opening s others rest.0 t.0.fits rest.1 (rest.1.agrees (told_of s) (agree-each s others p.0))
+
+each-tells : (opening : Contents) (sessions : List OneSession) (one : List Change) → AllFit opening one → AllByRecursion (λ s. IsPrefix (told_of s) one) sessions
+    → EachTells opening told_of sessions → EachTells opening (λ s. one) sessions
+each-tells opening [] one fits p t = tt
+each-tells opening (s ∷ others) one fits p t = (
+  longer-tells opening s.front (told_of s) one s.requests s.answers p.0 fits t.0,
+  each-tells opening others one fits p.1 t.1,
+)
+
+pub all_tell : (opening : Contents) (sessions : List OneSession) → EachTells opening (λ s. take s.known s.seen) sessions → AreOfOneLine sessions
+    → (one : List Change) × EachTells opening (λ s. one) sessions
+all_tell opening sessions t p =
+    let longest = longest-of opening sessions t p in
+    (longest.0, each-tells opening sessions longest.0 longest.1.fits longest.1.begin t)

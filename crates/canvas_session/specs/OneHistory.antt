@@ -1,12 +1,15 @@
--- That all pictures of a session show versions of one history.
-use Rattle.std.specs.Prelude.{◌≡◌, ℕ, ◌≤◌, pos, ◌*ℤ◌, List, [], ◌∷◌, ◌++◌, ◌⊎◌, length, map, take, Result, Ok, Err}
+-- That all that sessions are told of edits and pictures is of one history.
+use Rattle.std.specs.Prelude.{◌≡◌, ℕ, ◌+◌, ◌≤◌, pos, ◌*ℤ◌, List, [], ◌∷◌, ◌++◌, ◌⊎◌, length, map, take, Option, Result, Ok, Err}
 use Rattle.std.specs.List.{flat_map, AllByRecursion}
 use Rattle.std.specs.Io.KnownBytes.{Consumes, Appends}
 use mathlib.Core.List.{IsPrefix}
 use Rattle.canvas_plane.specs.declared.windows.Window.{Window}
 use Rattle.canvas_plane.specs.Window.{IsWindowAt}
 use Rattle.canvas_record.specs.declared.edits.Change.{Change}
+use Rattle.canvas_record.specs.declared.edits.Edit.{Edit as AnEdit}
 use Rattle.canvas_record.specs.Contents.{Contents}
+use Rattle.canvas_record.specs.Decision.{decision_of}
+use Rattle.canvas_record.specs.Effect.{new_id}
 use Rattle.canvas_record.specs.History.{replay_of, AllFit}
 use Rattle.canvas_wire.specs.Requests.{request_of}
 use Rattle.canvas_wire.specs.declared.request.Request.{Request}
@@ -15,7 +18,7 @@ use Rattle.canvas_wire.specs.declared.fault.WireFault.{WireFault}
 use Rattle.canvas_wire.specs.Replies.{Said, created, edited, body, point, refused, behind}
 use Rattle.canvas_board.specs.Raster.{file_of}
 use Rattle.canvas_session.specs.Line.{IsLine, ended}
-use Rattle.canvas_session.specs.Response.{Response, texts_of}
+use Rattle.canvas_session.specs.Response.{Response, made, texts_of}
 use Rattle.canvas_session.specs.Session.{Ends, closing_line}
 
 -- the version that a reply names, if it names one
@@ -51,13 +54,51 @@ EachShowsItsVersion opening history told (r ∷ rs) (a ∷ more) =
 EachShowsItsVersion opening history told [] (a ∷ more) = ⊥
 EachShowsItsVersion opening history told (r ∷ rs) [] = ⊥
 
--- The history begins with the front, each of its changes fits where it stands, and each picture shows a version of it.
+-- Change v of the history is what is decided of the edit at the document after the changes before it. The id is that of the shape that it makes, if it makes one.
+pub record IsMade (opening : Contents) (history : List Change) (edit : AnEdit) (id : Option ℕ) (v : ℕ) : Type 0 where
+  pub before : List Change
+  pub change : Change
+  pub stands : IsPrefix (before ++ change ∷ []) history
+  pub number : v ≡ length before + 1
+  pub decided : decision_of edit (replay_of opening before) ≡ Ok change
+  pub names : id ≡ new_id change
+
+-- Each edit that is answered with a version made that change of the history.
+abbrev pub EachEditIsMade : Contents → List Change → List (Result Request WireFault) → List Response → Type 0
+EachEditIsMade opening history [] [] = Unit {0}
+EachEditIsMade opening history (r ∷ rs) (a ∷ more) =
+    ((edit : AnEdit) (id : Option ℕ) (v : ℕ) → r ≡ Ok (Edit edit) → a.reply ≡ made id v → IsMade opening history edit id v)
+    × EachEditIsMade opening history rs more
+EachEditIsMade opening history [] (a ∷ more) = ⊥
+EachEditIsMade opening history (r ∷ rs) [] = ⊥
+
+-- The history begins with the front, each of its changes fits where it stands, each edit that was accepted is a change of it, and each picture shows a
+-- version of it.
 pub record TellsOneHistory (opening : Contents) (front history : List Change) (requests : List (Result Request WireFault)) (answers : List Response) : Type 0 where
   pub begins : IsPrefix front history
   pub fits : AllFit opening history
+  pub edits : EachEditIsMade opening history requests answers
   pub pictures : EachShowsItsVersion opening history (length front ∷ []) requests answers
 
--- A session read lines and wrote the texts of its answers, perhaps a closing line, or a beginning of these; the pictures among them are of the board's history.
+-- A session at a document that many edit: the changes that its board had when it began, all that its seat has seen, of which it has told the first so many,
+-- and what was asked and answered.
+pub record OneSession : Type 0 where
+  pub front : List Change
+  pub seen : List Change
+  pub known : ℕ
+  pub requests : List (Result Request WireFault)
+  pub answers : List Response
+
+-- of what any two of the seats have seen the one begins the other
+abbrev pub AreOfOneLine : List OneSession → Type 0
+AreOfOneLine [] = Unit {0}
+AreOfOneLine (s ∷ more) = AllByRecursion (λ t. IsPrefix s.seen t.seen ⊎ IsPrefix t.seen s.seen) more × AreOfOneLine more
+
+-- what each of the sessions told is of the history that this gives for it
+abbrev pub EachTells : Contents → (OneSession → List Change) → List OneSession → Type 0
+EachTells opening history sessions = AllByRecursion (λ s. TellsOneHistory opening s.front (history s) s.requests s.answers) sessions
+
+-- A session read lines and wrote the texts of its answers, perhaps a closing line, or a beginning of these; what they tell is of the board's history.
 pub record SessionTells (e : Ends) : Type 0 where
   pub lines : List (List ℕ)
   pub pending : List ℕ

@@ -26,6 +26,15 @@ texts_of rs = flat_map text_of rs
 abbrev pub bare : Said → Response
 bare reply = record { reply = reply; follows = [] }
 
+-- the number of the refusal that a reply is, if it is one
+abbrev pub refusal_of : Said → Option ℕ
+refusal_of (created id version) = None
+refusal_of (edited version) = None
+refusal_of (body bytes version) = None
+refusal_of (point colour version) = None
+refusal_of (refused code) = Some code
+refusal_of (behind desk front) = Some 17
+
 -- an edit that made a shape is answered with its id
 abbrev pub made : Option ℕ → ℕ → Said
 made None version = edited version
@@ -48,5 +57,5 @@ point_response (Ok dot) = bare (point dot.colour dot.version)
 point_response (Err fault) = fault_response fault
 
 abbrev pub saved_response : Result Saved BoardFault → Response
-saved_response (Ok saved) = record { reply = body (length saved.text.items) saved.version; follows = saved.text.items }
+saved_response (Ok saved) = record { reply = body (length (arc_value saved.text).items) saved.version; follows = (arc_value saved.text).items }
 saved_response (Err fault) = fault_response fault

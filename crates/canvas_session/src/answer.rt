@@ -3,7 +3,7 @@
 ghost use Rattle.std.specs.Prelude.{◌≡◌, ◌≤◌, ◌^◌, length, vec_len};
 ghost use Rattle.std.specs.Arc.{arc_value};
 ghost use Rattle.canvas_wire.specs.Replies.{IsNamed, line_of, said};
-ghost use Rattle.canvas_session.specs.Response.{bare};
+ghost use Rattle.canvas_session.specs.Response.{bare, refusal_of};
 ghost use Rattle.canvas_session.specs.Tail.{tail_bytes};
 
 use canvas_wire::{Reply, ReplyLine, write_reply};
@@ -11,10 +11,10 @@ use std::alloc::Global;
 use std::marker::Model;
 use std::sync::Arc;
 
-// The bytes that follow a line: the answer's own, or shared with the board that keeps them.
+// The bytes that follow a line, if there are any: shared with the board where it keeps them.
 #[derive(Drop)]
 enum Tail {
-    Own(Vec<u8>),
+    Nothing,
     Shared(Arc<Vec<u8>, Global>),
 }
 
@@ -39,18 +39,8 @@ impl Model for Answer {
 }
 
 impl Answer {
-    /// An answer whose line is followed by bytes of its own.
-    pub(crate) fn new(reply: Reply, bytes: Vec<u8>) -> Answer
-        requires named { IsNamed reply }
-        requires small { vec_len bytes ≤ 2 ^ 40 }
-        ensures { result ≡ record { reply = said reply; follows = bytes.items } }
-    {
-        let body = Tail::Own(bytes);
-        Answer { reply, body }
-    }
-
-    /// An answer whose line is followed by bytes that others may hold too.
-    pub(crate) fn sharing(reply: Reply, bytes: Arc<Vec<u8>, Global>) -> Answer
+    /// An answer whose line is followed by bytes, which others may hold too.
+    pub(crate) fn new(reply: Reply, bytes: Arc<Vec<u8>, Global>) -> Answer
         requires named { IsNamed reply }
         requires small { vec_len (arc_value bytes) ≤ 2 ^ 40 }
         ensures { result ≡ record { reply = said reply; follows = (arc_value bytes).items } }
@@ -60,13 +50,13 @@ impl Answer {
     }
 
     /// An answer without a body.
-    pub(crate) fn bare(alloc: Global, reply: Reply) -> Answer
+    pub(crate) fn bare(reply: Reply) -> Answer
         requires { IsNamed reply }
         ensures { result ≡ bare (said reply) }
     {
         Answer {
             reply,
-            body: Tail::Own(Vec::new(alloc)),
+            body: Tail::Nothing,
         }
     }
 
@@ -75,6 +65,13 @@ impl Answer {
         ensures { result.bytes ≡ line_of self.now.reply }
     {
         write_reply(&self.reply)
+    }
+
+    /// The number of the refusal that it is, if it is one.
+    pub fn refusal(&self) -> Option<u16>
+        ensures { result ≡ refusal_of self.now.reply }
+    {
+        refusal_of(&self.reply)
     }
 
     /// The bytes that follow the line.
@@ -86,12 +83,26 @@ impl Answer {
     }
 }
 
+// The number of the refusal that a reply is, if it is one.
+fn refusal_of(reply: &Reply) -> Option<u16>
+    ensures { result ≡ refusal_of (said reply.now) }
+{
+    match reply {
+        Reply::Created { .. } => None,
+        Reply::Edited { .. } => None,
+        Reply::Body { .. } => None,
+        Reply::Point { .. } => None,
+        Reply::Refused { code, .. } => Some(*code),
+        Reply::Behind { .. } => Some(17),
+    }
+}
+
 // The bytes that follow a line.
 fn bytes_of(tail: &Tail) -> &[u8]
     ensures { result.now ≡ tail_bytes tail.now }
 {
     match tail {
-        Tail::Own(bytes) => bytes.as_slice(),
+        Tail::Nothing => &[],
         Tail::Shared(bytes) => bytes.as_slice(),
     }
 }

@@ -1,14 +1,14 @@
 //! What ends a session before its input does.
 
 ghost use Rattle.std.specs.Prelude.{◌≡◌};
-ghost use Rattle.canvas_code.specs.Names.{name_of};
 ghost use Rattle.canvas_session.specs.Cause.{cause_code};
 
-use std::fmt::{Display, Formatter, Write};
+use canvas_code::Coded;
 use thiserror::Error;
 
 /// What ends a session before its input does.
 #[derive(Clone, Copy, Debug, Drop, PartialEq, Eq, Error)]
+#[error("{}", self.name())]
 pub enum Cause {
     /// The line buffer could not be had. Nothing was read.
     OutOfMemory,
@@ -24,11 +24,10 @@ pub enum Cause {
     CutLine,
 }
 
-impl Cause {
-    /// The number of the cause.
-    pub fn code(&self) -> u16
-        ensures { result ≡ cause_code self.now }
-    {
+impl Coded for Cause {
+    ghost code_of = { cause_code };
+
+    fn code(&self) -> u16 {
         match self {
             Cause::OutOfMemory => 1,
             Cause::LineTooLong => 70,
@@ -37,20 +36,6 @@ impl Cause {
             Cause::TooManyRequests => 73,
             Cause::CutLine => 74,
         }
-    }
-
-    /// The name of the cause, which is also its text.
-    pub fn name(&self) -> &'static str
-        ensures { result.now ≡ name_of (cause_code self.now) }
-    {
-        canvas_code::name_of(self.code())
-    }
-}
-
-/// Writes the name.
-impl Display for Cause {
-    fn fmt<W: Write>(&self, formatter: &mut Formatter<W>) -> std::fmt::Result {
-        formatter.write_str(self.name())
     }
 }
 
@@ -65,18 +50,11 @@ pub struct SessionFault {
     pub written: u64,
 }
 
-impl SessionFault {
-    /// The number of the cause.
-    pub fn code(&self) -> u16
-        ensures { result ≡ cause_code self.now.cause }
-    {
-        self.cause.code()
-    }
+/// The number and the name are the cause's.
+impl Coded for SessionFault {
+    ghost code_of = { λ fault. cause_code fault.cause };
 
-    /// The name of the cause, which is also the fault's text.
-    pub fn name(&self) -> &'static str
-        ensures { result.now ≡ name_of (cause_code self.now.cause) }
-    {
-        self.cause.name()
+    fn code(&self) -> u16 {
+        self.cause.code()
     }
 }

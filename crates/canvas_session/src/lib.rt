@@ -10,13 +10,15 @@ mod pending;
 mod respond;
 mod served;
 mod session;
+mod witness;
 
 pub use answer::Answer;
 pub use fault::{Cause, SessionFault};
 pub use law::{
-    lines_are_one, pictures_are_of_one_history, sessions_tell_one_history,
-    two_sessions_tell_one_history,
+    all_sessions_tell_one_history, lines_are_one, sessions_tell_one_history,
+    transcripts_tell_one_history,
 };
 pub use respond::answer_line;
 pub use served::Served;
-pub use session::{MOST_REQUESTS, serve};
+pub use session::{MOST_REQUESTS, serve, serve_before};
+pub use witness::{Unwitnessed, Witness};

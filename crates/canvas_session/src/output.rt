@@ -9,6 +9,7 @@ ghost use Rattle.canvas_session.specs.Session.{Closes, closing_line};
 use crate::answer::Answer;
 use crate::fault::{Cause, SessionFault};
 use crate::respond::refusal;
+use canvas_code::Coded;
 use canvas_wire::write_reply;
 use std::io::Write;
 

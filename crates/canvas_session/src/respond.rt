@@ -8,8 +8,9 @@ ghost use Rattle.canvas_session.specs.Response.{bare, edit_response, fault_respo
 ghost use Rattle.canvas_session.specs.Transcript.{Answers, Shows, ShowsAt, Step};
 
 use crate::answer::Answer;
+use crate::witness::{Unwitnessed, Witness};
 use canvas_board::{Board, BoardFault, Dot, Edited, Picture, Saved};
-use canvas_code::name_of;
+use canvas_code::{Coded, name_of};
 use canvas_plane::Window;
 use canvas_wire::{Reply, Request, RequestReader};
 use std::alloc::Global;
@@ -29,30 +30,46 @@ pub fn answer_line<B: Board, H: Threads + Wait + Sync>(
     ensures { Answers workers (B.seen board.old) (request_of line.now) result (B.seen board.new) }
 {
     let mut request_reader = RequestReader::new(alloc);
-    answer_next(rt, alloc, board, workers, &mut request_reader, line)
+    answer_next(
+        rt,
+        alloc,
+        board,
+        workers,
+        &Unwitnessed,
+        &mut request_reader,
+        line,
+    )
 }
 
-/// The same, with a reader that keeps its memory from line to line.
-pub(crate) fn answer_next<B: Board, H: Threads + Wait + Sync>(
+/// The same, with a reader that keeps its memory from line to line, before a witness.
+pub(crate) fn answer_next<B: Board, O: Witness, H: Threads + Wait + Sync>(
     rt: &H,
     alloc: Global,
     board: &mut B,
     workers: u32,
+    witness: &O,
     request_reader: &mut RequestReader,
     line: &[u8],
 ) -> Answer
     ensures { Answers workers (B.seen board.old) (request_of line.now) result (B.seen board.new) }
 {
     match request_reader.read(alloc, line) {
-        Err(fault) => Answer::bare(alloc, refusal(fault.code())),
-        Ok(request) => answer_request(rt, alloc, board, workers, &request),
+        Err(fault) => {
+            let answer = Answer::bare(refusal(fault.code()));
+            witness.answered(None, answer.refusal());
+            answer
+        }
+        Ok(request) => {
+            let answer = answer_request(rt, board, workers, &request);
+            witness.answered(Some(&request), answer.refusal());
+            answer
+        }
     }
 }
 
 // The answer to a request.
 fn answer_request<B: Board, H: Threads + Wait + Sync>(
     rt: &H,
-    alloc: Global,
     board: &mut B,
     workers: u32,
     request: &Request,
@@ -62,21 +79,19 @@ fn answer_request<B: Board, H: Threads + Wait + Sync>(
     match request {
         Request::Edit(edit) => {
             let result = board.edit(rt, edit);
-            edit_answer(alloc, &result)
+            edit_answer(&result)
         }
-        Request::Tile { level, col, row } => {
-            answer_tile(rt, alloc, board, workers, *level, *col, *row)
-        }
+        Request::Tile { level, col, row } => { answer_tile(rt, board, workers, *level, *col, *row) }
         Request::Patch { level, x, y, w, h } => {
-            answer_patch(rt, alloc, board, workers, *level, *x, *y, *w, *h)
+            answer_patch(rt, board, workers, *level, *x, *y, *w, *h)
         }
         Request::Point { x, y } => {
             let result = board.point(*x, *y);
-            point_answer(alloc, &result)
+            point_answer(&result)
         }
         Request::Export => {
             let result = board.saved();
-            saved_answer(alloc, result)
+            saved_answer(result)
         }
     }
 }
@@ -84,7 +99,6 @@ fn answer_request<B: Board, H: Threads + Wait + Sync>(
 // The answer to the wish for a tile of a level.
 fn answer_tile<B: Board, H: Threads + Wait + Sync>(
     rt: &H,
-    alloc: Global,
     board: &mut B,
     workers: u32,
     level: u8,
@@ -94,15 +108,14 @@ fn answer_tile<B: Board, H: Threads + Wait + Sync>(
     ensures { ShowsAt workers (B.seen board.old) level (pos 256 *ℤ col) (pos 256 *ℤ row) 256 256 result (B.seen board.new) }
 {
     match Window::tile_at(level, col, row) {
-        Ok(window) => answer_window(rt, alloc, board, workers, &window),
-        Err(fault) => Answer::bare(alloc, refusal(fault.code())),
+        Ok(window) => answer_window(rt, board, workers, &window),
+        Err(fault) => Answer::bare(refusal(fault.code())),
     }
 }
 
 // The answer to the wish for a window of a level.
 fn answer_patch<B: Board, H: Threads + Wait + Sync>(
     rt: &H,
-    alloc: Global,
     board: &mut B,
     workers: u32,
     level: u8,
@@ -114,15 +127,14 @@ fn answer_patch<B: Board, H: Threads + Wait + Sync>(
     ensures { ShowsAt workers (B.seen board.old) level x y w h result (B.seen board.new) }
 {
     match Window::at_level(level, x, y, w, h) {
-        Ok(window) => answer_window(rt, alloc, board, workers, &window),
-        Err(fault) => Answer::bare(alloc, refusal(fault.code())),
+        Ok(window) => answer_window(rt, board, workers, &window),
+        Err(fault) => Answer::bare(refusal(fault.code())),
     }
 }
 
 // The answer with the picture of a window.
 fn answer_window<B: Board, H: Threads + Wait + Sync>(
     rt: &H,
-    alloc: Global,
     board: &mut B,
     workers: u32,
     window: &Window,
@@ -130,19 +142,19 @@ fn answer_window<B: Board, H: Threads + Wait + Sync>(
     ensures { Shows workers (B.seen board.old) window.now result (B.seen board.new) }
 {
     let result = board.picture(rt, window, workers);
-    picture_answer(alloc, result)
+    picture_answer(result)
 }
 
-fn edit_answer(alloc: Global, outcome: &Result<Edited, BoardFault>) -> Answer
+fn edit_answer(outcome: &Result<Edited, BoardFault>) -> Answer
     ensures { result ≡ edit_response outcome.now }
 {
     match outcome {
-        Ok(edited) => Answer::bare(alloc, accepted(edited)),
-        Err(fault) => Answer::bare(alloc, fault_reply(fault)),
+        Ok(edited) => Answer::bare(accepted(edited)),
+        Err(fault) => Answer::bare(fault_reply(fault)),
     }
 }
 
-fn picture_answer(alloc: Global, outcome: Result<Picture, BoardFault>) -> Answer
+fn picture_answer(outcome: Result<Picture, BoardFault>) -> Answer
     ensures { result ≡ picture_response outcome }
 {
     match outcome {
@@ -151,13 +163,13 @@ fn picture_answer(alloc: Global, outcome: Result<Picture, BoardFault>) -> Answer
                 bytes: picture.bytes.len() as u64,
                 version: picture.version,
             };
-            Answer::sharing(reply, picture.bytes)
+            Answer::new(reply, picture.bytes)
         }
-        Err(fault) => Answer::bare(alloc, fault_reply(&fault)),
+        Err(fault) => Answer::bare(fault_reply(&fault)),
     }
 }
 
-fn saved_answer(alloc: Global, outcome: Result<Saved, BoardFault>) -> Answer
+fn saved_answer(outcome: Result<Saved, BoardFault>) -> Answer
     ensures { result ≡ saved_response outcome }
 {
     match outcome {
@@ -168,11 +180,11 @@ fn saved_answer(alloc: Global, outcome: Result<Saved, BoardFault>) -> Answer
             };
             Answer::new(reply, saved.text)
         }
-        Err(fault) => Answer::bare(alloc, fault_reply(&fault)),
+        Err(fault) => Answer::bare(fault_reply(&fault)),
     }
 }
 
-fn point_answer(alloc: Global, outcome: &Result<Dot, BoardFault>) -> Answer
+fn point_answer(outcome: &Result<Dot, BoardFault>) -> Answer
     ensures { result ≡ point_response outcome.now }
 {
     match outcome {
@@ -181,9 +193,9 @@ fn point_answer(alloc: Global, outcome: &Result<Dot, BoardFault>) -> Answer
                 colour: dot.colour,
                 version: dot.version,
             };
-            Answer::bare(alloc, reply)
+            Answer::bare(reply)
         }
-        Err(fault) => Answer::bare(alloc, fault_reply(fault)),
+        Err(fault) => Answer::bare(fault_reply(fault)),
     }
 }
 

@@ -9,6 +9,7 @@ use crate::output::{close, write_answer};
 use crate::pending::Pending;
 use crate::respond::answer_next;
 use crate::served::Served;
+use crate::witness::{Unwitnessed, Witness};
 use canvas_board::Board;
 use canvas_wire::RequestReader;
 use std::alloc::Global;
@@ -40,6 +41,28 @@ pub fn serve<B: Board, R: Read, W: Write, H: Threads + Wait + Sync>(
       after = B.seen board.new;
     }) result }
 {
+    serve_before(rt, alloc, board, workers, &Unwitnessed, reader, writer)
+}
+
+/// The same, before a witness who is told of each answer.
+pub fn serve_before<B: Board, O: Witness, R: Read, W: Write, H: Threads + Wait + Sync>(
+    rt: &H,
+    alloc: Global,
+    board: &mut B,
+    workers: u32,
+    witness: &O,
+    reader: &mut R,
+    writer: &mut W,
+) -> Result<Served, SessionFault>
+    ensures { Serves workers (record {
+      input = R.remaining reader.old;
+      unread = R.remaining reader.new;
+      held = W.contents writer.old;
+      output = W.contents writer.new;
+      before = B.seen board.old;
+      after = B.seen board.new;
+    }) result }
+{
     let Ok(mut pending) = Pending::new(alloc) else {
         return Err(stop(Cause::OutOfMemory, 0, 0));
     };
@@ -58,7 +81,15 @@ pub fn serve<B: Board, R: Read, W: Write, H: Threads + Wait + Sync>(
                     return Err(close(writer, Cause::TooManyRequests, requests, written));
                 }
                 let (line, _) = pending.as_slice().split_at(n);
-                let answer = answer_next(rt, alloc, board, workers, &mut request_reader, line);
+                let answer = answer_next(
+                    rt,
+                    alloc,
+                    board,
+                    workers,
+                    witness,
+                    &mut request_reader,
+                    line,
+                );
                 pending.drop_front(n + 1);
                 let (sent, whole) = write_answer(writer, &answer);
                 drop(answer);

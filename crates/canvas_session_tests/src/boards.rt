@@ -4,15 +4,16 @@ ghost use Rattle.std.specs.Prelude.{◌≡◌};
 
 use crate::asserts::{equal, holds};
 use canvas_board::{Board, BoardFault, Dot, Edited, Picture, Shared};
+use canvas_code::Coded;
 use canvas_doc::{Document, Edit, Parent, Refusal, Spot};
 use canvas_line::{Line, LineFault, Lines, Opened, Seat};
 use canvas_plane::{Pose, Window};
+use canvas_saved::import;
 use canvas_shape::{Colour, Kind};
-use canvas_store::import;
 use std::alloc::Global;
 use std::marker::Brand;
 use std::process::Abort;
-use std::sync::Wait;
+use std::sync::{Arc, Wait};
 use std::thread::Threads;
 
 pub(crate) const RED: Colour = Colour([255, 0, 0]);
@@ -218,34 +219,42 @@ fn spends<B: Lines, H: Wait + Abort>(rt: &H, alloc: Global, opened: Opened, docu
 }
 
 // The version and the text of a board's document.
-fn saved<B: Lines>(rt: &impl Abort, board: &mut Shared<B>) -> (u64, Vec<u8>) {
+fn saved<B: Lines>(rt: &impl Abort, board: &mut Shared<B>) -> (u64, Arc<Vec<u8>, Global>) {
     let saved = board.saved().expect(rt, "a saved document");
     (saved.version, saved.text)
 }
 
-// Asserts that an edit has this fault, and that the board is saved as before.
+// Asserts that an edit has this fault, and that a witness saves what was saved before. It has exported nothing yet, so it makes
+// the text.
 fn check_kept<B: Lines, H: Wait + Abort>(
     rt: &H,
     board: &mut Shared<B>,
+    witness: &mut Shared<B>,
     edit: Edit,
     fault: BoardFault,
 ) {
     let before = saved(rt, board);
     check_fault(rt, board, &edit, fault);
-    holds(rt, fault.name(), saved(rt, board) == before);
+    holds(rt, fault.name(), is_same(&saved(rt, witness), &before));
 }
 
-// Asserts that no picture is painted by so many workers, and that the board is saved as before.
+// Asserts that no picture is painted by so many workers, and that a witness saves what was saved before.
 fn check_unpainted<B: Lines, H: Threads + Wait + Abort + Sync>(
     rt: &H,
     board: &mut Shared<B>,
+    witness: &mut Shared<B>,
     workers: u32,
 ) {
     let before = saved(rt, board);
     let answer = board.picture(rt, &origin(rt), workers);
     let fault = answer.err().expect(rt, "a refusal");
     equal(rt, "its number", &fault.code(), &31);
-    holds(rt, "saved as before", saved(rt, board) == before);
+    holds(rt, "saved as before", is_same(&saved(rt, witness), &before));
+}
+
+// Whether two are of one version and have one text.
+fn is_same(one: &(u64, Arc<Vec<u8>, Global>), other: &(u64, Arc<Vec<u8>, Global>)) -> bool {
+    one.0 == other.0 && one.1.as_slice() == other.1.as_slice()
 }
 
 #[test]
@@ -262,19 +271,48 @@ fn keeps<B: Lines, H: Threads + Wait + Abort + Sync>(
 )
     requires { B.line 1 ≡ record { book = opened.head.word.book; opening = document; limit = 2 } }
 {
-    let mut board = first_board::<B, H>(rt, alloc, opened, document, 2);
+    let seats = Line::open::<B, H>(rt, alloc, opened, 1, document, 6, 2);
+    let mut seats = seats.expect(rt, "a line");
+    let mut board = witness(rt, alloc, &mut seats);
     check_edit(rt, &mut board, square(1, 0), 1, Some(1));
-    let missing = Edit::Delete { id: 9 };
-    let refused = BoardFault::Refused(Refusal::NoSuchShape);
-    check_kept(rt, &mut board, missing, refused);
-    let empty = BoardFault::Refused(Refusal::BadSize);
-    check_kept(rt, &mut board, square(0, 0), empty);
-    check_unpainted(rt, &mut board, 0);
-    check_unpainted(rt, &mut board, 17);
+    check_refusals(rt, alloc, &mut board, &mut seats);
     check_edit(rt, &mut board, square(2, 5), 2, Some(2));
     let last = Edit::Delete { id: 1 };
-    check_kept(rt, &mut board, last, BoardFault::VersionsSpent);
-    board.close(rt);
+    let spent = BoardFault::VersionsSpent;
+    check_kept(
+        rt,
+        &mut board,
+        &mut witness(rt, alloc, &mut seats),
+        last,
+        spent,
+    );
+}
+
+// Asserts that refusals of each kind change nothing, as a new board of a seat sees it each time.
+fn check_refusals<B: Lines, H: Threads + Wait + Abort + Sync>(
+    rt: &H,
+    alloc: Global,
+    board: &mut Shared<B>,
+    seats: &mut Vec<Seat<B>>,
+) {
+    let missing = Edit::Delete { id: 9 };
+    let refused = BoardFault::Refused(Refusal::NoSuchShape);
+    check_kept(rt, board, &mut witness(rt, alloc, seats), missing, refused);
+    let empty = BoardFault::Refused(Refusal::BadSize);
+    check_kept(
+        rt,
+        board,
+        &mut witness(rt, alloc, seats),
+        square(0, 0),
+        empty,
+    );
+    check_unpainted(rt, board, &mut witness(rt, alloc, seats), 0);
+    check_unpainted(rt, board, &mut witness(rt, alloc, seats), 17);
+}
+
+// A board of the last of some seats.
+fn witness<B: Lines>(rt: &impl Abort, alloc: Global, seats: &mut Vec<Seat<B>>) -> Shared<B> {
+    board(rt, alloc, seats.pop(), 0)
 }
 
 #[test]

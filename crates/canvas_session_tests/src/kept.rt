@@ -6,6 +6,7 @@ use crate::asserts::{equal, holds, holds_at};
 use crate::boards::{RED, at, square};
 use crate::table::{Play, Table, play_at};
 use canvas_board::Board;
+use canvas_code::Coded;
 use canvas_doc::{Document, Edit, Parent, Spot};
 use canvas_line::Lines;
 use canvas_plane::{Pose, Window};

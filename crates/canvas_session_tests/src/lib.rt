@@ -10,6 +10,8 @@ mod boards;
 #[cfg(test)]
 mod dice;
 #[cfg(test)]
+mod exports;
+#[cfg(test)]
 mod fakes;
 #[cfg(test)]
 mod kept;

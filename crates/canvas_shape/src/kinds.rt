@@ -1,7 +1,6 @@
 //! Kinds: their limits, their copies and the pixels that they hold.
 
 ghost use Rattle.std.specs.Prelude.{◌≡◌, ◌≤◌, ◌<◌, ◌^◌, ◌↔◌, ℤ, Some, None, IfOk, IsOk, MatchResult, map, false};
-ghost use Rattle.canvas_code.specs.Names.{name_of};
 ghost use Rattle.canvas_plane.specs.Motion.{carry, reach_of, size_of};
 ghost use Rattle.canvas_shape.specs.Box.{AreSides, box_of};
 ghost use Rattle.canvas_plane.specs.Page.{is_in};
@@ -14,34 +13,18 @@ use crate::ellipse::ellipse_holds;
 use crate::leaves::carried_box;
 use crate::polygon::edge_counts;
 use crate::{Kind, KindFault};
-use canvas_code::OutOfMemory;
+use canvas_code::{Coded, OutOfMemory};
 use canvas_plane::{Point, Pose};
 use std::alloc::Global;
-use std::fmt::{Display, Formatter, Write};
 
-impl KindFault {
-    /// The number of the refusal.
-    pub fn code(&self) -> u16
-        ensures { result ≡ fault_code self.now }
-    {
+impl Coded for KindFault {
+    ghost code_of = { fault_code };
+
+    fn code(&self) -> u16 {
         match self {
             KindFault::BadSize => 8,
             KindFault::BadPolygon => 10,
         }
-    }
-
-    /// The name that stands beside the number in the table of `canvas_code`.
-    pub fn name(&self) -> &'static str
-        ensures { result.now ≡ name_of (fault_code self.now) }
-    {
-        canvas_code::name_of(self.code())
-    }
-}
-
-/// Writes the name.
-impl Display for KindFault {
-    fn fmt<W: Write>(&self, formatter: &mut Formatter<W>) -> std::fmt::Result {
-        formatter.write_str(self.name())
     }
 }
 

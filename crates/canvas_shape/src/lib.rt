@@ -16,6 +16,7 @@ mod spans;
 mod strip;
 mod vertex_list;
 
+use canvas_code::Coded;
 use canvas_plane::Point;
 pub use edge_flags::EdgeFlags;
 pub use ellipse::Ends;
@@ -77,6 +78,7 @@ pub enum Kind {
 
 /// Why a kind is refused.
 #[derive(Clone, Copy, Debug, PartialEq, Eq, Drop, Error)]
+#[error("{}", self.name())]
 pub enum KindFault {
     /// A side is outside 1 to 65,536.
     BadSize,

@@ -1,25 +1,22 @@
 -- The text of an edit is read as that edit.
-use Rattle.std.proofs.Common.{◌≡◌, ℕ, ◌^◌, ◌<◌, ◌≤◌, true, Bool, List, [], ◌∷◌, map, Option, Some, None, Result, Ok, Err, refl, sym, ap, ◌∙◌, subst, arith, ◌==◌, length}
-use Rattle.std.specs.Prelude.{nat_le, not, unsigned_abs, is_some, IsUtf8, codes}
+use Rattle.std.proofs.Common.{◌≡◌, ℕ, ◌^◌, ◌<◌, ◌≤◌, true, false, Bool, List, Some, Result, Ok, Err, refl, sym, ap, ◌∙◌, subst, arith, ◌==◌, length}
+use Rattle.std.specs.Prelude.{nat_le, not, is_some, IsUtf8, codes}
 use Rattle.std.proofs.lemmas.Bool.{and_parts, leb-true}
 use Rattle.std.proofs.lemmas.Str.{is_utf8-from_IsUtf8}
 use Rattle.json.proofs.Printed.Utf8.{IsUtf8-are_ascii}
-use Rattle.serde_json.specs.Data.{Data, depth, items_depth, number, unsigned, string}
+use Rattle.serde_json.specs.Data.{Data, depth, number, unsigned, string}
 use Rattle.serde_json.specs.Find.{as_object}
 use Rattle.serde_json.specs.Read.{read}
-use Rattle.serde_json.specs.View.{items_of}
-use Rattle.canvas_plane.specs.declared.Point.{Point}
 use Rattle.canvas_plane.specs.declared.Pose.{Pose}
 use Rattle.canvas_plane.specs.Limits.{is_pose}
-use Rattle.canvas_plane.specs.Motion.{size_of, reach_of}
-use Rattle.canvas_shape.specs.declared.Colour.{Colour}
+use Rattle.canvas_plane.specs.Motion.{reach_of}
 use Rattle.canvas_shape.specs.declared.Kind.{Kind}
 use Rattle.canvas_shape.specs.declared.Kind.TheVariants as kinds
 use Rattle.canvas_shape.specs.Limits.{has_sides, has_vertices}
 use Rattle.canvas_shape.proofs.Limits.{vertices-known}
 use Rattle.canvas_record.specs.declared.records.Parent.{Parent}
-use Rattle.canvas_record.specs.declared.records.Parent.TheVariants as parents
 use Rattle.canvas_record.specs.declared.records.Record.{Record}
+use Rattle.canvas_key.specs.Text.{IsKey}
 use Rattle.canvas_record.specs.declared.edits.Change.{Change}
 use Rattle.canvas_record.specs.declared.edits.Change.TheVariants as change
 use Rattle.canvas_record.specs.declared.edits.Spot.{Spot}
@@ -32,19 +29,56 @@ use Rattle.canvas_record.specs.Contents.{Contents, record_of, reaches_page, most
 use Rattle.canvas_record.specs.Decision.{decision_of, allowed, create_index, reshape_judgement, pose_decision, has_shape, has_parent, can_have_children, is_another_kind}
 use Rattle.canvas_record.specs.Siblings.{refused_if, siblings, index_at}
 use Rattle.canvas_record.proofs.Fit.{refused-ok, placed-ok, not-false}
-use Rattle.canvas_saved.specs.Saved.{fill_data, point_data, shape_data, parent_data}
-use Rattle.canvas_saved.proofs.RoundTrip.{IsWritten, boolean-written, unsigned-written, string-written, no-members-written, member-written, object-written, text-reads}
+use Rattle.canvas_json.specs.Fit.{IsPoseInRange, IsKindInRange}
+use Rattle.canvas_json.specs.Json.{has_others}
+use Rattle.canvas_json.specs.Places.{key_named}
+use Rattle.canvas_json.proofs.Back.{u32-back, parent-back, parent-shallow, parent-written, pose-back, pose-near, pose-written, kind-back, kind-named, kind-plain, kind-shallow, kind-written, vertices-near}
+use Rattle.canvas_json.proofs.Words.{word-text, key-word}
+use Rattle.canvas_json.proofs.RoundTrip.{IsWritten, boolean-written, unsigned-written, string-written, no-members-written, member-written, object-written, text-reads}
 use Rattle.canvas_wire.specs.Asked.{asked}
 use Rattle.canvas_wire.specs.EditObjects.{spot_data, edit_data}
-use Rattle.canvas_wire.specs.EditTexts.{edit_text, FitsEdit, IsPoseInRange, IsPointInRange, IsKindInRange, IsInRange, IsOneLine}
-use Rattle.canvas_wire.specs.Extra.{has_others, has_extra}
+use Rattle.canvas_wire.specs.EditTexts.{edit_text, FitsEdit, FitsSpot, IsInRange, IsOneLine}
+use Rattle.canvas_wire.specs.Extra.{spot_has_extra, has_extra}
+use Rattle.canvas_wire.specs.Spots.{spot_named, spot_over, spot_at_key, spot_in, spot_of}
 use Rattle.canvas_wire.specs.Requests.{request_in, request_of}
 use Rattle.canvas_wire.specs.Verbs.{verb_named, verb_members}
 use Rattle.canvas_wire.specs.declared.request.Request.TheVariants as request
 use Rattle.serde_json.specs.Written.{compact_text}
 use Rattle.canvas_wire.proofs.EditObjects.{edit-spelled}
 use Rattle.canvas_wire.proofs.OneLine.{one-line}
-use Rattle.canvas_wire.proofs.EditParts.{u32-back, near, parent-back, parent-written, spot-back, spot-plain, spot-written, pose-back, pose-written, kind-back, kind-plain, kind-written}
+
+-- ---- spots
+
+spot-over : (id : ℕ) → id < 2 ^ 32 → spot_of (spot_data (Over id)) ≡ Some (Over id)
+unfolding spot_of spot_in spot_over
+spot-over id h = rw (u32-back id h) refl
+
+spot-at : (key : List ℕ) → IsKey key → spot_of (spot_data (At key)) ≡ Some (At key)
+unfolding spot_of spot_in spot_at_key key_named
+spot-at key h = rw h refl
+
+spot-end : (spot_of (spot_data Back) ≡ Some Back) × (spot_of (spot_data Front) ≡ Some Front)
+unfolding spot_of spot_named
+spot-end = (refl, refl)
+
+spot-back : (spot : Spot) → FitsSpot spot → spot_of (spot_data spot) ≡ Some spot
+spot-back Back h = spot-end.0
+spot-back Front h = spot-end.1
+spot-back (Over id) h = spot-over id h
+spot-back (At key) h = spot-at key h
+
+spot-plain : (spot : Spot) → spot_has_extra (spot_data spot) ≡ false
+unfolding has_others
+spot-plain Back = refl
+spot-plain Front = refl
+spot-plain (Over id) = refl
+spot-plain (At key) = refl
+
+spot-written : (spot : Spot) → FitsSpot spot → IsWritten (spot_data spot)
+spot-written Back h = string-written (codes "back") (IsUtf8-are_ascii _ refl)
+spot-written Front h = string-written (codes "front") (IsUtf8-are_ascii _ refl)
+spot-written (Over id) h = object-written _ (member-written (codes "over") _ _ (IsUtf8-are_ascii _ refl) (unsigned-written id (omega arith)) no-members-written) refl
+spot-written (At key) h = object-written _ (member-written (codes "at") _ _ (IsUtf8-are_ascii _ refl) (string-written key (word-text key (key-word key h))) no-members-written) refl
 
 -- ---- the object of an edit is its request
 
@@ -55,7 +89,7 @@ create-read : (kind : Kind) (pose : Pose) (hidden : Bool) (parent : Parent) (spo
     → IsRead (edits.Create kind pose hidden parent spot)
 unfolding request_in verb_named asked has_extra has_others verb_members
 create-read kind pose hidden parent spot fits within =
-    rw (kind-back kind fits.0 within.0, pose-back pose fits.1 within.1, parent-back parent fits.2, spot-back spot fits.3, kind-plain kind, spot-plain spot) refl
+    rw (kind-back kind fits.0 within.0, pose-back pose fits.1 within.1, parent-back parent fits.2, spot-back spot fits.3, kind-named kind, kind-plain kind, spot-plain spot) refl
 
 move-read : (id : ℕ) (parent : Parent) (spot : Spot) → FitsEdit (edits.Move id parent spot) → IsRead (edits.Move id parent spot)
 unfolding request_in verb_named asked has_extra has_others verb_members
@@ -67,7 +101,7 @@ pose-read id pose fits within = rw (u32-back id fits.0, pose-back pose fits.1 wi
 
 reshape-read : (id : ℕ) (kind : Kind) → FitsEdit (edits.Reshape id kind) → IsInRange (edits.Reshape id kind) → IsRead (edits.Reshape id kind)
 unfolding request_in verb_named asked has_extra has_others verb_members
-reshape-read id kind fits within = rw (u32-back id fits.0, kind-back kind fits.1 within, kind-plain kind) refl
+reshape-read id kind fits within = rw (u32-back id fits.0, kind-back kind fits.1 within, kind-named kind, kind-plain kind) refl
 
 show-read : (id : ℕ) (hidden : Bool) → FitsEdit (edits.Show id hidden) → IsRead (edits.Show id hidden)
 unfolding request_in verb_named asked has_extra has_others verb_members
@@ -139,25 +173,6 @@ edit-written (edits.Respace parent) fits within =
     object-written _ (member-written (codes "parent") _ _ (IsUtf8-are_ascii _ refl) (parent-written parent fits)
     (member-written (codes "verb") _ _ (IsUtf8-are_ascii _ refl) (verb-written (codes "respace") (IsUtf8-are_ascii _ refl)) no-members-written)) refl
 
-points-shallow : (ps : List Point) → items_depth (items_of (map point_data ps)) ≤ 1
-points-shallow [] = omega arith
-points-shallow (p ∷ ps) = omega (arith, points-shallow ps)
-
-fill-shallow : (fill : Option Colour) → depth (fill_data fill) ≤ 0
-fill-shallow None = omega arith
-fill-shallow (Some colour) = omega arith
-
-kind-shallow : (kind : Kind) → depth (shape_data kind) ≤ 3
-kind-shallow kinds.Group = omega arith
-kind-shallow (kinds.Frame w h fill) = omega (arith, fill-shallow fill)
-kind-shallow (kinds.Rect w h fill) = omega arith
-kind-shallow (kinds.Ellipse w h fill) = omega arith
-kind-shallow (kinds.Polygon points fill) = omega (arith, points-shallow points)
-
-parent-shallow : (parent : Parent) → depth (parent_data parent) ≤ 0
-parent-shallow parents.Page = omega arith
-parent-shallow (parents.Shape id) = omega arith
-
 spot-shallow : (spot : Spot) → depth (spot_data spot) ≤ 1
 spot-shallow Back = omega arith
 spot-shallow Front = omega arith
@@ -191,24 +206,14 @@ text-one_line edit fits = subst IsOneLine (sym (edit-spelled edit fits)) (one-li
 -- ---- an accepted edit is in range
 
 pose-within : (pose : Pose) → is_pose pose ≡ true → IsPoseInRange pose
-pose-within pose h =
-    let reach : reach_of pose ≤ 2 ^ 20 = leb-true (reach_of pose) (2 ^ 20) (and_parts (nat_le pose.quarter 3) (nat_le (reach_of pose) (2 ^ 20)) h).1 in
-    let dx : unsigned_abs pose.dx ≤ 2 ^ 20 = omega arith in
-    let dy : unsigned_abs pose.dy ≤ 2 ^ 20 = omega arith in
-    (near pose.dx dx, near pose.dy dy)
-
-point-within : (p : Point) → size_of p ≤ 2 ^ 20 → IsPointInRange p
-point-within p h =
-    let x : unsigned_abs p.x ≤ 2 ^ 20 = omega arith in
-    let y : unsigned_abs p.y ≤ 2 ^ 20 = omega arith in
-    (near p.x x, near p.y y)
+pose-within pose h = pose-near pose (leb-true (reach_of pose) (2 ^ 20) (and_parts (nat_le pose.quarter 3) (nat_le (reach_of pose) (2 ^ 20)) h).1)
 
 kind-within : (kind : Kind) → has_vertices kind ≡ true → IsKindInRange kind
 kind-within kinds.Group h = tt
 kind-within (kinds.Frame w h fill) is = tt
 kind-within (kinds.Rect w h fill) is = tt
 kind-within (kinds.Ellipse w h fill) is = tt
-kind-within (kinds.Polygon points fill) is = λ k d lt. point-within _ ((vertices-known points is).near k d lt)
+kind-within (kinds.Polygon points fill) is = vertices-near points (vertices-known points is)
 
 create-within : (kind : Kind) (pose : Pose) (parent : Parent) (spot : Spot) (d : Contents) (key : List ℕ) → create_index kind pose parent spot d ≡ Ok key → IsKindInRange kind × IsPoseInRange pose
 create-within kind pose parent spot d key h =

@@ -1,12 +1,6 @@
 pub mod EditObjects
-pub mod EditParts
 pub mod EditReads
-pub mod Items
-pub mod Json
-pub mod Judged
+pub mod Extras
 pub mod Lines
-pub mod Names
 pub mod OneLine
-pub mod Parts
-pub mod Spelling
 pub mod Texts

@@ -1,53 +1,17 @@
 -- The lines of replies are the texts of their objects.
-use Rattle.std.proofs.Common.{◌≡◌, ℕ, ◌/◌, ◌%◌, ◌<◌, ◌≤◌, ◌==◌, Bool, true, false, cond, List, [], ◌∷◌, ◌++◌, length, slice_index, refl, sym, ap, ◌∙◌, arith, append_assoc, decimal, zero, suc, lit<, lit≤}
-use Rattle.std.specs.Prelude.{codes, not, nat_lt, ◌&&◌}
+use Rattle.std.proofs.Common.{◌≡◌, ℕ, ◌/◌, ◌%◌, ◌<◌, ◌==◌, Bool, true, false, cond, List, [], ◌∷◌, ◌++◌, length, slice_index, refl, sym, ap, ◌∙◌, arith, append_assoc, decimal, zero, suc, lit<, lit≤}
+use Rattle.std.specs.Prelude.{codes}
 use Rattle.std.specs.List.{list_all}
-use Rattle.std.proofs.lemmas.Bool.{and_parts, ltb-true, not-true}
-use Rattle.std.proofs.lemmas.Bool.Decides.{nat_tests}
+use Rattle.std.proofs.lemmas.Bool.{and_parts}
 use Rattle.std.proofs.lemmas.Fmt.{decimal_digit, decimal_step}
 use Rattle.json.specs.Print.{escape, escape_byte}
 use Rattle.hex.specs.Hex.{IsBytes, encode_lower, encode_with, lower_digits}
 use Rattle.serde_json.specs.Written.{compact_text}
 use Rattle.canvas_code.specs.Names.{table, name_in, name_of}
 use Rattle.canvas_shape.specs.declared.Colour.{Colour}
+use Rattle.canvas_json.proofs.Words.{is_plain, are_plain, escape-plain}
 use Rattle.canvas_wire.specs.Replies.{created, edited, body, point, refused, behind, line_of}
 use Rattle.canvas_wire.specs.ReplyObjects.{object_of, AreJson}
-
--- a byte that stands for itself in a JSON text
-abbrev pub is_plain : ℕ → Bool
-is_plain x = nat_lt 34 x && not (x == 92)
-
-abbrev pub are_plain : List ℕ → Bool
-are_plain s = list_all is_plain s
-
-apart : (x k : ℕ) → k < x → (x == k) ≡ false
-apart x k below = grind (arith, nat_tests)
-
-printed : (x : ℕ) → 32 ≤ x → nat_lt x 32 ≡ false
-printed x above = grind (arith, nat_tests)
-
-escape_byte-plain : (x : ℕ) → is_plain x ≡ true → escape_byte x ≡ x ∷ []
-unfolding escape_byte
-escape_byte-plain x h =
-    let parts = and_parts (nat_lt 34 x) (not (x == 92)) h in
-    let above : 34 < x = ltb-true 34 x parts.0 in
-    rw (
-      apart x 34 above,
-      not-true (x == 92) parts.1,
-      apart x 8 (omega arith),
-      apart x 12 (omega arith),
-      apart x 10 (omega arith),
-      apart x 13 (omega arith),
-      apart x 9 (omega arith),
-      printed x (omega arith),
-    ) refl
-
--- a plain text stands for itself
-pub escape-plain : (s : List ℕ) → are_plain s ≡ true → escape s ≡ s
-escape-plain [] h = refl
-escape-plain (x ∷ s) h =
-    let parts = and_parts (is_plain x) (are_plain s) h in
-    rw (escape_byte-plain x parts.0, escape-plain s parts.1) refl
 
 -- ---- the names of codes
 

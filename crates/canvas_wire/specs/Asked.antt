@@ -9,10 +9,11 @@ use Rattle.canvas_wire.specs.declared.request.Request.{Request}
 use Rattle.canvas_wire.specs.declared.request.Request.TheVariants as request
 use Rattle.canvas_wire.specs.declared.verb.Verb.{Verb}
 use Rattle.canvas_wire.specs.declared.verb.Verb.TheVariants.{Create, Move, Pose, Reshape, Show, Delete, Respace, Tile, Patch, Point, Export}
-use Rattle.canvas_wire.specs.Json.{i32_of, u32_of, u8_of, required, optional, ◌>>=◌}
-use Rattle.canvas_wire.specs.Places.{parent_of, spot_of}
-use Rattle.canvas_wire.specs.Poses.{pose_of, still}
-use Rattle.canvas_wire.specs.Shapes.{shape_of}
+use Rattle.canvas_json.specs.Json.{i32_of, u32_of, u8_of, required, optional, ◌>>=◌}
+use Rattle.canvas_json.specs.Places.{parent_of}
+use Rattle.canvas_json.specs.Poses.{pose_of, still}
+use Rattle.canvas_json.specs.Shapes.{shape_of}
+use Rattle.canvas_wire.specs.Spots.{spot_of}
 
 -- what a request of the verb asks for
 unfoldable pub asked : Verb → Data → Option Request

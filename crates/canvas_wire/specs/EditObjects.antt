@@ -5,7 +5,7 @@ use Rattle.canvas_record.specs.declared.edits.Spot.{Spot}
 use Rattle.canvas_record.specs.declared.edits.Spot.TheVariants.{Back, Front, Over, At}
 use Rattle.canvas_record.specs.declared.edits.Edit.{Edit}
 use Rattle.canvas_record.specs.declared.edits.Edit.TheVariants as edits
-use Rattle.canvas_saved.specs.Saved.{shape_data, pose_data, parent_data}
+use Rattle.canvas_json.specs.Objects.{shape_data, pose_data, parent_data}
 
 abbrev pub spot_data : Spot → Data
 spot_data Back = string (codes "back")

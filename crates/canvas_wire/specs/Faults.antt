@@ -1,5 +1,7 @@
 -- The numbers of the faults, and what a reader of requests may answer.
 use Rattle.std.specs.Prelude.{◌≡◌, ℕ, Option, Some, None, Result, Ok, Err}
+use Rattle.canvas_json.specs.declared.fault.TextFault.{TextFault}
+use Rattle.canvas_json.specs.declared.fault.TextFault.TheVariants as text
 use Rattle.canvas_wire.specs.declared.fault.WireFault.{WireFault}
 use Rattle.canvas_wire.specs.declared.fault.WireFault.TheVariants.{BadJson, NotObject, BadVerb, BadField, ExtraField, OutOfMemory}
 
@@ -11,6 +13,11 @@ fault_code BadVerb = 52
 fault_code BadField = 53
 fault_code ExtraField = 54
 fault_code OutOfMemory = 1
+
+-- a text that has no tape
+abbrev pub fault_of_text : TextFault → WireFault
+fault_of_text text.NotJson = BadJson
+fault_of_text text.OutOfMemory = OutOfMemory
 
 -- the value, or the fault where there is none
 abbrev pub or_fault : {T : Type 0} → WireFault → Option T → Result T WireFault
@@ -36,8 +43,3 @@ Refuses ExtraField wanted = wanted ≡ Err ExtraField
 abbrev pub Gives : {T : Type 0} → Result T WireFault → Result T WireFault → Type 0
 Gives (Ok x) wanted = wanted ≡ Ok x
 Gives (Err fault) wanted = Refuses fault wanted
-
--- the same of a value that is seen through `view`
-abbrev pub GivesSeen : {S T : Type 0} → (S → T) → Result S WireFault → Result T WireFault → Type 0
-GivesSeen view (Ok x) wanted = wanted ≡ Ok (view x)
-GivesSeen view (Err fault) wanted = Refuses fault wanted

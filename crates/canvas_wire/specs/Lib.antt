@@ -3,14 +3,8 @@ pub mod EditObjects
 pub mod EditTexts
 pub mod Extra
 pub mod Faults
-pub mod Given
-pub mod Json
-pub mod MemberNames
-pub mod Places
-pub mod Poses
 pub mod Replies
 pub mod ReplyObjects
 pub mod Requests
-pub mod Shapes
-pub mod Taken
+pub mod Spots
 pub mod Verbs

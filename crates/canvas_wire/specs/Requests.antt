@@ -8,7 +8,7 @@ use Rattle.canvas_wire.specs.declared.request.Request.{Request}
 use Rattle.canvas_wire.specs.Asked.{asked}
 use Rattle.canvas_wire.specs.Extra.{has_extra}
 use Rattle.canvas_wire.specs.Faults.{or_fault, ◌>>=◌}
-use Rattle.canvas_wire.specs.Json.{json_of, required}
+use Rattle.canvas_json.specs.Json.{json_of, required}
 use Rattle.canvas_wire.specs.Verbs.{verb_named}
 
 -- the request of an object

@@ -1,18 +1,19 @@
 //! What a request of each verb asks for.
 ghost use Rattle.std.specs.Prelude.{◌≡◌, None, Some, IfOk, codes};
 ghost use Rattle.canvas_wire.specs.Asked.{asked};
-ghost use Rattle.canvas_wire.specs.Given.{view};
-ghost use Rattle.canvas_wire.specs.Json.{required};
-ghost use Rattle.canvas_wire.specs.Shapes.{shape_of};
+ghost use Rattle.canvas_json.specs.Given.{view};
+ghost use Rattle.canvas_json.specs.Json.{required};
+ghost use Rattle.canvas_json.specs.Shapes.{shape_of};
 ghost use Rattle.canvas_wire.specs.declared.verb.Verb.TheVariants as verb;
 
-use crate::field::{bool_at, bool_or_false, i32_at, u8_or_zero, u32_at};
-use crate::given::Given;
-use crate::place::{parent_at, parent_or_page, pose_at, pose_or_still, spot_at, spot_or_front};
 use crate::request::Request;
-use crate::shape::shape_at;
+use crate::spot::{spot_at, spot_or_front};
 use crate::verb::Verb;
 use canvas_code::OutOfMemory;
+use canvas_json::{
+    Given, bool_at, bool_or_false, i32_at, parent_at, parent_or_page, pose_at, pose_or_still,
+    shape_at, u8_or_zero, u32_at,
+};
 use canvas_record::Edit;
 use canvas_shape::Kind;
 use std::alloc::Global;

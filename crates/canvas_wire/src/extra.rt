@@ -1,53 +1,15 @@
 //! Members that a request does not have.
-ghost use Rattle.std.specs.Prelude.{◌≡◌, not, map};
-ghost use Rattle.std.specs.List.{list_any};
-ghost use Rattle.std.specs.Str.{bytes_eq};
-ghost use Rattle.json.specs.Find.{InMembers};
-ghost use Rattle.json.specs.Json as json;
-ghost use Rattle.canvas_wire.specs.Extra.{has_others, pose_has_extra, shape_has_extra, spot_has_extra, has_extra};
-ghost use Rattle.canvas_wire.specs.Given.{view};
-ghost use Rattle.canvas_wire.specs.MemberNames.{given_names};
+ghost use Rattle.std.specs.Prelude.{◌≡◌, codes};
+ghost use Rattle.canvas_json.specs.Given.{view};
+ghost use Rattle.canvas_wire.specs.Extra.{pose_has_extra, shape_has_extra, spot_has_extra, inside, inside_of, has_extra};
 
-use crate::given::Given;
-use crate::shape::shape_members;
 use crate::verb::Verb;
-use json::Members;
-
-fn is_among(names: &[&str], name: &str) -> bool
-    ensures { result ≡ list_any (λ other. bytes_eq other.now name.now) names.now }
-{
-    names.iter().any(|other| *other == name)
-}
-
-// Whether one of the members has none of these names.
-fn any_outside(names: &[&str], members: Members<'_, '_>) -> bool
-    ensures { (given : json.Members) → InMembers members.entry given
-        → result ≡ list_any (λ name. not (list_any (λ other. bytes_eq other.now name) names.now)) (given_names given) }
-{
-    let mut left = members;
-    while let Some((name, _)) = left.next() {
-        if !is_among(names, name) {
-            return true;
-        }
-    }
-    false
-}
-
-// Whether an object has a member of none of these names.
-#[tactic(auto, unfolding(crate::specs::Extra::has_others))]
-fn has_others(names: &[&str], object: &Given<'_, '_>) -> bool
-    ensures { result ≡ has_others (map (λ name. name.now) names.now) (view object.now) }
-{
-    match object.members() {
-        Some(members) => any_outside(names, members),
-        None => false,
-    }
-}
+use canvas_json::{Given, has_others, shape_members};
 
 fn pose_has_extra(pose: Given<'_, '_>) -> bool
     ensures { result ≡ pose_has_extra (view pose.entry) }
 {
-    has_others(&["dx", "dy", "quarter", "flip"], &pose)
+    has_others(&["dx", "dy", "flip", "quarter"], &pose)
 }
 
 fn shape_has_extra(shape: Given<'_, '_>) -> bool
@@ -68,13 +30,46 @@ fn spot_has_extra(spot: Given<'_, '_>) -> bool
     }
 }
 
+fn extra_in_pose(object: &Given<'_, '_>) -> bool
+    ensures { result ≡ inside pose_has_extra (codes "pose") (view object.now) }
+{
+    object.get("pose").is_some_and(pose_has_extra)
+}
+
+fn extra_in_shape(object: &Given<'_, '_>) -> bool
+    ensures { result ≡ inside shape_has_extra (codes "shape") (view object.now) }
+{
+    object.get("shape").is_some_and(shape_has_extra)
+}
+
+fn extra_in_spot(object: &Given<'_, '_>) -> bool
+    ensures { result ≡ inside spot_has_extra (codes "spot") (view object.now) }
+{
+    object.get("spot").is_some_and(spot_has_extra)
+}
+
+// Whether an object that belongs into a request of the verb has an extra member.
+fn has_extra_inside(verb: Verb, object: &Given<'_, '_>) -> bool
+    ensures { result ≡ inside_of verb (view object.now) }
+{
+    match verb {
+        Verb::Create => extra_in_pose(object) || extra_in_shape(object) || extra_in_spot(object),
+        Verb::Move => extra_in_spot(object),
+        Verb::Pose => extra_in_pose(object),
+        Verb::Reshape => extra_in_shape(object),
+        Verb::Show
+        | Verb::Delete
+        | Verb::Respace
+        | Verb::Tile
+        | Verb::Patch
+        | Verb::Point
+        | Verb::Export => false,
+    }
+}
+
 // Whether a request has a member that its verb does not have, or an object inside it has one.
-#[tactic(auto, unfolding(crate::specs::Extra::has_extra))]
 pub(crate) fn has_extra(verb: Verb, object: &Given<'_, '_>) -> bool
     ensures { result ≡ has_extra verb (view object.now) }
 {
-    has_others(verb.members(), object)
-        || object.get("pose").is_some_and(pose_has_extra)
-        || object.get("shape").is_some_and(shape_has_extra)
-        || object.get("spot").is_some_and(spot_has_extra)
+    has_others(verb.members(), object) || has_extra_inside(verb, object)
 }

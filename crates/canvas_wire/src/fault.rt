@@ -1,15 +1,15 @@
 //! Why a line is no request.
 ghost use Rattle.std.specs.Prelude.{◌≡◌};
-ghost use Rattle.canvas_code.specs.Names.{name_of};
-ghost use Rattle.canvas_wire.specs.Faults.{fault_code};
+ghost use Rattle.canvas_wire.specs.Faults.{fault_code, fault_of_text};
 ghost use Rattle.canvas_wire.specs.declared.fault.WireFault.TheVariants.{OutOfMemory};
 
-use std::alloc::AllocError;
-use std::fmt::{Display, Formatter, Write};
+use canvas_code::{Coded, OutOfMemory};
+use canvas_json::TextFault;
 use thiserror::Error;
 
 /// Why a line is no request.
 #[derive(Debug, Drop, Error)]
+#[error("{}", self.name())]
 pub enum WireFault {
     /// The line is not JSON.
     BadJson,
@@ -25,11 +25,10 @@ pub enum WireFault {
     OutOfMemory,
 }
 
-impl WireFault {
-    /// The number of the fault: 50 to 54 in the order of the checks, or 1.
-    pub fn code(&self) -> u16
-        ensures { result ≡ fault_code self.now }
-    {
+impl Coded for WireFault {
+    ghost code_of = { fault_code };
+
+    fn code(&self) -> u16 {
         match self {
             WireFault::BadJson => 50,
             WireFault::NotObject => 51,
@@ -39,34 +38,23 @@ impl WireFault {
             WireFault::OutOfMemory => 1,
         }
     }
-
-    /// The name of the fault: that of its number.
-    pub fn name(&self) -> &'static str
-        ensures { result.now ≡ name_of (fault_code self.now) }
-    {
-        canvas_code::name_of(self.code())
-    }
 }
 
-/// Writes the name.
-impl Display for WireFault {
-    fn fmt<W: Write>(&self, formatter: &mut Formatter<W>) -> std::fmt::Result {
-        formatter.write_str(self.name())
-    }
-}
-
-impl From<AllocError> for WireFault {
+impl From<OutOfMemory> for WireFault {
     ghost from_gives = { λ _ fault. fault ≡ OutOfMemory };
 
-    fn from(_error: AllocError) -> WireFault {
+    fn from(_error: OutOfMemory) -> WireFault {
         WireFault::OutOfMemory
     }
 }
 
-impl From<canvas_code::OutOfMemory> for WireFault {
-    ghost from_gives = { λ _ fault. fault ≡ OutOfMemory };
+impl From<TextFault> for WireFault {
+    ghost from_gives = { λ why fault. fault ≡ fault_of_text why };
 
-    fn from(_error: canvas_code::OutOfMemory) -> WireFault {
-        WireFault::OutOfMemory
+    fn from(why: TextFault) -> WireFault {
+        match why {
+            TextFault::NotJson => WireFault::BadJson,
+            TextFault::OutOfMemory => WireFault::OutOfMemory,
+        }
     }
 }

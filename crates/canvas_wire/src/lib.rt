@@ -4,16 +4,11 @@
 mod asked;
 mod extra;
 mod fault;
-mod field;
-mod given;
 mod law;
-mod number;
-mod place;
 mod reading;
 mod reply;
 mod request;
-mod shape;
-mod tape;
+mod spot;
 mod verb;
 mod writing;
 

@@ -2,17 +2,16 @@
 ghost use Rattle.std.specs.Prelude.{◌≡◌, [], Err, false};
 ghost use Rattle.std.specs.Str.{is_utf8};
 ghost use Rattle.canvas_wire.specs.Faults.{Gives};
-ghost use Rattle.canvas_wire.specs.Given.{view};
+ghost use Rattle.canvas_json.specs.Given.{view};
 ghost use Rattle.canvas_wire.specs.Requests.{request_in, request_of};
 ghost use Rattle.canvas_wire.specs.declared.fault.WireFault.TheVariants.{BadJson};
 
 use crate::asked::asked;
 use crate::extra::has_extra;
 use crate::fault::WireFault;
-use crate::given::Given;
 use crate::request::Request;
-use crate::tape::tape_of;
 use crate::verb::Verb;
+use canvas_json::{Given, tape_of};
 use json::Scratch;
 use std::alloc::Global;
 
@@ -26,11 +25,11 @@ fn request_in(alloc: Global, object: &Given<'_, '_>) -> Result<Request, WireFaul
         .and_then(|verb| verb.as_str())
         .and_then(Verb::named)
         .ok_or(WireFault::BadVerb)?;
-    let request = asked(alloc, verb, object)?.ok_or(WireFault::BadField)?;
-    if has_extra(verb, object) {
-        return Err(WireFault::ExtraField);
+    match asked(alloc, verb, object)? {
+        Some(_) if has_extra(verb, object) => Err(WireFault::ExtraField),
+        Some(request) => Ok(request),
+        None => Err(WireFault::BadField),
     }
-    Ok(request)
 }
 
 /// Reads requests, and keeps the memory that its reading takes from line to line.

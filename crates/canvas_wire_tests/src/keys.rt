@@ -7,6 +7,7 @@ use crate::key_rows::{
     carries, ends, fresh_numbers, heads, long_texts, midpoints, prefixes, read_heads, read_long,
     read_parts, whole_parts,
 };
+use canvas_code::Coded;
 use canvas_key::{Key, KeyFault, between, first_fresh, fresh};
 use std::process::Abort;
 

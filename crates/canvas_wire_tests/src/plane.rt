@@ -1,6 +1,7 @@
 //! Worked poses, windows and boxes.
 
 use crate::asserts::{holds, holds_at};
+use canvas_code::Coded;
 use canvas_plane::{PageBox, Point, Pose, PoseFault, Window, WindowFault};
 use std::process::Abort;
 

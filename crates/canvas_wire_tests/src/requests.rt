@@ -2,7 +2,7 @@
 ghost use Rattle.canvas_wire.specs.Replies.{IsNamed};
 
 use crate::asserts::reads;
-use canvas_code::name_of;
+use canvas_code::{Coded, name_of};
 use canvas_key::Key;
 use canvas_plane::{Point, Pose};
 use canvas_record::{Edit, Parent, Spot};

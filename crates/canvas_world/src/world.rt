@@ -9,7 +9,7 @@ use crate::entry::Entry;
 use crate::event::Event;
 use crate::job::Job;
 use bumpalo::Bump;
-use canvas_code::OutOfMemory;
+use canvas_code::{Coded, OutOfMemory};
 use canvas_doc::{Change, Document, Edit, Refusal};
 use canvas_plane::Window;
 use std::alloc::Global;

@@ -31,10 +31,10 @@ module _ (D B : RattleType) (d : device.Ghosts D.Denot) (l : lines.Ghosts B.Deno
   keeper-send = view_send (keeper_inside.the_row D B d l) _ _ _ _ (declared_send (keeper_inside.the_type D B d l) (journal.the_send D s, (seat.the_send B l, (search sendable, (search (sendable, crosses), tt)))))
 
   slot-send : IsSend (slot.the_row D B d l)
-  slot-send = declared_send (slot.the_type D B d l) (option.the_send (keeper.the_row D B d l) keeper-send, (search sendable, (option.the_send _ fault.the_send, (seat.the_send B l, tt))))
+  slot-send = declared_send (slot.the_type D B d l) (option.the_send (keeper.the_row D B d l) keeper-send, (search sendable, (option.the_send _ fault.the_send, (seat.the_send B l, (search sendable, tt)))))
 
   keep-sync : IsSync (keep.the_row D B d l)
   keep-sync = let held = slot-send in search (sendable, crosses, held) depth 40
 
   pub gate-sync : IsSync (gate.the_row D B d l)
-  gate-sync = declared_sync (gate.the_type D B d l) (keep-sync, (search sendable, tt))
+  gate-sync = declared_sync (gate.the_type D B d l) (keep-sync, (search sendable, (search (sendable, crosses), tt)))

@@ -11,17 +11,20 @@ use std::os::unix::net::{UnixListener, UnixStream};
 use std::rt::Files;
 use std::{fs, io};
 
-/// A door at each address.
-pub fn bind_all<H: Files + Net<Listener = TcpListener, Stream = TcpStream>>(
+/// A door at each address. Each address is one of a kind of places.
+pub fn bind_all<H: Files + Net<Listener = TcpListener, Stream = TcpStream>, P: Fn(usize) -> Place>(
     rt: &H,
     alloc: Global,
     addresses: &[&str],
-) -> Result<Vec<Door>, Fault> {
+    place: P,
+) -> Result<Vec<Door>, Fault>
+    requires { P.IsAlwaysCallable place }
+{
     let mut doors = Vec::new(alloc);
     for (index, word) in addresses.iter().enumerate() {
         let door = match bind(rt, word) {
             Ok(door) => door,
-            Err(error) => return Err(refused(Place::Address(index), Deed::Use, error)),
+            Err(error) => return Err(refused(place(index), Deed::Use, error)),
         };
         doors.push(door)?;
     }
@@ -67,19 +70,43 @@ fn is_deserted<H: Net>(rt: &H, path: &str) -> bool {
     }
 }
 
-/// Says at which address each door is.
-pub fn tell_doors<H: Print>(rt: &H, doors: &[Door], addresses: &[&str]) -> Result<(), Fault> {
-    for (door, word) in doors.iter().zip(addresses) {
-        if let Err(error) = tell_door(rt, door, word) {
+/// Says at which address each door is: sessions come to the first ones, and followers to those behind them.
+pub fn tell_doors<H: Print>(
+    rt: &H,
+    doors: &[Door],
+    addresses: &[&str],
+    sessions: usize,
+) -> Result<(), Fault> {
+    for (index, (door, word)) in doors.iter().zip(addresses).enumerate() {
+        let deed = if index < sessions {
+            "listening"
+        } else {
+            "feeding"
+        };
+        if let Err(error) = tell_door(rt, deed, door, word) {
             return Err(refused(Place::Output, Deed::Write, error));
         }
     }
     Ok(())
 }
 
-fn tell_door<H: Print>(rt: &H, door: &Door, word: &str) -> io::Result<()> {
+/// Says at which address each door is where the status is told.
+pub fn tell_status_doors<H: Print>(
+    rt: &H,
+    doors: &[Door],
+    addresses: &[&str],
+) -> Result<(), Fault> {
+    for (door, word) in doors.iter().zip(addresses) {
+        if let Err(error) = tell_door(rt, "status", door, word) {
+            return Err(refused(Place::Output, Deed::Write, error));
+        }
+    }
+    Ok(())
+}
+
+fn tell_door<H: Print>(rt: &H, deed: &str, door: &Door, word: &str) -> io::Result<()> {
     match door {
-        Door::Tcp(listener) => println!(rt; "listening on {}", listener.local_addr()?),
-        Door::Unix(_) => println!(rt; "listening on {word}"),
+        Door::Tcp(listener) => println!(rt; "{deed} on {}", listener.local_addr()?),
+        Door::Unix(_) => println!(rt; "{deed} on {word}"),
     }
 }

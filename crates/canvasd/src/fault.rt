@@ -24,10 +24,14 @@ pub enum Place {
     Temporary(u32),
     /// The edits of a generation.
     Journal(u32),
+    /// The lines that leave of them.
+    Feed(u32),
     /// The saved document that the words name.
     Given,
     /// One of the addresses, by its place among them.
     Address(usize),
+    /// One of the addresses of those who ask for the status, by its place among them.
+    StatusAddress(usize),
     /// Standard output.
     Output,
 }

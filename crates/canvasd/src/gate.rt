@@ -1,22 +1,45 @@
-//! What a session asks before its bytes leave.
+//! What a session asks before its bytes leave, and what a feed asks before it tells.
+ghost use Rattle.std.specs.Prelude.{◌≡◌, ◌<◌, IfSome};
 
+use crate::feeding::{Fed, serve_fed};
+use crate::watch::{Standing, Watch, Watched, start_watch};
+use canvas_feed::Scribe;
 use canvas_journal::Device;
-use canvas_keep::Keep;
+use canvas_keep::{Keep, Keeper};
 use canvas_line::{Lines, Seat};
 use canvas_server::{Door, DoorSettings, Ended, Events, ServerFault, Settles, serve_doors};
+use canvas_status::Counts;
+use log::Log;
 use std::alloc::Global;
 use std::io;
 use std::net::Net;
 use std::sync::Wait;
-use std::thread::Threads;
+use std::sync::atomic::{AtomicBool, Ordering};
+use std::thread::{Scope, Threads};
 use std::time::Clock;
 
 /// A line that is kept, up to so many edits.
 #[derive(Drop)]
 pub struct Gate<D: Device, B: Lines> {
     pub keep: Keep<D, B>,
-    /// With how many edits the generation ends.
-    pub limit: u64,
+    // With how many edits the generation ends.
+    limit: u64,
+    // Whether so many are kept, or the journal is lost. Each reply asks for it, and need not take the lock of `keep` again.
+    is_over: AtomicBool,
+}
+
+impl<D: Device + Drop, B: Lines> Gate<D, B> {
+    /// The gate of a keeper's line, whose generation ends with so many edits. `watch` is another seat of the line.
+    pub fn new(alloc: Global, keeper: Keeper<D, B>, watch: Seat<B>, limit: u64) -> Gate<D, B>
+        requires { watch.name ≡ keeper.line.name }
+    {
+        let is_over = AtomicBool::new(limit <= keeper.kept());
+        Gate {
+            keep: Keep::new(alloc, keeper, watch),
+            limit,
+            is_over,
+        }
+    }
 }
 
 impl<D: Device + Drop, B: Lines> Settles for Gate<D, B> {
@@ -24,14 +47,77 @@ impl<D: Device + Drop, B: Lines> Settles for Gate<D, B> {
 
     fn settle<R: Wait>(&self, rt: &R, _put_in: u64) -> io::Result<()> {
         match self.keep.settle(rt) {
-            Ok(_) => Ok(()),
-            Err(_) => Err(io::Error::other("the journal is lost")),
+            Ok(kept) if kept < self.limit => Ok(()),
+            Ok(_) => {
+                self.is_over.store(true, Ordering::SeqCst);
+                Ok(())
+            }
+            Err(_) => {
+                self.is_over.store(true, Ordering::SeqCst);
+                Err(io::Error::other("the journal is lost"))
+            }
         }
     }
 
-    fn has_ended<R: Wait>(&self, rt: &R) -> bool {
-        self.keep.fault(rt).is_some() || self.limit <= self.keep.kept(rt)
+    fn has_ended<R: Wait>(&self, _rt: &R) -> bool {
+        self.is_over.load(Ordering::SeqCst)
     }
+}
+
+/// What a feed asks before it tells.
+pub trait Kept {
+    /// How many versions are kept.
+    fn kept<R: Wait>(&self, rt: &R) -> u64;
+
+    /// Waits until more versions are kept than so many, and says how many. `None` where no more are kept, once that can't be or the waits were ended.
+    fn wait_beyond<R: Wait>(&self, rt: &R, has: u64) -> Option<u64>
+        ensures { IfSome result (λ kept. has < kept) };
+
+    /// Ends all waits.
+    fn end_waits<R: Wait>(&self, rt: &R);
+}
+
+impl<D: Device + Drop, B: Lines> Kept for Gate<D, B> {
+    fn kept<R: Wait>(&self, rt: &R) -> u64 {
+        self.keep.kept(rt)
+    }
+
+    fn wait_beyond<R: Wait>(&self, rt: &R, has: u64) -> Option<u64> {
+        self.keep.wait_beyond(rt, has)
+    }
+
+    fn end_waits<R: Wait>(&self, rt: &R) {
+        self.keep.end_waits(rt)
+    }
+}
+
+impl<D: Device + Drop, B: Lines> Watched for Gate<D, B> {
+    fn standing<R: Wait>(&self, rt: &R) -> Standing {
+        let kept = self.keep.kept(rt);
+        Standing {
+            newest: self.keep.newest(rt).ok().map(|version| version.number),
+            kept,
+            is_lost: self.keep.fault(rt).is_some(),
+        }
+    }
+}
+
+/// Starts the watch over a gate, in a thread of its own.
+pub fn watch_gate<
+    's,
+    'e: 's,
+    D: Device + Drop + Send,
+    L: Lines + Send + Sync,
+    H: Threads + Wait + Clock + Sync,
+>(
+    rt: &'e H,
+    scope: &'s Scope<'s, &'e ()>,
+    watch: &'e Watch,
+    gate: &'e Gate<D, L>,
+    number: u32,
+    counts: &'e Counts,
+) {
+    start_watch(rt, scope, watch, gate, number, counts)
 }
 
 /// Serves the line of a gate at doors.
@@ -50,4 +136,28 @@ pub fn serve_behind<
     events: &E,
 ) -> Result<Ended, ServerFault> {
     serve_doors(rt, alloc, doors, seats, gate, settings, events)
+}
+
+/// Serves the line of a gate at doors, and its feed.
+pub fn serve_behind_fed<
+    D: Device + Drop + Send,
+    L: Lines + Send + Sync,
+    E: Events + Sync,
+    K: Log + Sync,
+    H: Threads + Wait + Clock + Net + Sync,
+>(
+    rt: &H,
+    log: &K,
+    alloc: Global,
+    doors: &[Door],
+    seats: Vec<Seat<L>>,
+    gate: &Gate<D, L>,
+    settings: &DoorSettings,
+    events: &E,
+    scribe: Scribe,
+    fed: &Fed<'_>,
+) -> Result<Ended, ServerFault> {
+    serve_fed(
+        rt, log, alloc, doors, seats, gate, settings, events, scribe, fed,
+    )
 }

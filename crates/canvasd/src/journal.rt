@@ -7,6 +7,7 @@ use crate::fault::{Deed, Fault, Place, refused};
 use crate::folder::path_in;
 use canvas_folder::JOURNAL;
 use canvas_journal_file::{Asked, Backing};
+use canvas_status::Counts;
 use std::alloc::{AllocError, Global};
 use std::fs::{File, OpenOptions};
 use std::io;
@@ -15,6 +16,7 @@ use std::os::unix::fs::FileExt;
 use std::rt::Files;
 use std::sync::Arc;
 use std::sync::atomic::{AtomicI32, Ordering};
+use std::time::{Clock, Instant};
 
 /// The number of the system's last error at a journal; 0 where there was none.
 #[derive(Drop)]
@@ -54,14 +56,16 @@ impl Reason {
     }
 }
 
-/// An open file, which keeps the reason of a call that failed.
+/// An open file, which keeps the reason of a call that failed, and counts how often and how long it is put on the disk.
 #[derive(Drop)]
-pub struct JournalFile {
+pub struct JournalFile<'a, H: Clock> {
     file: File,
     reason: Reason,
+    rt: &'a H,
+    counts: &'a Counts,
 }
 
-impl Backing for JournalFile {
+impl<H: Clock> Backing for JournalFile<'_, H> {
     fn write(&mut self, at: usize, bytes: &[u8]) -> bool {
         bytes.is_empty() || self.reason.note(self.file.write_all_at(bytes, at as u64))
     }
@@ -71,18 +75,32 @@ impl Backing for JournalFile {
     }
 
     fn sync(&mut self) -> bool {
-        self.reason.note(self.file.sync_data())
+        let begun = Instant::now(self.rt);
+        let is_done = self.reason.note(self.file.sync_data());
+        if is_done {
+            self.counts.sync(micros_since(self.rt, begun));
+        }
+        is_done
+    }
+}
+
+// How many microseconds have passed; none where the clock can't be read.
+fn micros_since<H: Clock>(rt: &H, begun: io::Result<Instant>) -> u64 {
+    match begun.and_then(|begun| begun.elapsed(rt)) {
+        Ok(passed) => u64::try_from(passed.as_micros()).unwrap_or(u64::MAX),
+        Err(_) => 0,
     }
 }
 
 /// The journal of a generation, with all that it holds put on the disk, and how many LFs are in it.
-pub fn open_journal<H: Files<File = File>>(
-    rt: &H,
+pub fn open_journal<'a, H: Files<File = File> + Clock>(
+    rt: &'a H,
     alloc: Global,
     folder: &str,
     number: u32,
     reason: &Reason,
-) -> Result<(Asked<JournalFile>, u64), Fault>
+    counts: &'a Counts,
+) -> Result<(Asked<JournalFile<'a, H>>, u64), Fault>
     ensures { IfOk result (λ r. Only (seen_of r.0) (may_leave r.0)) }
 {
     let place = Place::Journal(number);
@@ -101,7 +119,13 @@ pub fn open_journal<H: Files<File = File>>(
     }
     let lines = bytes.iter().filter(|byte| **byte == b'\n').count() as u64;
     let reason = reason.shared()?;
-    Ok((Asked::new(JournalFile { file, reason }, bytes), lines))
+    let file = JournalFile {
+        file,
+        reason,
+        rt,
+        counts,
+    };
+    Ok((Asked::new(file, bytes), lines))
 }
 
 /// All the bytes of a file.

@@ -9,17 +9,24 @@ mod checking;
 mod doors;
 mod events;
 mod fault;
+mod feed;
+mod feeding;
 mod folder;
+mod following;
 mod gate;
 mod history;
 mod journal;
 mod maker;
 mod message;
 mod opening;
+mod scribing;
 mod seats;
 mod serving;
+mod status_doors;
+mod watch;
 mod words;
 
+use clap::error::ErrorKind;
 use fault::Fault;
 use log::sink::Console;
 use log::{Log, Logged};
@@ -30,18 +37,19 @@ use std::{env, io};
 use words::{Order, read_order};
 
 fn main(rt: HostRuntime) -> ExitCode {
-    let Ok(given) = given_words(&rt) else {
-        return ExitCode::from(2);
+    let given = match given_words(&rt) {
+        Ok(given) => given,
+        Err(error) => return words_refused(&rt, &error),
     };
-    let Ok(words) = texts_of(rt.alloc(), &given) else {
-        return ExitCode::from(5);
+    let words = match texts_of(rt.alloc(), &given) {
+        Ok(words) => words,
+        Err(error) => return words_refused(&rt, &error.into()),
     };
     let order = match read_order(rt.alloc(), &words) {
         Ok(order) => order,
         Err(error) => {
-            // Where the stream takes nothing, the status alone tells.
             let _ = error.print(&rt);
-            return ExitCode::from(if error.exit_code() == 0 { 0 } else { 2 });
+            return ExitCode::from(words_status(error.kind()));
         }
     };
     let ended = match &order {
@@ -60,6 +68,25 @@ fn main(rt: HostRuntime) -> ExitCode {
             let _ = tell(&rt, &order, &fault);
             ExitCode::from(fault.status())
         }
+    }
+}
+
+// The end where the words of the command line can't be read.
+fn words_refused(rt: &HostRuntime, error: &io::Error) -> ExitCode {
+    let _ = eprintln!(rt; "canvasd: {error}");
+    ExitCode::from(if error.kind() == io::ErrorKind::OutOfMemory {
+        5
+    } else {
+        2
+    })
+}
+
+// The status where the words are no order. To ask for help or the version is well done.
+fn words_status(kind: ErrorKind) -> u8 {
+    match kind {
+        ErrorKind::DisplayHelp | ErrorKind::DisplayVersion => 0,
+        ErrorKind::OutOfMemory => 5,
+        _ => 2,
     }
 }
 

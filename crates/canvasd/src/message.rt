@@ -2,7 +2,7 @@
 
 use crate::fault::{Deed, Fault, Place};
 use crate::words::Order;
-use canvas_code::name_of;
+use canvas_code::{Coded, name_of};
 use canvas_folder::{JOURNAL, LOCK, OPENING, TEMPORARY};
 use canvas_journal::DeviceError;
 use canvas_keep::{KeepFault, ReplayWhy};
@@ -18,6 +18,7 @@ pub fn tell<H: Eprint>(rt: &H, order: &Order<'_>, fault: &Fault) -> io::Result<(
                 folder: service.folder,
                 given: service.opening.unwrap_or(""),
                 addresses: service.addresses.as_slice(),
+                status: service.status.as_slice(),
                 fault: *fault,
             }
         ),
@@ -32,6 +33,7 @@ pub struct Told<'a> {
     folder: &'a str,
     given: &'a str,
     addresses: &'a [&'a str],
+    status: &'a [&'a str],
     fault: Fault,
 }
 
@@ -42,6 +44,7 @@ impl<'a> Told<'a> {
             folder,
             given: "",
             addresses: &[],
+            status: &[],
             fault,
         }
     }
@@ -57,14 +60,10 @@ impl<'a> Told<'a> {
             Place::Opening(number) => write!(f, "{folder}/{number}/{OPENING}"),
             Place::Temporary(number) => write!(f, "{folder}/{number}/{TEMPORARY}"),
             Place::Journal(number) => write!(f, "the journal {folder}/{number}/{JOURNAL}"),
+            Place::Feed(number) => write!(f, "the feed of {folder}/{number}"),
             Place::Given => f.write_str(self.given),
-            Place::Address(index) => {
-                write!(
-                    f,
-                    "the address {}",
-                    self.addresses.get(index).copied().unwrap_or("")
-                )
-            }
+            Place::Address(index) => write_address(self.addresses, index, f),
+            Place::StatusAddress(index) => write_address(self.status, index, f),
             Place::Output => f.write_str("standard output"),
         }
     }
@@ -122,6 +121,15 @@ impl<'a> Told<'a> {
             _ => write!(f, " can't be written: {fault}"),
         }
     }
+}
+
+// Writes which address it is.
+fn write_address<W: Write>(addresses: &[&str], index: usize, f: &mut Formatter<W>) -> fmt::Result {
+    write!(
+        f,
+        "the address {}",
+        addresses.get(index).copied().unwrap_or("")
+    )
 }
 
 /// Writes what was wrong, and what to do.

@@ -4,8 +4,9 @@ ghost use Rattle.canvas_saved.specs.Opened.{opened};
 ghost use Rattle.canvas_saved.specs.Saved.{saved_text_of};
 
 use crate::fault::{Deed, Fault, Place, refused};
+use canvas_code::Coded;
 use canvas_doc::Document;
-use canvas_store::{export, import};
+use canvas_saved::{StoreFault, export, import};
 use std::alloc::Global;
 use std::io::Read;
 
@@ -23,6 +24,7 @@ pub fn read_document<R: Read + Drop>(
     let text = text_of(alloc, file, place)?;
     match import(alloc, &text) {
         Ok(document) => Ok(document),
+        Err(StoreFault::OutOfMemory) => Err(Fault::Memory),
         Err(fault) => Err(Fault::Document {
             place,
             code: fault.code(),

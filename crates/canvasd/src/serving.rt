@@ -1,25 +1,33 @@
 //! Serving the document of a folder.
+ghost use denote.Param.Send.{IsSend, IsSync};
 ghost use Rattle.std.specs.Prelude.{◌≡◌};
 ghost use Rattle.canvas_journal.specs.Device.{Only};
 ghost use Rattle.canvas_journal_file.specs.Calls.{may_leave, seen_of};
 
-use crate::doors::{bind_all, tell_doors};
+use crate::doors::{bind_all, tell_doors, tell_status_doors};
 use crate::events::DoorLog;
 use crate::fault::{Deed, Fault, Place, refused};
+use crate::feed::Feed;
+use crate::feeding::Fed;
 use crate::folder::{hold, look, path_in};
-use crate::gate::{Gate, serve_behind};
+use crate::gate::{Gate, serve_behind, serve_behind_fed, watch_gate};
 use crate::journal::{JournalFile, Reason, open_journal};
 use crate::maker::begin;
 use crate::opening::{read_document, saved};
+use crate::scribing::open_to_read;
 use crate::seats::{line_fault, take_seat};
+use crate::status_doors::{Desk, close_status, open_status};
+use crate::watch::Watch;
 use crate::words::{Service, VERSION};
 use canvas_doc::Document;
+use canvas_feed::Scribe;
 use canvas_folder::{OPENING, State, next_number, state_of};
 use canvas_journal::DeviceError;
 use canvas_journal_file::Asked;
-use canvas_keep::{Keep, KeepFault, OpenFault, open};
-use canvas_line::{Line, Lines, Opened, Seat};
+use canvas_keep::{KeepFault, OpenFault, open};
+use canvas_line::{Line, LineFault, Lines, Opened, Seat};
 use canvas_server::{Door, DoorSettings, Ended, ServerFault, Settles};
+use canvas_status::Counts;
 use log::{Log, info};
 use std::alloc::Global;
 use std::fs::File;
@@ -27,6 +35,8 @@ use std::marker::Brand;
 use std::net::{Net, TcpListener, TcpStream};
 use std::rt::Files;
 use std::sync::Wait;
+use std::sync::atomic::AtomicBool;
+use std::thread;
 use std::thread::Threads;
 use std::time::{Clock, Instant};
 
@@ -47,9 +57,87 @@ pub fn serve<
     info!(*log; "canvasd {VERSION} begins: {}", service.folder);
     let _held = hold(rt, alloc, service.folder)?;
     let first = first_number(rt, alloc, service)?;
-    let doors = bind_all(rt, alloc, &service.addresses)?;
+    let doors = bind_all(rt, alloc, &service.addresses, Place::Address)?;
+    let status_doors = bind_all(rt, alloc, &service.status, Place::StatusAddress)?;
+    let counts = Counts::new();
+    let desk = Desk {
+        alloc,
+        counts: &counts,
+        seats: service.seats,
+        begun: now(rt)?,
+        has_ended: AtomicBool::new(false),
+    };
+    let house = House {
+        service,
+        doors: &doors,
+        status_doors: &status_doors,
+        counts: &counts,
+    };
+    serve_told(rt, log, alloc, &house, &desk, first)
+}
+
+// Serves generation after generation, and tells those meanwhile who ask how that goes.
+fn serve_told<
+    H: Files<File = File>
+        + Alloc
+        + Print
+        + Threads
+        + Wait
+        + Clock
+        + Clone
+        + Drop
+        + Sync
+        + Net<Listener = TcpListener, Stream = TcpStream>,
+    K: Log + Sync,
+>(
+    rt: &H,
+    log: &K,
+    alloc: Global,
+    house: &House<'_>,
+    desk: &Desk<'_>,
+    first: u32,
+) -> Result<(), Fault> {
+    let doors = house.status_doors;
+    thread::scope(
+        thread::scope_env(),
+        rt,
+        |scope|
+            requires { IsSync H.row × IsSync K.row }
+        {
+            open_status(rt, scope, desk, doors);
+            let ended = serve_generations(rt, log, alloc, house, first);
+            close_status(rt, desk, doors);
+            ended
+        },
+    )
+}
+
+// What all generations have.
+#[derive(Drop)]
+struct House<'a> {
+    service: &'a Service<'a>,
+    doors: &'a [Door],
+    status_doors: &'a [Door],
+    counts: &'a Counts,
+}
+
+// Serves generation after generation.
+fn serve_generations<
+    H: Files<File = File>
+        + Alloc
+        + Print
+        + Threads
+        + Wait
+        + Clock
+        + Clone
+        + Drop
+        + Sync
+        + Net<Listener = TcpListener, Stream = TcpStream>,
+    K: Log + Sync,
+>(rt: &H, log: &K, alloc: Global, house: &House<'_>, first: u32) -> Result<(), Fault> {
+    let service = house.service;
     for number in first..u32::MAX {
-        let next = serve_generation(rt, log, alloc, service, number, &doors, number == first)?;
+        let next = serve_generation(rt, log, alloc, house, number, number == first)?;
         info!(*log; "generation {number} has all its {} edits, and generation {} begins", service.limit, number + 1);
         begin(rt, alloc, service.folder, number + 1, &next)?;
     }
@@ -114,8 +202,7 @@ pub const MOST_EDITS: u64 = 1_000_000;
 // How a generation is served.
 #[derive(Drop)]
 struct Run<'a> {
-    service: &'a Service<'a>,
-    doors: &'a [Door],
+    house: &'a House<'a>,
     number: u32,
     reason: Reason,
     begun: Instant,
@@ -137,22 +224,28 @@ fn serve_generation<
     rt: &H,
     log: &K,
     alloc: Global,
-    service: &Service<'_>,
+    house: &House<'_>,
     number: u32,
-    doors: &[Door],
     is_first: bool,
 ) -> Result<Vec<u8>, Fault> {
     let begun = now(rt)?;
+    let service = house.service;
     let document = opening_document(rt, alloc, service.folder, number)?;
     let run = Run {
-        service,
-        doors,
+        house,
         number,
         reason: Reason::none(alloc)?,
         begun,
         is_first,
     };
-    let (device, lines) = open_journal(rt, alloc, service.folder, number, &run.reason)?;
+    let (device, lines) = open_journal(
+        rt,
+        alloc,
+        service.folder,
+        number,
+        &run.reason,
+        house.counts,
+    )?;
     // A journal that was written under a higher limit is read all the same.
     let limit = service.limit.max(lines).min(MOST_EDITS);
     serve_line::<Brand, H, K>(rt, log, alloc, Opened::new(), document, limit, device, &run)
@@ -168,7 +261,13 @@ fn now<H: Clock>(rt: &H) -> Result<Instant, Fault> {
 // Serves a document as the line that is opened here.
 fn serve_line<
     L: Lines + Send + Sync,
-    H: Print + Threads + Wait + Clock + Sync + Net<Listener = TcpListener, Stream = TcpStream>,
+    H: Files<File = File>
+        + Print
+        + Threads
+        + Wait
+        + Clock
+        + Sync
+        + Net<Listener = TcpListener, Stream = TcpStream>,
     K: Log + Sync,
 >(
     rt: &H,
@@ -177,13 +276,13 @@ fn serve_line<
     opened: Opened,
     document: Document,
     limit: u64,
-    device: Asked<JournalFile>,
+    device: Asked<JournalFile<'_, H>>,
     run: &Run<'_>,
 ) -> Result<Vec<u8>, Fault>
     requires line { L.line 1 ≡ record { book = opened.head.word.book; opening = document; limit = limit } }
     requires durable { Only (seen_of device) (may_leave device) }
 {
-    let count = run.service.seats.saturating_add(2);
+    let count = run.house.service.seats.saturating_add(2);
     let mut seats = match Line::open::<L, H>(rt, alloc, opened, NAME, document, count, limit) {
         Ok(seats) => seats,
         Err(fault) => return Err(line_fault(&fault)),
@@ -199,10 +298,7 @@ fn serve_line<
         Err(fault) => return Err(open_fault(&fault, run)),
     };
     tell_recovery(rt, log, keeper.kept(), run);
-    let gate = Gate {
-        keep: Keep::new(alloc, keeper, watch),
-        limit: run.service.limit,
-    };
+    let gate = Gate::new(alloc, keeper, watch, run.house.service.limit);
     serve_gate(rt, log, alloc, seats, &gate, run)?;
     let next = newest_text(rt, alloc, &gate, run)?;
     let Gate { keep, .. } = gate;
@@ -214,7 +310,7 @@ fn serve_line<
 
 // Says what was recovered.
 fn tell_recovery<H: Clock, K: Log>(rt: &H, log: &K, kept: u64, run: &Run<'_>) {
-    let folder = run.service.folder;
+    let folder = run.house.service.folder;
     let number = run.number;
     let passed = match run.begun.elapsed(rt) {
         Ok(passed) => passed.as_millis(),
@@ -226,19 +322,31 @@ fn tell_recovery<H: Clock, K: Log>(rt: &H, log: &K, kept: u64, run: &Run<'_>) {
 // Serves the line until it has all its edits.
 fn serve_gate<
     L: Lines + Send + Sync,
-    H: Print + Threads + Wait + Clock + Sync + Net<Listener = TcpListener, Stream = TcpStream>,
+    H: Files<File = File>
+        + Print
+        + Threads
+        + Wait
+        + Clock
+        + Sync
+        + Net<Listener = TcpListener, Stream = TcpStream>,
     K: Log + Sync,
 >(
     rt: &H,
     log: &K,
     alloc: Global,
     seats: Vec<Seat<L>>,
-    gate: &Gate<Asked<JournalFile>, L>,
+    gate: &Gate<Asked<JournalFile<'_, H>>, L>,
     run: &Run<'_>,
 ) -> Result<(), Fault> {
-    let service = run.service;
+    let House {
+        service,
+        doors,
+        status_doors,
+        ..
+    } = *run.house;
     if run.is_first {
-        tell_doors(rt, run.doors, &service.addresses)?;
+        tell_doors(rt, doors, &service.addresses, service.sessions)?;
+        tell_status_doors(rt, status_doors, &service.status)?;
     }
     if gate.has_ended(rt) {
         for seat in seats {
@@ -246,24 +354,122 @@ fn serve_gate<
         }
         return Ok(());
     }
+    if status_doors.is_empty() {
+        return serve_at_doors(rt, log, alloc, seats, gate, run);
+    }
+    serve_watched(rt, log, alloc, seats, gate, run)
+}
+
+// Serves the line until it has all its edits, and tells the counts meanwhile how it is kept.
+fn serve_watched<
+    L: Lines + Send + Sync,
+    H: Files<File = File>
+        + Print
+        + Threads
+        + Wait
+        + Clock
+        + Sync
+        + Net<Listener = TcpListener, Stream = TcpStream>,
+    K: Log + Sync,
+>(
+    rt: &H,
+    log: &K,
+    alloc: Global,
+    seats: Vec<Seat<L>>,
+    gate: &Gate<Asked<JournalFile<'_, H>>, L>,
+    run: &Run<'_>,
+) -> Result<(), Fault> {
+    let (number, counts) = (run.number, run.house.counts);
+    let watch = Watch::new();
+    let watch = &watch;
+    thread::scope(
+        thread::scope_env(),
+        rt,
+        |scope|
+            requires { IsSync H.row × IsSend L.row × IsSync L.row × IsSync K.row }
+        {
+            watch_gate(rt, scope, watch, gate, number, counts);
+            let ended = serve_at_doors(rt, log, alloc, seats, gate, run);
+            watch.end(rt);
+            ended
+        },
+    )
+}
+
+// Serves the line at its doors, and its feed at those behind them.
+fn serve_at_doors<
+    L: Lines + Send + Sync,
+    H: Files<File = File>
+        + Print
+        + Threads
+        + Wait
+        + Clock
+        + Sync
+        + Net<Listener = TcpListener, Stream = TcpStream>,
+    K: Log + Sync,
+>(
+    rt: &H,
+    log: &K,
+    alloc: Global,
+    seats: Vec<Seat<L>>,
+    gate: &Gate<Asked<JournalFile<'_, H>>, L>,
+    run: &Run<'_>,
+) -> Result<(), Fault> {
+    let House {
+        service,
+        doors,
+        counts,
+        ..
+    } = *run.house;
     let settings = DoorSettings {
         keep: service.keep,
         workers: service.workers,
         idle: service.idle,
     };
-    let events = DoorLog::new(rt, log, run.begun);
-    match serve_behind(rt, alloc, run.doors, seats, gate, &settings, &events) {
+    let events = DoorLog::new(rt, log, counts, run.begun);
+    let (doors, feeds) = doors.split_at(service.sessions.min(doors.len()));
+    if feeds.is_empty() {
+        let end = serve_behind(rt, alloc, doors, seats, gate, &settings, &events);
+        return ended(end, gate.keep.fault(rt), run);
+    }
+    let document = opening_document(rt, alloc, service.folder, run.number)?;
+    let scribe = match Scribe::new(alloc, run.number, document) {
+        Ok(scribe) => scribe,
+        Err(_) => return Err(Fault::Memory),
+    };
+    let fed = Fed {
+        feed: &Feed::open(rt, alloc, service.folder, run.number)?,
+        journal: &open_to_read(rt, alloc, service.folder, run.number)?,
+        number: run.number,
+        doors: feeds,
+        counts,
+    };
+    let end = serve_behind_fed(
+        rt, log, alloc, doors, seats, gate, &settings, &events, scribe, &fed,
+    );
+    ended(end, gate.keep.fault(rt), run)
+}
+
+// How a generation ended at its doors. Where a session could not settle, the journal is lost, or the newest version could not be seen.
+fn ended(
+    end: Result<Ended, ServerFault>,
+    fault: Option<KeepFault>,
+    run: &Run<'_>,
+) -> Result<(), Fault> {
+    match end {
         Ok(Ended::Asked) => Ok(()),
-        Ok(Ended::Unsettled) => Ok(()),
+        Ok(Ended::Unsettled) => {
+            Err(run.lost(fault.unwrap_or(KeepFault::Line(LineFault::NoView))))
+        }
         Err(fault) => Err(Fault::Server(fault)),
     }
 }
 
 // The text of the newest version, with which the next generation begins.
-fn newest_text<L: Lines, H: Wait>(
+fn newest_text<L: Lines, H: Wait + Clock>(
     rt: &H,
     alloc: Global,
-    gate: &Gate<Asked<JournalFile>, L>,
+    gate: &Gate<Asked<JournalFile<'_, H>>, L>,
     run: &Run<'_>,
 ) -> Result<Vec<u8>, Fault> {
     if let Some(fault) = gate.keep.fault(rt) {

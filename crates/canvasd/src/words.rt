@@ -5,7 +5,7 @@ use log::LevelFilter;
 use std::alloc::{AllocError, Global};
 
 /// The version of the program.
-pub const VERSION: &str = "0.4.0";
+pub const VERSION: &str = "0.5.0";
 
 /// The address where none is named.
 pub const DEFAULT_ADDRESS: &str = "127.0.0.1:7878";
@@ -30,8 +30,12 @@ pub enum Order<'a> {
 #[derive(Drop)]
 pub struct Service<'a> {
     pub folder: &'a str,
-    /// Where connections come, one at least.
+    /// Where connections come: first sessions, and then followers of the feed.
     pub addresses: Vec<&'a str>,
+    /// At how many of them sessions come, one at least.
+    pub sessions: usize,
+    /// Where those come who ask for the status.
+    pub status: Vec<&'a str>,
     /// The saved document with which a new folder begins.
     pub opening: Option<&'a str>,
     /// How many sessions may be at once.
@@ -67,16 +71,19 @@ pub fn read_order<'a>(alloc: Global, words: &'a [&'a str]) -> Result<Order<'a>, 
 
 // How the document is served, by the words that were found.
 fn service_of<'a>(alloc: Global, matches: &ArgMatches<'a>) -> Result<Service<'a>, AllocError> {
-    let mut addresses = Vec::new(alloc);
-    for address in matches.get_strs("listen").unwrap_or(&[]) {
-        addresses.push(*address)?;
-    }
+    let mut addresses = addresses_of(alloc, matches, "listen")?;
     if addresses.is_empty() {
         addresses.push(DEFAULT_ADDRESS)?;
+    }
+    let sessions = addresses.len();
+    for address in matches.get_strs("feed").unwrap_or(&[]) {
+        addresses.push(*address)?;
     }
     Ok(Service {
         folder: matches.get_str("folder").unwrap_or(""),
         addresses,
+        sessions,
+        status: addresses_of(alloc, matches, "status")?,
         opening: matches.get_str("open"),
         seats: matches.get_one::<u32>("seats").unwrap_or(62),
         limit: matches.get_one::<u64>("limit").unwrap_or(1_000_000),
@@ -87,6 +94,19 @@ fn service_of<'a>(alloc: Global, matches: &ArgMatches<'a>) -> Result<Service<'a>
             .get_one::<LevelFilter>("log")
             .unwrap_or(LevelFilter::Info),
     })
+}
+
+// The addresses that an option names.
+fn addresses_of<'a>(
+    alloc: Global,
+    matches: &ArgMatches<'a>,
+    option: &str,
+) -> Result<Vec<&'a str>, AllocError> {
+    let mut addresses = Vec::new(alloc);
+    for address in matches.get_strs(option).unwrap_or(&[]) {
+        addresses.push(*address)?;
+    }
+    Ok(addresses)
 }
 
 // All words that there are.
@@ -142,6 +162,16 @@ fn with_options<'a>(alloc: Global, command: Command<'a>) -> Result<Command<'a>, 
         .value_name("ADDRESS")
         .action(ArgAction::Append)
         .help("HOST:PORT or unix:PATH, once for each [default: 127.0.0.1:7878]");
+    let feed = Arg::new(alloc, "feed")
+        .long("feed")
+        .value_name("ADDRESS")
+        .action(ArgAction::Append)
+        .help("HOST:PORT or unix:PATH, where each kept edit is sent, once for each");
+    let status = Arg::new(alloc, "status")
+        .long("status")
+        .value_name("ADDRESS")
+        .action(ArgAction::Append)
+        .help("HOST:PORT or unix:PATH, once for each: where /healthz and /metrics answer");
     let open = Arg::new(alloc, "open").long("open").value_name("FILE").help(
         "A saved document with which a new folder begins; else it begins empty",
     );
@@ -150,8 +180,8 @@ fn with_options<'a>(alloc: Global, command: Command<'a>) -> Result<Command<'a>, 
         .value_name("LEVEL")
         .value_parser(LEVELS.as_slice())
         .help("Which lines go to standard error [default: info]");
-    let command = command.arg(listen)?.arg(open)?.arg(log)?;
-    with_numbers(alloc, command)
+    let command = command.arg(listen)?.arg(feed)?.arg(status)?;
+    with_numbers(alloc, command.arg(open)?.arg(log)?)
 }
 
 static LEVELS: [&str; 6] = ["off", "error", "warn", "info", "debug", "trace"];

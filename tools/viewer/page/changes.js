@@ -54,11 +54,11 @@ export function shapeBack(now, { from, to }) {
   return found;
 }
 
-/** The spot for a shape that is to lie as it lay before. */
+/** The spot for a shape that is to lie as it lay before. In front of one that is yet to be made, and lies in front of all, it needs no name. */
 function spotFor(tree, parent, { behind, before }, resolve) {
   const list = tree.children(parent).map(({ id }) => id);
   const under = behind.map(resolve).find((id) => list.includes(id));
-  if (under !== undefined) return { over: under };
+  if (under !== undefined) return under < 0 && under === list[0] ? "front" : { over: under };
   const above = before.map(resolve).find((id) => list.includes(id));
   if (above === undefined) return behind.length ? "front" : "back";
   const next = list[list.indexOf(above) + 1];

@@ -1,28 +1,24 @@
-// Saving and opening: the document as a file, the view as a picture, and in words what is not saved.
+// Saving and opening: the document as a file, or as a picture, and in words what is kept, and what is not saved.
 
-import { inOrder } from "./clip.js";
+import { copiesIn, inOrder } from "./clip.js";
+import { give } from "./give.js";
 import { count } from "./names.js";
+import { Print } from "./print.js";
 import { svgOf } from "./svg.js";
 import { Tree } from "./tree.js";
 
 const part = (id) => document.getElementById(id);
 
-/** Gives the user a file. */
-function give(blob, name) {
-  const link = document.createElement("a"), address = URL.createObjectURL(blob);
-  link.href = address;
-  link.download = name;
-  link.click();
-  setTimeout(() => URL.revokeObjectURL(address), 10_000);
-}
-
 export class Files {
   #app;
   #saved = null;
   #input = part("file");
+  #dialog = part("open");
+  #print;
 
   constructor(app) {
     this.#app = app;
+    this.#print = new Print(app);
     this.#input.addEventListener("change", () => this.#read());
   }
 
@@ -31,9 +27,9 @@ export class Files {
     this.#saved = null;
   }
 
-  /** The reply with the document as the server has it now, or null where there is none, which is told. */
+  /** The reply with the document as the server has it now, or as it was in the past that is shown; null where there is none, which is told. */
   async #export() {
-    const { link, notes } = this.#app, [reply] = await link.ask([{ verb: "export" }]).catch(() => []);
+    const { link, past, notes } = this.#app, [reply] = await (past.isOn ? past : link).ask([{ verb: "export" }]).catch(() => []);
     if (reply?.ok) return reply;
     notes.tell(reply ?? "The server is away.");
     return null;
@@ -43,7 +39,7 @@ export class Files {
   async download() {
     const reply = await this.#export();
     if (!reply) return;
-    this.#saved = reply.version;
+    if (!this.#app.past.isOn) this.#saved = reply.version;
     this.give(reply.document, reply.version);
     this.show();
   }
@@ -61,11 +57,9 @@ export class Files {
     give(new Blob([JSON.stringify(saved)], { type: "application/json" }), `canvas-version-${version}.json`);
   }
 
-  /** Downloads the view as a picture, with no marks above it. */
-  async picture() {
-    const { picture, view } = this.#app, canvas = new OffscreenCanvas(view.width, view.height);
-    picture.draw(canvas.getContext("2d"), view);
-    give(await canvas.convertToBlob({ type: "image/png" }), `canvas-version-${picture.tree?.version ?? 0}.png`);
+  /** Downloads a part of the page as a picture. */
+  picture() {
+    this.#print.open();
   }
 
   /** Asks for a file. */
@@ -75,22 +69,50 @@ export class Files {
   }
 
   async #read() {
-    const [file] = this.#input.files, { editor, notes } = this.#app;
+    const [file] = this.#input.files, { notes, state } = this.#app;
     if (!file) return;
-    const found = await editor.open(await file.text());
-    if (found === null) notes.tell(`“${file.name}” is no saved document.`);
-    else notes.say(found ? `“${file.name}” is drawn into this document.` : `“${file.name}” has no shapes.`);
+    const copies = copiesIn(await file.text());
+    if (!copies) notes.tell(`“${file.name}” is no saved document.`);
+    else if (!copies.length) notes.say(`“${file.name}” has no shapes.`);
+    else if (state.tree?.records.size) this.#ask(file.name, copies);
+    else this.#draw(file.name, copies, false);
   }
 
-  /** Says what is not saved. */
+  // Where there are shapes already: do those of the file come beside them, or in their place?
+  #ask(name, copies) {
+    part("open-words").textContent = `“${name}” can be drawn into this document, or take its place. Either can be taken back.`;
+    this.#dialog.returnValue = "";
+    this.#dialog.onclose = () => this.#dialog.returnValue && this.#draw(name, copies, this.#dialog.returnValue === "place");
+    this.#dialog.showModal();
+  }
+
+  async #draw(name, copies, isInPlace) {
+    const { editor, notes } = this.#app, done = await editor.open(copies, isInPlace);
+    if (!done || done.refusal) return;
+    notes.say(isInPlace ? `“${name}” is this document now.` : `“${name}” is drawn into this document.`);
+    if (isInPlace) this.#app.act("fit");
+  }
+
+  /** Says what is kept, and what is not saved. */
   show() {
-    const version = this.#app.picture.tree?.version ?? 0, since = version - this.#saved;
-    const isSaved = this.#saved !== null && since <= 0;
-    let words = "The server keeps this document only while it runs. Download it to keep it.";
-    if (isSaved) words = "All of it is in the file that you downloaded.";
-    else if (this.#saved !== null) words = `${count(since, "edit")} since your download ${since === 1 ? "is" : "are"} in no file.`;
+    const { words, short, isSafe } = this.#app.journal.isLive ? this.#kept() : this.#unsaved();
     part("saved-words").textContent = words;
-    part("saved").textContent = isSaved ? "downloaded" : "not saved";
-    part("saved").classList.toggle("is-saved", isSaved);
+    part("saved").textContent = short;
+    part("saved").classList.toggle("is-saved", isSafe);
+  }
+
+  // With a feed, all that is told of is kept, and each edit is kept before it is answered.
+  #kept() {
+    const { journal, editor } = this.#app;
+    const words = "The server keeps each edit in its folder before it answers. There is nothing to save.";
+    return editor.isMaking ? { words, short: "keeping…", isSafe: false } : { words, short: `all kept, to version ${journal.end}`, isSafe: true };
+  }
+
+  #unsaved() {
+    const version = this.#app.picture.tree?.version ?? 0, since = version - this.#saved, isSafe = this.#saved !== null && since <= 0;
+    let words = "The server keeps this document only while it runs. Download it to keep it.";
+    if (isSafe) words = "All of it is in the file that you downloaded.";
+    else if (this.#saved !== null) words = `${count(since, "edit")} since your download ${since === 1 ? "is" : "are"} in no file.`;
+    return { words, short: isSafe ? "downloaded" : "not saved", isSafe };
   }
 }

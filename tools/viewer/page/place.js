@@ -1,15 +1,15 @@
-// The view in the page's address, as #x,y,level of the middle: so that a reload, or a friend, sees the same part.
+// The view in the page's address, as #x,y,level of the middle, and @version where the past is shown: so that a reload, or a friend, sees the same.
 
-/** A view as a text. */
-export function textOf(view) {
+/** A view as a text, of a version or of now. */
+export function textOf(view, version = null) {
   const [x, y] = view.pointAt([view.width / 2, view.height / 2]);
-  return `#${Math.round(x)},${Math.round(y)},${Number(view.level.toFixed(2))}`;
+  return `#${Math.round(x)},${Math.round(y)},${Number(view.level.toFixed(2))}${version === null ? "" : `@${version}`}`;
 }
 
-/** The middle and the level that a text names, or null. */
+/** The middle, the level and the version that a text names, or null. */
 export function placeIn(text) {
-  const found = /^#(-?\d+),(-?\d+),(-?\d+(?:\.\d+)?)$/.exec(text);
-  return found && { middle: [Number(found[1]), Number(found[2])], level: Number(found[3]) };
+  const found = /^#(-?\d+),(-?\d+),(-?\d+(?:\.\d+)?)(?:@(\d+))?$/.exec(text);
+  return found && { middle: [Number(found[1]), Number(found[2])], level: Number(found[3]), version: found[4] === undefined ? null : Number(found[4]) };
 }
 
 const PAUSE = 400;
@@ -30,12 +30,20 @@ export class Place {
     view.zoomTo(found.level);
     view.centre(...found.middle);
     this.#app.look();
+    this.#goTo(found.version);
     return true;
+  }
+
+  #goTo(version) {
+    const { past } = this.#app;
+    if (version === null) past.leave();
+    else if (past.isOn) past.go(version);
+    else past.enter(version);
   }
 
   /** Writes the view into the address, when it has been still for a moment. */
   note() {
     clearTimeout(this.#timer);
-    this.#timer = setTimeout(() => history.replaceState(null, "", textOf(this.#app.view)), PAUSE);
+    this.#timer = setTimeout(() => history.replaceState(null, "", textOf(this.#app.view, this.#app.past.version)), PAUSE);
   }
 }

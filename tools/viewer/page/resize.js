@@ -89,6 +89,15 @@ export function fitted(tree, ids, to) {
   return members(tree, ids).flatMap((id) => resized(tree, id, mapped(tree.boxOf(id), from, to), false));
 }
 
+/** Whether several shapes get another box on the page with no edge rounded to a whole pixel. */
+export function isExact(tree, ids, to) {
+  const from = tree.boxAround(ids), found = members(tree, ids);
+  const divides = (value, low, was, is) => ((value - low) * is) % was === 0;
+  const across = (x) => divides(x, from.left, from.right - from.left, to.right - to.left);
+  const down = (y) => divides(y, from.top, from.bottom - from.top, to.bottom - to.top);
+  return found.length < 2 || found.map((id) => tree.boxOf(id)).every(({ left, top, right, bottom }) => across(left) && across(right) && down(top) && down(bottom));
+}
+
 /** The request that moves a shape by so much of the page. */
 export function shifted(tree, record, [across, down]) {
   const into = { ...inverse(tree.poseOf(record.parent)), dx: 0, dy: 0 };

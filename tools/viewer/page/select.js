@@ -1,10 +1,10 @@
-// The tools that select, move and resize.
+// The tool that selects, moves and resizes.
 
 import { Drag } from "./drag.js";
 import { Ghost } from "./ghost.js";
 import { dot, handle, outline, small } from "./overlay.js";
 import { boxOf, corners } from "./plane.js";
-import { HANDLES, dragged, handlesOf, members } from "./resize.js";
+import { HANDLES, dragged, handlesOf, isExact, members } from "./resize.js";
 import { FEWEST, JOIN, SLOP, Tool, distance } from "./tools.js";
 
 const ROOM = 28;
@@ -117,12 +117,18 @@ export class Select extends Tool {
   release(at, keys = {}) {
     if (!this.begin) return;
     this.drag(at, keys);
-    const { mode, isMoved, by, to } = this, { editor } = this.app;
+    const { mode, isMoved, by, to } = this;
     this.begin = this.mode = null;
     if (mode === "point") this.#setPoints();
     else if (!isMoved && this.again && mode === "move") this.#clickAgain();
-    else if (isMoved && mode === "resize") editor.fitTo(to);
+    else if (isMoved && mode === "resize") this.#fit(to);
     else if (isMoved && mode === "move") this.#endMove(by);
+  }
+
+  #fit(to) {
+    const { tree, selection } = this.state;
+    if (!isExact(tree, selection, to)) this.app.say("Not all of these edges fall on whole pixels at this size: each was put on the nearest one.");
+    this.app.editor.fitTo(to);
   }
 
   #endMove(by) {
@@ -277,51 +283,5 @@ export class Select extends Tool {
     const shown = this.toWindow(this.points);
     const edges = this.begin ? [] : this.toWindow(this.#edges).map(small);
     return [outline("mark", shown), ...edges, ...shown.map((point, k) => dot(point, k === this.#point))];
-  }
-}
-
-/** Drags the shape that is pressed, however deep it lies. */
-export class Move extends Tool {
-  hint = "Drag any single shape to move it, however deep it lies. Arrow keys move what is selected, with Shift ten times as far.";
-  #move = null;
-
-  press(at) {
-    const { state } = this, id = state.tree?.at(at.page) ?? null;
-    // What lies in what is selected moves with it.
-    const isInside = id !== null && state.tree.line(id).some((record) => state.selection.includes(record.id));
-    if (!isInside) this.app.editor.select(id);
-    this.begin = state.selected === null ? null : at.page;
-    this.touched = state.selection;
-    this.from = state.box;
-    this.by = [0, 0];
-    this.#move = new Drag(this.app.editor, state.selection);
-    this.app.ghost = null;
-  }
-
-  drag(at, keys) {
-    if (!this.begin) return;
-    this.by = this.grid.moved(this.from, [at.page[0] - this.begin[0], at.page[1] - this.begin[1]], keys);
-    this.app.ghost ??= new Ghost(this.app, this.touched, this.#move);
-    this.app.ghost.go(this.by);
-    this.#move.to(this.by);
-  }
-
-  release() {
-    const made = this.begin && this.#move.end(this.by);
-    if (made) this.app.ghost?.end(made);
-    this.begin = null;
-  }
-
-  drop() {
-    if (this.begin) this.#move.end([0, 0]);
-    if (this.begin) this.app.ghost = null;
-    return super.drop();
-  }
-
-  lost() {
-    const isLost = this.begin && this.touched.some((id) => !this.state.tree?.record(id));
-    if (isLost) this.#move.end(this.#move.made);
-    if (isLost) this.begin = this.app.ghost = null;
-    return Boolean(isLost);
   }
 }

@@ -2,7 +2,8 @@
 //
 // The tree is the one that is shown, with those own edits that were accepted since, so that nothing has to wait for the picture.
 //
-// Events: `tree` (the tree has changed), `selected` (the selection, or the colour, has changed), `history` (there is another step to take back).
+// Events: `tree` (the tree has changed), `selected` (the selection, or the colour, has changed), `history` (there is another step to take back), `making`
+// (edits go on their way, or are answered).
 
 import { History } from "./history.js";
 import { View } from "./view.js";
@@ -23,6 +24,8 @@ export class State extends EventTarget {
   fill = "2f6fde";
   /** Whether a tool that draws is chosen. */
   isDrawing = false;
+  /** Whether an earlier version is shown, in which nothing can be changed. */
+  isPast = false;
 
   /** The selected shape, or the last one of several; null where there is none. */
   get selected() {
@@ -81,14 +84,21 @@ export class State extends EventTarget {
   /** Takes the tree that is shown. */
   show(tree) {
     this.#base = tree;
-    this.#build();
+    if (!this.isPast) this.#build();
+  }
+
+  /** Takes the tree of an earlier version, which stands in for the one that is shown; or none, when that is over. */
+  showPast(tree) {
+    this.isPast = tree !== null;
+    if (tree) this.#take(tree, []);
+    else if (this.#base) this.#build();
   }
 
   /** Takes own edits that were accepted: each with its reply. */
   add(edits) {
     const base = this.#base, own = base ? edits.filter(([, reply]) => reply.version > base.version) : [];
     this.#ahead.push(...own);
-    if (own.length) this.#take(this.tree.copy(), own);
+    if (own.length && !this.isPast) this.#take(this.tree.copy(), own);
   }
 
   #build() {

@@ -23,6 +23,7 @@ export class Steps {
   #picture;
   #tell;
   #last = Promise.resolve();
+  #isMaking = false;
 
   /** `tell` is called with a refusal's reply, with a text where an edit was not answered, or with null where all was done. */
   constructor(link, picture, state, tell) {
@@ -80,9 +81,24 @@ export class Steps {
     });
   }
 
+  /** Whether edits are on their way. */
+  get isMaking() {
+    return this.#isMaking;
+  }
+
+  #setMaking(is) {
+    this.#isMaking = is;
+    this.state.dispatchEvent(new Event("making"));
+  }
+
   /** Sends edits, of which the caller has the turn. Gives the replies of those that were made, and what they changed. */
   async make(requests) {
-    const done = { changes: [], replies: [], made: new Map(), refusal: null, wasNotSent: false };
+    const done = { changes: [], replies: [], made: new Map(), refusal: null, wasNotSent: this.state.isPast };
+    if (this.state.isPast) {
+      this.#tell("This is the past, where nothing can be changed. Esc goes back to now.");
+      return done;
+    }
+    this.#setMaking(true);
     try {
       for (const batch of batches(requests, MOST)) await this.#makeBatch(batch, done);
       this.#tell(done.refusal);
@@ -90,6 +106,8 @@ export class Steps {
       if (!(fault instanceof Unanswered)) throw fault;
       done.wasNotSent = !fault.wasSent && !done.changes.length;
       this.#tell(fault.wasSent ? "The server went away; whether it did this is not known." : "The server is away.");
+    } finally {
+      this.#setMaking(false);
     }
     return done;
   }

@@ -1,13 +1,15 @@
 """The web server: the page, the pictures, and who may open a session."""
 
+import asyncio
+import contextlib
+from html import escape
 from pathlib import Path
 from urllib.parse import urlsplit
 
 from aiohttp import web
 
-from relay.looks import Looks
 from relay.pictures import Pictures
-from relay.tabs import News, Tab
+from relay.tabs import Room, Tab
 
 PAGE = Path(__file__).resolve().parent.parent / "page"
 
@@ -19,20 +21,38 @@ def is_own(request, listen):
     return is_known and (origin is None or urlsplit(origin).netloc == request.host)
 
 
-def application(host, port, listen):
-    pictures, news = Pictures(), News()
-    looks = Looks(pictures)
+def known_by(request):
+    """The history that a tab followed before its connection was lost, or None, and the version up to which it knows all edits."""
+    since = request.query.get("since", "")
+    return (request.query.get("live"), int(since)) if since.isdecimal() else (None, 0)
+
+
+def application(address, feed_address, listen, name):
+    """The gateway of a server at (host, port) or at the path of a unix socket; the same of its feed, or None. The name is in the title of each tab."""
+    pictures = Pictures()
+    room = Room(address, feed_address, pictures)
 
     async def tab(request):
         if not is_own(request, listen):
             raise web.HTTPForbidden
         found = web.WebSocketResponse(compress=False, heartbeat=20)
         await found.prepare(request)
-        await Tab(found, looks, news, host, port).serve()
+        await Tab(found, room, *known_by(request)).serve()
         return found
 
+    async def following(_):
+        task = asyncio.create_task(room.feed.follow())
+        yield
+        task.cancel()
+        with contextlib.suppress(asyncio.CancelledError):
+            await task
+
+    async def leave(_):
+        await room.past.close()
+
     async def page(_):
-        return web.FileResponse(PAGE / "index.html")
+        text = (PAGE / "index.html").read_text().replace("<title>canvas</title>", f"<title>{escape(name)} – canvas</title>")
+        return web.Response(text=text, content_type="text/html")
 
     async def fresh(_, response):
         response.headers.setdefault("Cache-Control", "no-cache")
@@ -40,6 +60,9 @@ def application(host, port, listen):
 
     found = web.Application()
     found.on_response_prepare.append(fresh)
+    found.on_cleanup.append(leave)
+    if room.feed is not None:
+        found.cleanup_ctx.append(following)
     found.add_routes([
         web.get("/", page),
         web.get("/session", tab),

@@ -52,6 +52,10 @@ class Pictures:
     def has(self, name):
         return name in self._kept
 
+    async def png(self, name):
+        """The PNG of a picture that is known."""
+        return await asyncio.shield(self._kept[name])
+
     def told(self, line, reply, body):
         """The reply to a request's line as a tab is told it: a picture as its hash, a document as it is."""
         del reply["body"]
@@ -81,4 +85,4 @@ class Pictures:
         headers = {"ETag": f'"{name}"', "Cache-Control": "private, max-age=86400, immutable"}
         if any(tag.value == name for tag in request.if_none_match or ()):
             return web.Response(status=304, headers=headers)
-        return web.Response(body=await asyncio.shield(self._kept[name]), content_type="image/png", headers=headers)
+        return web.Response(body=await self.png(name), content_type="image/png", headers=headers)

@@ -10,6 +10,8 @@ import time
 BUFFER = 1 << 20
 PATIENCE = 20
 """Seconds after which a server that does not answer counts as away."""
+KEEP_ALIVE = {"TCP_KEEPIDLE": 10, "TCP_KEEPINTVL": 5, "TCP_KEEPCNT": 3}
+"""After how many seconds of silence the system asks whether the server's machine is there, how often, and how many times."""
 
 
 class Away(Exception):
@@ -21,6 +23,20 @@ def line_of(request):
 
 
 POINT = line_of({"verb": "point", "x": 0, "y": 0})
+
+
+async def opened(address):
+    """A reader and a writer, of a connection to (host, port) or to the path of a unix socket."""
+    if isinstance(address, str):
+        return await asyncio.open_unix_connection(address, limit=BUFFER)
+    reader, writer = await asyncio.open_connection(*address, limit=BUFFER)
+    found = writer.get_extra_info("socket")
+    found.setsockopt(socket.IPPROTO_TCP, socket.TCP_NODELAY, 1)
+    found.setsockopt(socket.SOL_SOCKET, socket.SO_KEEPALIVE, 1)
+    for name, value in KEEP_ALIVE.items():
+        if hasattr(socket, name):
+            found.setsockopt(socket.IPPROTO_TCP, getattr(socket, name), value)
+    return reader, writer
 
 
 class Presence:
@@ -53,13 +69,11 @@ class Session:
         self.seen = 0
 
     @classmethod
-    async def open(cls, host, port):
+    async def open(cls, address):
         try:
-            reader, writer = await asyncio.wait_for(asyncio.open_connection(host, port, limit=BUFFER), PATIENCE)
+            return cls(*await asyncio.wait_for(opened(address), PATIENCE))
         except (OSError, asyncio.TimeoutError):
             raise Away("no server answers") from None
-        writer.get_extra_info("socket").setsockopt(socket.IPPROTO_TCP, socket.TCP_NODELAY, 1)
-        return cls(reader, writer)
 
     async def ask(self, lines):
         """Sends the lines of requests in one piece; gives their replies, each with its body."""
@@ -74,6 +88,10 @@ class Session:
             raise Away("the server does not answer") from None
         except OSError:
             raise Away("the server has ended the session") from None
+
+    async def ended(self):
+        """Waits until the server has ended the session."""
+        await asyncio.wait([self._replies])
 
     async def version(self):
         """The version that the document has now, as a point's reply names it."""

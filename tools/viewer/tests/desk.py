@@ -11,6 +11,7 @@ from PIL import Image, ImageChops
 
 from browser import CONTROL
 from canvas_client import Canvas, PROGRAM, TOP
+from repository import BUILT_KEEPER
 from running import free_port
 
 HERE = Path(__file__).resolve().parent.parent
@@ -23,16 +24,21 @@ EDGE = 1 << 21
 class Server:
     """A run of the program at an address that stays the same; it can be killed, and started again."""
 
+    feed = None
+
     def __init__(self, file):
         self.file = file
         self.address = f"127.0.0.1:{free_port()}"
         self._process = None
 
     def start(self):
-        self._process = subprocess.Popen([str(PROGRAM), "serve", self.address, str(self.file), "1"], stdout=subprocess.PIPE)
-        line = self._process.stdout.readline()
-        if line != b"listening\n":
-            raise RuntimeError(f"the server says {line!r}")
+        self._run([str(PROGRAM), "serve", self.address, str(self.file), "1"], b"listening\n")
+
+    def _run(self, words, *said):
+        self._process = subprocess.Popen(words, stdout=subprocess.PIPE)
+        lines = [self._process.stdout.readline() for _ in said]
+        if lines != [*said]:
+            raise RuntimeError(f"the server says {lines!r}")
 
     def kill(self):
         if self._process is not None:
@@ -60,11 +66,27 @@ class Server:
         return [record["id"] for record in sorted(found, key=lambda record: record["index"], reverse=True)]
 
 
-class Gateway:
-    """A run of the gateway."""
+class Keeper(Server):
+    """A run of canvasd over a folder, which begins with the document of a file, or empty, with a feed."""
 
-    def __init__(self, server):
-        self._process = subprocess.Popen([str(HERE / "gateway.py"), server.address, "--listen", "127.0.0.1:0"], stdout=subprocess.PIPE)
+    def __init__(self, folder, file=None):
+        super().__init__(file)
+        self.folder = Path(folder) / "kept"
+        self.feed = f"127.0.0.1:{free_port()}"
+
+    def start(self):
+        opening = ["--open", str(self.file)] if self.file and not self.folder.exists() else []
+        words = [str(BUILT_KEEPER), str(self.folder), "--listen", self.address, "--feed", self.feed, "--workers", "1", "--log", "error", *opening]
+        self._run(words, f"listening on {self.address}\n".encode(), f"feeding on {self.feed}\n".encode())
+
+
+class Gateway:
+    """A run of the gateway, for a server, or for what stands before it."""
+
+    def __init__(self, server, feed=None):
+        feed = feed or getattr(server, "feed", None)
+        words = [str(HERE / "gateway.py"), server.address, "--listen", "127.0.0.1:0", *(["--feed", feed] if feed else [])]
+        self._process = subprocess.Popen(words, stdout=subprocess.PIPE)
         self.page = self._process.stdout.readline().decode().strip()
         if not self.page.startswith("http://127.0.0.1:"):
             raise RuntimeError(f"the gateway says {self.page!r}")
@@ -103,6 +125,14 @@ class Desk:
     async def click(self, point):
         await self.tab.drag([await self.spot(point)])
 
+    async def touch(self, *points):
+        """A finger goes from point to point of the page."""
+        first, *others = [await self.spot(point) for point in points]
+        await self.tab.touch("touchStart", first)
+        for place in others:
+            await self.tab.touch("touchMove", place)
+        await self.tab.touch("touchEnd")
+
     async def press(self, *keys, modifiers=0):
         for key in keys:
             await self.tab.key(key, modifiers)
@@ -127,7 +157,8 @@ class Desk:
         await self.settle(0)
 
     async def picture(self):
-        """What the canvas shows, with no marks above it; two frames after the last change."""
+        """What the canvas shows, with no marks and no pointers above it; two frames after the last change."""
+        await self.tab.value("document.getElementById('people').style.visibility = 'hidden'")
         await self.tab.value("app.choose('select'), app.stage.drop(), app.editor.select(null), app.state.enter(null), app.notes.hide(), document.activeElement.blur()")
         await self.tab.value("new Promise((done) => requestAnimationFrame(() => requestAnimationFrame(done)))")
         return Image.open(io.BytesIO(await self.tab.screenshot(await self.tab.box_of("#stage")))).convert("RGB")

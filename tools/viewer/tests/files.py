@@ -3,6 +3,7 @@
 import asyncio
 import io
 import json
+import math
 import tempfile
 import time
 from pathlib import Path
@@ -38,12 +39,16 @@ async def files(browser, ann, server):
         text = await downloaded(folder, f"canvas-version-{version}.json")
         yield "the document as a file", difference(text, server.ask(verb="export")[1])
         yield "all is saved", difference(await ann.text("saved"), "downloaded")
-        await ann.tab.value("document.querySelector('[data-act=picture]').click()")
+        await ann.tab.value("document.querySelector('[data-act=picture]').click(), document.getElementById('print-download').click()")
         picture = Image.open(io.BytesIO(await downloaded(folder, f"canvas-version-{version}.png"))).convert("RGB")
         level, left, top, width, height = await ann.view()
         yield "the view as a file", difference(ImageChops.difference(picture, patches(server, level, left, top, width, height)).getbbox(), None)
+        async for case in pictures(ann, server, folder, version):
+            yield case
     before = server.records()
     await ann.tab.value(OPEN % (json.dumps(POSTER.read_text()), "'poster.json'"))
+    await ann.tab.until("document.getElementById('open').open")
+    await ann.tab.value("document.querySelector('#open [value=into]').click()")
     await ann.tab.until("app.state.history.undoName === 'open'")
     await ann.settle(version + 120)
     after = server.records()
@@ -59,6 +64,49 @@ async def files(browser, ann, server):
     await ann.tab.until("!document.getElementById('refusal').hidden")
     yield "a file that is none", None if "notes.txt" in await ann.text("refusal") else await ann.text("refusal")
     await ann.press("Escape")
+
+
+PRINT = """(() => { document.querySelector('[data-act=picture]').click(); const dialog = document.getElementById('print');
+  dialog.querySelector('input[value=%s]').click(); const level = document.getElementById('print-level'); level.value = '%d';
+  level.dispatchEvent(new Event('change', { bubbles: true })); return document.getElementById('print-size').textContent; })()"""
+
+
+async def pictures(ann, server, folder, version):
+    """Pictures of parts of the page, at scales of their own."""
+    records = await ann.tab.value("app.picture.tree.children(null).map(({ id }) => id)")
+    for which, level in [("selection", 0), ("selection", -2), ("selection", 2), ("all", 3)]:
+        await ann.tab.value(f"app.state.select([{records[0]}])")
+        left, top, right, bottom = await ann.tab.value("(({ left, top, right, bottom }) => [left, top, right, bottom])"
+                                                       f"({'app.state.box' if which == 'selection' else 'app.picture.tree.boxOf(null)'})")
+        scale = 2.0 ** level
+        x, y = math.floor(left / scale), math.floor(top / scale)
+        width, height = math.ceil(right / scale) - x, math.ceil(bottom / scale) - y
+        said = await ann.tab.value(PRINT % (which, level))
+        yield f"the size of {which} at {level}", difference(said, f"{width:,} by {height:,} pixels")
+        (Path(folder) / f"canvas-version-{version}.png").unlink(missing_ok=True)
+        await ann.tab.value("document.getElementById('print-download').click()")
+        picture = Image.open(io.BytesIO(await downloaded(folder, f"canvas-version-{version}.png"))).convert("RGB")
+        wanted = patches(server, level, x, y, width, height)
+        yield f"the picture of {which} at {level}", difference((picture.size, ImageChops.difference(picture, wanted).getbbox()), (wanted.size, None))
+    await ann.look_at(6, (0, 0))
+    said = await ann.tab.value(PRINT % ("view", -3))
+    yield "a picture that is too large", None if "too many" in said else said
+    yield "it can't be asked for", difference(await ann.tab.value("document.getElementById('print-download').disabled"), True)
+    await ann.tab.value("document.getElementById('print').close(), app.state.select([])")
+    await ann.look_at(0, (128, 128))
+
+
+async def in_place(ann, server, before):
+    """A file in the place of the document, taken back again."""
+    await ann.tab.value(OPEN % (json.dumps('{"format":2,"next":2,"shapes":[{"hidden":false,"id":1,"place":{"index":"a0","parent":null},'
+                                           '"pose":{"dx":0,"dy":0,"flip":false,"quarter":0},"shape":{"fill":"ff0000","h":77,"kind":"rect","w":55}}]}'), "'one.json'"))
+    await ann.tab.until("document.getElementById('open').open")
+    await ann.tab.value("document.querySelector('#open [value=place]').click()")
+    await ann.tab.until("app.picture.tree.records.size === 1 && [...app.picture.tree.records.values()][0].shape.w === 55")
+    yield "a file in the place of the document", difference([record["shape"]["w"] for record in server.records().values()], [55])
+    await back(ann)
+    looks = lambda records: sorted(json.dumps([record["shape"], record["hidden"], record["pose"]], sort_keys=True) for record in records.values())
+    yield "one step takes it back, too", difference(looks(server.records()), looks(before))
 
 
 async def empty(browser):
@@ -96,6 +144,8 @@ async def empty(browser):
             server.start()
             await tab.until("document.getElementById('away').hidden && app.picture.isSettled")
             yield "the server serves that file", difference([record["shape"]["w"] for record in server.records().values()], [800])
+            async for case in in_place(desk, server, server.records()):
+                yield case
             yield "its console", difference(tab.faults, [])
             await tab.close()
         finally:

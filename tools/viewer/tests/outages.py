@@ -1,15 +1,9 @@
-"""A server that goes away and comes back, one with no seat, and the demo."""
+"""A server that goes away and comes back, and one with no seat."""
 
 import asyncio
-import os
-import signal
-import subprocess
 
-import aiohttp
-
-from canvas_client import TOP
-from running import difference, free_port
-from tests.desk import SECONDS, seen
+from running import difference
+from tests.desk import seen
 
 
 async def away(ann, ben, server):
@@ -61,22 +55,4 @@ async def no_seat(browser, gateway, server):
     await tab.close()
 
 
-async def demo():
-    """bin/canvas-demo serves the page, and Ctrl-C ends all of it."""
-    address = f"127.0.0.1:{free_port()}"
-    process = subprocess.Popen([str(TOP / "bin" / "canvas-demo"), "--listen", address], stdout=subprocess.PIPE, text=True, start_new_session=True)
-    line = await asyncio.to_thread(process.stdout.readline)
-    yield "what the demo says", None if f"http://{address}/" in line else repr(line)
-    async with aiohttp.ClientSession() as client:
-        async with client.get(f"http://{address}/") as response:
-            yield "its page", difference(response.status, 200)
-        async with client.ws_connect(f"http://{address}/session") as socket:
-            yield "its server", difference((await socket.receive_json(timeout=SECONDS))["say"], "here")
-    os.killpg(process.pid, signal.SIGINT)
-    yield "its end", difference(await asyncio.to_thread(process.wait, SECONDS), 0)
-    process.stdout.close()
-    left = subprocess.run(["ps", "-o", "args=", "-g", str(process.pid)], capture_output=True, text=True).stdout.strip()
-    yield "nothing of it is left", difference(left, "")
-
-
-STAGES = (away, no_seat, demo)
+STAGES = (away, no_seat)

@@ -85,6 +85,9 @@ async def resized(ann, server):
                         f"right: {corner[0] + 560}, bottom: {corner[1] + 120}}}); }})()")
     yield "several are resized together", difference(await boxes(ann, [one, two]), [sum(at(corner, *it), []) for it in
                                                                                  [((0, 0), (240, 120)), ((400, 0), (560, 80))]])
+    await ann.drag(*at(corner, (560, 120), (570, 121), (557, 117)))
+    yield "that edges fall on no whole pixel is told", None if "the nearest one" in await ann.text("note") else await ann.text("note")
+    await back(ann)
     for k, (name, value, wanted) in enumerate([("x", -10, (-10, 0, 230, 120)), ("y", 30, (-10, 30, 230, 150)), ("w", 55, (-10, 30, 45, 150)), ("h", 66, (-10, 30, 45, 96))]):
         await ann.tab.value(f"app.editor.select({one}), document.getElementById('field-{name}').focus()")
         shown = value if k > 1 else value + corner[k]

@@ -34,6 +34,7 @@ async def same_view(browser, server):
     try:
         for _ in range(TABS):
             desks.append(await Desk.open(browser, gateway, server))
+            await desks[-1].look_at(0, (128, 128))
             await desks[-1].tab.value(NOTE)
         tiles = await desks[0].tab.value("app.view.tiles().length")
         await asyncio.sleep(1)  # by then each session has been asked for a point twice

@@ -4,7 +4,7 @@ import asyncio
 
 from browser import SHIFT
 from running import difference
-from tests.desk import MIDDLE, boxes, sheet
+from tests.desk import MIDDLE, Desk, boxes, sheet
 
 PHONE = {"width": 390, "height": 780, "deviceScaleFactor": 2, "mobile": True}
 HIDDEN = """[...document.querySelectorAll('header button')].filter((it) => it.offsetParent !== null).filter((it) => {
@@ -50,6 +50,7 @@ async def small_things(ann, server):
     await ann.tab.value("location.hash = '#-100,50,2'")
     await ann.tab.until("app.view.level === 2")
     yield "the address names a view", difference(await ann.tab.value(MIDDLE % (-100, 50)), True)
+    yield "the title names the document", difference(await ann.tab.value("document.title"), "drawing – canvas")
     async for case in lost_in_a_drag(ann, server):
         yield case
 
@@ -57,7 +58,7 @@ async def small_things(ann, server):
 async def lost_in_a_drag(ann, server):
     """A shape that others delete while it is dragged is told."""
     _, (one,), corner = await sheet(ann, server, (0, 0, 60, 40))
-    await ann.tab.value(f"app.state.enter(null)")
+    await ann.tab.value("app.state.enter(null)")
     x, y = await ann.spot([corner[0] + 20, corner[1] + 20])
     await ann.tab.pointer("mouseMoved", x, y, held=False)
     await ann.tab.pointer("mousePressed", x, y, clickCount=1)
@@ -68,6 +69,47 @@ async def lost_in_a_drag(ann, server):
     yield "a shape that others delete while I drag it", difference(await ann.text("refusal"), "Not done.Others have deleted the shape that you were dragging.")
     await ann.tab.pointer("mouseReleased", x + 30, y + 30, clickCount=1)
     await ann.press("Escape")
+
+
+async def take_by_finger(tab, tool):
+    """Taps on a tool until it is taken: on a busy machine the browser now and then makes no click of a tap."""
+    x, y, w, h = await tab.box_of(f"[data-tool={tool}]")
+    for _ in range(10):
+        await tab.tap(x + w / 2, y + h / 2)
+        await asyncio.sleep(0.3)
+        if await tab.value(f"document.querySelector('[data-tool={tool}]').getAttribute('aria-pressed')") == "true":
+            break
+
+
+async def by_finger(browser, gateway, server):
+    """On a phone a finger selects, moves and draws, and two fingers pan."""
+    tab = await browser.open(gateway.page)
+    await tab.command("Emulation.setDeviceMetricsOverride", **PHONE)
+    await tab.command("Emulation.setTouchEmulationEnabled", enabled=True)
+    finger = Desk(tab, server)
+    await finger.settle(0)
+    _, (one,), corner = await sheet(finger, server, (20, 20, 90, 70))
+    await finger.touch([corner[0] + 60, corner[1] + 50])
+    yield "a finger selects", difference(await tab.value("app.state.selection"), [one])
+    await finger.touch([corner[0] + 60, corner[1] + 50], [corner[0] + 80, corner[1] + 80], [corner[0] + 100, corner[1] + 120])
+    yield "and moves", difference((await boxes(finger, [one]))[0][:2], [corner[0] + 60, corner[1] + 90])
+    await finger.touch([corner[0] + 150, corner[1] + 160], [corner[0] + 170, corner[1] + 180], [corner[0] + 190, corner[1] + 210])
+    yield "and resizes by a corner", difference((await boxes(finger, [one]))[0], [corner[0] + 60, corner[1] + 90, corner[0] + 190, corner[1] + 210])
+    await take_by_finger(tab, "ellipse")
+    await finger.touch([corner[0] + 20, corner[1] + 250], [corner[0] + 60, corner[1] + 280], [corner[0] + 120, corner[1] + 330])
+    made = await finger.made(one)
+    yield "and draws", difference((await boxes(finger, [made]))[0], [corner[0] + 20, corner[1] + 250, corner[0] + 120, corner[1] + 330])
+    _, left, top, *_ = await finger.view()
+    x, y, *_ = await tab.box_of("#stage")
+    await tab.touch("touchStart", (x + 100, y + 100))
+    await tab.touch("touchStart", (x + 100, y + 100), (x + 200, y + 100))
+    for step in range(1, 6):
+        await tab.touch("touchMove", (x + 100 + 8 * step, y + 100 + 6 * step), (x + 200 + 8 * step, y + 100 + 6 * step))
+    await tab.touch("touchEnd")
+    yield "two fingers pan", difference((await finger.view())[:3], [0, left - 40, top - 30])
+    yield "and move nothing", difference((await boxes(finger, [one]))[0][:2], [corner[0] + 60, corner[1] + 90])
+    yield "the finger's console", difference(tab.faults, [])
+    await tab.close()
 
 
 async def everywhere(browser, gateway, ann):
@@ -167,4 +209,4 @@ async def readable(ann):
     yield "contrast", difference(await ann.tab.value(FAINT), [])
 
 
-STAGES = (small_things, everywhere, refused, without_a_mouse, readable)
+STAGES = (small_things, everywhere, by_finger, refused, without_a_mouse, readable)

@@ -84,7 +84,7 @@ async def many_shapes(ann, server, count=600):
     shapes = [{"shape": {"kind": "rect", "w": 9, "h": 9, "fill": f"{k * 97 % 256:02x}4080"}, "pose": {"dx": 4000 + k % 30 * 12, "dy": k // 30 * 12, "quarter": 0, "flip": False}}
               for k in range(count)]
     await ann.look_at(0, (4200, 130))
-    await ann.tab.value(f"app.editor.open({json.dumps(json.dumps({'copied': 'canvas', 'shapes': shapes}))})")
+    await ann.tab.value(f"app.editor.open({json.dumps(shapes)}).then(() => 0)")
     yield "they are made and selected", difference(await ann.tab.value("app.state.selection.length"), count)
     await ann.tab.value("app.editor.moveBy([7, 3])")
     left = min(record["pose"]["dx"] for number, record in server.records().items() if number not in before)

@@ -7,7 +7,7 @@ import { copiesIn, copiesOf, inOrder, requestsFor, textOf } from "../page/clip.j
 import { lossBetween, wordsOfLoss } from "../page/loss.js";
 import { textOf as addressOf, placeIn } from "../page/place.js";
 import { STILL, apply, boxOf, compose } from "../page/plane.js";
-import { aligned, distributed, dragged, fitted, resized, shifted } from "../page/resize.js";
+import { aligned, distributed, dragged, fitted, isExact, resized, shifted } from "../page/resize.js";
 import { Tree } from "../page/tree.js";
 import { View } from "../page/view.js";
 
@@ -53,6 +53,8 @@ test("a frame's children stay, and those of a group go with it", () => {
   const found = make(tree.copy(), fitted(tree, [1], box(0, 0, 80, 10)));
   assert.deepEqual([found.boxOf(2), found.boxOf(3)], [box(0, 0, 20, 5), box(60, 5, 80, 10)]);
   assert.deepEqual(fitted(tree, [2], tree.boxOf(2)), []);
+  assert.deepEqual([box(0, 0, 80, 10), box(0, 0, 80, 11), box(1, 1, 42, 21)].map((to) => isExact(tree, [1], to)), [true, false, false]);
+  assert.equal(isExact(tree, [2], box(0, 0, 7, 3)), true);
 });
 
 test("a shape is moved on the page, whatever it lies in", () => {

@@ -9,7 +9,7 @@ from types import SimpleNamespace
 
 import pytest
 
-from gateway import parts_of
+from gateway import door_of, parts_of
 from relay.application import PAGE, is_own
 from relay.session import Presence
 from relay.tabs import News, Tab
@@ -40,6 +40,10 @@ def test_an_address(text, wanted):
     assert parts_of(text) == wanted
 
 
+def test_the_door_of_a_server():
+    assert (door_of("127.0.0.1:80"), door_of("unix:here/door")) == (("127.0.0.1", 80), "here/door")
+
+
 @pytest.mark.parametrize("text", ["", "8080", "host", "host:", "host:x", "host:65536", "host:-1"])
 def test_what_is_no_address(text):
     with pytest.raises(argparse.ArgumentTypeError):
@@ -59,7 +63,7 @@ class Session:
 async def heard(session, own, *versions):
     """What a tab with a session of its own is told, where another session was told of versions."""
     said, news = [], News()
-    tab = Tab(SimpleNamespace(closed=False, send_str=None), None, news, "", 0)
+    tab = Tab(SimpleNamespace(closed=False, send_str=None), SimpleNamespace(past=None))
     tab._session = own
 
     async def say(**what):

@@ -51,7 +51,7 @@ async def served(answer, work):
         writer.close()
 
     server = await asyncio.start_server(serve, "127.0.0.1", 0)
-    session = await Session.open("127.0.0.1", server.sockets[0].getsockname()[1])
+    session = await Session.open(server.sockets[0].getsockname()[:2])
     try:
         return await asyncio.wait_for(work(session), 20)
     finally:
@@ -126,7 +126,7 @@ def test_no_server():
         port = server.sockets[0].getsockname()[1]
         server.close()
         await server.wait_closed()
-        await Session.open("127.0.0.1", port)
+        await Session.open(("127.0.0.1", port))
 
     with pytest.raises(Away, match="no server answers"):
         asyncio.run(work())

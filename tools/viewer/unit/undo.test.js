@@ -58,6 +58,16 @@ test("a deletion is taken back with all that was in it, and earlier steps still 
   assert.deepEqual(plan.requests, [{ verb: "pose", id: 53, pose: { ...STILL, dx: 30 } }]);
 });
 
+test("shapes that lay in front of each other are made anew in one batch", () => {
+  const found = tree(), ids = [6, 7, 8];
+  make(found, ids.map((as) => ({ verb: "create", shape: { kind: "group" }, as })));
+  const before = order(found, null), changes = make(found, ids.slice().reverse().map((id) => ({ verb: "delete", id })));
+  const { requests } = planBack(found, changes, same);
+  assert.equal(batches(requests, 256).length, 1);
+  make(found, requests);
+  assert.deepEqual(order(found, null).map((id) => Math.abs(id)), before);
+});
+
 test("a step that deletes what it made itself is one plan", () => {
   const found = tree(), before = bare(found);
   const changes = make(found, [{ verb: "delete", id: 2 }, { verb: "move", id: 3, parent: null, spot: "back" }, { verb: "delete", id: 1 }]);

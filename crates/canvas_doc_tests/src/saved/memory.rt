@@ -4,7 +4,7 @@
 use crate::saved::asserts::holds;
 use canvas_code::OutOfMemory;
 use canvas_doc::Document;
-use canvas_store::{StoreFault, export, import};
+use canvas_saved::{StoreFault, export, import};
 use std::alloc::Global;
 use std::test::Fail;
 

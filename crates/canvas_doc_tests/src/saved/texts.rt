@@ -1,7 +1,8 @@
 //! Saved texts of both formats, and what they are told as.
 use crate::saved::asserts::reads;
+use canvas_code::Coded;
 use canvas_doc::Document;
-use canvas_store::{StoreFault, export, import};
+use canvas_saved::{StoreFault, export, import};
 use std::alloc::Global;
 use std::process::Abort;
 use std::str;

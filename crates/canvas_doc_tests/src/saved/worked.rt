@@ -4,7 +4,7 @@ use crate::saved::texts::{
     GROUP, assert_same, assert_told, document, number, push_element, record, told,
 };
 use canvas_doc::Document;
-use canvas_store::{export, import};
+use canvas_saved::{export, import};
 use std::alloc::Global;
 use std::process::Abort;
 

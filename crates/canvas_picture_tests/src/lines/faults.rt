@@ -1,6 +1,7 @@
 //! The number, the name and the text of each refusal of a line.
 
 use crate::asserts::equal;
+use canvas_code::Coded;
 use canvas_doc::Refusal;
 use canvas_line::LineFault;
 use std::alloc::Global;

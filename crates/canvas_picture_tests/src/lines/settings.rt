@@ -3,6 +3,7 @@ ghost use Rattle.std.specs.Prelude.{◌≡◌};
 
 use crate::asserts::equal;
 use crate::lines::seats::{accept, only, rectangle};
+use canvas_code::Coded;
 use canvas_doc::Document;
 use canvas_line::{Line, LineFault, Lines, Opened, Seat};
 use std::alloc::Global;

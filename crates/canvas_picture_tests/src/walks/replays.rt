@@ -3,6 +3,7 @@
 use crate::asserts::holds_at;
 use crate::shapes::after;
 use crate::walks::events::ran;
+use canvas_code::Coded;
 use canvas_doc::{Change, Document, Edit, Parent, Refusal, Spot};
 use canvas_plane::{Pose, Window};
 use canvas_shape::{Colour, Kind};

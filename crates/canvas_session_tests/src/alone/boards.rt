@@ -2,6 +2,7 @@
 
 use crate::asserts::{equal, holds_at};
 use canvas_board::{Alone, Board, BoardFault, Dot, Edited};
+use canvas_code::Coded;
 use canvas_doc::{Document, Edit, Parent, Refusal, Spot};
 use canvas_plane::{Pose, Window};
 use canvas_shape::{Colour, Kind};

@@ -4,6 +4,7 @@ use crate::alone::serving::{check, front, is_fault, lines_in, served};
 use crate::alone::sessions::{RED, RED_ANSWERS};
 use crate::asserts::{equal, holds, holds_at};
 use crate::fakes::{Counting, Drip, Flushed, Narrow, Same};
+use canvas_code::Coded;
 use canvas_session::{Cause, Served, SessionFault};
 use std::alloc::Global;
 use std::process::Abort;

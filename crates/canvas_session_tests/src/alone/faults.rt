@@ -2,15 +2,15 @@
 
 use crate::asserts::holds;
 use canvas_board::BoardFault;
-use canvas_code::OutOfMemory;
+use canvas_code::{Coded, OutOfMemory};
 use canvas_doc::{Refusal, TreeFault};
 use canvas_key::KeyFault;
 use canvas_paint::PaintFault;
 use canvas_plane::{PoseFault, WindowFault};
 use canvas_ppm::PpmFault;
+use canvas_saved::StoreFault;
 use canvas_session::{Cause, SessionFault};
 use canvas_shape::KindFault;
-use canvas_store::StoreFault;
 use canvas_wire::WireFault;
 use std::alloc::Global;
 use std::fmt::Display;

@@ -2,13 +2,14 @@
 
 use crate::asserts::{equal, holds};
 use canvas_board::{Alone, Board, BoardFault};
+use canvas_code::Coded;
 use canvas_doc::{Document, Edit, MOST_RECORDS, Parent, Place, Record, Refusal, Spot};
 use canvas_key::{Key, fresh};
 use canvas_plane::{Pose, Window};
 use canvas_shape::{Colour, Kind, Points};
 use std::alloc::Global;
 use std::process::Abort;
-use std::sync::Wait;
+use std::sync::{Arc, Wait};
 
 const FILL: Colour = Colour([1, 2, 3]);
 
@@ -69,7 +70,7 @@ fn new_board(rt: &impl Abort, alloc: Global, document: Document, limit: u64) -> 
 }
 
 // The version and the text of a board's document.
-fn saved(rt: &impl Abort, board: &mut Alone) -> (u64, Vec<u8>) {
+fn saved(rt: &impl Abort, board: &mut Alone) -> (u64, Arc<Vec<u8>, Global>) {
     let saved = board.saved().expect(rt, "a saved document");
     (saved.version, saved.text)
 }

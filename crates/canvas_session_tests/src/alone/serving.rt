@@ -3,6 +3,7 @@
 use crate::asserts::holds;
 use crate::fakes::{Drip, Narrow};
 use canvas_board::Alone;
+use canvas_code::Coded;
 use canvas_doc::Document;
 use canvas_session::{Cause, Served, SessionFault, serve};
 use std::alloc::Global;

@@ -1,7 +1,7 @@
 use Rattle.std.proofs.lemmas.Result.{on_ok_weaker}
 use Rattle.std.proofs.lemmas.List.{take_all}
 use Rattle.canvas_saved.specs.SavedText.{record_text}
-use Rattle.canvas_saved.proofs.Lists.{next-item, list-more, list-end, OnOk-any}
+use Rattle.canvas_json.proofs.Lists.{next-item, list-more, list-end, OnOk-any}
 use Rattle.canvas_saved.proofs.Opens.{kept-more}
 use Rattle.canvas_saved.proofs.saving.push_records.Goals as goal
 

@@ -1,6 +1,7 @@
 use Rattle.std.proofs.Common.{◌≡◌, ◌++◌, drop, false, take, All}
 use Rattle.canvas_saved.specs.Kept.{IsKept}
-use Rattle.canvas_saved.specs.SavedText.{list_text, record_text}
+use Rattle.canvas_json.specs.Texts.{list_text}
+use Rattle.canvas_saved.specs.SavedText.{record_text}
 use Rattle.canvas_saved.proofs.saving.push_records.Given as goal
 
 abbrev pub invariant-loop-shape : goal.invariant-loop-shape

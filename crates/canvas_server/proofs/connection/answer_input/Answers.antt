@@ -13,7 +13,7 @@ returns-then-speaks_http g c =
     let new = g.R.Read.remaining c.read_first-count.new.reader in
     let read = subst (Consumes old new) (sym c.split_at.ensures.front) c.read_first-count.ensures.read in
     let contents = g.W.Write.contents in
-    let wrote = subst (Appends (contents c.args.writer) (contents c.tell.new.writer)) c.no_json.ensures (c.tell.ensures (search rules)) in
+    let wrote = c.refuse_http.ensures (search rules) in
     (new, (read_web old new _ read (sym c.speaks_http.ensures ∙ c.if-speaks_http.true), wrote, search rules))
 
 pub returns-in_default-Ok : goal.returns-in_default-Ok
@@ -27,18 +27,18 @@ returns-in_default-Ok g c =
     let begun : given_to contents c.in-Ok.outlet ≡ contents c.args.writer = append_nothing _ _ c.in-Ok.ensures.empty ∙ ap contents c.in-Ok.ensures.writer in
     let serves = λ (workers : ℕ) (held : Option (List ℕ)). Serves workers (record {
       input = remaining c.chain.result;
-      unread = remaining c.serve-ended.new.reader;
+      unread = remaining c.serve_before-ended.new.reader;
       held = held;
-      output = given_to contents c.serve-ended.new.writer;
+      output = given_to contents c.serve_before-ended.new.writer;
       before = g.B.Board.seen c.args.board.now;
-      after = g.B.Board.seen c.serve-ended.new.board;
-    }) c.serve-ended.result in (
-      remaining c.serve-ended.new.reader,
+      after = g.B.Board.seen c.serve_before-ended.new.board;
+    }) c.serve_before-ended.result in (
+      remaining c.serve_before-ended.new.reader,
       (
         remaining c.chain.result,
-        given_to contents c.serve-ended.new.writer,
+        given_to contents c.serve_before-ended.new.writer,
         subst (Keeps old) (sym c.chain.ensures.bytes) (chained old new first read),
-        subst (λ workers. serves workers (contents c.args.writer)) c.count.ensures.same (subst (serves c.count.result) begun c.serve-ended.ensures),
-        subst (λ r. OnOk r (Keeps (given_to contents c.serve-ended.new.writer) (contents c.finish.result.0))) c.in_default-Ok.is-1 c.finish.ensures,
+        subst (λ workers. serves workers (contents c.args.writer)) c.count.ensures.same (subst (serves c.count.result) begun c.serve_before-ended.ensures),
+        subst (λ r. OnOk r (Keeps (given_to contents c.serve_before-ended.new.writer) (contents c.finish.result.0))) c.in_default-Ok.is-1 c.finish.ensures,
       ),
     )

@@ -1,0 +1,4 @@
+pub mod Feed
+pub mod Request
+pub mod Refusals
+pub mod Sending

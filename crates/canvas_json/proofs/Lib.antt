@@ -1,0 +1,12 @@
+pub mod Back
+pub mod Digits
+pub mod Items
+pub mod Json
+pub mod Judged
+pub mod Lists
+pub mod Names
+pub mod Parts
+pub mod RoundTrip
+pub mod Spelled
+pub mod Spelling
+pub mod Words

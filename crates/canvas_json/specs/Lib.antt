@@ -1,0 +1,11 @@
+pub mod Faults
+pub mod Fit
+pub mod Given
+pub mod Json
+pub mod MemberNames
+pub mod Objects
+pub mod Places
+pub mod Poses
+pub mod Shapes
+pub mod Taken
+pub mod Texts

@@ -1,0 +1,36 @@
+-- Which of the types that threads share may cross them. Types with a part that only clauses read get these lemmas by hand.
+use denote.RattleType.{RattleType}
+use denote.Param.Send.{IsSend, IsSync, sendable, owning_send, view_send}
+use denote.Param.SendFields.{as_row_send, declared_send}
+use denote.Struct.Field.{row_field}
+use Rattle.std.proofs.Crossing.{crosses}
+use Rattle.std.proofs.option.Option.TheSendSync as option
+use Rattle.canvas_journal.specs.declared.device.Device as device
+use Rattle.canvas_journal.proofs.journal.Journal.TheSendSync as journal
+use Rattle.canvas_journal_file.specs.contracts.asked.Asked as asked
+use Rattle.canvas_journal_file.specs.contracts.asked.Asked.TheInside as asked_inside
+use Rattle.canvas_journal_file.specs.contracts.record.Record as noted
+use Rattle.canvas_line.specs.declared.front.Lines as lines
+use Rattle.canvas_line.proofs.seat.Seat.TheSendSync as seat
+use Rattle.canvas_keep.proofs.fault.KeepFault.TheSendSync as fault
+use Rattle.canvas_keep.specs.contracts.keeper.Keeper as keeper
+use Rattle.canvas_keep.specs.contracts.keeper.Keeper.TheInside as keeper_inside
+use Rattle.canvas_keep.specs.contracts.slot.Slot as slot
+use Rattle.canvas_keep.specs.contracts.settling.Keep as keep
+
+-- it owns nothing
+noted-send : IsSend noted.the_row
+noted-send = owning_send noted.the_type (search sendable, tt) (λ d. tt) (λ k x w. tt)
+
+pub asked-send : (F : RattleType) → IsSend F → IsSend (asked.the_row F)
+asked-send F s = view_send (asked_inside.the_row F) _ _ _ _ (declared_send (asked_inside.the_type F) (as_row_send (row_field F) s, (option.the_send _ (search (sendable, crosses) depth 20), (noted-send, tt))))
+
+module _ (D B : RattleType) (d : device.Ghosts D.Denot) (l : lines.Ghosts B.Denot) (s : IsSend D) where
+  keeper-send : IsSend (keeper.the_row D B d l)
+  keeper-send = view_send (keeper_inside.the_row D B d l) _ _ _ _ (declared_send (keeper_inside.the_type D B d l) (journal.the_send D s, (seat.the_send B l, (search sendable, (search (sendable, crosses), tt)))))
+
+  slot-send : IsSend (slot.the_row D B d l)
+  slot-send = declared_send (slot.the_type D B d l) (option.the_send (keeper.the_row D B d l) keeper-send, (search sendable, (option.the_send _ fault.the_send, (seat.the_send B l, (search sendable, tt)))))
+
+  pub keep-sync : IsSync (keep.the_row D B d l)
+  keep-sync = let held = slot-send in search (sendable, crosses, held) depth 40

@@ -1,0 +1,221 @@
+//! A disk in memory: it keeps what was asked of it, fails where it is to, and tells what a crash may leave.
+
+use canvas_journal_file::Backing;
+use std::alloc::{AllocError, Global};
+use std::sync::{Arc, Mutex};
+
+/// What a disk has done.
+#[derive(Drop)]
+enum Call {
+    Wrote { at: usize, bytes: Vec<u8> },
+    Cut { len: usize },
+    Synced,
+}
+
+/// What was asked of a disk since it held its first bytes.
+#[derive(Drop)]
+struct Calls {
+    alloc: Global,
+    first: Vec<u8>,
+    // A write that fails is among these: a part of it may be there.
+    done: Vec<Call>,
+    asked: usize,
+    // The number of the call that fails, from 1; with 0 none does.
+    fails: usize,
+}
+
+impl Calls {
+    // Counts a call, and says whether it is to be done.
+    fn is_done(&mut self) -> bool {
+        self.asked = self.asked.saturating_add(1);
+        self.asked != self.fails
+    }
+
+    // Notes a call that a crash may leave, and says whether there was memory for it.
+    fn note(&mut self, call: Call) -> bool {
+        self.done.push(call).is_ok()
+    }
+}
+
+/// A disk in memory, to be held where it is asked and where it is looked at.
+#[derive(Drop)]
+pub(crate) struct Disk {
+    calls: Arc<Mutex<Calls>, Global>,
+}
+
+impl Disk {
+    /// A disk that holds these bytes, and whose call of such a number fails, from 1; with 0 none does.
+    pub(crate) fn new(alloc: Global, first: Vec<u8>, fails: usize) -> Result<Disk, AllocError> {
+        let calls = Calls {
+            alloc,
+            first,
+            done: Vec::new(alloc),
+            asked: 0,
+            fails,
+        };
+        Ok(Disk {
+            calls: Arc::new(alloc, Mutex::new(calls))?,
+        })
+    }
+
+    /// The same disk, in other hands, and the bytes that it held first.
+    pub(crate) fn held(&self) -> Result<(Disk, Vec<u8>), AllocError> {
+        let held = Disk {
+            calls: Arc::try_clone(&self.calls)?,
+        };
+        match self.calls.try_lock() {
+            Some(calls) => Ok((held, calls.first.to_vec(calls.alloc)?)),
+            None => Err(AllocError),
+        }
+    }
+
+    /// How many calls a crash may leave.
+    pub(crate) fn moment(&self) -> usize {
+        match self.calls.try_lock() {
+            Some(calls) => calls.done.len(),
+            None => usize::MAX,
+        }
+    }
+
+    /// How many calls it was asked for.
+    pub(crate) fn asked(&self) -> usize {
+        match self.calls.try_lock() {
+            Some(calls) => calls.asked,
+            None => usize::MAX,
+        }
+    }
+
+    /// In how many ways a crash may leave it after so many calls.
+    pub(crate) fn ways(&self, moment: usize) -> usize {
+        match self.calls.try_lock() {
+            Some(calls) => ways(&calls.done, moment),
+            None => 0,
+        }
+    }
+
+    /// What a crash after so many calls leaves in one of the ways, from 0. None where there is no memory for it.
+    pub(crate) fn left(&self, moment: usize, way: usize) -> Option<Vec<u8>> {
+        let calls = self.calls.try_lock()?;
+        left(calls.alloc, &calls.first, &calls.done, moment, way).ok()
+    }
+}
+
+impl Backing for Disk {
+    fn write(&mut self, at: usize, bytes: &[u8]) -> bool {
+        if bytes.is_empty() {
+            return true;
+        }
+        let Some(mut calls) = self.calls.try_lock() else {
+            return false;
+        };
+        let Ok(bytes) = bytes.to_vec(calls.alloc) else {
+            return false;
+        };
+        let is_noted = calls.note(Call::Wrote { at, bytes });
+        calls.is_done() && is_noted
+    }
+
+    fn cut(&mut self, len: usize) -> bool {
+        let Some(mut calls) = self.calls.try_lock() else {
+            return false;
+        };
+        let is_noted = calls.note(Call::Cut { len });
+        calls.is_done() && is_noted
+    }
+
+    fn sync(&mut self) -> bool {
+        let Some(mut calls) = self.calls.try_lock() else {
+            return false;
+        };
+        calls.is_done() && calls.note(Call::Synced)
+    }
+}
+
+// In how many ways a call is left that was not synced: not at all, whole, its first half, its second half, blanks and LFs.
+const WAYS: usize = 6;
+
+// How many of the first calls are on the disk: those before the last sync.
+fn synced(done: &[Call], moment: usize) -> usize {
+    let mut synced = 0;
+    for (number, call) in done.iter().take(moment).enumerate() {
+        if let Call::Synced = call {
+            synced = number;
+        }
+    }
+    synced
+}
+
+fn ways(done: &[Call], moment: usize) -> usize {
+    let mut ways: usize = 1;
+    for call in done.iter().take(moment).skip(synced(done, moment)) {
+        if !matches!(call, Call::Synced) {
+            ways = ways.saturating_mul(WAYS);
+        }
+    }
+    ways
+}
+
+fn left(
+    alloc: Global,
+    first: &[u8],
+    done: &[Call],
+    moment: usize,
+    way: usize,
+) -> Result<Vec<u8>, AllocError> {
+    let mut file = first.to_vec(alloc)?;
+    let synced = synced(done, moment);
+    let mut rest = way;
+    for (number, call) in done.iter().take(moment).enumerate() {
+        if number < synced {
+            leave(&mut file, call, 1)?;
+        } else if !matches!(call, Call::Synced) {
+            leave(&mut file, call, rest % WAYS)?;
+            rest /= WAYS;
+        }
+    }
+    Ok(file)
+}
+
+// What is left of a call.
+fn leave(file: &mut Vec<u8>, call: &Call, way: usize) -> Result<(), AllocError> {
+    match call {
+        Call::Wrote { at, bytes } => write(file, *at, bytes, way),
+        Call::Cut { len } => {
+            if way % 2 == 1 {
+                file.truncate(*len);
+            }
+            Ok(())
+        }
+        Call::Synced => Ok(()),
+    }
+}
+
+fn write(file: &mut Vec<u8>, at: usize, bytes: &[u8], way: usize) -> Result<(), AllocError> {
+    let half = bytes.len() / 2;
+    for (offset, byte) in bytes.iter().enumerate() {
+        let left = match way {
+            1 => Some(*byte),
+            2 if offset < half => Some(*byte),
+            3 if offset >= half => Some(*byte),
+            4 => Some(b' '),
+            5 => Some(b'\n'),
+            _ => None,
+        };
+        if let Some(byte) = left {
+            put(file, at.saturating_add(offset), byte)?;
+        }
+    }
+    Ok(())
+}
+
+// Puts a byte at a place. Between the end and the place there may be anything.
+fn put(file: &mut Vec<u8>, place: usize, byte: u8) -> Result<(), AllocError> {
+    for _ in 0..place.saturating_sub(file.len()) {
+        file.push(b'x')?;
+    }
+    match file.get_mut(place) {
+        Some(at) => *at = byte,
+        None => file.push(byte)?,
+    }
+    Ok(())
+}

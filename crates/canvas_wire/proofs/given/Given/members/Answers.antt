@@ -1,5 +1,0 @@
-use Rattle.canvas_wire.proofs.Parts.{members_in}
-use Rattle.canvas_wire.proofs.given.Given.members.Goals as goal
-
-pub returns : goal.returns
-returns c = members_in c.self.inside.place c.args.self.now c.members.result c.self.invariant c.self.view_is c.members.ensures

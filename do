@@ -1,0 +1,31 @@
+#!/usr/bin/env bash
+# What contributors do most, by one word.
+#
+# usage: ./do docs | test | prove CRATE | wrong CRATE [EDIT..] | demo | bench SUBJECT
+#
+#   docs    the pages, the lists of wrong bodies and the scripts agree with the sources
+#   test    what users run, on the programs that are built
+#   prove   checks a crate, with its tests if it has some
+#   wrong   tries wrong bodies of a crate
+#   demo    the page to draw on
+#   bench   times a part of the product (bench/time.sh)
+set -euo pipefail
+cd "$(dirname "$0")"
+usage() {
+    sed -n 's/^# usage: /usage: /p' "$0" >&2
+    exit 2
+}
+word=${1-}
+shift || usage
+case $word in
+docs) tools/check_docs.py && tools/check_scripts.py ;;
+test) for check in program protocol server doors streams; do "tools/check_$check.py"; done ;;
+prove)
+    cd "crates/${1:?"which crate?"}"
+    rt check && if [[ $1 = *_tests ]]; then rt test; fi
+    ;;
+wrong) tools/try_wrong_bodies.py "${1:?"of which crate?"}" "${@:2}" ;;
+demo) bin/canvas-demo "$@" ;;
+bench) bench/time.sh "${1:?"which subject?"}" ;;
+*) usage ;;
+esac
