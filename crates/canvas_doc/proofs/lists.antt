@@ -1,0 +1,5 @@
+-- Lists: members, parts and lists that are filled item by item.
+pub mod Members
+pub mod SameMembers
+pub mod Parts
+pub mod Listing
