@@ -1,8 +1,8 @@
 -- Bounds, in the plane in which they lie.
-use Rattle.std.proofs.Common.{◌≡◌, ℕ, ◌≤◌, ◌^◌, Bool, true, false, ◌&&◌, ◌||◌, ℤ, pos, ◌≤ℤ◌, refl, sym, subst, ap, ◌∙◌, arith, map, List}
+use Rattle.std.proofs.Common.{◌≡◌, ℕ, ◌≤◌, ◌^◌, Bool, true, false, ◌&&◌, ◌||◌, ℤ, pos, ◌≤ℤ◌, sym, subst, ap, ◌∙◌, arith, map, List}
 use Rattle.std.specs.Prelude.{int_le, int_lt, nat_le, max, unsigned_abs}
 use Rattle.std.specs.Int.{int_max, int_min}
-use Rattle.std.proofs.lemmas.Bool.{and_parts, true≢false}
+use Rattle.std.proofs.lemmas.Bool.{and_parts, true≢false, false_from_ne_true, and_from, or_right}
 use Rattle.std.proofs.lemmas.Int.{ints}
 use Rattle.canvas_plane.specs.declared.PageBox.{PageBox}
 use Rattle.canvas_plane.specs.declared.Point.{Point}
@@ -18,7 +18,7 @@ use Rattle.canvas_shape.specs.declared.Kind.TheVariants.{Group}
 use Rattle.canvas_doc.specs.declared.bounds.Bounds.{Bounds}
 use Rattle.canvas_doc.specs.Bounds.{holds_on_page, HoldsAll, HoldsBetween, HoldsClip, HoldsOwn, is_empty, is_whole, IsCarriedWithin, IsWithinBounds, left_top, LieApart, right_bottom}
 use Rattle.canvas_doc.specs.Edges.{AreEdges, AreNearEnds}
-use Rattle.canvas_doc.proofs.boxes.EdgeLaws.{common-overlap, either-true, empty-none, ends-hold, holds, holds-grows, joined-first, joined-second, Overlap}
+use Rattle.canvas_doc.proofs.boxes.EdgeLaws.{common-overlap, empty-none, ends-hold, holds, holds-grows, joined-first, joined-second, Overlap}
 use Rattle.canvas_doc.proofs.extents.Pulled.{compose, Composed, pulled}
 use Rattle.canvas_doc.proofs.extents.Shown.{polygon-between}
 
@@ -75,20 +75,13 @@ spanned-within a b false across down e f g h =
 
 -- ---- two apart
 
-both-true : (p q : Bool) → p ≡ true → q ≡ true → (p && q) ≡ true
-both-true p q h k = ap (λ z. z && q) h ∙ k
-
-test-false : (p : Bool) → (p ≡ true → ⊥) → p ≡ false
-test-false true h = absurd (h refl)
-test-false false h = refl
-
 pub apart-by : (a b : Bounds) (across down : Bool) → across ≡ (int_lt a.left b.right && int_lt b.left a.right) → down ≡ (int_lt a.top b.bottom && int_lt b.top a.bottom) → (across && down) ≡ false → LieApart a b
 apart-by a b across down f g h = record {
-  none = λ out x y q t. test-false (holds_on_page (carry out) b x y) (λ s.
+  none = λ out x y q t. false_from_ne_true (holds_on_page (carry out) b x y) (λ s.
       let u : ℤ = (pulled out x y).u in
       let v : ℤ = (pulled out x y).v in
       let o : Overlap a.left a.top a.right a.bottom b.left b.top b.right b.bottom = common-overlap a.left a.top a.right a.bottom b.left b.top b.right b.bottom u v a.edges b.edges (sym (on-page out a x y) ∙ t) (sym (on-page out b x y) ∙ s) in
-      true≢false (sym (both-true across down (f ∙ o.across) (g ∙ o.down)) ∙ h));
+      true≢false (sym (and_from across down (f ∙ o.across) (g ∙ o.down)) ∙ h));
 }
 
 -- ---- the box of two boxes, and of two points
@@ -182,7 +175,7 @@ side-holds a b x h = grind (arith, ints)
 sides-hold : (clip : PageBox) (x y : ℤ) → is_in clip x y ≡ true → is_in (box_between (record { x = clip.left; y = clip.top }) (record { x = clip.right; y = clip.bottom })) x y ≡ true
 sides-hold clip x y h =
     let both = and_parts (int_le clip.left x && int_lt x clip.right) (int_le clip.top y && int_lt y clip.bottom) h in
-    both-true (int_le (int_min clip.left clip.right) x && int_lt x (int_max clip.left clip.right)) (int_le (int_min clip.top clip.bottom) y && int_lt y (int_max clip.top clip.bottom)) (side-holds clip.left clip.right x both.0) (side-holds clip.top clip.bottom y both.1)
+    and_from (int_le (int_min clip.left clip.right) x && int_lt x (int_max clip.left clip.right)) (int_le (int_min clip.top clip.bottom) y && int_lt y (int_max clip.top clip.bottom)) (side-holds clip.left clip.right x both.0) (side-holds clip.top clip.bottom y both.1)
 
 -- a box of the page, carried back
 pub clip-held : (out back : Pose) (clip : PageBox) (b : Bounds) (p q s t : Point) → s ≡ record { x = clip.left; y = clip.top } → t ≡ record { x = clip.right; y = clip.bottom } → p ≡ carry back s → q ≡ carry back t → ((r : Point) → carry out (carry back r) ≡ r) → HoldsBetween p q b → HoldsClip out clip b
@@ -207,7 +200,7 @@ pub record IsSized (w h : ℕ) (b : Bounds) : Type 0 where
   pub last : right_bottom b ≡ record { x = pos w; y = pos h }
 
 box-held : (w h : ℕ) (b : Bounds) (f : Point → Point) (x y : ℤ) → IsSized w h b → is_in (box_of f w h) x y ≡ true → holds_on_page f b x y ≡ true
-box-held w h b f x y s t = either-true (is_whole b) (is_in (box_between (f (left_top b)) (f (right_bottom b))) x y)
+box-held w h b f x y s t = or_right (is_whole b) (is_in (box_between (f (left_top b)) (f (right_bottom b))) x y)
     (ap (λ p. is_in (box_between (f p) (f (right_bottom b))) x y) s.first ∙ ap (λ q. is_in (box_between (f (record { x = pos 0; y = pos 0 })) (f q)) x y) s.last ∙ t)
 
 -- what holds at most its own box is held by the bounds of these sides

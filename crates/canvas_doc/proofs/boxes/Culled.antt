@@ -1,9 +1,8 @@
 -- Nothing shows outside of bounds: what they keep off an area answers nothing there.
-use Rattle.std.proofs.Common.{◌≡◌, ℕ, zero, suc, ◌<◌, ◌≤◌, List, [], ◌∷◌, ◌++◌, Bool, true, false, cond, filter, map, Option, Some, None, All, length, get_or, ℤ, ◌⊎◌, inl, inr, refl, sym, subst, ap, ◌∙◌, arith}
+use Rattle.std.proofs.Common.{◌≡◌, ℕ, zero, suc, ◌<◌, ◌≤◌, List, [], ◌∷◌, ◌++◌, Bool, true, false, cond, filter, map, Option, Some, None, All, length, ℤ, ◌⊎◌, inl, inr, refl, sym, subst, ap, ◌∙◌, arith}
 use Rattle.std.specs.List.{Contains, slice_get}
 use Rattle.std.proofs.lemmas.Bool.{cases_Bool, true≢false}
-use Rattle.std.proofs.lemmas.List.{get_or_default}
-use Rattle.std.proofs.lemmas.List.Elements.{All-cons, All-contains, All-head, All-nil, All-tail, All-weaker}
+use Rattle.std.proofs.lemmas.List.Elements.{All-cons, All-contains, All-head, All-nil, All-tail, All-weaker, All-contains_itself}
 use Rattle.std.proofs.lemmas.List.Sorted.{All-permutation}
 use Rattle.std.proofs.lemmas.Option.{slice_get_cases, slice_get_within}
 use Rattle.canvas_plane.specs.declared.Point.{Point}
@@ -80,12 +79,9 @@ filter-passes test (r ∷ rs) = elim (cases_Bool (test r)) [
       subst P (ap (λ b. cond b (r ∷ filter test rs) (filter test rs)) (sym f)) (filter-passes test rs)
 ]
 
-all-contained : (rs : List Record) → All (Contains rs) rs
-all-contained rs = λ k d h. (k, h, get_or_default rs k (get_or rs k d) d h)
-
 children-known : (p : Parent) (rs : List Record) → All (λ s. Contains rs s × (is_child p s ≡ true)) (children p rs)
 children-known p rs =
-    let there : All (Contains rs) (children p rs) = all-children (Contains rs) p rs (all-contained rs) in
+    let there : All (Contains rs) (children p rs) = all-children (Contains rs) p rs (All-contains_itself rs) in
     let own : All (λ s. is_child p s ≡ true) (children p rs) = All-permutation (λ s. is_child p s ≡ true) (filter (is_child p) rs) (children p rs) (front_first-moves (filter (is_child p) rs)) (filter-passes (is_child p) rs) in
     λ k d h. (there k d h, own k d h)
 

@@ -1,6 +1,6 @@
 -- The edges of boxes.
 use Rattle.std.proofs.Common.{◌≡◌, ◌≤◌, ◌^◌, ◌-◌, Bool, true, false, ◌&&◌, ◌||◌, ℤ, pos, ◌≤ℤ◌, ◌<ℤ◌, refl, sym, ap, ◌∙◌, arith, ◌⊎◌, inl, inr}
-use Rattle.std.proofs.lemmas.Bool.{cases_Bool, true≢false}
+use Rattle.std.proofs.lemmas.Bool.{cases_Bool, true≢false, and_from, or_right, and_parts, and_right}
 use Rattle.std.specs.Prelude.{int_le, int_lt, unsigned_abs}
 use Rattle.std.specs.Int.{int_max, int_min}
 use Rattle.std.proofs.lemmas.Int.{by_lt_z, ints}
@@ -44,10 +44,6 @@ either-way false q false s f g h = g h
 not-le : (a b : ℤ) → b <ℤ a → int_le a b ≡ false
 not-le a b h = grind (arith, ints)
 
-pub either-true : (p q : Bool) → q ≡ true → (p || q) ≡ true
-either-true true q h = refl
-either-true false q h = h
-
 both-ways : (p q r s : Bool) → (p ≡ true → r ≡ true) → (q ≡ true → s ≡ true) → (p && q) ≡ true → (r && s) ≡ true
 both-ways true q r s f g h = ap (λ z. z && s) (f refl) ∙ g h
 both-ways false q r s f g h = cc
@@ -76,18 +72,11 @@ limited l t r b e = by_lt_z (neg_ℤ (pos (2 ^ 31))) l
 holds-near : (l t r b u v : ℤ) → neg_ℤ (pos (2 ^ 31)) <ℤ l → holds l t r b u v ≡ true → (side l r u && side t b v) ≡ true
 holds-near l t r b u v h k = ap (λ z. z || (side l r u && side t b v)) (sym (not-le l (neg_ℤ (pos (2 ^ 31))) h)) ∙ k
 
-both-parts : (p q : Bool) → (p && q) ≡ true → (p ≡ true) × (q ≡ true)
-both-parts true q h = (refl, h)
-both-parts false q h = (h, cc)
-
-both : (p q : Bool) → p ≡ true → q ≡ true → (p && q) ≡ true
-both p q h k = ap (λ z. z && q) h ∙ k
-
 overlapping : (l r l' r' x : ℤ) → l ≤ℤ x → x <ℤ r → l' ≤ℤ x → x <ℤ r' → (int_lt l r' && int_lt l' r) ≡ true
-overlapping l r l' r' x h k h' k' = both (int_lt l r') (int_lt l' r) (lt-test l r' (omega (arith, ints))) (lt-test l' r (omega (arith, ints)))
+overlapping l r l' r' x h k h' k' = and_from (int_lt l r') (int_lt l' r) (lt-test l r' (omega (arith, ints))) (lt-test l' r (omega (arith, ints)))
 
 crossing : (l r l' r' : ℤ) → l <ℤ r' → l' <ℤ r → (int_lt l r' && int_lt l' r) ≡ true
-crossing l r l' r' h k = both (int_lt l r') (int_lt l' r) (lt-test l r' h) (lt-test l' r k)
+crossing l r l' r' h k = and_from (int_lt l r') (int_lt l' r) (lt-test l r' h) (lt-test l' r k)
 
 under-top : (l l' r : ℤ) → l <ℤ pos (2 ^ 31 - 1) → r ≡ pos (2 ^ 31 - 1) → l <ℤ r
 under-top l l' r h e = omega (arith, ints)
@@ -115,8 +104,8 @@ overlap-widest l t r b l' t' r' b' n w = record {
 
 near-overlap : (l t r b l' t' r' b' u v : ℤ) → l ≤ℤ r → t ≤ℤ b → l' ≤ℤ r' → t' ≤ℤ b' → (side l r u && side t b v) ≡ true → (side l' r' u && side t' b' v) ≡ true → Overlap l t r b l' t' r' b'
 near-overlap l t r b l' t' r' b' u v o p o' p' h h' =
-    let s = both-parts (side l r u) (side t b v) h in
-    let s' = both-parts (side l' r' u) (side t' b' v) h' in
+    let s = and_parts (side l r u) (side t b v) h in
+    let s' = and_parts (side l' r' u) (side t' b' v) h' in
     record {
       across = overlapping l r l' r' u (side-least l r u o s.0) (side-most l r u o s.0) (side-least l' r' u o' s'.0) (side-most l' r' u o' s'.0);
       down = overlapping t b t' b' v (side-least t b v p s.1) (side-most t b v p s.1) (side-least t' b' v p' s'.1) (side-most t' b' v p' s'.1);
@@ -135,14 +124,10 @@ common-overlap l t r b l' t' r' b' u v e e' h h' = by_lt_z (neg_ℤ (pos (2 ^ 31
 side-none : (a b x : ℤ) → a ≤ℤ b → int_le b a ≡ true → side a b x ≡ false
 side-none a b x o h = grind (arith, ints)
 
-and-false : (p : Bool) → (p && false) ≡ false
-and-false true = refl
-and-false false = refl
-
 sides-none : (l t r b u v : ℤ) → l ≤ℤ r → t ≤ℤ b → (int_le r l || int_le b t) ≡ true → (side l r u && side t b v) ≡ false
 sides-none l t r b u v o p h = elim (cases_Bool (int_le r l)) [
   | inl e ↦ ap (λ z. z && side t b v) (side-none l r u o e)
-  | inr e ↦ ap (λ z. side l r u && z) (side-none t b v p (ap (λ z. z || int_le b t) (sym e) ∙ h)) ∙ and-false (side l r u)
+  | inr e ↦ ap (λ z. side l r u && z) (side-none t b v p (ap (λ z. z || int_le b t) (sym e) ∙ h)) ∙ and_right (side l r u) false refl
 ]
 
 widest-some : (l t r b : ℤ) → AreWidest l t r b → (int_le r l || int_le b t) ≡ false
@@ -282,5 +267,5 @@ side-ends a b x = grind (arith, ints)
 -- the box from the lesser to the greater coordinates holds what lies between two points
 pub ends-hold : (x y x' y' u v : ℤ) → (side x x' u && side y y' v) ≡ true → holds (int_min x x') (int_min y y') (int_max x x') (int_max y y') u v ≡ true
 ends-hold x y x' y' u v h =
-    either-true (int_le (int_min x x') (neg_ℤ (pos (2 ^ 31)))) (side (int_min x x') (int_max x x') u && side (int_min y y') (int_max y y') v)
+    or_right (int_le (int_min x x') (neg_ℤ (pos (2 ^ 31)))) (side (int_min x x') (int_max x x') u && side (int_min y y') (int_max y y') v)
     (ap (λ z. z && side (int_min y y') (int_max y y') v) (side-ends x x' u) ∙ ap (λ z. side x x' u && z) (side-ends y y' v) ∙ h)

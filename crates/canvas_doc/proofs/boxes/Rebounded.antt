@@ -1,9 +1,9 @@
 -- Bounds of records after an edit of the order in which they stand.
-use Rattle.std.proofs.Common.{◌≡◌, ◌≢◌, ℕ, zero, suc, ◌+◌, ◌-◌, ◌<◌, ◌≤◌, ◌==◌, nat_lt, ◌&&◌, List, [], ◌∷◌, ◌++◌, Bool, true, false, cond, Option, Some, None, refl, sym, ap, subst, ◌∙◌, arith, inl, inr, All, length, get_or, set, map}
+use Rattle.std.proofs.Common.{◌≡◌, ◌≢◌, ℕ, zero, suc, ◌+◌, ◌-◌, ◌<◌, ◌≤◌, ◌==◌, nat_lt, ◌&&◌, List, [], ◌∷◌, ◌++◌, true, false, cond, Option, Some, None, refl, sym, ap, subst, ◌∙◌, arith, inl, inr, All, length, get_or, set, map}
 use Rattle.std.specs.List.{Contains, insert, remove, slice_get}
 use Rattle.std.specs.Option.{option_map}
 use Rattle.std.proofs.Math.ListN.{length-set}
-use Rattle.std.proofs.lemmas.Bool.{cases_Bool, eq-eqb, eqb-true, true≢false}
+use Rattle.std.proofs.lemmas.Bool.{cases_Bool, eq-eqb, eqb-true, true≢false, and_right}
 use Rattle.std.proofs.lemmas.Bool.Decides.{nat_tests}
 use Rattle.std.proofs.lemmas.List.{get_or_append_left, get_or_at, length-append, length-map}
 use Rattle.std.proofs.lemmas.List.Edits.{length-insert, length-remove}
@@ -343,10 +343,6 @@ new-childless order rs r rising grounded listed = λ k d l.
     let s : Record = get_or order k d in
     unknown-none rs r.id s.place.parent (new-id rs r rising) (All-contains (λ (x : Record). reaches_page 31 rs x.place.parent ≡ true) rs s grounded (listed k d l))
 
-and-false : (b : Bool) → (b && false) ≡ false
-and-false true = refl
-and-false false = refl
-
 -- a path that comes back to where it begins never reaches the page
 circle-stays : (n : ℕ) (rs : List Record) (r : Record) → record_of r.id rs ≡ Some r → r.place.parent ≡ Shape r.id → reaches_page n rs (Shape r.id) ≡ false
 unfolding reaches_page
@@ -355,7 +351,7 @@ circle-stays (suc n) rs r found own =
     ap (reaches_from (λ q. reaches_page n rs q)) found
     ∙ ap (λ q. is_container r.kind && reaches_page n rs q) own
     ∙ ap (λ b. is_container r.kind && b) (circle-stays n rs r found own)
-    ∙ and-false (is_container r.kind)
+    ∙ and_right (is_container r.kind) false refl
 
 -- no shape is its own child
 pub no-own_child : (rs : List Record) (r : Record) → AreRising rs → All (λ (s : Record). reaches_page 31 rs s.place.parent ≡ true) rs → Contains rs r → is_child (Shape r.id) r ≡ false

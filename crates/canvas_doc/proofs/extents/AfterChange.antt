@@ -1,6 +1,6 @@
 -- The extent of the shape of a change in the document after it, told of the document before it.
 use Rattle.std.proofs.Common.{◌≡◌, ℕ, zero, suc, ◌+◌, ◌<◌, ◌==◌, List, [], ◌∷◌, ◌++◌, Bool, true, false, cond, not, ◌&&◌, ◌||◌, Option, Some, None, ◌⊎◌, inl, inr, refl, sym, ap, ◌∙◌, arith, All, IsSome, ◌≤◌, get_or, map, filter}
-use Rattle.std.proofs.lemmas.Bool.{cases_Bool, true≢false, and_parts, eq-eqb, eqb-true}
+use Rattle.std.proofs.lemmas.Bool.{cases_Bool, true≢false, and_parts, eq-eqb, eqb-true, or_parts, and_from, or_right}
 use Rattle.std.proofs.lemmas.List.Elements.{All-head, All-tail, All-push, All-weaker, filter_passes}
 use Rattle.std.proofs.lemmas.List.Sorted.{All-permutation}
 use Rattle.std.proofs.lemmas.Option.{same_Some}
@@ -30,24 +30,13 @@ use Rattle.canvas_doc.proofs.siblings.Sorting.{all-children, front_first-moves}
 
 -- ---- tests
 
-both-true : (a b : Bool) → a ≡ true → b ≡ true → (a && b) ≡ true
-both-true a b h k = rw (h, k) refl
-
 or-cases : (a b : Bool) → (a || b) ≡ true → (a ≡ true) ⊎ (b ≡ true)
 or-cases true b h = inl refl
 or-cases false b h = inr h
 
-or-right : (a b : Bool) → b ≡ true → (a || b) ≡ true
-or-right true b h = refl
-or-right false b h = h
-
 or-more : (a b c : Bool) → (a || b) ≡ true → (b ≡ true → c ≡ true) → (a || c) ≡ true
 or-more true b c h k = refl
 or-more false b c h k = k h
-
-or-none : (a b : Bool) → (a || b) ≡ false → (a ≡ false) × (b ≡ false)
-or-none true b h = cc
-or-none false b h = (refl, h)
 
 -- ---- ways up
 
@@ -85,7 +74,7 @@ reaches-more (suc n) rs Page h = refl
 reaches-more (suc n) rs (Shape p) h =
     let s = reaches-some (λ q. reaches_page n rs q) (record_of p rs) h in
     ap (reaches_from (λ q. reaches_page (suc n) rs q)) s.1
-    ∙ both-true (is_container s.0.kind) (reaches_page (suc n) rs s.0.place.parent) s.2 (reaches-more n rs s.0.place.parent s.3)
+    ∙ and_from (is_container s.0.kind) (reaches_page (suc n) rs s.0.place.parent) s.2 (reaches-more n rs s.0.place.parent s.3)
 
 -- the record that was found under an id, and has the other, is that of the other
 same-found : (id p : ℕ) (rs : List Record) (r s : Record) → record_of id rs ≡ Some r → record_of p rs ≡ Some s → (s.id == id) ≡ true → s ≡ r
@@ -173,7 +162,7 @@ way-from id f up down (Some r) other s =
     ∙ ap (λ (u : Point → Point). λ (q : Point). u (carry r.pose q)) (s r refl)
 
 below-none_of : (id : ℕ) (up : Parent → Bool) (o : Option Record) (r : Record) → o ≡ Some r → is_below_from id up o ≡ false → ((r.id == id) ≡ false) × (up r.place.parent ≡ false)
-below-none_of id up o r e h = or-none (r.id == id) (up r.place.parent) (sym (ap (is_below_from id up) e) ∙ h)
+below-none_of id up o r e h = or_parts (r.id == id) (up r.place.parent) (sym (ap (is_below_from id up) e) ∙ h)
 
 -- the way from a parent that does not lie in the shape's subtree up to the page is the same
 pub way-same : (d : Contents) (id : ℕ) (f : Record → Record) → ((r : Record) → (f r).id ≡ r.id) → (p : Parent) (n : ℕ) → is_below n id d.records p ≡ false → to_page n (at_id id f d.records) p ≡ to_page n d.records p
@@ -231,7 +220,7 @@ child-below : (k id : ℕ) (rs : List Record) (p : Parent) (r : Record) → reco
 unfolding is_below
 child-below k id rs p r e c b =
     ap (is_below_from id (λ q. is_below k id rs q)) e
-    ∙ or-right (r.id == id) (is_below k id rs r.place.parent) (ap (is_below k id rs) (same-parents r.place.parent p c) ∙ b)
+    ∙ or_right (r.id == id) (is_below k id rs r.place.parent) (ap (is_below k id rs) (same-parents r.place.parent p c) ∙ b)
 
 -- and its children lie in the subtree
 children-below : (k id : ℕ) (rs : List Record) (p : Parent) → AreRising rs → is_below k id rs p ≡ true → All (λ (r : Record). is_below (suc k) id rs (Shape r.id) ≡ true) (children p rs)

@@ -1,7 +1,7 @@
 -- A change leaves the records besides the changed shape and all below it as they were.
 use Rattle.std.proofs.Common.{◌≡◌, ℕ, zero, suc, ◌<◌, ◌≤◌, ◌==◌, List, [], ◌∷◌, ◌++◌, Bool, true, false, cond, not, ◌||◌, Option, Some, None, refl, sym, ap, ◌∙◌, arith, inl, inr, All, filter}
 use Rattle.std.specs.Option.{option_or}
-use Rattle.std.proofs.lemmas.Bool.{cases_Bool, eq-eqb, and_parts}
+use Rattle.std.proofs.lemmas.Bool.{cases_Bool, eq-eqb, and_parts, or_from}
 use Rattle.std.proofs.lemmas.List.{append-nil}
 use Rattle.std.proofs.lemmas.List.Elements.{All-head, All-tail, All-weaker, filter-append, filter_passes}
 use Rattle.std.proofs.lemmas.List.Folds.{find-append}
@@ -23,9 +23,6 @@ use Rattle.canvas_doc.proofs.extents.Untouched.{others}
 abbrev IsAbsent : ℕ → List Record → Type 0
 IsAbsent id rs = All (λ (r : Record). (r.id == id) ≡ false) rs
 
-either-false : (a b : Bool) → a ≡ false → b ≡ false → (a || b) ≡ false
-either-false a b h k = rw (h, k) refl
-
 none-of : (a b : Bool) → not (a || b) ≡ true → a ≡ false
 none-of true b h = cc
 none-of false b h = refl
@@ -43,7 +40,7 @@ below-absent zero id rs (Shape p) a = refl
 below-absent (suc n) id rs Page a = refl
 below-absent (suc n) id rs (Shape p) a =
     from-record id (λ q. is_below n id rs q) (record_of p rs)
-    (λ r e. either-false (r.id == id) (is_below n id rs r.place.parent) (found-all (λ (s : Record). (s.id == id) ≡ false) p rs r a e) (below-absent n id rs r.place.parent a))
+    (λ r e. or_from (r.id == id) (is_below n id rs r.place.parent) (found-all (λ (s : Record). (s.id == id) ≡ false) p rs r a e) (below-absent n id rs r.place.parent a))
 
 all-kept : (t : Record → Bool) (rs : List Record) → All (λ (r : Record). t r ≡ true) rs → filter t rs ≡ rs
 all-kept t [] a = refl
@@ -56,7 +53,7 @@ others-absent : (id : ℕ) (rs : List Record) → IsAbsent id rs → others id r
 others-absent id rs a =
     all-kept (λ r. not (is_in_subtree id rs r)) rs
     (All-weaker (λ (r : Record). (r.id == id) ≡ false) (λ (r : Record). not (is_in_subtree id rs r) ≡ true)
-    (λ r h. ap not (either-false (r.id == id) (is_below 32 id rs r.place.parent) h (below-absent 32 id rs r.place.parent a))) rs a)
+    (λ r h. ap not (or_from (r.id == id) (is_below 32 id rs r.place.parent) h (below-absent 32 id rs r.place.parent a))) rs a)
 
 -- what is left has not the id
 others-lack : (id : ℕ) (rs : List Record) → IsAbsent id (others id rs)
@@ -130,7 +127,7 @@ below-pushed (suc k) zero id rs r (Shape p) a h = refl
 below-pushed (suc k) (suc n) id rs r (Shape p) a h =
     let s = from-some (λ q. reaches_page k rs q) (record_of p rs) h in
     ap (is_below_from id (λ q. is_below n id (rs ++ r ∷ []) q)) (found-pushed p rs r s.0 s.1)
-    ∙ either-false (s.0.id == id) (is_below n id (rs ++ r ∷ []) s.0.place.parent) (found-all (λ (x : Record). (x.id == id) ≡ false) p rs s.0 a s.1) (below-pushed k n id rs r s.0.place.parent a s.2)
+    ∙ or_from (s.0.id == id) (is_below n id (rs ++ r ∷ []) s.0.place.parent) (found-all (λ (x : Record). (x.id == id) ≡ false) p rs s.0 a s.1) (below-pushed k n id rs r s.0.place.parent a s.2)
 
 last-lost : (t : Record → Bool) (rs : List Record) (r : Record) → All (λ (s : Record). t s ≡ true) rs → t r ≡ false → filter t (rs ++ r ∷ []) ≡ rs
 last-lost t rs r a h =
@@ -145,7 +142,7 @@ others-pushed id rs r a e grounded =
     let all : List Record = rs ++ r ∷ [] in
     last-lost (λ s. not (is_in_subtree id all s)) rs r
     (all-stay (λ (s : Record). (s.id == id) ≡ false) (λ (s : Record). reaches_page 31 rs s.place.parent ≡ true) (λ (s : Record). not (is_in_subtree id all s) ≡ true)
-    (λ s m n. ap not (either-false (s.id == id) (is_below 32 id all s.place.parent) m (below-pushed 31 32 id rs r s.place.parent a n))) rs a grounded)
+    (λ s m n. ap not (or_from (s.id == id) (is_below 32 id all s.place.parent) m (below-pushed 31 32 id rs r s.place.parent a n))) rs a grounded)
     (ap (λ b. not (b || is_below 32 id all r.place.parent)) (eq-eqb r.id id e))
 
 -- the next id is above all

@@ -1,10 +1,11 @@
 -- The steps of a walk for extents against the definition.
-use Rattle.std.proofs.Common.{◌≡◌, ◌+ℤ◌, ℕ, zero, suc, ◌+◌, ◌-◌, ◌<◌, ◌≤◌, ℤ, pos, List, [], ◌∷◌, Bool, true, false, cond, ◌||◌, Option, Some, None, refl, sym, ap, subst, ◌∙◌, arith, length, get_or, take, drop, map}
+use Rattle.std.proofs.Common.{◌≡◌, ◌+ℤ◌, ℕ, zero, suc, ◌+◌, ◌-◌, ◌<◌, ◌≤◌, ℤ, pos, List, [], ◌∷◌, Bool, true, false, cond, Option, Some, None, refl, sym, ap, subst, ◌∙◌, arith, length, get_or, take, drop, map}
 use Rattle.std.specs.Prelude.{int_le}
 use Rattle.std.specs.List.{Contains}
 use Rattle.std.proofs.lemmas.List.{get_or-map, length-map}
 use Rattle.std.specs.Int.{int_min, int_max}
 use Rattle.std.proofs.lemmas.Int.{ints}
+use Rattle.std.proofs.lemmas.Bool.{or_parts, or_from}
 use mathlib.Core.Path.{fun_ext}
 use Rattle.canvas_plane.specs.declared.PageBox.{PageBox}
 use Rattle.canvas_plane.specs.declared.Point.{Point}
@@ -54,18 +55,11 @@ to_page-step (suc n) id rs o q h e = let m : suc n - 1 ≡ n = omega arith in rw
 int-le-grows : (a b c d : ℤ) → int_le b a ≡ false → int_le (int_max b d) (int_min a c) ≡ false
 int-le-grows a b c d h = grind (arith, ints)
 
-neither : (p q : Bool) → (p || q) ≡ false → (p ≡ false) × (q ≡ false)
-neither false q h = (refl, h)
-neither true q h = absurd (cc h)
-
-both-false : (p q : Bool) → p ≡ false → q ≡ false → (p || q) ≡ false
-both-false p q h k = rw (h, k) refl
-
 -- what is joined to a box that is not empty is not empty
 joined-some : (a b : PageBox) → is_empty_box a ≡ false → is_empty_box (joined a b) ≡ false
 joined-some a b h =
-    let n = neither (int_le a.right a.left) (int_le a.bottom a.top) h in
-    both-false (int_le (joined a b).right (joined a b).left) (int_le (joined a b).bottom (joined a b).top) (int-le-grows a.left a.right b.left b.right n.0) (int-le-grows a.top a.bottom b.top b.bottom n.1)
+    let n = or_parts (int_le a.right a.left) (int_le a.bottom a.top) h in
+    or_from (int_le (joined a b).right (joined a b).left) (int_le (joined a b).bottom (joined a b).top) (int-le-grows a.left a.right b.left b.right n.0) (int-le-grows a.top a.bottom b.top b.bottom n.1)
 
 min-same : (a : ℤ) → int_min a a ≡ a
 min-same a = grind (arith, ints)

@@ -1,7 +1,7 @@
 -- Outside of the extent of a shape, a document without it and all below it has the same colours.
-use Rattle.std.proofs.Common.{◌≡◌, ℕ, zero, suc, ◌+◌, ◌-◌, ◌≤◌, ◌==◌, List, [], ◌∷◌, Bool, true, false, cond, not, ◌&&◌, ◌||◌, Option, Some, None, All, filter, map, get_or, ℤ, pos, ◌+ℤ◌, ◌⊎◌, inl, inr, refl, sym, subst, ap, ◌∙◌, arith}
+use Rattle.std.proofs.Common.{◌≡◌, ℕ, zero, suc, ◌+◌, ◌-◌, ◌≤◌, ◌==◌, List, [], ◌∷◌, Bool, true, false, cond, not, ◌||◌, Option, Some, None, All, filter, map, get_or, ℤ, pos, ◌+ℤ◌, ◌⊎◌, inl, inr, refl, sym, subst, ap, ◌∙◌, arith}
 use Rattle.std.specs.List.{Contains}
-use Rattle.std.proofs.lemmas.Bool.{and_parts, cases_Bool, eqb-true, true≢false}
+use Rattle.std.proofs.lemmas.Bool.{and_parts, cases_Bool, eqb-true, true≢false, or_parts, or_from, and_from}
 use Rattle.std.proofs.lemmas.Int.{ints}
 use Rattle.std.proofs.lemmas.List.Elements.{All-contains, All-contains_itself, All-filter, All-head, All-tail, All-weaker, filter_passes}
 use Rattle.std.proofs.lemmas.List.Sorted.{Contains-permutation, IsPermutation-sym}
@@ -126,21 +126,11 @@ among-silent (suc n) (suc m) rs x y limits l = λ p out quarter h.
 
 -- ---- steps up to the page
 
-or-parts : (a b : Bool) → (a || b) ≡ false → (a ≡ false) × (b ≡ false)
-or-parts true b h = cc
-or-parts false b h = (refl, h)
-
-either-false : (a b : Bool) → a ≡ false → b ≡ false → (a || b) ≡ false
-either-false a b h k = rw (h, k) refl
-
-both-true : (a b : Bool) → a ≡ true → b ≡ true → (a && b) ≡ true
-both-true a b h k = rw (h, k) refl
-
 less-from : (id : ℕ) (up down : Parent → Bool) → ((q : Parent) → up q ≡ false → down q ≡ false) → (o : Option Record) → is_below_from id up o ≡ false → is_below_from id down o ≡ false
 less-from id up down k None h = refl
 less-from id up down k (Some r) h =
-    let parts = or-parts (r.id == id) (up r.place.parent) h in
-    either-false (r.id == id) (down r.place.parent) parts.0 (k r.place.parent parts.1)
+    let parts = or_parts (r.id == id) (up r.place.parent) h in
+    or_from (r.id == id) (down r.place.parent) parts.0 (k r.place.parent parts.1)
 
 -- what is not below the shape is not below it within fewer steps
 below-less : (n id : ℕ) (rs : List Record) (q : Parent) → is_below (suc n) id rs q ≡ false → is_below n id rs q ≡ false
@@ -155,12 +145,12 @@ below-child : (n id : ℕ) (rs : List Record) (r : Record) → record_of r.id rs
 unfolding is_below
 below-child n id rs r found other h =
     ap (is_below_from id (λ q. is_below n id rs q)) found
-    ∙ either-false (r.id == id) (is_below n id rs r.place.parent) other (below-less n id rs r.place.parent h)
+    ∙ or_from (r.id == id) (is_below n id rs r.place.parent) other (below-less n id rs r.place.parent h)
 
 reaches-child : (k : ℕ) (rs : List Record) (r : Record) → record_of r.id rs ≡ Some r → is_container r.kind ≡ true → reaches_page k rs r.place.parent ≡ true → reaches_page (suc k) rs (Shape r.id) ≡ true
 unfolding reaches_page
 reaches-child k rs r found holds h =
-    ap (reaches_from (λ q. reaches_page k rs q)) found ∙ both-true (is_container r.kind) (reaches_page k rs r.place.parent) holds h
+    ap (reaches_from (λ q. reaches_page k rs q)) found ∙ and_from (is_container r.kind) (reaches_page k rs r.place.parent) holds h
 
 page-still : (k : ℕ) (rs : List Record) → to_page k rs Page ≡ (λ q. q)
 unfolding to_page

@@ -1,6 +1,6 @@
 -- A change that is decided fits.
-use Rattle.std.proofs.Common.{◌≡◌, ℕ, ◌==◌, List, [], ◌∷◌, Bool, true, false, cond, not, ◌&&◌, Option, Some, None, Result, Ok, Err, refl, sym, ap, ◌∙◌, arith, inl, inr, subst, map, All, IsSome, is_some, rules}
-use Rattle.std.proofs.lemmas.Bool.{cases_Bool}
+use Rattle.std.proofs.Common.{◌≡◌, ℕ, ◌==◌, List, [], ◌∷◌, Bool, true, false, cond, not, Option, Some, None, Result, Ok, refl, sym, ap, ◌∙◌, arith, inl, inr, subst, map, All, IsSome, is_some, rules}
+use Rattle.std.proofs.lemmas.Bool.{cases_Bool, and_from}
 use Rattle.std.proofs.lemmas.List.{length-map}
 use Rattle.std.proofs.lemmas.List.Elements.{All-head, All-tail}
 use Rattle.canvas_key.specs.Text.{IsKey}
@@ -87,16 +87,13 @@ container-there : (o : Option Record) → holds_container o ≡ true → (r : Re
 container-there None h = cc
 container-there (Some r) h = (r, refl, h)
 
-both-true : (a b : Bool) → a ≡ true → b ≡ true → (a && b) ≡ true
-both-true a b h k = rw (h, k) refl
-
 -- what can have children reaches the page
 parent-reaches : (d : Contents) → IsWellFormed d → (p : Parent) → can_have_children d.records p ≡ true → reaches_page 32 d.records p ≡ true
 parent-reaches d w Page h = reaches-page 32 d.records
 parent-reaches d w (Shape q) h =
     let s = container-there (record_of q d.records) h in
     let up : reaches_page 31 d.records s.0.place.parent ≡ true = found-all (λ (r : Record). reaches_page 31 d.records r.place.parent ≡ true) q d.records s.0 w.grounded s.1 in
-    reaches-step 32 q d.records (Some s.0) (omega arith) (sym s.1) ∙ both-true (is_container s.0.kind) (reaches_page 31 d.records s.0.place.parent) s.2 up
+    reaches-step 32 q d.records (Some s.0) (omega arith) (sym s.1) ∙ and_from (is_container s.0.kind) (reaches_page 31 d.records s.0.place.parent) s.2 up
 
 -- the index of each record is a key
 pub have-keys : (rs : List Record) → All IsInLimits rs → HaveKeys rs

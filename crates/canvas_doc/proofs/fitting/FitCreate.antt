@@ -1,7 +1,7 @@
 -- A new shape that is decided fits.
-use Rattle.std.proofs.Common.{◌≡◌, ℕ, zero, suc, ◌+◌, ◌<◌, ◌≤◌, ◌^◌, ◌==◌, List, [], ◌∷◌, ◌++◌, Bool, true, false, not, ◌&&◌, Option, Some, None, Result, Ok, refl, sym, ap, ◌∙◌, arith, inl, inr, subst, All, length, nat_le, nat_lt, length-append}
+use Rattle.std.proofs.Common.{◌≡◌, ℕ, zero, suc, ◌+◌, ◌<◌, ◌≤◌, ◌^◌, ◌==◌, List, [], ◌∷◌, ◌++◌, Bool, true, false, not, Option, Some, None, Result, Ok, refl, sym, ap, ◌∙◌, arith, inl, inr, subst, All, length, nat_le, nat_lt, length-append}
 use Rattle.std.specs.List.{AllByRecursion}
-use Rattle.std.proofs.lemmas.Bool.{cases_Bool, and_parts, eq-eqb, eqb-true}
+use Rattle.std.proofs.lemmas.Bool.{cases_Bool, and_parts, eq-eqb, eqb-true, and_from}
 use Rattle.std.proofs.lemmas.Bool.Decides.{nat_tests}
 use Rattle.std.proofs.lemmas.List.Elements.{All-weaker, All-head, All-tail, All-push}
 use Rattle.canvas_key.specs.Text.{IsKey}
@@ -68,9 +68,6 @@ from-some : (up : Parent → Bool) (o : Option Record) → reaches_from up o ≡
 from-some up None h = cc
 from-some up (Some r) h = let both = and_parts (is_container r.kind) (up r.place.parent) h in (r, refl, both.0, both.1)
 
-both-true : (a b : Bool) → a ≡ true → b ≡ true → (a && b) ≡ true
-both-true a b h k = rw (h, k) refl
-
 pub reaches-push : (n : ℕ) (rs : List Record) (r : Record) (q : Parent) → reaches_page n rs q ≡ true → reaches_page n (rs ++ r ∷ []) q ≡ true
 unfolding reaches_page
 reaches-push zero rs r Page h = refl
@@ -79,7 +76,7 @@ reaches-push (suc n) rs r Page h = refl
 reaches-push (suc n) rs r (Shape p) h =
     let s = from-some (λ q. reaches_page n rs q) (record_of p rs) h in
     ap (reaches_from (λ q. reaches_page n (rs ++ r ∷ []) q)) (found-push p rs r s.0 s.1)
-    ∙ both-true (is_container s.0.kind) (reaches_page n (rs ++ r ∷ []) s.0.place.parent) s.2 (reaches-push n rs r s.0.place.parent s.3)
+    ∙ and_from (is_container s.0.kind) (reaches_page n (rs ++ r ∷ []) s.0.place.parent) s.2 (reaches-push n rs r s.0.place.parent s.3)
 
 next-more : (n : ℕ) → (n == 4294967295) ≡ false → n < 2 ^ 32 → n + 1 < 2 ^ 32
 next-more n h k = elim (cases_Bool (nat_lt n 4294967295)) [ inl t ↦ grind (arith, nat_tests) | inr f ↦ grind (arith, nat_tests) ]

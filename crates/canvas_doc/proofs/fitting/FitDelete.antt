@@ -1,7 +1,7 @@
 -- A deletion that is decided fits: what stays reaches the page without what goes.
-use Rattle.std.proofs.Common.{◌≡◌, ℕ, zero, suc, ◌+◌, ◌-◌, ◌<◌, ◌≤◌, ◌==◌, List, [], ◌∷◌, Bool, true, false, not, ◌&&◌, Option, Some, None, Result, Ok, refl, sym, ap, ◌∙◌, arith, inl, inr, subst, All, length}
+use Rattle.std.proofs.Common.{◌≡◌, ℕ, zero, suc, ◌+◌, ◌-◌, ◌<◌, ◌≤◌, ◌==◌, List, [], ◌∷◌, Bool, true, false, not, Option, Some, None, Result, Ok, refl, sym, ap, ◌∙◌, arith, inl, inr, subst, All, length}
 use Rattle.std.specs.List.{AllByRecursion}
-use Rattle.std.proofs.lemmas.Bool.{cases_Bool, and_parts}
+use Rattle.std.proofs.lemmas.Bool.{cases_Bool, and_parts, or_parts, and_from}
 use Rattle.canvas_record.specs.declared.records.Parent.{Parent}
 use Rattle.canvas_record.specs.declared.records.Parent.TheVariants.{Page, Shape}
 use Rattle.canvas_record.specs.declared.records.Record.{Record}
@@ -68,13 +68,6 @@ below-fuel (suc n) m id rs (Shape p) h =
     ap (λ k. is_below k id rs (Shape p)) e
     ∙ (ap (is_below_from id (λ q. is_below (n + m) id rs q)) s.1 ∙ ap (λ b. (s.0.id == id) || b) f ∙ sym (ap (is_below_from id (λ q. is_below n id rs q)) s.1))
 
-or-parts : (a b : Bool) → (a || b) ≡ false → (a ≡ false) × (b ≡ false)
-or-parts true b h = cc
-or-parts false b h = (refl, h)
-
-both-true : (a b : Bool) → a ≡ true → b ≡ true → (a && b) ≡ true
-both-true a b h k = rw (h, k) refl
-
 -- what is not below the shape reaches the page without what is
 pub reaches-kept : (n id : ℕ) (rs : List Record) (q : Parent) → n < 32 → reaches_page n rs q ≡ true → is_below n id rs q ≡ false → reaches_page n (filter (λ r. not (is_in_subtree id rs r)) rs) q ≡ true
 unfolding is_below reaches_page
@@ -85,12 +78,12 @@ reaches-kept (suc n) id rs (Shape p) l h b =
     let s = from-some (λ q. reaches_page n rs q) (record_of p rs) h in
     let r = s.0 in
     let open_ : ((r.id == id) || is_below n id rs r.place.parent) ≡ false = sym (ap (is_below_from id (λ q. is_below n id rs q)) s.1) ∙ b in
-    let parts = or-parts (r.id == id) (is_below n id rs r.place.parent) open_ in
+    let parts = or_parts (r.id == id) (is_below n id rs r.place.parent) open_ in
     let sum : n + (32 - n) ≡ 32 = omega arith in
     let far : is_below 32 id rs r.place.parent ≡ false = ap (λ k. is_below k id rs r.place.parent) (sym sum) ∙ below-fuel n (32 - n) id rs r.place.parent s.3 ∙ parts.1 in
     let kept : not ((r.id == id) || is_below 32 id rs r.place.parent) ≡ true = rw (parts.0, far) refl in
     ap (reaches_from (λ q. reaches_page n (filter (λ x. not (is_in_subtree id rs x)) rs) q)) (found-kept p (λ x. not (is_in_subtree id rs x)) rs r s.1 kept)
-    ∙ both-true (is_container r.kind) (reaches_page n (filter (λ x. not (is_in_subtree id rs x)) rs) r.place.parent) s.2 (reaches-kept n id rs r.place.parent (omega arith) s.3 parts.1)
+    ∙ and_from (is_container r.kind) (reaches_page n (filter (λ x. not (is_in_subtree id rs x)) rs) r.place.parent) s.2 (reaches-kept n id rs r.place.parent (omega arith) s.3 parts.1)
 
 not-true : (b : Bool) → not b ≡ true → b ≡ false
 not-true true h = cc
@@ -116,7 +109,7 @@ deleted-well d w id =
       places = places-filter t rs w.places;
       grounded = all-both (λ r. reaches_page 31 rs r.place.parent ≡ true) (λ r. t r ≡ true) (λ r. reaches_page 31 (filter t rs) r.place.parent ≡ true)
           (λ r h k.
-          let out = or-parts (r.id == id) (is_below 32 id rs r.place.parent) (not-true (is_in_subtree id rs r) k) in
+          let out = or_parts (r.id == id) (is_below 32 id rs r.place.parent) (not-true (is_in_subtree id rs r) k) in
           reaches-kept 31 id rs r.place.parent (omega arith) h (sym (below-fuel 31 1 id rs r.place.parent h) ∙ out.1))
           (filter t rs) (All-filter t (λ (r : Record). reaches_page 31 rs r.place.parent ≡ true) rs w.grounded) (filter_passes t rs);
     }

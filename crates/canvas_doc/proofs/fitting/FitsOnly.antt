@@ -1,7 +1,7 @@
 -- A change that fits passes the tests.
 use Rattle.std.proofs.Common.{◌≡◌, ◌≢◌, ℕ, zero, suc, ◌+◌, ◌<◌, ◌≤◌, ◌^◌, ◌==◌, List, [], ◌∷◌, ◌++◌, Bool, true, false, cond, not, ◌&&◌, ◌||◌, Option, Some, None, refl, sym, ap, ◌∙◌, arith, inl, inr, subst, map, All, length, IsSome, nat_le, is_some, rules, length-append}
 use Rattle.std.specs.List.{AllByRecursion, list_all}
-use Rattle.std.proofs.lemmas.Bool.{cases_Bool, true≢false, and_parts, eq-eqb, eqb-true}
+use Rattle.std.proofs.lemmas.Bool.{cases_Bool, true≢false, and_parts, eq-eqb, eqb-true, or_from, and_from}
 use Rattle.std.proofs.lemmas.Bool.Decides.{nat_tests}
 use Rattle.std.proofs.lemmas.List.Elements.{All-weaker, All-cons, All-head, All-tail}
 use Rattle.canvas_plane.specs.declared.Pose.{Pose}
@@ -45,12 +45,9 @@ some-of : {T : Type 0} (o : Option T) → is_some o ≡ true → (x : T) × (o �
 some-of None h = cc
 some-of (Some x) h = (x, refl)
 
-both-true : (a b : Bool) → a ≡ true → b ≡ true → (a && b) ≡ true
-both-true a b h k = rw (h, k) refl
-
 pub test-from_all : (t : Record → Bool) (rs : List Record) → All (λ r. t r ≡ true) rs → list_all t rs ≡ true
 test-from_all t [] h = refl
-test-from_all t (r ∷ rs) h = both-true (t r) (list_all t rs) (All-head (λ x. t x ≡ true) r rs h) (test-from_all t rs (All-tail (λ x. t x ≡ true) r rs h))
+test-from_all t (r ∷ rs) h = and_from (t r) (list_all t rs) (All-head (λ x. t x ≡ true) r rs h) (test-from_all t rs (All-tail (λ x. t x ≡ true) r rs h))
 
 all-same : (t s : Record → Bool) → ((r : Record) → t r ≡ s r) → (rs : List Record) → list_all t rs ≡ list_all s rs
 all-same t s k [] = refl
@@ -61,7 +58,7 @@ pose-test : (pose : Pose) → pose.quarter ≤ 3 → reach_of pose ≤ 2 ^ 20 �
 pose-test pose h k =
     let a : nat_le pose.quarter 3 ≡ true = grind (arith, nat_tests) in
     let b : nat_le (reach_of pose) (2 ^ 20) ≡ true = grind (arith, nat_tests) in
-    both-true (nat_le pose.quarter 3) (nat_le (reach_of pose) (2 ^ 20)) a b
+    and_from (nat_le pose.quarter 3) (nat_le (reach_of pose) (2 ^ 20)) a b
 
 found-has : (p : ℕ) (rs : List Record) (r : Record) → record_of p rs ≡ Some r → (r.id == p) ≡ true
 found-has p [] r h = cc
@@ -98,14 +95,11 @@ not-true : (b : Bool) → not b ≡ true → b ≡ false
 not-true true h = cc
 not-true false h = refl
 
-or-false : (a b : Bool) → a ≡ false → b ≡ false → (a || b) ≡ false
-or-false a b h k = rw (h, k) refl
-
 avoids-test : (key : List ℕ) (l : List Record) → Avoids key l → is_taken key l ≡ false
 avoids-test key [] a = refl
 avoids-test key (s ∷ rest) a = elim (cases_Bool (is_same s.place.index key)) [
   | inl t ↦ absurd (a.0 (same_text s.place.index key (sym t)))
-  | inr f ↦ or-false (is_same s.place.index key) (is_taken key rest) f (avoids-test key rest a.1)
+  | inr f ↦ or_from (is_same s.place.index key) (is_taken key rest) f (avoids-test key rest a.1)
 ]
 
 sibling-parts : (own : ℕ) (p : Parent) (r : Record) → is_sibling own p r ≡ true → (is_child p r ≡ true) × ((r.id == own) ≡ false)
@@ -191,7 +185,7 @@ reaches-old (suc k) (suc n) rs r (Shape p) h m =
     let s = from-some (λ q. reaches_page k rs q) (record_of p rs) h in
     let e : record_of p (rs ++ r ∷ []) ≡ Some s.0 = found-push p rs r s.0 s.1 in
     let up = and_parts (is_container s.0.kind) (reaches_page n (rs ++ r ∷ []) s.0.place.parent) (sym (ap (reaches_from (λ q. reaches_page n (rs ++ r ∷ []) q)) e) ∙ m) in
-    ap (reaches_from (λ q. reaches_page n rs q)) s.1 ∙ both-true (is_container s.0.kind) (reaches_page n rs s.0.place.parent) s.2 (reaches-old k n rs r s.0.place.parent s.3 up.1)
+    ap (reaches_from (λ q. reaches_page n rs q)) s.1 ∙ and_from (is_container s.0.kind) (reaches_page n rs s.0.place.parent) s.2 (reaches-old k n rs r s.0.place.parent s.3 up.1)
 
 -- a record under itself never reaches the page
 reaches-itself : (n p : ℕ) (rs : List Record) (r : Record) → record_of p rs ≡ Some r → r.place.parent ≡ Shape p → reaches_page n rs (Shape p) ≡ true → ⊥
@@ -220,7 +214,7 @@ created-step p rs r None h g e m = absurd (created-apart p rs r h e m)
 created-step p rs r (Some s) h g e m =
     let up : reaches_page 31 rs s.place.parent ≡ true = found-all (λ (x : Record). reaches_page 31 rs x.place.parent ≡ true) p rs s g h in
     let one = from-some (λ q. reaches_page 30 (rs ++ r ∷ []) q) (Some s) (sym (reaches-step 31 p (rs ++ r ∷ []) (Some s) (omega arith) (sym (found-push p rs r s h))) ∙ m) in
-    let known : reaches_page 32 rs (Shape p) ≡ true = reaches-step 32 p rs (Some s) (omega arith) (sym h) ∙ both-true (is_container s.kind) (reaches_page 31 rs s.place.parent) (container-of s one.0 one.1 one.2) up in
+    let known : reaches_page 32 rs (Shape p) ≡ true = reaches-step 32 p rs (Some s) (omega arith) (sym h) ∙ and_from (is_container s.kind) (reaches_page 31 rs s.place.parent) (container-of s one.0 one.1 one.2) up in
     reaches-old 32 31 rs r (Shape p) known m
 
 created-reached : (rs : List Record) (r : Record) (q : Parent) → q ≡ r.place.parent → AreGrounded rs → reaches_page 31 (rs ++ r ∷ []) q ≡ true → reaches_page 31 rs q ≡ true
@@ -269,33 +263,33 @@ fits-complete (change.Create id kind pose hidden pl) d w f =
     let limits : IsInLimits r = last-all IsInLimits rs r f.left.limits in
     let reached : reaches_page 31 rs pl.parent ≡ true = created-reached rs r pl.parent refl w.grounded (last-all (λ (s : Record). reaches_page 31 (rs ++ r ∷ []) s.place.parent ≡ true) rs r f.left.grounded) in
     let free : AllByRecursion (IsFree d.next pl.parent pl.index) rs = subst (λ n. AllByRecursion (IsFree n pl.parent pl.index) rs) same (created-free rs r f.left.places) in
-    both-true _ _ (eq-eqb id d.next same)
-    (both-true _ _ (next-test d.next f.left.next_below)
-    (both-true _ _ (few-test (length rs) (length (rs ++ r ∷ [])) (length-append rs (r ∷ [])) f.left.few)
-    (both-true _ _ (sound-sides kind limits.kind)
-    (both-true _ _ (sound-vertices kind limits.kind)
-    (both-true _ _ (pose-test pose limits.quarter limits.reach)
-    (both-true _ _ reached (ap not (free-test d.next pl.parent pl.index rs free))))))))
+    and_from _ _ (eq-eqb id d.next same)
+    (and_from _ _ (next-test d.next f.left.next_below)
+    (and_from _ _ (few-test (length rs) (length (rs ++ r ∷ [])) (length-append rs (r ∷ [])) f.left.few)
+    (and_from _ _ (sound-sides kind limits.kind)
+    (and_from _ _ (sound-vertices kind limits.kind)
+    (and_from _ _ (pose-test pose limits.quarter limits.reach)
+    (and_from _ _ reached (ap not (free-test d.next pl.parent pl.index rs free))))))))
 fits-complete (change.Move id pl) d w f =
     let there = is-there (record_of id d.records) f.named in
     let s = some-of (record_of id d.records) there in
-    both-true _ _ there
-    (both-true _ _ (ap not (moved-shallow id pl d.records f.left.grounded))
+    and_from _ _ there
+    (and_from _ _ (ap not (moved-shallow id pl d.records f.left.grounded))
     (ap not (free-test id pl.parent pl.index d.records (moved-free id pl d.records s.0 s.1 f.left.places))))
 fits-complete (change.Pose id pose) d w f =
     let there = is-there (record_of id d.records) f.named in
     let s = some-of (record_of id d.records) there in
     let l : IsInLimits (record s.0 { pose = pose }) = changed-one IsInLimits id (λ r. record r { pose = pose }) (λ r. refl) d.records s.0 f.left.limits s.1 in
-    both-true _ _ there (pose-test pose l.quarter l.reach)
+    and_from _ _ there (pose-test pose l.quarter l.reach)
 fits-complete (change.Reshape id kind) d w f =
     let rs = d.records in
     let there = is-there (record_of id rs) f.named in
     let s = some-of (record_of id rs) there in
     let g : Record → Record = λ r. cond (r.id == id) (record r { kind = kind }) r in
     let l : IsInLimits (record s.0 { kind = kind }) = changed-one IsInLimits id (λ r. record r { kind = kind }) (λ r. refl) rs s.0 f.left.limits s.1 in
-    both-true _ _ there
-    (both-true _ _ (sound-sides kind l.kind)
-    (both-true _ _ (sound-vertices kind l.kind)
+    and_from _ _ there
+    (and_from _ _ (sound-sides kind l.kind)
+    (and_from _ _ (sound-vertices kind l.kind)
     (or-true (is_container kind) (has_no_child id rs) (λ leaf.
     test-from_all (λ r. not (is_child (Shape id) r)) rs
     (All-weaker (λ (r : Record). reaches_page 31 (map g rs) (g r).place.parent ≡ true) (λ (r : Record). not (is_child (Shape id) r) ≡ true) (λ r m. leaf-blocks id kind rs s.0 r s.1 leaf m) rs

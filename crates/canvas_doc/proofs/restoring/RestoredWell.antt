@@ -1,7 +1,7 @@
 -- A list without fault is restored as a well-formed document.
 use Rattle.std.proofs.Common.{◌≡◌, ℕ, zero, suc, ◌-◌, ◌<◌, ◌≤◌, ◌^◌, ◌==◌, ◌&&◌, ◌||◌, not, nat_lt, nat_le, List, [], ◌∷◌, ◌++◌, Bool, true, false, cond, Option, Some, None, refl, sym, ap, subst, ◌∙◌, arith, inl, inr, All, length, get_or}
 use Rattle.std.specs.List.{AllByRecursion, list_any, position, position_or_len}
-use Rattle.std.proofs.lemmas.Bool.{cases_Bool, true≢false, and_parts, eq-eqb, eqb-true}
+use Rattle.std.proofs.lemmas.Bool.{cases_Bool, true≢false, and_parts, eq-eqb, eqb-true, or_parts, and_from}
 use Rattle.std.proofs.lemmas.Bool.Decides.{nat_tests}
 use Rattle.std.proofs.lemmas.List.Elements.{All-from_recursion, recursion_from_All}
 use Rattle.std.proofs.lemmas.List.Sums.{fails_before_first}
@@ -50,14 +50,10 @@ abbrev pub NoneClash : (Record → Record → Bool) → List Record → List Rec
 NoneClash clash earlier [] = Unit {0}
 NoneClash clash earlier (r ∷ later) = (list_any (λ s. clash s r) earlier ≡ false) × NoneClash clash (earlier ++ r ∷ []) later
 
-or-parts : (a b : Bool) → (a || b) ≡ false → (a ≡ false) × (b ≡ false)
-or-parts true b h = cc
-or-parts false b h = (refl, h)
-
 last-apart : (p : Record → Bool) (xs : List Record) (y : Record) → list_any p (xs ++ y ∷ []) ≡ false → (list_any p xs ≡ false) × (p y ≡ false)
 last-apart p xs y h =
-    let a = or-parts (list_any p xs) (list_any p (y ∷ [])) (sym (list_any-append p xs (y ∷ [])) ∙ h) in
-    (a.0, (or-parts (p y) false a.1).0)
+    let a = or_parts (list_any p xs) (list_any p (y ∷ [])) (sym (list_any-append p xs (y ∷ [])) ∙ h) in
+    (a.0, (or_parts (p y) false a.1).0)
 
 apart-later : (clash : Record → Record → Bool) (x : Record) (earlier later : List Record) → ((r : Record) → list_any (λ s. clash s r) earlier ≡ false → clash x r ≡ false) → NoneClash clash earlier later → AllByRecursion (λ s. clash x s ≡ false) later
 apart-later clash x earlier [] k n = tt
@@ -85,9 +81,9 @@ placed all earlier (r ∷ later) h = elim (cases_Bool (is_misplaced all earlier 
       let can = can_have_children all r.place.parent in
       let leads = leads_to_page 31 all r.place.parent in
       let taken = list_any (same_place r) earlier in
-      let a = or-parts (list_any (λ s. s.id == r.id) earlier) (not can || (not leads || taken)) f in
-      let b = or-parts (not can) (not leads || taken) a.1 in
-      let d = or-parts (not leads) taken b.1 in
+      let a = or_parts (list_any (λ s. s.id == r.id) earlier) (not can || (not leads || taken)) f in
+      let b = or_parts (not can) (not leads || taken) a.1 in
+      let d = or_parts (not leads) taken b.1 in
       record {
         ids = (a.0, rest.ids);
         places = (d.1, rest.places);
@@ -140,13 +136,10 @@ same-parent-sym (Shape a) (Shape b) = eq-sym a b
 same-itself : (a : List ℕ) → is_same a a ≡ true
 same-itself a = sym (is_eq-slice_cmp a a) ∙ ap is_eq (tied_itself nat_list_cmp_total a)
 
-both-true : (a b : Bool) → a ≡ true → b ≡ true → (a && b) ≡ true
-both-true a b h k = rw (h, k) refl
-
 elsewhere : (r s : Record) → same_place s r ≡ false → IsElsewhere r s
 elsewhere r s h p e =
     let both : (same_parent r.place.parent s.place.parent && is_same r.place.index s.place.index) ≡ true =
-    both-true (same_parent r.place.parent s.place.parent) (is_same r.place.index s.place.index) (same-parent-sym r.place.parent s.place.parent ∙ p)
+    and_from (same_parent r.place.parent s.place.parent) (is_same r.place.index s.place.index) (same-parent-sym r.place.parent s.place.parent ∙ p)
     (ap (is_same r.place.index) e ∙ same-itself r.place.index) in
     true≢false (sym both ∙ h)
 
@@ -195,7 +188,7 @@ reaches-from_leads (suc n) rs (Shape p) all can leads =
     ap (λ k. leads_to_page k rs r.place.parent) (sym m) ∙ sym (leads-step (suc n) p rs (Some r) (omega arith) (sym s.1)) ∙ leads in
     let holds : can_have_children rs r.place.parent ≡ true = found-parent p rs r (λ x. can_have_children rs x.place.parent ≡ true) all s.1 in
     let below : reaches_page (suc n - 1) rs r.place.parent ≡ true = ap (λ k. reaches_page k rs r.place.parent) m ∙ reaches-from_leads n rs r.place.parent all holds up in
-    reaches-step (suc n) p rs (Some r) (omega arith) (sym s.1) ∙ both-true (is_container r.kind) (reaches_page (suc n - 1) rs r.place.parent) s.2 below
+    reaches-step (suc n) p rs (Some r) (omega arith) (sym s.1) ∙ and_from (is_container r.kind) (reaches_page (suc n - 1) rs r.place.parent) s.2 below
 
 -- lengths
 length-put : (r : Record) (l : List Record) → length (put_by_id r l) ≡ suc (length l)

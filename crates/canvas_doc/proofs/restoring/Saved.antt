@@ -1,7 +1,7 @@
 -- The records of a document are restored as that document.
 use Rattle.std.proofs.Common.{◌≡◌, ℕ, zero, suc, ◌+◌, ◌-◌, ◌^◌, ◌<◌, ◌≤◌, ◌==◌, ◌&&◌, ◌||◌, not, nat_lt, nat_le, List, [], ◌∷◌, ◌++◌, Bool, true, false, cond, Option, Some, None, Ok, refl, sym, ap, ◌∙◌, arith, inl, inr, length}
 use Rattle.std.specs.List.{AllByRecursion, list_any, position, position_or_len}
-use Rattle.std.proofs.lemmas.Bool.{cases_Bool, true≢false, and_parts}
+use Rattle.std.proofs.lemmas.Bool.{cases_Bool, true≢false, and_parts, and_from}
 use Rattle.std.proofs.lemmas.Bool.Decides.{nat_tests}
 use Rattle.std.proofs.lemmas.List.Elements.{recursion_from_All}
 use Rattle.std.proofs.lemmas.List.Folds.{list_any-append}
@@ -24,9 +24,6 @@ use Rattle.canvas_doc.proofs.restoring.Misplaced.{well-placed}
 use Rattle.canvas_doc.proofs.tree.Paths.{reaches-none, reaches-step}
 use Rattle.canvas_doc.proofs.restoring.RestoredWell.{Passes, Apart, NoneClash, same-parent-sym}
 use Rattle.canvas_record.specs.Restored.{is_record, record_fault, leads_from, leads_to_page, same_place, tree_fault_after, tree_fault, put_by_id, by_id, restored_of, refused_at, restoration_of}
-
-and-from : (a b : Bool) → a ≡ true → b ≡ true → (a && b) ≡ true
-and-from a b h k = rw (h, k) refl
 
 or-none : (a b : Bool) → a ≡ false → b ≡ false → (a || (b || false)) ≡ false
 or-none a b h k = rw (h, k) refl
@@ -69,11 +66,11 @@ no-position p rs a =
 
 within-limits : (next : ℕ) (r : Record) → (1 ≤ r.id) × (r.id < next) → IsInLimits r → is_record next r ≡ true
 within-limits next r h l =
-    and-from (nat_le 1 r.id && nat_lt r.id next) (is_pose r.pose && (has_sides r.kind && has_vertices r.kind))
-    (and-from (nat_le 1 r.id) (nat_lt r.id next) (grind (arith, nat_tests, h.0)) (grind (arith, nat_tests, h.1)))
-    (and-from (is_pose r.pose) (has_sides r.kind && has_vertices r.kind)
-    (and-from (nat_le r.pose.quarter 3) (nat_le (reach_of r.pose) (2 ^ 20)) (grind (arith, nat_tests, l.quarter)) (grind (arith, nat_tests, l.reach)))
-    (and-from (has_sides r.kind) (has_vertices r.kind) (sound-sides r.kind l.kind) (sound-vertices r.kind l.kind)))
+    and_from (nat_le 1 r.id && nat_lt r.id next) (is_pose r.pose && (has_sides r.kind && has_vertices r.kind))
+    (and_from (nat_le 1 r.id) (nat_lt r.id next) (grind (arith, nat_tests, h.0)) (grind (arith, nat_tests, h.1)))
+    (and_from (is_pose r.pose) (has_sides r.kind && has_vertices r.kind)
+    (and_from (nat_le r.pose.quarter 3) (nat_le (reach_of r.pose) (2 ^ 20)) (grind (arith, nat_tests, l.quarter)) (grind (arith, nat_tests, l.reach)))
+    (and_from (has_sides r.kind) (has_vertices r.kind) (sound-sides r.kind l.kind) (sound-vertices r.kind l.kind)))
 
 all-within : (next : ℕ) (rs : List Record) → AllByRecursion (λ r. (1 ≤ r.id) × (r.id < next)) rs → AllByRecursion IsInLimits rs → Passes (is_record next) rs
 all-within next [] a l = tt
@@ -135,7 +132,7 @@ leads-from-reaches (suc n) rs (Shape p) h =
 hang : (all rs : List Record) → AllByRecursion (λ (r : Record). reaches_page 31 all r.place.parent ≡ true) rs → Passes (λ r. can_have_children all r.place.parent && leads_to_page 31 all r.place.parent) rs
 hang all [] a = tt
 hang all (r ∷ rs) a =
-    (and-from (can_have_children all r.place.parent) (leads_to_page 31 all r.place.parent) (can-from 31 all r.place.parent a.0) (leads-from-reaches 31 all r.place.parent a.0), hang all rs a.1)
+    (and_from (can_have_children all r.place.parent) (leads_to_page 31 all r.place.parent) (can-from 31 all r.place.parent a.0) (leads-from-reaches 31 all r.place.parent a.0), hang all rs a.1)
 
 no-tree-fault : (all earlier later : List Record) → NoneClash (λ s r. s.id == r.id) earlier later → NoneClash (λ s r. same_place r s) earlier later → Passes (λ r. can_have_children all r.place.parent && leads_to_page 31 all r.place.parent) later → tree_fault_after all earlier later ≡ None
 no-tree-fault all earlier [] a b c = refl

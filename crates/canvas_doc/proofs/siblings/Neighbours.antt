@@ -1,12 +1,12 @@
 -- Siblings side by side: the first has the greatest index, the last the least.
-use Rattle.std.proofs.Common.{◌≡◌, ℕ, ◌+◌, ◌-◌, ◌<◌, ◌≤◌, ◌==◌, List, [], ◌∷◌, ◌++◌, Bool, true, false, not, cond, ◌&&◌, Option, Some, None, refl, sym, ap, ◌∙◌, arith, filter, inl, inr, subst, length, get_or, take, drop, reverse, All}
+use Rattle.std.proofs.Common.{◌≡◌, ℕ, ◌+◌, ◌-◌, ◌<◌, ◌≤◌, ◌==◌, List, [], ◌∷◌, ◌++◌, Bool, true, false, not, cond, Option, Some, None, refl, sym, ap, ◌∙◌, arith, filter, inl, inr, subst, length, get_or, take, drop, reverse, All}
 use Rattle.std.specs.List.{Contains}
 use Rattle.std.specs.List.Sorted.{IsStrictlySortedBy}
 use Rattle.std.specs.Ordering.{nat_cmp, ordering_then, is_lt}
 use Rattle.std.specs.declared.cmp.Ordering.TheVariants.{Less}
 use Rattle.std.specs.Cmp.Lexicographic.{slice_cmp}
 use Rattle.std.proofs.Math.Seq.{take-add, drop-drop}
-use Rattle.std.proofs.lemmas.Bool.{cases_Bool, true≢false, eqb-true, eq-eqb}
+use Rattle.std.proofs.lemmas.Bool.{cases_Bool, true≢false, eqb-true, eq-eqb, and_parts}
 use Rattle.std.proofs.lemmas.Cmp.{tied_itself}
 use Rattle.std.proofs.lemmas.List.{get_or_append_left, get_or-take, get_or-drop, length-take, length-drop, length-append, drop-take, reverse-append}
 use Rattle.std.proofs.lemmas.List.Elements.{All-head, All-tail, All-contains, All-take, All-drop, All-filter, filter_passes, filter-append}
@@ -67,12 +67,8 @@ same-parent Page (Shape b) h = absurd (true≢false (sym h))
 same-parent (Shape a) Page h = absurd (true≢false (sym h))
 same-parent (Shape a) (Shape b) h = ap Shape (eqb-true a b h)
 
-pub both : (a b : Bool) → (a && b) ≡ true → (a ≡ true) × (b ≡ true)
-both true b h = (refl, h)
-both false b h = absurd (true≢false (sym h))
-
 pub sibling-parent : (own : ℕ) (p : Parent) (r : Record) → is_sibling own p r ≡ true → r.place.parent ≡ p
-sibling-parent own p r h = same-parent r.place.parent p (both (is_child p r) (not (r.id == own)) h).0
+sibling-parent own p r h = same-parent r.place.parent p (and_parts (is_child p r) (not (r.id == own)) h).0
 
 pub by-index : (a b : Place) → a.parent ≡ b.parent → by_place a b ≡ slice_cmp nat_cmp b.index a.index
 by-index a b e = ap (λ o. ordering_then o (slice_cmp nat_cmp b.index a.index)) (ap (by_parent a.parent) (sym e) ∙ tied_itself by_parent-total a.parent)

@@ -5,7 +5,7 @@ use Rattle.std.specs.List.Sorted.{IsStrictlySortedBy}
 use Rattle.std.specs.Ordering.{is_lt}
 use Rattle.std.specs.declared.cmp.Ordering.TheVariants.{Less}
 use Rattle.std.specs.Cmp.Lexicographic.{same_text}
-use Rattle.std.proofs.lemmas.Bool.{cases_Bool, true≢false}
+use Rattle.std.proofs.lemmas.Bool.{cases_Bool, true≢false, and_parts}
 use Rattle.std.proofs.lemmas.Cmp.{tied_itself}
 use Rattle.std.proofs.lemmas.List.{take-append-drop}
 use Rattle.std.proofs.lemmas.List.Elements.{All-head, All-tail, All-from_recursion}
@@ -15,7 +15,7 @@ use Rattle.canvas_record.specs.declared.records.Record.{Record}
 use Rattle.canvas_doc.specs.PlaceOrder.{by_place, comes_first, IsInPlaceOrder, IsPlaceOf}
 use Rattle.canvas_record.specs.Siblings.{is_sibling, siblings, is_taken}
 use Rattle.canvas_doc.proofs.places.ByPlace.{by_place-total}
-use Rattle.canvas_doc.proofs.siblings.Neighbours.{both, sibling-parent}
+use Rattle.canvas_doc.proofs.siblings.Neighbours.{sibling-parent}
 use Rattle.canvas_doc.proofs.lists.SameMembers.{same-members, filter-members}
 use Rattle.canvas_doc.proofs.siblings.Spotted.{any-filter}
 
@@ -48,8 +48,8 @@ taken-listed own place order rs w =
 
 place-is : (own : ℕ) (place : Place) (r : Record) → takes own place r ≡ true → r.place ≡ place
 place-is own place r h =
-    let sibling : is_sibling own place.parent r ≡ true = (both (is_sibling own place.parent r) (is_same r.place.index place.index) h).0 in
-    let same : is_same r.place.index place.index ≡ true = (both (is_sibling own place.parent r) (is_same r.place.index place.index) h).1 in
+    let sibling : is_sibling own place.parent r ≡ true = (and_parts (is_sibling own place.parent r) (is_same r.place.index place.index) h).0 in
+    let same : is_same r.place.index place.index ≡ true = (and_parts (is_sibling own place.parent r) (is_same r.place.index place.index) h).1 in
     let parents : r.place.parent ≡ place.parent = sibling-parent own place.parent r sibling in
     let indexes : r.place.index ≡ place.index = same_text r.place.index place.index (sym same) in
     λ k. record { parent = parents k; index = indexes k }

@@ -1,7 +1,7 @@
 -- New indexes for the children of a parent: they are distinct and in the old order, so no colour changes.
 use Rattle.std.proofs.Common.{◌≡◌, ◌≢◌, ℕ, zero, suc, ◌<◌, ◌≤◌, ◌^◌, List, [], ◌∷◌, Bool, true, false, cond, not, ◌&&◌, Option, Result, Ok, refl, sym, ap, ◌∙◌, arith, inl, inr, subst, map, length}
 use Rattle.std.specs.List.{AllByRecursion}
-use Rattle.std.proofs.lemmas.Bool.{cases_Bool, true≢false, and_parts, eq-eqb, eqb-true}
+use Rattle.std.proofs.lemmas.Bool.{cases_Bool, true≢false, and_parts, eq-eqb, eqb-true, and_from}
 use Rattle.std.proofs.lemmas.List.{length-map}
 use Rattle.canvas_record.specs.declared.records.Parent.{Parent}
 use Rattle.canvas_record.specs.declared.records.Parent.TheVariants.{Page, Shape}
@@ -79,9 +79,6 @@ pub same-itself : (a : Parent) → same_parent a a ≡ true
 same-itself Page = refl
 same-itself (Shape a) = eq-eqb a a refl
 
-both-true : (a b : Bool) → a ≡ true → b ≡ true → (a && b) ≡ true
-both-true a b h k = rw (h, k) refl
-
 -- of two children of one parent, the one in front has the greater rank
 rank-less : (rs : List Record) (r s : Record) → IsIn s rs → s.place.parent ≡ r.place.parent → is_in_front r s ≡ true → rank_of rs s < rank_of rs r
 rank-less rs r s m e h =
@@ -89,9 +86,9 @@ rank-less rs r s m e h =
     let q : Record → Bool = λ x. is_child r.place.parent x && is_in_front r x in
     let implies : (x : Record) → p x ≡ true → q x ≡ true = λ x k.
     let parts = and_parts (is_child s.place.parent x) (is_in_front s x) k in
-    both-true (is_child r.place.parent x) (is_in_front r x) (ap (λ y. is_child y x) (sym e) ∙ parts.0) (before-trans x.place.index s.place.index r.place.index parts.1 h) in
+    and_from (is_child r.place.parent x) (is_in_front r x) (ap (λ y. is_child y x) (sym e) ∙ parts.0) (before-trans x.place.index s.place.index r.place.index parts.1 h) in
     let out : p s ≡ false = ap (λ b. is_child s.place.parent s && b) (before-itself s.place.index) ∙ (elim (is_child s.place.parent s) as (λ b. (b && false) ≡ false) [ true ↦ refl | false ↦ refl ]) in
-    let inside : q s ≡ true = both-true (is_child r.place.parent s) (is_in_front r s) (ap (same_parent s.place.parent) (sym e) ∙ same-itself s.place.parent) h in
+    let inside : q s ≡ true = and_from (is_child r.place.parent s) (is_in_front r s) (ap (same_parent s.place.parent) (sym e) ∙ same-itself s.place.parent) h in
     let less : length (filter p rs) < length (filter q rs) = weaker-lt p q implies s out inside rs m in
     let a : length (filter p rs) ≡ rank_of rs s = length-filter p rs in
     let b : length (filter q rs) ≡ rank_of rs r = length-filter q rs in

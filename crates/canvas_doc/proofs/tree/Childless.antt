@@ -1,7 +1,7 @@
 -- Shapes under which nothing hangs.
 use Rattle.std.proofs.Common.{◌≡◌, ℕ, zero, suc, ◌+◌, ◌-◌, ◌<◌, ◌≤◌, ◌==◌, List, [], ◌∷◌, Bool, true, false, cond, not, ◌||◌, Option, Some, None, refl, sym, ap, ◌∙◌, arith, inl, inr, subst, All, length, get_or, filter, take, drop, max}
 use Rattle.std.specs.List.{AllByRecursion, Contains, remove}
-use Rattle.std.proofs.lemmas.Bool.{cases_Bool, eq-eqb, eqb-true}
+use Rattle.std.proofs.lemmas.Bool.{cases_Bool, eq-eqb, eqb-true, or_from}
 use Rattle.std.proofs.lemmas.Bool.Decides.{nat_tests}
 use Rattle.std.proofs.lemmas.List.{get_or-take, get_or-drop, length-take, length-drop}
 use Rattle.std.proofs.lemmas.List.Elements.{All-head, All-tail, All-nil, All-cons, filter_passes}
@@ -31,9 +31,6 @@ other-found id p rs r apart e =
     let same : r.id ≡ p = eqb-true r.id p (found-has p rs r e) in
     ap (λ n. n == id) same ∙ apart
 
-either-false : (a b : Bool) → a ≡ false → b ≡ false → (a || b) ≡ false
-either-false a b h k = rw (h, k) refl
-
 below-from : (id : ℕ) (up : Parent → Bool) (o : Option Record) → ((r : Record) → o ≡ Some r → ((r.id == id) || up r.place.parent) ≡ false) → is_below_from id up o ≡ false
 below-from id up None k = refl
 below-from id up (Some r) k = k r refl
@@ -46,7 +43,7 @@ below-childless zero id rs (Shape p) a h = refl
 below-childless (suc n) id rs Page a h = refl
 below-childless (suc n) id rs (Shape p) a h =
     below-from id (λ q. is_below n id rs q) (record_of p rs)
-    (λ r e. either-false (r.id == id) (is_below n id rs r.place.parent) (other-found id p rs r h e)
+    (λ r e. or_from (r.id == id) (is_below n id rs r.place.parent) (other-found id p rs r h e)
     (below-childless n id rs r.place.parent a (found-all (λ (s : Record). is_child (Shape id) s ≡ false) p rs r a e)))
 
 levels-none : (b : Bool) (n : ℕ) → b ≡ false → n ≡ 0 → cond b 1 (one_more n) ≡ 0

@@ -1,7 +1,7 @@
 -- A move lies too deep exactly where depth and height together are above 32.
 use Rattle.std.proofs.Common.{◌≡◌, ℕ, zero, suc, ◌+◌, ◌-◌, ◌==◌, List, [], ◌∷◌, Bool, true, false, cond, not, ◌&&◌, ◌||◌, Option, Some, None, refl, sym, ap, ◌∙◌, arith, inl, inr, All, nat_le, nat_lt, max}
 use Rattle.std.specs.List.{list_all}
-use Rattle.std.proofs.lemmas.Bool.{cases_Bool, and_parts}
+use Rattle.std.proofs.lemmas.Bool.{cases_Bool, and_parts, or_parts}
 use Rattle.std.proofs.lemmas.Bool.Decides.{nat_tests}
 use Rattle.std.proofs.lemmas.List.Elements.{All-head, All-tail}
 use Rattle.canvas_record.specs.declared.records.Parent.{Parent}
@@ -16,10 +16,6 @@ use Rattle.canvas_doc.proofs.tree.Paths.{reaches-page, reaches-step_after, deep-
 from-some : (up : Parent → Bool) (o : Option Record) → reaches_from up o ≡ true → (r : Record) × (o ≡ Some r) × (is_container r.kind ≡ true) × (up r.place.parent ≡ true)
 from-some up None h = cc
 from-some up (Some r) h = let both = and_parts (is_container r.kind) (up r.place.parent) h in (r, refl, both.0, both.1)
-
-or-parts : (a b : Bool) → (a || b) ≡ false → (a ≡ false) × (b ≡ false)
-or-parts true b h = cc
-or-parts false b h = (refl, h)
 
 le-zero : (n : ℕ) → nat_le 0 n ≡ true
 le-zero n = grind (arith, nat_tests)
@@ -56,7 +52,7 @@ reaches-apart (suc k) n id u rs Page h b = reaches-page n (put_under id u rs) �
 reaches-apart (suc k) zero id u rs (Shape p) h b = refl
 reaches-apart (suc k) (suc n) id u rs (Shape p) h b =
     let s = from-some (λ q. reaches_page k rs q) (record_of p rs) h in
-    let parts = or-parts (s.0.id == id) (is_below k id rs s.0.place.parent) (sym (ap (is_below_from id (λ q. is_below k id rs q)) s.1) ∙ b) in
+    let parts = or_parts (s.0.id == id) (is_below k id rs s.0.place.parent) (sym (ap (is_below_from id (λ q. is_below k id rs q)) s.1) ∙ b) in
     let same : suc n - 1 ≡ n = omega arith in
     reaches-step_after (suc n) id p u rs s.0 (omega arith) (sym s.1)
     ∙ ap (λ m. is_container s.0.kind && reaches_page m (put_under id u rs) (parent_after id u s.0)) same

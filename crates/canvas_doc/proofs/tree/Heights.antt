@@ -3,8 +3,7 @@ use Rattle.std.proofs.Common.{◌≡◌, ℕ, zero, suc, ◌+◌, ◌-◌, ◌<�
 use Rattle.std.specs.List.{Contains}
 use Rattle.std.specs.Option.{is_some}
 use Rattle.std.proofs.lemmas.Bool.{cases_Bool, eq-eqb, eqb-true, true≢false}
-use Rattle.std.proofs.lemmas.List.{get_or_default}
-use Rattle.std.proofs.lemmas.List.Elements.{All-contains, All-filter, All-head, All-tail, filter_passes}
+use Rattle.std.proofs.lemmas.List.Elements.{All-contains, All-filter, All-head, All-tail, filter_passes, All-contains_itself}
 use Rattle.canvas_record.specs.declared.records.Parent.{Parent}
 use Rattle.canvas_record.specs.declared.records.Parent.TheVariants.{Page, Shape}
 use Rattle.canvas_record.specs.declared.records.Record.{Record}
@@ -60,11 +59,8 @@ shape-same : (q : Parent) (id : ℕ) → same_parent q (Shape id) ≡ true → q
 shape-same Page id h = cc
 shape-same (Shape a) id h = ap (λ n. Shape n) (eqb-true a id h)
 
-has-own : (rs : List Record) → All (Contains rs) rs
-has-own rs i d l = (i, l, get_or_default rs i (get_or rs i d) d l)
-
 found-within : (p : ℕ) (rs : List Record) (r : Record) → record_of p rs ≡ Some r → Contains rs r
-found-within p rs r e = found-all (Contains rs) p rs r (has-own rs) e
+found-within p rs r e = found-all (Contains rs) p rs r (All-contains_itself rs) e
 
 -- a record is found by its own id
 member-found : (rs : List Record) (r : Record) → AreRising rs → Contains rs r → record_of r.id rs ≡ Some r
@@ -194,7 +190,7 @@ walk-within (suc n) k id rs r w g c h =
     greatest-under (λ s. suc (tallest n rs (Shape s.id))) (suc k) (height_of id rs) (filter (is_child (Shape r.id)) rs) (omega (arith, here, h))
     (λ i d l.
     let x : Record = get_or (filter (is_child (Shape r.id)) rs) i d in
-    let there : Contains rs x = All-filter (is_child (Shape r.id)) (Contains rs) rs (has-own rs) i d l in
+    let there : Contains rs x = All-filter (is_child (Shape r.id)) (Contains rs) rs (All-contains_itself rs) i d l in
     let parent : x.place.parent ≡ Shape r.id = shape-same x.place.parent r.id (filter_passes (is_child (Shape r.id)) rs i d l) in
     let below : suc (suc k) + tallest n rs (Shape x.id) ≤ height_of id rs = walk-within n (suc k) id rs x w g there (deeper id k rs r x w g c there parent h) in
     omega (arith, below))
@@ -206,7 +202,7 @@ height-walked id rs r w g e =
     let one : levels_of id rs r ≡ 1 = ap (λ b. cond b 1 (one_more (levels_to 31 id rs r.place.parent))) (found-has id rs r e) in
     let low : 1 + tallest 31 rs (Shape r.id) ≤ height_of id rs = walk-within 31 0 id rs r w g (found-within id rs r e) one in
     let same : tallest 31 rs (Shape r.id) ≡ tallest 31 rs (Shape id) = ap (λ k. tallest 31 rs (Shape k)) own in
-    let high : 0 + height_of id rs ≤ suc (tallest 31 rs (Shape id)) = greatest-under (levels_of id rs) 0 (suc (tallest 31 rs (Shape id))) rs (omega arith) (λ i d l. (let within : levels_of id rs (get_or rs i d) ≤ suc (tallest 31 rs (Shape id)) = level-within id rs (get_or rs i d) (has-own rs i d l) in omega (arith, within))) in
+    let high : 0 + height_of id rs ≤ suc (tallest 31 rs (Shape id)) = greatest-under (levels_of id rs) 0 (suc (tallest 31 rs (Shape id))) rs (omega arith) (λ i d l. (let within : levels_of id rs (get_or rs i d) ≤ suc (tallest 31 rs (Shape id)) = level-within id rs (get_or rs i d) (All-contains_itself rs i d l) in omega (arith, within))) in
     omega (arith, low, same, high)
 
 -- nothing hangs under what does not reach the page
