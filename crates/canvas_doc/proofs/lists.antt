@@ -1,5 +1,4 @@
--- Lists: members, parts and lists that are filled item by item.
+-- Lists: members, and lists that are filled item by item.
 pub mod Members
 pub mod SameMembers
-pub mod Parts
 pub mod Listing

@@ -57,10 +57,6 @@ own-within kind pose b d h k = record { holds = λ out x y q t. k.holds out x y 
 pub empty-within : (a b : Bounds) → is_empty a ≡ true → IsWithinBounds a b
 empty-within a b e = within-by a b (λ u v h. absurd (true≢false (sym h ∙ empty-none a.left a.top a.right a.bottom u v a.edges e)))
 
--- the whole plane has any
-pub whole-has : (a b : Bounds) → is_whole b ≡ true → IsWithinBounds a b
-whole-has a b w = record { holds = λ out x y q h. ap (λ t. t || is_in (box_between (carry out (left_top b)) (carry out (right_bottom b))) x y) w }
-
 le-known : (a b : ℤ) → int_le a b ≡ true → a ≤ℤ b
 le-known a b h = grind (arith, ints)
 
@@ -118,33 +114,16 @@ joined-has-second a o b e = within-by o b (λ u v h.
     holds-same (int_min a.left o.left) (int_min a.top o.top) (int_max a.right o.right) (int_max a.bottom o.bottom) b u v e
     ∙ joined-second a.left a.top a.right a.bottom o.left o.top o.right o.bottom u v o.edges h)
 
-le-parts : (a b : ℕ) → nat_le (max a b) (2 ^ 27) ≡ true → (a ≤ 2 ^ 27) × (b ≤ 2 ^ 27)
-le-parts a b h = (grind arith, grind arith)
-
--- points that pass the test are near
-pub near-ends : (p q : Point) (near : Bool) → near ≡ (nat_le (size_of p) (2 ^ 27) && nat_le (size_of q) (2 ^ 27)) → near ≡ true → AreNearEnds p.x p.y q.x q.y
-near-ends p q near e h =
-    let both = and_parts (nat_le (size_of p) (2 ^ 27)) (nat_le (size_of q) (2 ^ 27)) (sym e ∙ h) in
-    let first = le-parts (unsigned_abs p.x) (unsigned_abs p.y) both.0 in
-    let second = le-parts (unsigned_abs q.x) (unsigned_abs q.y) both.1 in
-    record { left = first.0; top = first.1; right = second.0; bottom = second.1 }
-
 pub between-has : (p q : Point) (b : Bounds) → HasEdges (int_min p.x q.x) (int_min p.y q.y) (int_max p.x q.x) (int_max p.y q.y) b → HoldsBetween p q b
 between-has p q b e = record {
   holds = λ x y h. holds-same (int_min p.x q.x) (int_min p.y q.y) (int_max p.x q.x) (int_max p.y q.y) b x y e ∙ ends-hold p.x p.y q.x q.y x y h;
 }
-
-pub whole-between : (p q : Point) (b : Bounds) → is_whole b ≡ true → HoldsBetween p q b
-whole-between p q b w = record { holds = λ x y h. ap (λ t. t || is_in (box_between (left_top b) (right_bottom b)) x y) w }
 
 -- what a pose carries to the page is held there
 pub between-on-page : (out : Pose) (p q : Point) (b : Bounds) (x y : ℤ) → HoldsBetween p q b → is_in (box_between (carry out p) (carry out q)) x y ≡ true → holds_on_page (carry out) b x y ≡ true
 between-on-page out p q b x y h t = on-page out b x y ∙ h.holds (pulled out x y).u (pulled out x y).v (sym ((pulled out x y).same p q) ∙ t)
 
 -- ---- carried bounds
-
-pub whole-carried : (pose : Pose) (c b : Bounds) → is_whole b ≡ true → IsCarriedWithin pose c b
-whole-carried pose c b w = record { holds = λ out x y q h. ap (λ t. t || is_in (box_between (carry out (left_top b)) (carry out (right_bottom b))) x y) w }
 
 -- bounds that are not the whole plane, by their carried corners
 pub corners-carried : (pose : Pose) (c b : Bounds) (p q s t : Point) → is_whole c ≡ false → s ≡ left_top c → t ≡ right_bottom c → p ≡ carry pose s → q ≡ carry pose t → HoldsBetween p q b → IsCarriedWithin pose c b
@@ -186,13 +165,7 @@ clip-held out back clip b p q s t es et ep eq undone h = record {
       ∙ sides-hold clip x y g);
 }
 
-pub whole-clip : (out : Pose) (clip : PageBox) (b : Bounds) → is_whole b ≡ true → HoldsClip out clip b
-whole-clip out clip b w = record { holds = λ x y h. ap (λ t. t || is_in (box_between (carry out (left_top b)) (carry out (right_bottom b))) x y) w }
-
 -- ---- kinds in their own planes
-
-pub group-held : (kind : Kind) (b : Bounds) → kind ≡ Group → HoldsAll kind b
-group-held kind b e = record { holds = λ out x y q h. absurd (true≢false (sym h ∙ ap (λ k. holds_of k (carry out) x y) e)) }
 
 -- the bounds go from the origin to (w, h)
 pub record IsSized (w h : ℕ) (b : Bounds) : Type 0 where

@@ -15,14 +15,8 @@ side a b x = int_le (int_min a b) x && int_lt x (int_max a b)
 abbrev pub holds : ℤ → ℤ → ℤ → ℤ → ℤ → ℤ → Bool
 holds l t r b u v = int_le l (neg_ℤ (pos (2 ^ 31))) || (side l r u && side t b v)
 
-le-known : (a b : ℤ) → int_le a b ≡ true → a ≤ℤ b
-le-known a b h = grind (arith, ints)
-
 lt-test : (a b : ℤ) → a <ℤ b → int_lt a b ≡ true
 lt-test a b h = grind (arith, ints)
-
-le-test : (a b : ℤ) → a ≤ℤ b → int_le a b ≡ true
-le-test a b h = grind (arith, ints)
 
 side-grows : (a b c d x : ℤ) → a ≤ℤ b → c ≤ℤ a → b ≤ℤ d → side a b x ≡ true → side c d x ≡ true
 side-grows a b c d x o h k s = grind (arith, ints)
@@ -77,12 +71,6 @@ overlapping l r l' r' x h k h' k' = and_from (int_lt l r') (int_lt l' r) (lt-tes
 
 crossing : (l r l' r' : ℤ) → l <ℤ r' → l' <ℤ r → (int_lt l r' && int_lt l' r) ≡ true
 crossing l r l' r' h k = and_from (int_lt l r') (int_lt l' r) (lt-test l r' h) (lt-test l' r k)
-
-under-top : (l l' r : ℤ) → l <ℤ pos (2 ^ 31 - 1) → r ≡ pos (2 ^ 31 - 1) → l <ℤ r
-under-top l l' r h e = omega (arith, ints)
-
-over-bottom : (l r : ℤ) → neg_ℤ (pos (2 ^ 31)) <ℤ r → l ≡ neg_ℤ (pos (2 ^ 31)) → l <ℤ r
-over-bottom l r h e = omega (arith, ints)
 
 -- the sides of two boxes have parts in common
 pub record Overlap (l t r b l' t' r' b' : ℤ) : Type 0 where

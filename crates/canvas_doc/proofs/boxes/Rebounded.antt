@@ -311,37 +311,9 @@ respaced-bounds order bounds p rs kept = mapped order bounds (respaced p rs) (re
 
 -- ---- shapes that have no child, or not themselves
 
--- bounds of a shape with no child need only hold its own
-pub childless : (order : List Record) (bounds : List Bounds) (r : Record) (b : Bounds) → IsChildless r.id order → (r.hidden ≡ false → HoldsOwn r.kind r.pose b) → Suits order bounds r b
-childless order bounds r b none own = record {
-  own = own;
-  below = λ j s c e f child. absurd (true≢false (sym child ∙ ap (is_child (Shape r.id)) (sym (get_or_from_slice_get order j s s e)) ∙ none j s (slice_get_within order j s e)));
-}
-
 shape-of : (p : Parent) (id : ℕ) → same_parent p (Shape id) ≡ true → p ≡ Shape id
 shape-of Page id h = cc
 shape-of (Shape p) id h = ap Shape (eqb-true p id h)
-
--- no record is a child of a shape that is not there
-unknown-none : (rs : List Record) (id : ℕ) (p : Parent) → record_of id rs ≡ None → reaches_page 31 rs p ≡ true → same_parent p (Shape id) ≡ false
-unknown-none rs id p none h = elim (cases_Bool (same_parent p (Shape id))) [
-  | inl t ↦ absurd (true≢false (sym h ∙ ap (reaches_page 31 rs) (shape-of p id t) ∙ reaches-step 31 id rs None (omega arith) (sym none)))
-  | inr f ↦ f
-]
-
-new-id : (rs : List Record) (r : Record) → AreRising (rs ++ r ∷ []) → record_of r.id rs ≡ None
-new-id rs r rising = sym (found-none rs r.id (λ k d l e. (
-    let long : length (rs ++ r ∷ []) ≡ length rs + 1 = length-append rs (r ∷ []) in
-    let up : (get_or (rs ++ r ∷ []) k d).id < (get_or (rs ++ r ∷ []) (length rs) d).id = rising-at (rs ++ r ∷ []) k (length rs) d rising l (omega arith) in
-    let here : (get_or (rs ++ r ∷ []) k d).id ≡ (get_or rs k d).id = ap (λ (x : Record). x.id) (get_or_append_left rs (r ∷ []) d k l) in
-    let last : (get_or (rs ++ r ∷ []) (length rs) d).id ≡ r.id = ap (λ (x : Record). x.id) (get_or_at rs r [] d (length rs) refl) in
-    omega arith)))
-
--- nothing hangs under a new shape
-pub new-childless : (order rs : List Record) (r : Record) → AreRising (rs ++ r ∷ []) → All (λ (s : Record). reaches_page 31 rs s.place.parent ≡ true) rs → All (Contains rs) order → IsChildless r.id order
-new-childless order rs r rising grounded listed = λ k d l.
-    let s : Record = get_or order k d in
-    unknown-none rs r.id s.place.parent (new-id rs r rising) (All-contains (λ (x : Record). reaches_page 31 rs x.place.parent ≡ true) rs s grounded (listed k d l))
 
 -- a path that comes back to where it begins never reaches the page
 circle-stays : (n : ℕ) (rs : List Record) (r : Record) → record_of r.id rs ≡ Some r → r.place.parent ≡ Shape r.id → reaches_page n rs (Shape r.id) ≡ false

@@ -110,9 +110,6 @@ own-kept order bounds after own wider = λ k r c e f shown.
     let old = item-in after bounds k c (sym wider.long) f in
     own-within r.kind r.pose old.0 c (own k r old.0 e old.1 shown) (wider.each k old.0 c old.1 f)
 
-pub within-all : (bounds : List Bounds) → AreWithin bounds bounds
-within-all bounds = record { long = refl; each = λ k b c e f. subst (IsWithinBounds b) (one-item bounds k b c e f) (within-itself b) }
-
 pub within-steps : (bounds between after : List Bounds) → AreWithin bounds between → AreWithin between after → AreWithin bounds after
 within-steps bounds between after h k = record {
   long = k.long ∙ h.long;

@@ -18,9 +18,6 @@ use Rattle.canvas_shape.proofs.Law.{bounds-have, held-in}
 use Rattle.canvas_shape.proofs.Sides.{carried-apart}
 use Rattle.canvas_doc.proofs.extents.Pulled.{among-between, between-carried, LiesBetween}
 
-apart-max : (s t : ℤ) → 1 ≤ unsigned_abs (t -ℤ s) → int_max s t -ℤ int_min s t ≡ pos (unsigned_abs (t -ℤ s))
-apart-max s t h = grind (arith, ints)
-
 -- how far apart the ends of a side lie
 size-between : (s t : ℤ) → AreSideEnds s t → (n : ℕ) × (pos n ≡ int_max s t -ℤ int_min s t) × (0 < n)
 size-between s t h = (unsigned_abs (t -ℤ s), grind (arith, ints), omega (arith, h.least))

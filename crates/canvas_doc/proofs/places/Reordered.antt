@@ -299,11 +299,6 @@ moved order rs r s at k to up o a here b there p free other =
       | inr d ↦ inr (remove-has order k r b there x (All-contains (Contains order) rs x o.complete d.0) d.1)
     ])
 
--- what holds of a value holds of a result that is that value
-pub ok-is : {T E : Type 0} (P : T → Type 0) (r : Result T E) (x : T) → P x → IfOk r (λ t. t ≡ x) → IfOk r P
-ok-is P (Ok t) x p h = subst P (sym h) p
-ok-is P (Err e) x p h = tt
-
 -- the same, from a document's lists
 pub record IsListedAt (order rs : List Record) (r : Record) (at k : ℕ) : Type 0 where
   pub there : at < length rs
