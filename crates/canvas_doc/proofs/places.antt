@@ -4,6 +4,5 @@ pub mod Placed
 pub mod PlacePoints
 pub mod PlaceSorted
 pub mod ChildrenInOrder
-pub mod OneChanged
 pub mod Reordered
 pub mod LeftOut

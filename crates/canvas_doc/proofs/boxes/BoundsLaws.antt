@@ -1,23 +1,22 @@
 -- Bounds, in the plane in which they lie.
-use Rattle.std.proofs.Common.{◌≡◌, ℕ, ◌≤◌, ◌^◌, Bool, true, false, ◌&&◌, ◌||◌, ℤ, pos, ◌≤ℤ◌, sym, subst, ap, ◌∙◌, arith, map, List}
-use Rattle.std.specs.Prelude.{int_le, int_lt, nat_le, max, unsigned_abs}
+use Rattle.std.proofs.Common.{◌≡◌, ℕ, ◌≤◌, Bool, true, false, ◌&&◌, ◌||◌, ℤ, pos, ◌≤ℤ◌, sym, subst, ap, ◌∙◌, arith, map, List}
+use Rattle.std.specs.Prelude.{int_le, int_lt}
 use Rattle.std.specs.Int.{int_max, int_min}
 use Rattle.std.proofs.lemmas.Bool.{and_parts, true≢false, false_from_ne_true, and_from, or_right}
 use Rattle.std.proofs.lemmas.Int.{ints}
 use Rattle.canvas_plane.specs.declared.PageBox.{PageBox}
 use Rattle.canvas_plane.specs.declared.Point.{Point}
 use Rattle.canvas_plane.specs.declared.Pose.{Pose}
-use Rattle.canvas_plane.specs.Motion.{carry, size_of}
+use Rattle.canvas_plane.specs.Motion.{carry}
 use Rattle.canvas_plane.specs.Page.{is_in}
 use Rattle.canvas_shape.specs.Bounds.{bounds_of}
 use Rattle.canvas_shape.specs.Box.{box_between, box_of}
 use Rattle.canvas_shape.specs.Edges.{is_in_polygon}
 use Rattle.canvas_shape.specs.Inside.{holds_of}
 use Rattle.canvas_shape.specs.declared.Kind.{Kind}
-use Rattle.canvas_shape.specs.declared.Kind.TheVariants.{Group}
 use Rattle.canvas_doc.specs.declared.bounds.Bounds.{Bounds}
 use Rattle.canvas_doc.specs.Bounds.{holds_on_page, HoldsAll, HoldsBetween, HoldsClip, HoldsOwn, is_empty, is_whole, IsCarriedWithin, IsWithinBounds, left_top, LieApart, right_bottom}
-use Rattle.canvas_doc.specs.Edges.{AreEdges, AreNearEnds}
+use Rattle.canvas_doc.specs.Edges.{AreEdges}
 use Rattle.canvas_doc.proofs.boxes.EdgeLaws.{common-overlap, empty-none, ends-hold, holds, holds-grows, joined-first, joined-second, Overlap}
 use Rattle.canvas_doc.proofs.extents.Pulled.{compose, Composed, pulled}
 use Rattle.canvas_doc.proofs.extents.Shown.{polygon-between}

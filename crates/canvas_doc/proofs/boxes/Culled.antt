@@ -1,10 +1,9 @@
 -- Nothing shows outside of bounds: what they keep off an area answers nothing there.
-use Rattle.std.proofs.Common.{◌≡◌, ℕ, zero, suc, ◌<◌, ◌≤◌, List, [], ◌∷◌, ◌++◌, Bool, true, false, cond, filter, map, Option, Some, None, All, length, ℤ, ◌⊎◌, inl, inr, refl, sym, subst, ap, ◌∙◌, arith}
+use Rattle.std.proofs.Common.{◌≡◌, ℕ, zero, suc, ◌≤◌, List, [], ◌∷◌, ◌++◌, Bool, true, false, cond, filter, map, Option, Some, None, All, ℤ, ◌⊎◌, inl, inr, refl, sym, subst, ap, ◌∙◌}
 use Rattle.std.specs.List.{Contains, slice_get}
 use Rattle.std.proofs.lemmas.Bool.{cases_Bool, true≢false}
 use Rattle.std.proofs.lemmas.List.Elements.{All-cons, All-contains, All-head, All-nil, All-tail, All-weaker, All-contains_itself}
 use Rattle.std.proofs.lemmas.List.Sorted.{All-permutation}
-use Rattle.std.proofs.lemmas.Option.{slice_get_cases, slice_get_within}
 use Rattle.canvas_plane.specs.declared.Point.{Point}
 use Rattle.canvas_plane.specs.declared.Pose.{Pose}
 use Rattle.canvas_plane.specs.Motion.{carry}
@@ -22,6 +21,7 @@ use Rattle.canvas_record.specs.Picture.{answer_among, answer_of, first_answer, k
 use Rattle.canvas_record.specs.Tree.{IsInLimits}
 use Rattle.canvas_doc.proofs.extents.Pulled.{compose, Composed}
 use Rattle.canvas_doc.proofs.siblings.Sorting.{all-children, front_first-moves}
+use Rattle.canvas_doc.proofs.lists.Members.{item-in}
 
 -- ---- what answers
 
@@ -90,15 +90,6 @@ children-known p rs =
 -- each record has a position in the order
 pub record StandIn (rs order : List Record) : Type 0 where
   pub at : (r : Record) → Contains rs r → (k : ℕ) × (slice_get order k ≡ Some r)
-
--- lists of one length have items at the same positions
-item-at : {X Y : Type 0} (xs : List X) (ys : List Y) (k : ℕ) (x : X) → length ys ≡ length xs → slice_get xs k ≡ Some x → (y : Y) × (slice_get ys k ≡ Some y)
-item-at xs ys k x long e =
-    let below : k < length xs = slice_get_within xs k x e in
-    elim (slice_get_cases ys k).1 [
-      | inl here ↦ (here.0, here.2)
-      | inr past ↦ let le : length ys ≤ k = past.0 in absurd (omega arith)
-    ]
 
 -- what a group's children answer, one of them does
 child-answers : (levels : ℕ) (rs : List Record) (p : Parent) (out : Point → Point) (x y : ℤ) (c : Colour) → answer_among (suc levels) rs p out x y ≡ Some c → Answers (λ s. Contains rs s × (is_child p s ≡ true)) (answer_of levels rs out x y) c
@@ -173,7 +164,7 @@ module _ (rs order : List Record) (bounds : List Bounds) (kept : AreBounds order
     with-bounds : (s : Record) → Contains rs s → (c : Bounds) × StandsWith order bounds s c
     with-bounds s there =
         let at = stand.at s there in
-        let box = item-at order bounds at.0 s kept.long at.1 in
+        let box = item-in order bounds at.0 s kept.long at.1 in
         (box.0, record { at = at.0; shape = at.1; box = box.1; quarter = (All-contains IsInLimits rs s limits there).quarter })
 
     group-step : (levels : ℕ) → ShowsWithin rs order bounds levels → GroupWithin rs order bounds (suc levels)

@@ -11,9 +11,9 @@ use Rattle.canvas_record.specs.declared.records.Record.{Record}
 use Rattle.canvas_doc.specs.Bounds.{IsWithinBounds}
 use Rattle.canvas_record.specs.Children.{is_child}
 use Rattle.canvas_doc.specs.PlaceOrder.{AreChildrenWithin, comes_first}
-use Rattle.canvas_doc.proofs.places.ChildrenInOrder.{passing-has}
 use Rattle.canvas_doc.proofs.places.Reordered.{places-once}
 use Rattle.canvas_doc.proofs.boxes.Widened.{position-of}
+use Rattle.canvas_doc.proofs.lists.SameMembers.{passing-has}
 
 -- a child stands between the two ends of its parent's children, and so do its bounds
 child-position : (p : Parent) (order : List Record) (low high j : ℕ) (s : Record) → IsStrictlySortedBy comes_first order → AreChildrenWithin p order low high → slice_get order j ≡ Some s → is_child p s ≡ true → (k : ℕ) × (k < high - low) × (j ≡ low + k)

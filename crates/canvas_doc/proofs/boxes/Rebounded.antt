@@ -1,29 +1,28 @@
 -- Bounds of records after an edit of the order in which they stand.
-use Rattle.std.proofs.Common.{◌≡◌, ◌≢◌, ℕ, zero, suc, ◌+◌, ◌-◌, ◌<◌, ◌≤◌, ◌==◌, nat_lt, ◌&&◌, List, [], ◌∷◌, ◌++◌, true, false, cond, Option, Some, None, refl, sym, ap, subst, ◌∙◌, arith, inl, inr, All, length, get_or, set, map}
+use Rattle.std.proofs.Common.{◌≡◌, ◌≢◌, ℕ, zero, suc, ◌+◌, ◌-◌, ◌<◌, ◌≤◌, ◌==◌, nat_lt, ◌&&◌, List, [], ◌∷◌, true, false, cond, Option, Some, None, refl, sym, ap, subst, ◌∙◌, arith, inl, inr, All, length, set, map}
 use Rattle.std.specs.List.{Contains, insert, remove, slice_get}
 use Rattle.std.specs.Option.{option_map}
 use Rattle.std.proofs.Math.ListN.{length-set}
 use Rattle.std.proofs.lemmas.Bool.{cases_Bool, eq-eqb, eqb-true, true≢false, and_right}
 use Rattle.std.proofs.lemmas.Bool.Decides.{nat_tests}
-use Rattle.std.proofs.lemmas.List.{get_or_append_left, get_or_at, length-append, length-map}
+use Rattle.std.proofs.lemmas.List.{length-map}
 use Rattle.std.proofs.lemmas.List.Edits.{length-insert, length-remove}
 use Rattle.std.proofs.lemmas.List.Elements.{All-contains}
-use Rattle.std.proofs.lemmas.Option.{get_or_from_slice_get, same_Some, slice_get-map, slice_get_within}
+use Rattle.std.proofs.lemmas.Option.{same_Some, slice_get-map, slice_get_within}
 use Rattle.canvas_key.specs.Rank.{fresh_key}
 use Rattle.canvas_plane.specs.declared.Pose.{Pose}
 use Rattle.canvas_shape.specs.declared.Kind.{Kind}
 use Rattle.canvas_shape.specs.declared.Kind.TheVariants.{Group}
 use Rattle.canvas_doc.specs.declared.bounds.Bounds.{Bounds}
 use Rattle.canvas_record.specs.declared.records.Parent.{Parent}
-use Rattle.canvas_record.specs.declared.records.Parent.TheVariants.{Page, Shape}
+use Rattle.canvas_record.specs.declared.records.Parent.TheVariants.{Shape}
 use Rattle.canvas_record.specs.declared.records.Record.{Record}
 use Rattle.canvas_doc.specs.Bounds.{AreBounds, AreBoundsBut, HoldsOwn, IsCarriedWithin, IsHeldAbove, HaveOneShape}
 use Rattle.canvas_record.specs.Children.{is_child, same_parent}
 use Rattle.canvas_record.specs.Contents.{record_of, is_container, reaches_from, reaches_page, AreRising}
 use Rattle.canvas_record.specs.Effect.{rank_of, respaced}
-use Rattle.canvas_doc.proofs.tree.Childless.{IsChildless}
-use Rattle.canvas_doc.proofs.tree.Found.{found-at, found-none, rising-at}
-use Rattle.canvas_doc.proofs.tree.Paths.{reaches-step}
+use Rattle.canvas_doc.proofs.tree.Found.{found-at}
+use Rattle.canvas_doc.proofs.tree.Parents.{same_parent-is}
 
 -- ---- items of a list after an edit, by position
 
@@ -311,10 +310,6 @@ respaced-bounds order bounds p rs kept = mapped order bounds (respaced p rs) (re
 
 -- ---- shapes that have no child, or not themselves
 
-shape-of : (p : Parent) (id : ℕ) → same_parent p (Shape id) ≡ true → p ≡ Shape id
-shape-of Page id h = cc
-shape-of (Shape p) id h = ap Shape (eqb-true p id h)
-
 -- a path that comes back to where it begins never reaches the page
 circle-stays : (n : ℕ) (rs : List Record) (r : Record) → record_of r.id rs ≡ Some r → r.place.parent ≡ Shape r.id → reaches_page n rs (Shape r.id) ≡ false
 unfolding reaches_page
@@ -329,7 +324,7 @@ circle-stays (suc n) rs r found own =
 pub no-own_child : (rs : List Record) (r : Record) → AreRising rs → All (λ (s : Record). reaches_page 31 rs s.place.parent ≡ true) rs → Contains rs r → is_child (Shape r.id) r ≡ false
 no-own_child rs r rising grounded there = elim (cases_Bool (is_child (Shape r.id) r)) [
   | inl t ↦ (
-      let own : r.place.parent ≡ Shape r.id = shape-of r.place.parent r.id t in
+      let own : r.place.parent ≡ Shape r.id = same_parent-is r.place.parent (Shape r.id) t in
       let found : record_of r.id rs ≡ Some r = sym (found-at rs there.0 r.id r rising there.1 (sym there.2) refl) in
       let reaches : reaches_page 31 rs r.place.parent ≡ true = All-contains (λ (s : Record). reaches_page 31 rs s.place.parent ≡ true) rs r grounded there in
       absurd (true≢false (sym reaches ∙ ap (reaches_page 31 rs) own ∙ circle-stays 31 rs r found own)))

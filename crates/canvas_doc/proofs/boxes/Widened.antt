@@ -5,7 +5,7 @@ use Rattle.std.proofs.Math.ListN.{length-set}
 use Rattle.std.proofs.lemmas.Bool.{cases_Bool, eq-eqb, eqb-true, true≢false}
 use Rattle.std.proofs.lemmas.List.{get_or-set_same}
 use Rattle.std.proofs.lemmas.List.Elements.{All-contains}
-use Rattle.std.proofs.lemmas.Option.{get_or_from_slice_get, slice_get_cases, slice_get_read, slice_get_within}
+use Rattle.std.proofs.lemmas.Option.{get_or_from_slice_get, slice_get_read, slice_get_within}
 use Rattle.canvas_plane.specs.declared.Point.{Point}
 use Rattle.canvas_plane.specs.declared.Pose.{Pose}
 use Rattle.canvas_plane.specs.Motion.{carry}
@@ -16,19 +16,19 @@ use Rattle.canvas_record.specs.declared.records.Parent.{Parent}
 use Rattle.canvas_record.specs.declared.records.Parent.TheVariants.{Page, Shape}
 use Rattle.canvas_record.specs.declared.records.Record.{Record}
 use Rattle.canvas_doc.specs.Bounds.{holds_on_page, is_empty, is_group, is_whole, left_top, right_bottom, AreBounds, AreBoundsBut, AreWithin, HoldChildren, HoldChildrenBut, HoldsOwn, IsCarriedWithin, IsGroupAt, IsGroupPosition, IsHeldAbove, IsWithinBounds}
-use Rattle.canvas_record.specs.Children.{is_child, same_parent}
+use Rattle.canvas_record.specs.Children.{is_child}
 use Rattle.canvas_record.specs.Contents.{AreRising, reaches_page, record_of}
 use Rattle.canvas_doc.specs.PlaceOrder.{IsInPlaceOrder, IsPlaceOf}
 use Rattle.canvas_record.specs.Tree.{IsInLimits}
 use Rattle.canvas_doc.proofs.boxes.BoundsLaws.{carried-within, own-within, within-itself, within-trans}
 use Rattle.canvas_doc.proofs.boxes.EdgeLaws.{empty-none}
-use Rattle.canvas_doc.proofs.fitting.FitMore.{found-has}
-use Rattle.canvas_doc.proofs.tree.Found.{found-here}
+use Rattle.canvas_doc.proofs.tree.Found.{found-here, found-has}
 use Rattle.canvas_doc.proofs.tree.Marks.{reaches-up}
-use Rattle.canvas_doc.proofs.lists.Members.{EachOnce, apart}
+use Rattle.canvas_doc.proofs.lists.Members.{EachOnce, apart, item-at, item-in}
 use Rattle.canvas_doc.proofs.siblings.Neighbours.{found-contained}
 use Rattle.canvas_doc.proofs.extents.Pulled.{compose, Composed, pulled}
 use Rattle.canvas_doc.proofs.places.Reordered.{places-once, stands-at}
+use Rattle.canvas_doc.proofs.tree.Parents.{same_parent-is}
 
 -- ---- items by position
 
@@ -60,18 +60,6 @@ position-of xs i k x once e b f = elim (cases_Bool (i == k)) [
   | inl t ↦ eqb-true i k t
   | inr n ↦ absurd (apart xs i k x once (differ i k n) (slice_get_within xs i x e) b (get_or_from_slice_get xs i x x e ∙ sym f))
 ]
-
-pub item-at : {X : Type 0} (xs : List X) (k : ℕ) → k < length xs → (x : X) × (slice_get xs k ≡ Some x)
-item-at xs k below = elim (slice_get_cases xs k).1 [
-  | inl here ↦ (here.0, here.2)
-  | inr past ↦ let le : length xs ≤ k = past.0 in absurd (omega arith)
-]
-
--- a list as long has an item there, too
-item-in : {X Y : Type 0} (xs : List X) (ys : List Y) (k : ℕ) (x : X) → length ys ≡ length xs → slice_get xs k ≡ Some x → (y : Y) × (slice_get ys k ≡ Some y)
-item-in xs ys k x long e =
-    let below : k < length xs = slice_get_within xs k x e in
-    item-at ys k (omega arith)
 
 -- ---- empty bounds
 
@@ -148,10 +136,6 @@ own-more order bounds after at s held own w old e f holds grown added wider = λ
 
 -- ---- the group about a record
 
-parent-is : (p : Parent) (id : ℕ) → same_parent p (Shape id) ≡ true → p ≡ Shape id
-parent-is Page id h = cc
-parent-is (Shape n) id h = ap Shape (eqb-true n id h)
-
 -- groups alone pass the test
 is-group : (kind : Kind) → is_group kind ≡ true → kind ≡ Group
 is-group Group h = refl
@@ -201,7 +185,7 @@ module _ (order rs : List Record) (o : IsInPlaceOrder order rs) (rising : AreRis
   group-of i r s e child group shown =
       let there : Contains rs r = subst (Contains rs) (get_or_from_slice_get order i r r e) (o.listed i r (slice_get_within order i r e)) in
       record {
-        is = parent-is s.place.parent r.id child;
+        is = same_parent-is s.place.parent (Shape r.id) child;
         there = found-here rs there.0 r.id r rising there.1 (ap (λ (x : Record). x.id) there.2) ∙ ap Some there.2;
         group = group;
         shown = shown;

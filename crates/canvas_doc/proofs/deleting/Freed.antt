@@ -20,7 +20,6 @@ use Rattle.canvas_doc.specs.PlaceOrder.{comes_first, AreChildrenWithin, IsInPlac
 use Rattle.canvas_doc.proofs.tree.Childless.{filter-same, one-removed}
 use Rattle.canvas_doc.proofs.places.ChildrenInOrder.{one-more}
 use Rattle.canvas_doc.proofs.fitting.FitDelete.{rising-filter}
-use Rattle.canvas_doc.proofs.fitting.FitMore.{found-has}
 use Rattle.canvas_doc.proofs.lists.Members.{as-many}
 use Rattle.canvas_doc.proofs.boxes.Rebounded as rebounded
 use Rattle.canvas_doc.proofs.boxes.Rebounded.{all-come, comes-itself}
@@ -29,6 +28,8 @@ use Rattle.canvas_doc.proofs.places.Reordered.{IsListedAt, ids-once, passed-in, 
 use Rattle.canvas_doc.proofs.spacing.Respacing.{all-kept}
 use Rattle.canvas_doc.proofs.lists.SameMembers.{Contains-filter}
 use Rattle.canvas_doc.proofs.spacing.Spaced.{all-passing}
+use Rattle.canvas_doc.proofs.lists.Tests.{or-false}
+use Rattle.canvas_doc.proofs.tree.Found.{found-has}
 
 -- ---- tests
 
@@ -66,10 +67,6 @@ all-true t [] h = refl
 all-true t (x ∷ xs) h =
     let here : t x ≡ true = All-head (λ r. t r ≡ true) x xs h in
     rw here (all-true t xs (All-tail (λ r. t r ≡ true) x xs h))
-
-or-false : (a : Bool) → (a || false) ≡ a
-or-false true = refl
-or-false false = refl
 
 -- one more of the shapes, one more of the records
 pub held-more : (holders : List ℕ) (k h : ℕ) (d : ℕ) (r : Record) → k < length holders → h ≡ get_or holders k d → (is_held (take k holders) r || is_child (Shape h) r) ≡ is_held (take (k + 1) holders) r

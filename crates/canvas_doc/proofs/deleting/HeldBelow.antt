@@ -14,12 +14,13 @@ use Rattle.canvas_record.specs.Effect.{is_below, is_below_from, is_in_subtree}
 use Rattle.canvas_doc.specs.PlaceOrder.{IsInPlaceOrder}
 use Rattle.canvas_doc.proofs.tree.Childless.{filter-same}
 use Rattle.canvas_doc.proofs.fitting.Fit.{found-all}
-use Rattle.canvas_doc.proofs.fitting.FitMore.{found-has}
 use Rattle.canvas_doc.proofs.deleting.Freed.{filter-both}
 use Rattle.canvas_doc.proofs.tree.Paths.{reaches-step}
 use Rattle.canvas_doc.proofs.places.Reordered.{found-in, same-record}
 use Rattle.canvas_doc.proofs.siblings.Spotted.{any-filter}
 use Rattle.std.proofs.lemmas.List.Elements.{Contains-get_or}
+use Rattle.canvas_doc.proofs.lists.Tests.{or-false}
+use Rattle.canvas_doc.proofs.tree.Found.{found-has}
 
 -- one of the shapes is the parent
 abbrev pub is_parent : List ℕ → Parent → Bool
@@ -28,10 +29,6 @@ is_parent holders q = list_any (λ h. same_parent q (Shape h)) holders
 or-turn : (a b c : Bool) → (a || (b || c)) ≡ ((a || b) || c)
 or-turn true b c = refl
 or-turn false b c = refl
-
-or-false : (a : Bool) → (a || false) ≡ a
-or-false true = refl
-or-false false = refl
 
 page-none : (holders : List ℕ) → is_parent holders Page ≡ false
 page-none [] = refl

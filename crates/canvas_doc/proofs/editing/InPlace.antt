@@ -27,7 +27,7 @@ use Rattle.canvas_doc.proofs.extents.AfterChange.{leaf-childless}
 use Rattle.canvas_doc.proofs.tree.Childless.{childless-deleted, childless-from_range, IsChildless}
 use Rattle.canvas_doc.proofs.tree.Found.{found-here}
 use Rattle.canvas_doc.proofs.deleting.Freed.{taken-after}
-use Rattle.canvas_doc.proofs.places.OneChanged.{made-whole, whole-is}
+use Rattle.canvas_doc.proofs.tree.OneChanged.{made-whole, whole-is}
 use Rattle.canvas_doc.proofs.boxes.Rebounded as rebounded
 use Rattle.canvas_doc.proofs.boxes.Rebounded.{no-own_child, Suits}
 use Rattle.canvas_doc.proofs.places.Reordered.{added, added-differs, listed-at, moved-well, read-at, replaced, taken, IsListedAt}

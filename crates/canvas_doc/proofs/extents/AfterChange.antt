@@ -1,6 +1,6 @@
 -- The extent of the shape of a change in the document after it, told of the document before it.
-use Rattle.std.proofs.Common.{◌≡◌, ℕ, zero, suc, ◌+◌, ◌<◌, ◌==◌, List, [], ◌∷◌, ◌++◌, Bool, true, false, cond, not, ◌&&◌, ◌||◌, Option, Some, None, ◌⊎◌, inl, inr, refl, sym, ap, ◌∙◌, arith, All, IsSome, ◌≤◌, get_or, map, filter}
-use Rattle.std.proofs.lemmas.Bool.{cases_Bool, true≢false, and_parts, eq-eqb, eqb-true, or_parts, and_from, or_right}
+use Rattle.std.proofs.Common.{◌≡◌, ℕ, zero, suc, ◌+◌, ◌<◌, ◌==◌, List, [], ◌∷◌, ◌++◌, Bool, true, false, cond, not, ◌&&◌, ◌||◌, Option, Some, None, ◌⊎◌, inl, inr, refl, sym, ap, ◌∙◌, arith, All, ◌≤◌, get_or, map, filter}
+use Rattle.std.proofs.lemmas.Bool.{cases_Bool, true≢false, eq-eqb, eqb-true, or_parts, and_from, or_right}
 use Rattle.std.proofs.lemmas.List.Elements.{All-head, All-tail, All-push, All-weaker, filter_passes}
 use Rattle.std.proofs.lemmas.List.Sorted.{All-permutation}
 use Rattle.std.proofs.lemmas.Option.{same_Some}
@@ -22,11 +22,10 @@ use Rattle.canvas_record.specs.Effect.{at_id, effect_of, Fits, is_below, is_belo
 use Rattle.canvas_doc.proofs.tree.Childless.{IsChildless}
 use Rattle.canvas_doc.proofs.fitting.Fit.{found-all}
 use Rattle.canvas_doc.proofs.fitting.FitDelete.{below-fuel}
-use Rattle.canvas_doc.proofs.fitting.FitMore.{found-has}
-use Rattle.canvas_doc.proofs.tree.Found.{found-here, found-none}
+use Rattle.canvas_doc.proofs.tree.Found.{found-here, found-none, found-has, found-push, found-last}
 use Rattle.canvas_doc.proofs.tree.Paths.{changed, found-after}
-use Rattle.canvas_doc.proofs.spacing.Respaced.{same-parents}
 use Rattle.canvas_doc.proofs.siblings.Sorting.{all-children, front_first-moves}
+use Rattle.canvas_doc.proofs.tree.Parents.{same_parent-is, from-some}
 
 -- ---- tests
 
@@ -39,10 +38,6 @@ or-more true b c h k = refl
 or-more false b c h k = k h
 
 -- ---- ways up
-
-reaches-some : (up : Parent → Bool) (o : Option Record) → reaches_from up o ≡ true → (r : Record) × (o ≡ Some r) × (is_container r.kind ≡ true) × (up r.place.parent ≡ true)
-reaches-some up None h = cc
-reaches-some up (Some r) h = let both = and_parts (is_container r.kind) (up r.place.parent) h in (r, refl, both.0, both.1)
 
 below-some : (id : ℕ) (up : Parent → Bool) (o : Option Record) → is_below_from id up o ≡ true → (r : Record) × (o ≡ Some r) × (((r.id == id) || up r.place.parent) ≡ true)
 below-some id up None h = cc
@@ -72,7 +67,7 @@ reaches-more zero rs Page h = refl
 reaches-more zero rs (Shape p) h = cc
 reaches-more (suc n) rs Page h = refl
 reaches-more (suc n) rs (Shape p) h =
-    let s = reaches-some (λ q. reaches_page n rs q) (record_of p rs) h in
+    let s = from-some (λ q. reaches_page n rs q) (record_of p rs) h in
     ap (reaches_from (λ q. reaches_page (suc n) rs q)) s.1
     ∙ and_from (is_container s.0.kind) (reaches_page (suc n) rs s.0.place.parent) s.2 (reaches-more n rs s.0.place.parent s.3)
 
@@ -88,7 +83,7 @@ way-beyond : (n id : ℕ) (rs : List Record) (r : Record) → record_of id rs �
 unfolding is_below reaches_page
 way-beyond zero id rs r e Page h b = cc
 way-beyond zero id rs r e (Shape p) h b =
-    let s = reaches-some (λ q. reaches_page zero rs q) (record_of p rs) h in
+    let s = from-some (λ q. reaches_page zero rs q) (record_of p rs) h in
     let meets : ((s.0.id == id) || is_below zero id rs s.0.place.parent) ≡ true = sym (ap (is_below_from id (λ q. is_below zero id rs q)) s.1) ∙ b in
     elim (or-cases (s.0.id == id) (is_below zero id rs s.0.place.parent) meets) [
       | inl t ↦ ap (λ (x : Record). reaches_page zero rs x.place.parent) (sym (same-found id p rs r s.0 e s.1 t)) ∙ s.3
@@ -96,7 +91,7 @@ way-beyond zero id rs r e (Shape p) h b =
     ]
 way-beyond (suc n) id rs r e Page h b = cc
 way-beyond (suc n) id rs r e (Shape p) h b =
-    let s = reaches-some (λ q. reaches_page (suc n) rs q) (record_of p rs) h in
+    let s = from-some (λ q. reaches_page (suc n) rs q) (record_of p rs) h in
     let meets : ((s.0.id == id) || is_below (suc n) id rs s.0.place.parent) ≡ true = sym (ap (is_below_from id (λ q. is_below (suc n) id rs q)) s.1) ∙ b in
     elim (or-cases (s.0.id == id) (is_below (suc n) id rs s.0.place.parent) meets) [
       | inl t ↦ ap (λ (x : Record). reaches_page (suc n) rs x.place.parent) (sym (same-found id p rs r s.0 e s.1 t)) ∙ s.3
@@ -190,7 +185,7 @@ each-found rs w = λ k d l. found-here rs k (get_or rs k d).id d w l refl
 
 not-child : (k id : ℕ) (rs : List Record) (p q : Parent) → is_below k id rs p ≡ true → LiesApart id rs q → same_parent q p ≡ false
 not-child k id rs p q b a = elim (cases_Bool (same_parent q p)) [
-  | inl t ↦ absurd (true≢false (sym b ∙ ap (is_below k id rs) (sym (same-parents q p t)) ∙ a k))
+  | inl t ↦ absurd (true≢false (sym b ∙ ap (is_below k id rs) (sym (same_parent-is q p t)) ∙ a k))
   | inr f ↦ f
 ]
 
@@ -220,7 +215,7 @@ child-below : (k id : ℕ) (rs : List Record) (p : Parent) (r : Record) → reco
 unfolding is_below
 child-below k id rs p r e c b =
     ap (is_below_from id (λ q. is_below k id rs q)) e
-    ∙ or_right (r.id == id) (is_below k id rs r.place.parent) (ap (is_below k id rs) (same-parents r.place.parent p c) ∙ b)
+    ∙ or_right (r.id == id) (is_below k id rs r.place.parent) (ap (is_below k id rs) (same_parent-is r.place.parent p c) ∙ b)
 
 -- and its children lie in the subtree
 children-below : (k id : ℕ) (rs : List Record) (p : Parent) → AreRising rs → is_below k id rs p ≡ true → All (λ (r : Record). is_below (suc k) id rs (Shape r.id) ≡ true) (children p rs)
@@ -316,21 +311,6 @@ pub create-before : (d : Contents) → IsWellFormed d → (id : ℕ) (kind : Kin
 create-before d w id kind pose hidden place fits =
     ap (extent_on_page d.records) (ap (λ n. record_of n d.records) fits.named ∙ next-none d.next d.records w.ids)
 
--- looking an id up where one more record stands at the end
-found-first : (p : ℕ) (rs : List Record) (r s : Record) → record_of p rs ≡ Some s → record_of p (rs ++ r ∷ []) ≡ Some s
-found-first p [] r s h = cc
-found-first p (x ∷ rs) r s h = elim (cases_Bool (x.id == p)) [
-  | inl t ↦ rw t (rw t at h)
-  | inr n ↦ rw n (found-first p rs r s (rw n at h))
-]
-
-found-last : (p : ℕ) (rs : List Record) (r : Record) → record_of p rs ≡ None → record_of p (rs ++ r ∷ []) ≡ cond (r.id == p) (Some r) None
-found-last p [] r h = refl
-found-last p (x ∷ rs) r h = elim (cases_Bool (x.id == p)) [
-  | inl t ↦ (let g : Some x ≡ None = rw t at h in cc)
-  | inr n ↦ rw n (found-last p rs r (rw n at h))
-]
-
 way-first_from : (up down : Parent → Point → Point) (rs : List Record) (r : Record) (p : ℕ) → ((s : Record) → record_of p (rs ++ r ∷ []) ≡ Some s → (s.id == r.id) ≡ false) → ((s : Record) → record_of p rs ≡ Some s → up s.place.parent ≡ down s.place.parent) → (o : Option Record) → record_of p rs ≡ o → to_page_from up (record_of p (rs ++ r ∷ [])) ≡ to_page_from down (record_of p rs)
 way-first_from up down rs r p other same None e = elim (cases_Bool (r.id == p)) [
   | inl t ↦ absurd (true≢false (sym (eq-eqb r.id r.id refl) ∙ other r (found-last p rs r e ∙ ap (λ b. cond b (Some r) None) t)))
@@ -339,7 +319,7 @@ way-first_from up down rs r p other same None e = elim (cases_Bool (r.id == p)) 
       ap (to_page_from up) none ∙ ap (to_page_from down) (sym e))
 ]
 way-first_from up down rs r p other same (Some s) e =
-    ap (to_page_from up) (found-first p rs r s e)
+    ap (to_page_from up) (found-push p rs r s e)
     ∙ ap (λ (u : Point → Point). λ (q : Point). u (carry s.pose q)) (same s e)
     ∙ ap (to_page_from down) (sym e)
 
@@ -354,7 +334,7 @@ way-first (suc n) rs r (Shape p) b =
     let apart : (s : Record) → record_of p all ≡ Some s → ((s.id == r.id) ≡ false) × (is_below n r.id all s.place.parent ≡ false) = λ s e. below-none_of r.id (λ q. is_below n r.id all q) (record_of p all) s e b in
     way-first_from (λ q. to_page n all q) (λ q. to_page n rs q) rs r p
     (λ s e. (apart s e).0)
-    (λ s e. way-first n rs r s.place.parent (apart s (found-first p rs r s e)).1)
+    (λ s e. way-first n rs r s.place.parent (apart s (found-push p rs r s e)).1)
     (record_of p rs) refl
 
 filter-none : (test : Record → Bool) (rs : List Record) → All (λ (r : Record). test r ≡ false) rs → filter test rs ≡ []
@@ -375,7 +355,7 @@ nowhere n p rs e = ap (reaches_from (λ q. reaches_page n rs q)) e
 
 not-shape : (test : Parent → Bool) (id : ℕ) (q : Parent) → test q ≡ true → test (Shape id) ≡ false → same_parent q (Shape id) ≡ false
 not-shape test id q h k = elim (cases_Bool (same_parent q (Shape id))) [
-  | inl t ↦ absurd (true≢false (sym h ∙ ap test (same-parents q (Shape id) t) ∙ k))
+  | inl t ↦ absurd (true≢false (sym h ∙ ap test (same_parent-is q (Shape id) t) ∙ k))
   | inr f ↦ f
 ]
 

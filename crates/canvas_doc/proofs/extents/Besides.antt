@@ -1,10 +1,8 @@
 -- A change leaves the records besides the changed shape and all below it as they were.
 use Rattle.std.proofs.Common.{◌≡◌, ℕ, zero, suc, ◌<◌, ◌≤◌, ◌==◌, List, [], ◌∷◌, ◌++◌, Bool, true, false, cond, not, ◌||◌, Option, Some, None, refl, sym, ap, ◌∙◌, arith, inl, inr, All, filter}
-use Rattle.std.specs.Option.{option_or}
-use Rattle.std.proofs.lemmas.Bool.{cases_Bool, eq-eqb, and_parts, or_from}
+use Rattle.std.proofs.lemmas.Bool.{cases_Bool, eq-eqb, or_from}
 use Rattle.std.proofs.lemmas.List.{append-nil}
 use Rattle.std.proofs.lemmas.List.Elements.{All-head, All-tail, All-weaker, filter-append, filter_passes}
-use Rattle.std.proofs.lemmas.List.Folds.{find-append}
 use Rattle.canvas_plane.specs.declared.Pose.{Pose}
 use Rattle.canvas_shape.specs.declared.Kind.{Kind}
 use Rattle.canvas_record.specs.declared.edits.Change.TheVariants as change
@@ -12,12 +10,14 @@ use Rattle.canvas_record.specs.declared.records.Parent.{Parent}
 use Rattle.canvas_record.specs.declared.records.Parent.TheVariants.{Page, Shape}
 use Rattle.canvas_record.specs.declared.records.Place.{Place}
 use Rattle.canvas_record.specs.declared.records.Record.{Record}
-use Rattle.canvas_record.specs.Contents.{Contents, IsWellFormed, record_of, is_container, reaches_from, reaches_page}
+use Rattle.canvas_record.specs.Contents.{Contents, IsWellFormed, record_of, reaches_page}
 use Rattle.canvas_record.specs.Effect.{at_id, effect_of, Fits, is_below, is_below_from, is_in_subtree}
 use Rattle.canvas_doc.proofs.fitting.Fit.{found-all}
-use Rattle.canvas_doc.proofs.tree.Found.{other-id}
+use Rattle.canvas_doc.proofs.tree.Found.{other-id, found-push}
 use Rattle.canvas_doc.proofs.tree.Paths.{below-page, changed, found-after}
 use Rattle.canvas_doc.proofs.extents.Untouched.{others}
+use Rattle.canvas_doc.proofs.lists.Tests.{all-both}
+use Rattle.canvas_doc.proofs.tree.Parents.{from-some, below-from}
 
 -- no record has the id
 abbrev IsAbsent : ℕ → List Record → Type 0
@@ -27,11 +27,6 @@ none-of : (a b : Bool) → not (a || b) ≡ true → a ≡ false
 none-of true b h = cc
 none-of false b h = refl
 
--- a step from the record of an id, whichever it is
-from-record : (id : ℕ) (up : Parent → Bool) (o : Option Record) → ((r : Record) → o ≡ Some r → ((r.id == id) || up r.place.parent) ≡ false) → is_below_from id up o ≡ false
-from-record id up None k = refl
-from-record id up (Some r) k = k r refl
-
 -- nothing is below an id that no record has
 below-absent : (n id : ℕ) (rs : List Record) (q : Parent) → IsAbsent id rs → is_below n id rs q ≡ false
 unfolding is_below
@@ -39,7 +34,7 @@ below-absent zero id rs Page a = refl
 below-absent zero id rs (Shape p) a = refl
 below-absent (suc n) id rs Page a = refl
 below-absent (suc n) id rs (Shape p) a =
-    from-record id (λ q. is_below n id rs q) (record_of p rs)
+    below-from id (λ q. is_below n id rs q) (record_of p rs)
     (λ r e. or_from (r.id == id) (is_below n id rs r.place.parent) (found-all (λ (s : Record). (s.id == id) ≡ false) p rs r a e) (below-absent n id rs r.place.parent a))
 
 all-kept : (t : Record → Bool) (rs : List Record) → All (λ (r : Record). t r ≡ true) rs → filter t rs ≡ rs
@@ -110,13 +105,6 @@ pub others-changed : (id : ℕ) (f : Record → Record) (rs : List Record) → (
 others-changed id f rs k =
     filter-changed id f (λ q. is_below 32 id (at_id id f rs) q) (λ q. is_below 32 id rs q) rs k (λ q. below-changed 32 id f rs q k)
 
-from-some : (up : Parent → Bool) (o : Option Record) → reaches_from up o ≡ true → (r : Record) × (o ≡ Some r) × (up r.place.parent ≡ true)
-from-some up None h = cc
-from-some up (Some r) h = (r, refl, (and_parts (is_container r.kind) (up r.place.parent) h).1)
-
-found-pushed : (p : ℕ) (rs : List Record) (r s : Record) → record_of p rs ≡ Some s → record_of p (rs ++ r ∷ []) ≡ Some s
-found-pushed p rs r s e = find-append (λ x. x.id == p) rs (r ∷ []) ∙ ap (λ o. option_or o (record_of p (r ∷ []))) e
-
 -- what reaches the page without the new shape is not below it
 below-pushed : (k n id : ℕ) (rs : List Record) (r : Record) (q : Parent) → IsAbsent id rs → reaches_page k rs q ≡ true → is_below n id (rs ++ r ∷ []) q ≡ false
 unfolding is_below reaches_page
@@ -126,22 +114,19 @@ below-pushed (suc k) n id rs r Page a h = below-page n id (rs ++ r ∷ [])
 below-pushed (suc k) zero id rs r (Shape p) a h = refl
 below-pushed (suc k) (suc n) id rs r (Shape p) a h =
     let s = from-some (λ q. reaches_page k rs q) (record_of p rs) h in
-    ap (is_below_from id (λ q. is_below n id (rs ++ r ∷ []) q)) (found-pushed p rs r s.0 s.1)
-    ∙ or_from (s.0.id == id) (is_below n id (rs ++ r ∷ []) s.0.place.parent) (found-all (λ (x : Record). (x.id == id) ≡ false) p rs s.0 a s.1) (below-pushed k n id rs r s.0.place.parent a s.2)
+    ap (is_below_from id (λ q. is_below n id (rs ++ r ∷ []) q)) (found-push p rs r s.0 s.1)
+    ∙ or_from (s.0.id == id) (is_below n id (rs ++ r ∷ []) s.0.place.parent) (found-all (λ (x : Record). (x.id == id) ≡ false) p rs s.0 a s.1) (below-pushed k n id rs r s.0.place.parent a s.3)
 
 last-lost : (t : Record → Bool) (rs : List Record) (r : Record) → All (λ (s : Record). t s ≡ true) rs → t r ≡ false → filter t (rs ++ r ∷ []) ≡ rs
 last-lost t rs r a h =
     filter-append t rs (r ∷ []) ∙ ap (λ l. l ++ filter t (r ∷ [])) (all-kept t rs a) ∙ ap (λ l. rs ++ l) (head-lost t r [] h) ∙ append-nil rs
-
-all-stay : (P Q R : Record → Type 0) → ((r : Record) → P r → Q r → R r) → (rs : List Record) → All P rs → All Q rs → All R rs
-all-stay P Q R f rs a b = λ k d l. f _ (a k d l) (b k d l)
 
 -- a new shape, under which nothing hangs yet
 others-pushed : (id : ℕ) (rs : List Record) (r : Record) → IsAbsent id rs → r.id ≡ id → All (λ (s : Record). reaches_page 31 rs s.place.parent ≡ true) rs → others id (rs ++ r ∷ []) ≡ rs
 others-pushed id rs r a e grounded =
     let all : List Record = rs ++ r ∷ [] in
     last-lost (λ s. not (is_in_subtree id all s)) rs r
-    (all-stay (λ (s : Record). (s.id == id) ≡ false) (λ (s : Record). reaches_page 31 rs s.place.parent ≡ true) (λ (s : Record). not (is_in_subtree id all s) ≡ true)
+    (all-both (λ (s : Record). (s.id == id) ≡ false) (λ (s : Record). reaches_page 31 rs s.place.parent ≡ true) (λ (s : Record). not (is_in_subtree id all s) ≡ true)
     (λ s m n. ap not (or_from (s.id == id) (is_below 32 id all s.place.parent) m (below-pushed 31 32 id rs r s.place.parent a n))) rs a grounded)
     (ap (λ b. not (b || is_below 32 id all r.place.parent)) (eq-eqb r.id id e))
 

@@ -22,8 +22,8 @@ use Rattle.canvas_doc.proofs.extents.AfterChange.{changed-extent, create-before,
 use Rattle.canvas_doc.proofs.tree.Childless.{IsChildless}
 use Rattle.canvas_doc.proofs.extents.Extents.{hull-first, hull-is, hull-same, hull-second, IsHull}
 use Rattle.canvas_doc.proofs.fitting.Fit.{found-all}
-use Rattle.canvas_doc.proofs.fitting.FitMore.{found-has}
 use Rattle.canvas_doc.proofs.tree.Paths.{changed, found-after}
+use Rattle.canvas_doc.proofs.tree.Found.{found-has}
 
 there : (o : Option Record) → IsSome o → (r : Record) × (o ≡ Some r)
 there None h = cc

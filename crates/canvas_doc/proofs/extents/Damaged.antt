@@ -1,9 +1,6 @@
 -- Outside the damage of a change that fits, every colour is as it was.
-use Rattle.std.proofs.Common.{◌≡◌, ◌∙◌, ℕ, ℤ, Bool, true, false, List, refl, sym, ap, inl, inr}
-use Rattle.std.proofs.lemmas.Bool.{cases_Bool, true≢false}
-use Rattle.canvas_plane.specs.declared.PageBox.{PageBox}
-use Rattle.canvas_plane.specs.Page.{is_in, is_empty_box, IsWithin, hull_of, joined}
-use Rattle.canvas_plane.proofs.Boxes.{empty-none, joined-first, joined-second}
+use Rattle.std.proofs.Common.{◌≡◌, ◌∙◌, ℕ, ℤ, false, List, sym, ap}
+use Rattle.canvas_plane.specs.Page.{is_in, hull_of}
 use Rattle.canvas_record.specs.declared.edits.Change.{Change}
 use Rattle.canvas_record.specs.declared.edits.Change.TheVariants as change
 use Rattle.canvas_record.specs.declared.records.Record.{Record}
@@ -13,27 +10,12 @@ use Rattle.canvas_record.specs.Effect.{effect_of, Fits}
 use Rattle.canvas_record.specs.Picture.{colour}
 use Rattle.canvas_doc.proofs.extents.Besides.{others-same-create, others-same-move, others-same-pose, others-same-reshape, others-same-show, others-same-delete}
 use Rattle.canvas_doc.proofs.spacing.Respaced.{colour-respaced}
-use Rattle.canvas_doc.proofs.extents.Untouched.{others, colour-others}
-
-outside-inner : (inner outer : PageBox) (x y : ℤ) → IsWithin inner outer → is_in outer x y ≡ false → is_in inner x y ≡ false
-outside-inner inner outer x y w h = elim (cases_Bool (is_in inner x y)) [ inl t ↦ absurd (true≢false (sym (w x y t) ∙ h)) | inr f ↦ f ]
-
-hull-parts : (a b : PageBox) (x y : ℤ) (p q : Bool) → is_empty_box a ≡ p → is_empty_box b ≡ q → is_in (hull_of a b) x y ≡ false → (is_in a x y ≡ false) × (is_in b x y ≡ false)
-hull-parts a b x y true true e f h = ((empty-none a).0 e x y, (empty-none b).0 f x y)
-hull-parts a b x y true false e f h = ((empty-none a).0 e x y, rw (e, f) at h)
-hull-parts a b x y false true e f h = (rw (e, f) at h, (empty-none b).0 f x y)
-hull-parts a b x y false false e f h =
-    let out : is_in (joined a b) x y ≡ false = rw (e, f) at h in
-    (outside-inner a (joined a b) x y (joined-first a b) out, outside-inner b (joined a b) x y (joined-second a b) out)
-
--- outside the hull of two boxes is outside both
-pub outside-hull : (a b : PageBox) (x y : ℤ) → is_in (hull_of a b) x y ≡ false → (is_in a x y ≡ false) × (is_in b x y ≡ false)
-outside-hull a b x y h = hull-parts a b x y (is_empty_box a) (is_empty_box b) refl refl h
+use Rattle.canvas_doc.proofs.extents.Untouched.{others, colour-others, hull-parts}
 
 -- two documents that differ in one shape and all below it alone
 keeps-besides : (before after : Contents) → IsWellFormed before → IsWellFormed after → (id : ℕ) (x y : ℤ) → others id after.records ≡ others id before.records → is_in (hull_of (extent_at id before.records) (extent_at id after.records)) x y ≡ false → colour after.records x y ≡ colour before.records x y
 keeps-besides before after w v id x y same h =
-    let out = outside-hull (extent_at id before.records) (extent_at id after.records) x y h in
+    let out = hull-parts (extent_at id before.records) (extent_at id after.records) x y h in
     sym (colour-others after v id x y out.1) ∙ ap (λ (rs : List Record). colour rs x y) same ∙ colour-others before w id x y out.0
 
 pub damage-keeps : (c : Change) (d : Contents) → IsWellFormed d → Fits c d → (x y : ℤ) → is_in (damage_of c d) x y ≡ false → colour (effect_of c d).records x y ≡ colour d.records x y

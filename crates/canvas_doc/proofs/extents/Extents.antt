@@ -99,7 +99,7 @@ same-case a false h = joined-same a
 pub hull-same : (b : PageBox) → IsHull b → hull_of b b ≡ b
 hull-same b h = same-case b (is_empty_box b) h.plain
 
-plus-none : (x : ℤ) → x +ℤ pos 0 ≡ x
+pub plus-none : (x : ℤ) → x +ℤ pos 0 ≡ x
 plus-none x = grind (arith, ints)
 
 -- the pose that moves nothing

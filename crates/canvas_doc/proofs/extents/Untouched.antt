@@ -1,8 +1,7 @@
 -- Outside of the extent of a shape, a document without it and all below it has the same colours.
-use Rattle.std.proofs.Common.{◌≡◌, ℕ, zero, suc, ◌+◌, ◌-◌, ◌≤◌, ◌==◌, List, [], ◌∷◌, Bool, true, false, cond, not, ◌||◌, Option, Some, None, All, filter, map, get_or, ℤ, pos, ◌+ℤ◌, ◌⊎◌, inl, inr, refl, sym, subst, ap, ◌∙◌, arith}
+use Rattle.std.proofs.Common.{◌≡◌, ℕ, zero, suc, ◌+◌, ◌-◌, ◌≤◌, ◌==◌, List, [], ◌∷◌, Bool, true, false, cond, not, ◌||◌, Option, Some, None, All, filter, map, get_or, ℤ, pos, ◌⊎◌, inl, inr, refl, sym, subst, ap, ◌∙◌, arith}
 use Rattle.std.specs.List.{Contains}
-use Rattle.std.proofs.lemmas.Bool.{and_parts, cases_Bool, eqb-true, true≢false, or_parts, or_from, and_from}
-use Rattle.std.proofs.lemmas.Int.{ints}
+use Rattle.std.proofs.lemmas.Bool.{cases_Bool, eqb-true, true≢false, or_parts, or_from, and_from}
 use Rattle.std.proofs.lemmas.List.Elements.{All-contains, All-contains_itself, All-filter, All-head, All-tail, All-weaker, filter_passes}
 use Rattle.std.proofs.lemmas.List.Sorted.{Contains-permutation, IsPermutation-sym}
 use mathlib.Core.Path.{fun_ext}
@@ -30,16 +29,19 @@ use Rattle.canvas_record.specs.Damage.{extent_among, extent_at, extent_of, exten
 use Rattle.canvas_record.specs.Effect.{is_below, is_below_from, is_in_subtree}
 use Rattle.canvas_record.specs.Picture.{answer_among, answer_of, colour, first_answer, kind_answer, or_else, or_white}
 use Rattle.canvas_record.specs.Tree.{HavePlaces, IsInLimits}
-use Rattle.canvas_doc.proofs.places.ChildrenInOrder.{children-apart, passing-has}
+use Rattle.canvas_doc.proofs.places.ChildrenInOrder.{children-apart}
 use Rattle.canvas_doc.proofs.fitting.Fit.{found-all}
 use Rattle.canvas_doc.proofs.fitting.FitDelete.{deleted-well}
 use Rattle.canvas_doc.proofs.tree.Found.{found-at}
 use Rattle.canvas_doc.proofs.tree.Paths.{below-page, reaches-page}
 use Rattle.canvas_doc.proofs.extents.Pulled.{compose, Composed}
 use Rattle.canvas_doc.proofs.places.Reordered.{passed-in}
-use Rattle.canvas_doc.proofs.spacing.Respaced.{same-parents}
 use Rattle.canvas_doc.proofs.extents.Shown.{ellipse-between}
 use Rattle.canvas_doc.proofs.siblings.Sorting.{all-children, AreApart, front_first-moves, same-order}
+use Rattle.canvas_doc.proofs.lists.Tests.{or-false}
+use Rattle.canvas_doc.proofs.tree.Parents.{same_parent-is, from-some}
+use Rattle.canvas_doc.proofs.lists.SameMembers.{Contains-filter}
+use Rattle.canvas_doc.proofs.extents.Extents.{plus-none}
 
 -- the records without a shape and all below it
 abbrev pub others : ℕ → List Record → List Record
@@ -61,7 +63,7 @@ hull-cases a b x y false true e f h = (h, (empty-none b).0 f x y)
 hull-cases a b x y false false e f h = (outside a (joined a b) x y (joined-first a b) h, outside b (joined a b) x y (joined-second a b) h)
 
 -- neither box holds a pixel that their hull does not
-hull-parts : (a b : PageBox) (x y : ℤ) → is_in (hull_of a b) x y ≡ false → (is_in a x y ≡ false) × (is_in b x y ≡ false)
+pub hull-parts : (a b : PageBox) (x y : ℤ) → is_in (hull_of a b) x y ≡ false → (is_in a x y ≡ false) × (is_in b x y ≡ false)
 hull-parts a b x y h = hull-cases a b x y (is_empty_box a) (is_empty_box b) refl refl h
 
 -- ---- shapes answer nothing outside of their extents
@@ -160,10 +162,6 @@ page-child : (k : ℕ) (rs : List Record) (r : Record) → record_of r.id rs ≡
 unfolding to_page
 page-child k rs r found = ap (to_page_from (λ p. to_page k rs p)) found
 
-from-some : (up : Parent → Bool) (o : Option Record) → reaches_from up o ≡ true → (r : Record) × (o ≡ Some r) × (up r.place.parent ≡ true)
-from-some up None h = cc
-from-some up (Some r) h = (r, refl, (and_parts (is_container r.kind) (up r.place.parent) h).1)
-
 -- a step from a record's own points, and on from its parent's
 abbrev after : Record → (Point → Point) → Point → Point
 after r f q = f (carry r.pose q)
@@ -178,7 +176,7 @@ page-fuel (suc n) m rs (Shape p) h =
     let e : suc n + m ≡ suc (n + m) = omega arith in
     let s = from-some (λ q. reaches_page n rs q) (record_of p rs) h in
     let r : Record = s.0 in
-    let ih : to_page (n + m) rs r.place.parent ≡ to_page n rs r.place.parent = page-fuel n m rs r.place.parent s.2 in
+    let ih : to_page (n + m) rs r.place.parent ≡ to_page n rs r.place.parent = page-fuel n m rs r.place.parent s.3 in
     ap (λ k. to_page k rs (Shape p)) e
     ∙ (ap (to_page_from (λ q. to_page (n + m) rs q)) s.1 ∙ ap (after r) ih ∙ sym (ap (to_page_from (λ q. to_page n rs q)) s.1))
 
@@ -192,11 +190,8 @@ record IsMotion (f : Point → Point) : Type 0 where
 abbrev still : Pose
 still = record { dx = pos 0; dy = pos 0; quarter = 0; flip = false }
 
-unmoved : (a : ℤ) → a +ℤ pos 0 ≡ a
-unmoved a = omega (arith, ints)
-
 carry-still : (p : Point) → p ≡ carry still p
-carry-still p = rw (unmoved p.x, unmoved p.y) refl
+carry-still p = rw (plus-none p.x, plus-none p.y) refl
 
 still-motion : IsMotion (λ q. q)
 still-motion = record { pose = still; quarter = omega arith; carries = fun_ext (λ p. carry-still p) }
@@ -218,9 +213,6 @@ page-motion (suc k) rs limits (Shape id) =
 
 -- ---- children of which some were taken out
 
-has-passed : (t : Record → Bool) (xs : List Record) (x : Record) → Contains xs x → t x ≡ true → Contains (filter t xs) x
-has-passed t xs x there h = passing-has t xs there.0 x there.1 there.2 h
-
 passed : (t : Record → Bool) (xs : List Record) (x : Record) → Contains (filter t xs) x → t x ≡ true
 passed t xs x there = ap t (sym there.2) ∙ filter_passes t xs there.0 x there.1
 
@@ -233,7 +225,7 @@ of-children p rs c there =
 in-children : (p : Parent) (rs : List Record) (c : Record) → Contains rs c → is_child p c ≡ true → Contains (children p rs) c
 in-children p rs c there h =
     let own : List Record = filter (is_child p) rs in
-    Contains-permutation own (children p rs) c (front_first-moves own) (has-passed (is_child p) rs c there h)
+    Contains-permutation own (children p rs) c (front_first-moves own) (Contains-filter (is_child p) rs c there h)
 
 apart-filter : (t : Record → Bool) (l : List Record) → AreApart l → AreApart (filter t l)
 apart-filter t [] a = tt
@@ -245,12 +237,12 @@ apart-filter t (s ∷ rest) a = elim (cases_Bool (t s)) [
 left-in : (t : Record → Bool) (p : Parent) (rs : List Record) (c : Record) → Contains (children p (filter t rs)) c → Contains (filter t (children p rs)) c
 left-in t p rs c there =
     let of = of-children p (filter t rs) c there in
-    has-passed t (children p rs) c (in-children p rs c (passed-in t rs c of.0) of.1) (passed t rs c of.0)
+    Contains-filter t (children p rs) c (in-children p rs c (passed-in t rs c of.0) of.1) (passed t rs c of.0)
 
 left-from : (t : Record → Bool) (p : Parent) (rs : List Record) (c : Record) → Contains (filter t (children p rs)) c → Contains (children p (filter t rs)) c
 left-from t p rs c there =
     let of = of-children p rs c (passed-in t (children p rs) c there) in
-    in-children p (filter t rs) c (has-passed t rs c of.0 (passed t (children p rs) c there)) of.1
+    in-children p (filter t rs) c (Contains-filter t rs c of.0 (passed t (children p rs) c there)) of.1
 
 -- the children of a parent among the records that stay
 children-left : (t : Record → Bool) (p : Parent) (rs : List Record) → HavePlaces rs → HavePlaces (filter t rs) → children p (filter t rs) ≡ filter t (children p rs)
@@ -284,14 +276,10 @@ kind-alike (Rect w t fill) holds a b h = refl
 kind-alike (Ellipse w t fill) holds a b h = refl
 kind-alike (Polygon points fill) holds a b h = refl
 
-or-none : (b : Bool) → (b || false) ≡ b
-or-none true = refl
-or-none false = refl
-
 -- a child of what is not below the shape goes if it is the shape
 child-test : (id : ℕ) (rs : List Record) (p : Parent) (c : Record) → c.place.parent ≡ p → is_below 32 id rs p ≡ false → not (is_in_subtree id rs c) ≡ not (c.id == id)
 child-test id rs p c parent below =
-    ap (λ q. not ((c.id == id) || is_below 32 id rs q)) parent ∙ ap (λ b. not ((c.id == id) || b)) below ∙ ap not (or-none (c.id == id))
+    ap (λ q. not ((c.id == id) || is_below 32 id rs q)) parent ∙ ap (λ b. not ((c.id == id) || b)) below ∙ ap not (or-false (c.id == id))
 
 module _ (id : ℕ) (d : Contents) (w : IsWellFormed d) (x y : ℤ) (outer : is_in (extent_at id d.records) x y ≡ false) where
   -- the answers below a parent that is k steps from the page and not below the shape are the same
@@ -351,7 +339,7 @@ module _ (id : ℕ) (d : Contents) (w : IsWellFormed d) (x y : ℤ) (outer : is_
       ∙ first-kept t g f (children p rs) (λ i e l.
       let c : Record = get_or (children p rs) i e in
       let of = of-children p rs c (All-contains_itself (children p rs) i e l) in
-      child-kept n k p c deeper sum reach below of.0 (same-parents c.place.parent p of.1))
+      child-kept n k p c deeper sum reach below of.0 (same_parent-is c.place.parent p of.1))
 
   walk : (n : ℕ) → AreSameAt n
   unfolding answer_among

@@ -17,13 +17,14 @@ use Rattle.canvas_record.specs.Contents.{Contents, IsWellFormed, record_of, is_c
 use Rattle.canvas_record.specs.Tree.{HavePlaces, IsInLimits}
 use Rattle.canvas_record.specs.Effect.{at_id, Fits, HasKey}
 use Rattle.canvas_record.specs.Siblings.{refused_if, siblings, index_at}
-use Rattle.canvas_record.specs.Decision.{placed, put_under, lies_too_deep, are_grounded, has_shape, has_parent, can_have_children, makes_cycle, move_index, holds_container}
+use Rattle.canvas_record.specs.Decision.{placed, put_under, lies_too_deep, are_grounded, has_shape, has_parent, can_have_children, makes_cycle, move_index}
 use Rattle.canvas_record.specs.Depth.{is_above_32}
 use Rattle.canvas_record.proofs.Accepted.{refused-ok, placed-ok, not-false}
 use Rattle.canvas_doc.proofs.tree.Paths.{reaches-page, reaches-step}
 use Rattle.canvas_doc.proofs.tree.DepthAgrees.{deep-agrees}
 use Rattle.canvas_doc.proofs.siblings.Free.{HaveKeys, spot-free}
 use Rattle.canvas_doc.proofs.tree.Maps.{at-keeps, rising-map, ids-map, all-map, places-moved, KeepsPaths, AreGrounded, grounded-map, all-from_test}
+use Rattle.canvas_doc.proofs.tree.Parents.{container-there}
 
 pub some-there : {T : Type 0} (o : Option T) → is_some o ≡ true → IsSome o
 some-there None h = cc
@@ -82,10 +83,6 @@ found-all P q (x ∷ rs) r a h = elim (cases_Bool (x.id == q)) [
   | inl t ↦ (let g : Some x ≡ Some r = rw t at h in let same : x ≡ r = cc in subst P same (All-head P x rs a))
   | inr f ↦ (let g : record_of q rs ≡ Some r = rw f at h in found-all P q rs r (All-tail P x rs a) g)
 ]
-
-container-there : (o : Option Record) → holds_container o ≡ true → (r : Record) × (o ≡ Some r) × (is_container r.kind ≡ true)
-container-there None h = cc
-container-there (Some r) h = (r, refl, h)
 
 -- what can have children reaches the page
 parent-reaches : (d : Contents) → IsWellFormed d → (p : Parent) → can_have_children d.records p ≡ true → reaches_page 32 d.records p ≡ true

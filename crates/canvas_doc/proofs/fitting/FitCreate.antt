@@ -1,7 +1,7 @@
 -- A new shape that is decided fits.
-use Rattle.std.proofs.Common.{◌≡◌, ℕ, zero, suc, ◌+◌, ◌<◌, ◌≤◌, ◌^◌, ◌==◌, List, [], ◌∷◌, ◌++◌, Bool, true, false, not, Option, Some, None, Result, Ok, refl, sym, ap, ◌∙◌, arith, inl, inr, subst, All, length, nat_le, nat_lt, length-append}
+use Rattle.std.proofs.Common.{◌≡◌, ℕ, zero, suc, ◌+◌, ◌<◌, ◌≤◌, ◌^◌, ◌==◌, List, [], ◌∷◌, ◌++◌, Bool, true, false, not, Result, Ok, refl, sym, ap, ◌∙◌, arith, inl, inr, subst, All, length, nat_le, nat_lt, length-append}
 use Rattle.std.specs.List.{AllByRecursion}
-use Rattle.std.proofs.lemmas.Bool.{cases_Bool, and_parts, eq-eqb, eqb-true, and_from}
+use Rattle.std.proofs.lemmas.Bool.{cases_Bool, eqb-true, and_from}
 use Rattle.std.proofs.lemmas.Bool.Decides.{nat_tests}
 use Rattle.std.proofs.lemmas.List.Elements.{All-weaker, All-head, All-tail, All-push}
 use Rattle.canvas_key.specs.Text.{IsKey}
@@ -16,7 +16,6 @@ use Rattle.canvas_record.specs.declared.edits.Change.{Change}
 use Rattle.canvas_record.specs.declared.edits.Change.TheVariants as change
 use Rattle.canvas_record.specs.declared.refusals.Refusal.{Refusal}
 use Rattle.canvas_record.specs.declared.refusals.Refusal.TheVariants.{NoSuchParent, NotAContainer, TooDeep, TooMany, BadSize, BadPose, BadPolygon, IdsSpent}
-use Rattle.canvas_record.specs.Children.{same_parent}
 use Rattle.canvas_record.specs.Contents.{Contents, IsWellFormed, record_of, is_container, reaches_from, reaches_page, AreRising, most_records}
 use Rattle.canvas_record.specs.Tree.{HavePlaces, IsElsewhere, IsInLimits}
 use Rattle.canvas_record.specs.Effect.{effect_of, Fits, HasKey}
@@ -29,6 +28,8 @@ use Rattle.canvas_doc.proofs.siblings.Free.{IsFree, spot-free}
 use Rattle.canvas_doc.proofs.fitting.Fit.{have-keys}
 use Rattle.canvas_record.proofs.Accepted.{refused-ok, placed-ok, not-false}
 use Rattle.canvas_doc.proofs.fitting.FitMore.{pose-limits}
+use Rattle.canvas_doc.proofs.tree.Parents.{same_parent-sym, from-some}
+use Rattle.canvas_doc.proofs.tree.Found.{found-push}
 
 above-push : (n : ℕ) (rs : List Record) (r : Record) → AllByRecursion (λ (s : Record). n < s.id) rs → n < r.id → AllByRecursion (λ (s : Record). n < s.id) (rs ++ r ∷ [])
 above-push n [] r a h = (h, tt)
@@ -42,12 +43,6 @@ elsewhere-push : (s : Record) (rs : List Record) (r : Record) → AllByRecursion
 elsewhere-push s [] r a h = (h, tt)
 elsewhere-push s (t ∷ rs) r a h = (a.0, elsewhere-push s rs r a.1 h)
 
-same_parent-sym : (a b : Parent) → same_parent a b ≡ true → same_parent b a ≡ true
-same_parent-sym Page Page h = refl
-same_parent-sym Page (Shape b) h = cc
-same_parent-sym (Shape a) Page h = cc
-same_parent-sym (Shape a) (Shape b) h = eq-eqb b a (sym (eqb-true a b h))
-
 places-push : (rs : List Record) (r : Record) → HavePlaces rs → All (λ (s : Record). s.id < r.id) rs → AllByRecursion (IsFree r.id r.place.parent r.place.index) rs → HavePlaces (rs ++ r ∷ [])
 places-push [] r h b f = (tt, tt)
 places-push (s ∷ rs) r h b f =
@@ -56,17 +51,6 @@ places-push (s ∷ rs) r h b f =
       elsewhere-push s rs r h.0 (λ k i. f.0 other (same_parent-sym r.place.parent s.place.parent k) (sym i)),
       places-push rs r h.1 (All-tail (λ (s : Record). s.id < r.id) s rs b) f.1,
     )
-
-found-push : (p : ℕ) (rs : List Record) (r s : Record) → record_of p rs ≡ Some s → record_of p (rs ++ r ∷ []) ≡ Some s
-found-push p [] r s h = cc
-found-push p (x ∷ rs) r s h = elim (cases_Bool (x.id == p)) [
-  | inl t ↦ rw t (rw t at h)
-  | inr n ↦ rw n (found-push p rs r s (rw n at h))
-]
-
-from-some : (up : Parent → Bool) (o : Option Record) → reaches_from up o ≡ true → (r : Record) × (o ≡ Some r) × (is_container r.kind ≡ true) × (up r.place.parent ≡ true)
-from-some up None h = cc
-from-some up (Some r) h = let both = and_parts (is_container r.kind) (up r.place.parent) h in (r, refl, both.0, both.1)
 
 pub reaches-push : (n : ℕ) (rs : List Record) (r : Record) (q : Parent) → reaches_page n rs q ≡ true → reaches_page n (rs ++ r ∷ []) q ≡ true
 unfolding reaches_page

@@ -1,7 +1,7 @@
 -- A deletion that is decided fits: what stays reaches the page without what goes.
-use Rattle.std.proofs.Common.{◌≡◌, ℕ, zero, suc, ◌+◌, ◌-◌, ◌<◌, ◌≤◌, ◌==◌, List, [], ◌∷◌, Bool, true, false, not, Option, Some, None, Result, Ok, refl, sym, ap, ◌∙◌, arith, inl, inr, subst, All, length}
+use Rattle.std.proofs.Common.{◌≡◌, ℕ, zero, suc, ◌+◌, ◌-◌, ◌<◌, ◌≤◌, ◌==◌, List, [], ◌∷◌, Bool, true, false, not, Some, Result, Ok, refl, sym, ap, ◌∙◌, arith, inl, inr, subst, length}
 use Rattle.std.specs.List.{AllByRecursion}
-use Rattle.std.proofs.lemmas.Bool.{cases_Bool, and_parts, or_parts, and_from}
+use Rattle.std.proofs.lemmas.Bool.{cases_Bool, or_parts, and_from}
 use Rattle.canvas_record.specs.declared.records.Parent.{Parent}
 use Rattle.canvas_record.specs.declared.records.Parent.TheVariants.{Page, Shape}
 use Rattle.canvas_record.specs.declared.records.Record.{Record}
@@ -20,6 +20,8 @@ use Rattle.std.proofs.Common.{filter, ◌||◌}
 use Rattle.canvas_doc.proofs.tree.Paths.{below-page}
 use Rattle.std.proofs.lemmas.List.Elements.{All-filter, filter_passes}
 use Rattle.canvas_record.specs.Effect.{is_below, is_below_from, is_in_subtree}
+use Rattle.canvas_doc.proofs.lists.Tests.{not-true, all-both}
+use Rattle.canvas_doc.proofs.tree.Parents.{from-some}
 
 above-filter : (n : ℕ) (t : Record → Bool) (rs : List Record) → AllByRecursion (λ (s : Record). n < s.id) rs → AllByRecursion (λ (s : Record). n < s.id) (filter t rs)
 above-filter n t [] a = tt
@@ -51,10 +53,6 @@ found-kept p t (x ∷ rs) r h k = elim (cases_Bool (x.id == p)) [
   ])
 ]
 
-from-some : (up : Parent → Bool) (o : Option Record) → reaches_from up o ≡ true → (r : Record) × (o ≡ Some r) × (is_container r.kind ≡ true) × (up r.place.parent ≡ true)
-from-some up None h = cc
-from-some up (Some r) h = let both = and_parts (is_container r.kind) (up r.place.parent) h in (r, refl, both.0, both.1)
-
 -- once the page is reached, more steps find nothing more
 pub below-fuel : (n m id : ℕ) (rs : List Record) (q : Parent) → reaches_page n rs q ≡ true → is_below (n + m) id rs q ≡ is_below n id rs q
 unfolding is_below reaches_page
@@ -85,14 +83,7 @@ reaches-kept (suc n) id rs (Shape p) l h b =
     ap (reaches_from (λ q. reaches_page n (filter (λ x. not (is_in_subtree id rs x)) rs) q)) (found-kept p (λ x. not (is_in_subtree id rs x)) rs r s.1 kept)
     ∙ and_from (is_container r.kind) (reaches_page n (filter (λ x. not (is_in_subtree id rs x)) rs) r.place.parent) s.2 (reaches-kept n id rs r.place.parent (omega arith) s.3 parts.1)
 
-not-true : (b : Bool) → not b ≡ true → b ≡ false
-not-true true h = cc
-not-true false h = refl
-
 -- all that stay
-all-both : (P Q R : Record → Type 0) → ((r : Record) → P r → Q r → R r) → (rs : List Record) → All P rs → All Q rs → All R rs
-all-both P Q R f rs a b = λ k d l. f _ (a k d l) (b k d l)
-
 pub deleted-well : (d : Contents) → IsWellFormed d → (id : ℕ) → IsWellFormed (effect_of (change.Delete id) d)
 deleted-well d w id =
     let rs = d.records in

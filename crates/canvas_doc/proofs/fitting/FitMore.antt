@@ -1,5 +1,5 @@
 -- Changes of a pose, a kind or a mark, and new shapes, that are decided fit.
-use Rattle.std.proofs.Common.{◌≡◌, ℕ, zero, suc, ◌≤◌, ◌^◌, ◌==◌, List, [], ◌∷◌, Bool, true, false, cond, not, ◌&&◌, Option, Some, None, Result, Ok, Err, refl, sym, ap, ◌∙◌, arith, subst, map, nat_le}
+use Rattle.std.proofs.Common.{◌≡◌, ℕ, zero, suc, ◌≤◌, ◌^◌, ◌==◌, List, Bool, true, false, cond, not, ◌&&◌, Option, Some, None, Result, Ok, Err, refl, sym, ap, ◌∙◌, arith, subst, map, nat_le}
 use Rattle.std.proofs.lemmas.Bool.{and_parts, eqb-true}
 use Rattle.std.proofs.lemmas.Bool.Decides.{nat_tests}
 use Rattle.std.proofs.lemmas.List.Elements.{All-map, All-weaker}
@@ -28,6 +28,7 @@ use Rattle.canvas_doc.proofs.tree.Paths.{changed, found-after}
 use Rattle.canvas_doc.proofs.tree.Maps.{at-keeps, places-map, grounded-map}
 use Rattle.canvas_doc.proofs.fitting.Fit.{some-there, changed-well}
 use Rattle.canvas_record.proofs.Accepted.{refused-ok, not-false}
+use Rattle.canvas_doc.proofs.tree.Found.{found-has}
 
 -- a change that keeps ids, places and containers
 pub kept-well : (d : Contents) → IsWellFormed d → (id : ℕ) (f : Record → Record) → ((r : Record) → (f r).id ≡ r.id) → ((r : Record) → (f r).place ≡ r.place) → ((r : Record) → IsInLimits r → IsInLimits (f r)) → ((r : Record) → is_container (f r).kind ≡ is_container r.kind) → IsWellFormed (record d { records = at_id id f d.records })
@@ -73,15 +74,6 @@ show-fits d w id hidden c h =
       named = some-there (record_of id d.records) (not-false (has_shape d.records id) a.0);
       left = kept-well d w id (λ r. record r { hidden = hidden }) (λ r. refl) (λ r. refl) (λ r m. record { quarter = m.quarter; reach = m.reach; kind = m.kind; key = m.key }) (λ r. refl);
     })
-
-found-cases : (p : ℕ) (x r : Record) (rest : Option Record) (b : Bool) → (x.id == p) ≡ b → cond b (Some x) rest ≡ Some r → (rest ≡ Some r → (r.id == p) ≡ true) → (r.id == p) ≡ true
-found-cases p x r rest true e h ih = let same : x ≡ r = cc in ap (λ (s : Record). s.id == p) (sym same) ∙ e
-found-cases p x r rest false e h ih = ih h
-
--- the record of an id has it
-pub found-has : (p : ℕ) (rs : List Record) (r : Record) → record_of p rs ≡ Some r → (r.id == p) ≡ true
-found-has p [] r h = cc
-found-has p (x ∷ rs) r h = found-cases p x r (record_of p rs) (x.id == p) refl h (λ k. found-has p rs r k)
 
 -- the record of the id, if there is one, stays a container or a leaf
 abbrev pub StaysContainer : ℕ → (Record → Record) → List Record → Type 0

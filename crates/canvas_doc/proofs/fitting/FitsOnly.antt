@@ -1,7 +1,7 @@
 -- A change that fits passes the tests.
 use Rattle.std.proofs.Common.{◌≡◌, ◌≢◌, ℕ, zero, suc, ◌+◌, ◌<◌, ◌≤◌, ◌^◌, ◌==◌, List, [], ◌∷◌, ◌++◌, Bool, true, false, cond, not, ◌&&◌, ◌||◌, Option, Some, None, refl, sym, ap, ◌∙◌, arith, inl, inr, subst, map, All, length, IsSome, nat_le, is_some, rules, length-append}
 use Rattle.std.specs.List.{AllByRecursion, list_all}
-use Rattle.std.proofs.lemmas.Bool.{cases_Bool, true≢false, and_parts, eq-eqb, eqb-true, or_from, and_from}
+use Rattle.std.proofs.lemmas.Bool.{cases_Bool, true≢false, and_parts, eq-eqb, or_from, and_from}
 use Rattle.std.proofs.lemmas.Bool.Decides.{nat_tests}
 use Rattle.std.proofs.lemmas.List.Elements.{All-weaker, All-cons, All-head, All-tail}
 use Rattle.canvas_plane.specs.declared.Pose.{Pose}
@@ -13,7 +13,6 @@ use Rattle.canvas_record.specs.declared.records.Record.{Record}
 use Rattle.canvas_record.specs.declared.records.Place.{Place}
 use Rattle.canvas_record.specs.declared.edits.Change.{Change}
 use Rattle.canvas_record.specs.declared.edits.Change.TheVariants as change
-use Rattle.canvas_record.specs.Children.{same_parent}
 use Rattle.canvas_record.specs.Contents.{Contents, IsWellFormed, record_of, is_container, reaches_from, reaches_page, most_records}
 use Rattle.canvas_record.specs.Tree.{HavePlaces, IsElsewhere, IsInLimits}
 use Rattle.canvas_record.specs.Effect.{at_id, Fits, HasKey}
@@ -36,6 +35,9 @@ use Rattle.canvas_key.specs.Text.{is_same}
 use Rattle.canvas_doc.proofs.siblings.Free.{Avoids}
 use Rattle.canvas_doc.proofs.tree.Maps.{reaches-map}
 use Rattle.canvas_doc.proofs.fitting.Fit.{found-all, set-index, set-index-keeps, set-index-all}
+use Rattle.canvas_doc.proofs.lists.Tests.{not-true}
+use Rattle.canvas_doc.proofs.tree.Parents.{same_parent-sym, same_parent-is, from-some}
+use Rattle.canvas_doc.proofs.tree.Found.{found-has, found-push, found-last}
 
 is-there : {T : Type 0} (o : Option T) → IsSome o → is_some o ≡ true
 is-there None h = search (rules, h)
@@ -59,13 +61,6 @@ pose-test pose h k =
     let a : nat_le pose.quarter 3 ≡ true = grind (arith, nat_tests) in
     let b : nat_le (reach_of pose) (2 ^ 20) ≡ true = grind (arith, nat_tests) in
     and_from (nat_le pose.quarter 3) (nat_le (reach_of pose) (2 ^ 20)) a b
-
-found-has : (p : ℕ) (rs : List Record) (r : Record) → record_of p rs ≡ Some r → (r.id == p) ≡ true
-found-has p [] r h = cc
-found-has p (x ∷ rs) r h = elim (cases_Bool (x.id == p)) [
-  | inl t ↦ (let g : Some x ≡ Some r = rw t at h in let same : x ≡ r = cc in ap (λ (s : Record). s.id == p) (sym same) ∙ t)
-  | inr f ↦ (let g : record_of p rs ≡ Some r = rw f at h in found-has p rs r g)
-]
 
 -- what holds of all records after a change at an id holds of the one that was changed
 changed-one : (P : Record → Type 0) (id : ℕ) (f : Record → Record) → ((r : Record) → (f r).id ≡ r.id) → (rs : List Record) (r : Record) → All P (at_id id f rs) → record_of id rs ≡ Some r → P (f r)
@@ -91,10 +86,6 @@ filter-all : (t : Record → Bool) (P : Record → Type 0) (l : List Record) →
 filter-all t P [] a = tt
 filter-all t P (r ∷ rs) a = elim (cases_Bool (t r)) [ inl e ↦ rw e (a.0 e, filter-all t P rs a.1) | inr e ↦ rw e (filter-all t P rs a.1) ]
 
-not-true : (b : Bool) → not b ≡ true → b ≡ false
-not-true true h = cc
-not-true false h = refl
-
 avoids-test : (key : List ℕ) (l : List Record) → Avoids key l → is_taken key l ≡ false
 avoids-test key [] a = refl
 avoids-test key (s ∷ rest) a = elim (cases_Bool (is_same s.place.index key)) [
@@ -112,12 +103,6 @@ free-plain own p key (r ∷ rs) a = ((λ h. let b = sibling-parts own p r h in a
 -- a free index is not taken
 pub free-test : (own : ℕ) (p : Parent) (key : List ℕ) (rs : List Record) → AllByRecursion (IsFree own p key) rs → is_taken key (siblings own p rs) ≡ false
 free-test own p key rs a = avoids-test key (siblings own p rs) (filter-all (is_sibling own p) (λ r. r.place.index ≢ key) rs (free-plain own p key rs a))
-
-same_parent-sym : (a b : Parent) → same_parent a b ≡ true → same_parent b a ≡ true
-same_parent-sym Page Page h = refl
-same_parent-sym Page (Shape b) h = cc
-same_parent-sym (Shape a) Page h = cc
-same_parent-sym (Shape a) (Shape b) h = eq-eqb b a (sym (eqb-true a b h))
 
 -- what holds of all after a change at an id holds of the one that was changed
 changed-by_rest : (P : Record → Type 0) (id : ℕ) (f : Record → Record) (rs : List Record) (r : Record) → AllByRecursion P (at_id id f rs) → record_of id rs ≡ Some r → P (f r)
@@ -161,18 +146,6 @@ last-elsewhere x (y ∷ rs) r a = last-elsewhere x rs r a.1
 created-free : (rs : List Record) (r : Record) → HavePlaces (rs ++ r ∷ []) → AllByRecursion (IsFree r.id r.place.parent r.place.index) rs
 created-free [] r a = tt
 created-free (x ∷ rs) r a = ((λ _ same e. last-elsewhere x rs r a.0 (same_parent-sym x.place.parent r.place.parent same) (sym e)), created-free rs r a.1)
-
-from-some : (up : Parent → Bool) (o : Option Record) → reaches_from up o ≡ true → (r : Record) × (o ≡ Some r) × (is_container r.kind ≡ true) × (up r.place.parent ≡ true)
-from-some up None h = cc
-from-some up (Some r) h = let both = and_parts (is_container r.kind) (up r.place.parent) h in (r, refl, both.0, both.1)
-
-found-push : (p : ℕ) (rs : List Record) (r s : Record) → record_of p rs ≡ Some s → record_of p (rs ++ r ∷ []) ≡ Some s
-found-push p [] r s h = cc
-found-push p (x ∷ rs) r s h = elim (cases_Bool (x.id == p)) [ inl t ↦ rw t (rw t at h) | inr n ↦ rw n (found-push p rs r s (rw n at h)) ]
-
-found-last : (p : ℕ) (rs : List Record) (r : Record) → record_of p rs ≡ None → record_of p (rs ++ r ∷ []) ≡ cond (r.id == p) (Some r) None
-found-last p [] r h = refl
-found-last p (x ∷ rs) r h = elim (cases_Bool (x.id == p)) [ inl t ↦ (let g : Some x ≡ None = rw t at h in cc) | inr n ↦ rw n (found-last p rs r (rw n at h)) ]
 
 -- a path within the old records needs no new one
 reaches-old : (k n : ℕ) (rs : List Record) (r : Record) (q : Parent) → reaches_page k rs q ≡ true → reaches_page n (rs ++ r ∷ []) q ≡ true → reaches_page n rs q ≡ true
@@ -221,15 +194,11 @@ created-reached : (rs : List Record) (r : Record) (q : Parent) → q ≡ r.place
 created-reached rs r Page e g m = reaches-page 31 rs
 created-reached rs r (Shape p) e g m = created-step p rs r (record_of p rs) refl g (sym e) m
 
-to-shape : (p : Parent) (id : ℕ) → same_parent p (Shape id) ≡ true → p ≡ Shape id
-to-shape Page id h = cc
-to-shape (Shape a) id h = ap (λ n. Shape n) (eqb-true a id h)
-
 leaf-blocks : (id : ℕ) (kind : Kind) (rs : List Record) (r0 r : Record) → record_of id rs ≡ Some r0 → is_container kind ≡ false → reaches_page 31 (at_id id (λ s. record s { kind = kind }) rs) (cond (r.id == id) (record r { kind = kind }) r).place.parent ≡ true → not (is_child (Shape id) r) ≡ true
 leaf-blocks id kind rs r0 r h k m = elim (cases_Bool (is_child (Shape id) r)) [
   | inl t ↦ (
       let f : Record → Record = λ s. record s { kind = kind } in
-      let parent : r.place.parent ≡ Shape id = to-shape r.place.parent id t in
+      let parent : r.place.parent ≡ Shape id = same_parent-is r.place.parent (Shape id) t in
       let here : reaches_page 31 (at_id id f rs) (Shape id) ≡ true = ap (reaches_page 31 (at_id id f rs)) (sym parent ∙ sym (ap (λ (x : Place). x.parent) (at-keeps (λ s. s.place) id f (λ s. refl) r))) ∙ m in
       let found : record_of id (at_id id f rs) ≡ Some (f r0) = found-after id id f (λ s. refl) rs ∙ ap (changed id f) h ∙ ap (λ b. Some (cond b (f r0) r0)) (found-has id rs r0 h) in
       let step = reaches-step 31 id (at_id id f rs) (Some (f r0)) (omega arith) (sym found) in

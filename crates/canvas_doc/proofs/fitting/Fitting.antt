@@ -1,5 +1,5 @@
 -- A change that passes the tests fits.
-use Rattle.std.proofs.Common.{◌≡◌, ℕ, zero, suc, ◌==◌, List, Bool, true, false, cond, not, ◌&&◌, ◌||◌, Option, Some, None, refl, sym, ap, ◌∙◌, subst, map, All, length, nat_le}
+use Rattle.std.proofs.Common.{◌≡◌, ℕ, zero, suc, ◌==◌, List, Bool, true, false, cond, not, ◌&&◌, ◌||◌, Some, refl, sym, ap, ◌∙◌, subst, map, All, length, nat_le}
 use Rattle.std.proofs.lemmas.Bool.{true≢false, and_parts, eq-eqb, eqb-true}
 use Rattle.std.proofs.lemmas.List.Elements.{All-map, All-weaker}
 use Rattle.canvas_shape.specs.declared.Kind.{Kind}
@@ -26,18 +26,13 @@ use Rattle.canvas_doc.specs.Fitting.{fits_test, has_no_child}
 use Rattle.canvas_record.specs.Decision.{lies_too_deep}
 use Rattle.canvas_doc.proofs.siblings.Free.{taken-free}
 use Rattle.canvas_doc.proofs.fitting.Fit.{moved-grounded, found-all}
-use Rattle.canvas_doc.proofs.fitting.FitMore.{kept-well, pose-limits, found-has}
+use Rattle.canvas_doc.proofs.fitting.FitMore.{kept-well, pose-limits}
 use Rattle.canvas_doc.proofs.fitting.FitCreate.{created-well}
 use Rattle.canvas_doc.proofs.fitting.FitDelete.{deleted-well}
 use Rattle.canvas_doc.proofs.spacing.Respaced.{respaced-well, there}
-
-not-true : (b : Bool) → not b ≡ true → b ≡ false
-not-true true h = cc
-not-true false h = refl
-
-from-some : (up : Parent → Bool) (o : Option Record) → reaches_from up o ≡ true → (r : Record) × (o ≡ Some r) × (is_container r.kind ≡ true) × (up r.place.parent ≡ true)
-from-some up None h = cc
-from-some up (Some r) h = let both = and_parts (is_container r.kind) (up r.place.parent) h in (r, refl, both.0, both.1)
+use Rattle.canvas_doc.proofs.lists.Tests.{not-true, all-both}
+use Rattle.canvas_doc.proofs.tree.Parents.{from-some}
+use Rattle.canvas_doc.proofs.tree.Found.{found-has}
 
 kind-cases : (b : Bool) (kind : Kind) (r : Record) (up : Parent → Bool) → (b ≡ true → is_container kind ≡ true) → is_container r.kind ≡ true → up r.place.parent ≡ true → reaches_from up (Some (cond b (record r { kind = kind }) r)) ≡ true
 kind-cases true kind r up k c u = rw (k refl, u) refl
@@ -70,9 +65,6 @@ reaches-leaf (suc n) id kind rs (Shape p) a e h =
     let apart : same_parent s.0.place.parent (Shape id) ≡ false = not-true (is_child (Shape id) s.0) (found-all (λ (r : Record). not (is_child (Shape id) r) ≡ true) p rs s.0 a s.1) in
     ap (reaches_from up) (found-after id p (λ r. record r { kind = kind }) (λ r. refl) rs ∙ ap (changed id (λ r. record r { kind = kind })) s.1)
     ∙ kind-cases (s.0.id == id) kind s.0 up (λ t. absurd (true≢false (sym (same-eqb s.0.id p id (found-has p rs s.0 s.1) t) ∙ e))) s.2 (reaches-leaf n id kind rs s.0.place.parent a apart s.3)
-
-all-both : (P Q R : Record → Type 0) → ((r : Record) → P r → Q r → R r) → (rs : List Record) → All P rs → All Q rs → All R rs
-all-both P Q R f rs a b = λ k d l. f _ (a k d l) (b k d l)
 
 reshaped-grounded : (b : Bool) (id : ℕ) (kind : Kind) (rs : List Record) → is_container kind ≡ b → (b ≡ false → has_no_child id rs ≡ true) → AreGrounded rs → All (λ (r : Record). reaches_page 31 (at_id id (λ s. record s { kind = kind }) rs) r.place.parent ≡ true) rs
 reshaped-grounded true id kind rs e k g =

@@ -1,11 +1,12 @@
--- Members of lists in which no item stands twice.
-use Rattle.std.proofs.Common.{◌≡◌, ◌≢◌, ℕ, ◌<◌, ◌≤◌, ◌+◌, ◌-◌, ◌==◌, List, [], ◌∷◌, suc, nat_lt, refl, sym, ap, ◌∙◌, arith, inl, inr, ◌⊎◌, length, get_or, set}
-use Rattle.std.specs.List.{Contains, insert, remove}
+-- Members of lists, also of those in which no item stands twice.
+use Rattle.std.proofs.Common.{◌≡◌, ◌≢◌, ℕ, ◌<◌, ◌≤◌, ◌+◌, ◌-◌, ◌==◌, List, [], ◌∷◌, suc, nat_lt, refl, sym, ap, ◌∙◌, arith, inl, inr, ◌⊎◌, length, get_or, set, Some}
+use Rattle.std.specs.List.{Contains, insert, remove, slice_get}
 use Rattle.std.proofs.Math.ListN.{length-set}
 use Rattle.std.proofs.lemmas.Bool.{cases_Bool, eq-eqb, eqb-true, true≢false}
 use Rattle.std.proofs.lemmas.Bool.Decides.{nat_tests}
 use Rattle.std.proofs.lemmas.List.{get_or_default, get_or-set_other, get_or-set_same}
 use Rattle.std.proofs.lemmas.List.Edits.{get_or-insert_above, get_or-insert_at, get_or-insert_below, get_or-remove_above, get_or-remove_below, length-insert, length-remove}
+use Rattle.std.proofs.lemmas.Option.{slice_get_cases, slice_get_within}
 
 -- no item stands twice
 abbrev pub EachOnce : {X : Type 0} → List X → Type 0
@@ -117,3 +118,15 @@ as-many (x ∷ xs) ys once h =
     (λ y m. remove-has ys c.0 x c.1 c.2 y (h y (suc m.0, (let b : m.0 < length xs = m.1 in omega arith), m.2)) (λ e. once 0 (suc m.0) y (omega arith) (let b : m.0 < length xs = m.1 in omega arith) (sym e ∙ sym m.2))) in
     let long : length (remove ys c.0) + 1 ≡ length ys = length-remove ys c.0 c.1 in
     omega arith
+
+pub item-at : {X : Type 0} (xs : List X) (k : ℕ) → k < length xs → (x : X) × (slice_get xs k ≡ Some x)
+item-at xs k below = elim (slice_get_cases xs k).1 [
+  | inl here ↦ (here.0, here.2)
+  | inr past ↦ let le : length xs ≤ k = past.0 in absurd (omega arith)
+]
+
+-- a list as long has an item there, too
+pub item-in : {X Y : Type 0} (xs : List X) (ys : List Y) (k : ℕ) (x : X) → length ys ≡ length xs → slice_get xs k ≡ Some x → (y : Y) × (slice_get ys k ≡ Some y)
+item-in xs ys k x long e =
+    let below : k < length xs = slice_get_within xs k x e in
+    item-at ys k (omega arith)

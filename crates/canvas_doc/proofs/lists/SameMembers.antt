@@ -1,9 +1,8 @@
 -- Lists with the same members.
-use Rattle.std.proofs.Common.{◌≡◌, ℕ, zero, suc, ◌<◌, List, [], ◌∷◌, ◌++◌, Bool, true, refl, sym, ap, ◌∙◌, arith, filter, length, get_or, All}
+use Rattle.std.proofs.Common.{◌≡◌, ℕ, zero, suc, ◌<◌, List, [], ◌∷◌, ◌++◌, Bool, true, refl, sym, ap, ◌∙◌, arith, filter, length, get_or, All, cond, false}
 use Rattle.std.specs.List.{Contains}
 use Rattle.std.proofs.lemmas.List.{append-nil}
 use Rattle.canvas_record.specs.declared.records.Record.{Record}
-use Rattle.canvas_doc.proofs.places.ChildrenInOrder.{passing-has}
 use Rattle.std.proofs.lemmas.List.Elements.{All-head, All-tail, All-filter, filter_passes}
 
 -- what is found step by step, where neither the order of two steps nor a step taken twice matters, is the same for the same members
@@ -38,6 +37,16 @@ contains-later y xs x h = let l : h.0 < length xs = h.1 in (suc h.0, omega arith
 
 pub contains-first : {X : Type 0} (y : X) (xs : List X) (x : X) → y ≡ x → Contains (y ∷ xs) x
 contains-first y xs x e = (zero, omega arith, e)
+
+-- a record that passes a test is among those that pass it
+pub passing-has : (q : Record → Bool) (rs : List Record) (k : ℕ) (r : Record) → k < length rs → get_or rs k r ≡ r → q r ≡ true → Contains (filter q rs) r
+passing-has q [] k r l e t = absurd (omega arith)
+passing-has q (s ∷ rs) zero r l e t =
+    let passes : q s ≡ true = ap q e ∙ t in
+    rw passes (0, omega arith, e)
+passing-has q (s ∷ rs) (suc k) r l e t =
+    let c = passing-has q rs k r (omega arith) e t in
+    elim (q s) as (λ b. Contains (cond b (s ∷ filter q rs) (filter q rs)) r) [ true ↦ (suc c.0, omega (arith, c.1), c.2) | false ↦ c ]
 
 -- a member that passes a test
 pub Contains-filter : (t : Record → Bool) (xs : List Record) (x : Record) → Contains xs x → t x ≡ true → Contains (filter t xs) x

@@ -1,11 +1,11 @@
 -- Places in order.
-use Rattle.std.proofs.Common.{◌≡◌, ℕ, ◌<◌, ◌+◌, List, [], ◌∷◌, true, refl, sym, ap, ◌∙◌, arith, length, get_or}
+use Rattle.std.proofs.Common.{◌≡◌, ℕ, ◌<◌, ◌+◌, List, [], ◌∷◌, sym, ap, ◌∙◌, arith, length, get_or}
 use Rattle.std.specs.List.Sorted.{IsStrictlySortedBy}
 use Rattle.std.specs.declared.cmp.Ordering.{Ordering}
-use Rattle.std.specs.declared.cmp.Ordering.TheVariants.{Less, Equal, Greater}
+use Rattle.std.specs.declared.cmp.Ordering.TheVariants.{Less}
 use Rattle.std.specs.Cmp.{IsTotalOrder}
 use Rattle.std.specs.Cmp.Lexicographic.{slice_cmp, options_total}
-use Rattle.std.specs.Ordering.{is_lt, nat_cmp, ordering_reverse}
+use Rattle.std.specs.Ordering.{nat_cmp, ordering_reverse}
 use Rattle.std.proofs.lemmas.Cmp.{nat_cmp_total, nat_list_cmp_total, on_total, then_total}
 use Rattle.std.proofs.lemmas.Map.Keys.{sorted_from_all_adjacent}
 use Rattle.canvas_record.specs.declared.records.Place.{Place}
@@ -32,11 +32,6 @@ by_place-total = then_total (on_total (λ (p : Place). p.parent) by_parent-total
 
 pub comes_first-total : IsTotalOrder comes_first
 comes_first-total = on_total (λ (r : Record). r.place) by_place-total
-
-pub less-from_lt : (o : Ordering) → is_lt o ≡ true → o ≡ Less
-less-from_lt Less h = refl
-less-from_lt Equal h = cc
-less-from_lt Greater h = cc
 
 -- records of which each comes before those after it
 pub sorted-from : (rs : List Record) → ((i j : ℕ) (d : Record) → i < j → j < length rs → comes_first (get_or rs i d) (get_or rs j d) ≡ Less) → IsStrictlySortedBy comes_first rs

@@ -1,5 +1,5 @@
 -- The children of a parent, as the order by place lists them.
-use Rattle.std.proofs.Common.{◌≡◌, ℕ, zero, suc, ◌+◌, ◌-◌, ◌<◌, ◌≤◌, List, [], ◌∷◌, ◌++◌, Bool, true, false, cond, sym, ap, ◌∙◌, arith, filter, length, get_or, take, drop, map, Bor, All, length-drop, get_or-drop}
+use Rattle.std.proofs.Common.{◌≡◌, ℕ, suc, ◌+◌, ◌-◌, ◌<◌, ◌≤◌, List, [], ◌∷◌, ◌++◌, true, sym, ap, ◌∙◌, arith, filter, length, get_or, take, drop, map, Bor, All, length-drop, get_or-drop}
 use Rattle.std.specs.List.{Contains}
 use Rattle.std.specs.List.Sorted.{IsStrictlySortedBy}
 use Rattle.std.specs.declared.cmp.Ordering.{Ordering}
@@ -7,7 +7,7 @@ use Rattle.std.specs.declared.cmp.Ordering.TheVariants.{Less, Equal, Greater}
 use Rattle.std.specs.Cmp.Lexicographic.{slice_cmp}
 use Rattle.std.specs.Ordering.{is_eq, is_lt, nat_cmp, ordering_then}
 use Rattle.std.proofs.lemmas.List.{drop_more, map-append, take_more}
-use Rattle.std.proofs.lemmas.List.Elements.{All-contains, All-filter, All-from_recursion, All-head, All-tail, filter_passes}
+use Rattle.std.proofs.lemmas.List.Elements.{All-contains, All-from_recursion, All-head, All-tail, filter_passes}
 use Rattle.std.proofs.lemmas.List.Kept.{IsStrictlySortedBy-filter}
 use Rattle.std.proofs.lemmas.List.Sorted.{All-permutation, Contains-permutation}
 use Rattle.std.proofs.lemmas.Map.Keys.{IsDistinct-IsPermutation}
@@ -19,6 +19,7 @@ use Rattle.canvas_record.specs.Tree.{HavePlaces}
 use Rattle.canvas_doc.proofs.siblings.Fronts.{have-indexes, in_order, same_parent-both}
 use Rattle.canvas_doc.proofs.places.Placed.{holder-eq}
 use Rattle.canvas_doc.proofs.siblings.Sorting.{AreApart, apart-in_order, distinct-indexes, front_first-moves, is_level, level-flips, record_of, same-order}
+use Rattle.canvas_doc.proofs.lists.SameMembers.{filter-members}
 
 -- of two children of a parent the one that comes first is in front
 index-first : (a b : Ordering) → is_eq a ≡ true → ordering_then a b ≡ Less → b ≡ Less
@@ -45,33 +46,17 @@ children-apart p rs h =
     let flips : (r s : Record) → is_level r s ≡ is_level s r = λ r s. level-flips (is_in_front r s) (is_in_front s r) in
     apart-in_order (front_first kept) (in_order kept) (IsDistinct-IsPermutation is_level flips kept (front_first kept) (front_first-moves kept) (distinct-indexes kept (have-indexes p rs h)))
 
--- a record that passes a test is among those that pass it
-pub passing-has : (q : Record → Bool) (rs : List Record) (k : ℕ) (r : Record) → k < length rs → get_or rs k r ≡ r → q r ≡ true → Contains (filter q rs) r
-passing-has q [] k r l e t = absurd (omega arith)
-passing-has q (s ∷ rs) zero r l e t =
-    let passes : q s ≡ true = ap q e ∙ t in
-    rw passes (0, omega arith, e)
-passing-has q (s ∷ rs) (suc k) r l e t =
-    let c = passing-has q rs k r (omega arith) e t in
-    elim (q s) as (λ b. Contains (cond b (s ∷ filter q rs) (filter q rs)) r) [ true ↦ (suc c.0, omega (arith, c.1), c.2) | false ↦ c ]
-
--- what passes in one list is among what passes in another that has it
-passing-within : (q : Record → Bool) (xs ys : List Record) → All (Contains ys) xs → All (Contains (filter q ys)) (filter q xs)
-passing-within q xs ys h i d l =
-    let c = All-filter q (Contains ys) xs h i d l in
-    passing-has q ys c.0 (get_or (filter q xs) i d) c.1 c.2 (filter_passes q xs i d l)
-
 -- what the order lists of a parent's children are its children, from front to back
 pub children-are : (p : Parent) (order rs : List Record) → HavePlaces rs → IsInPlaceOrder order rs → filter (is_child p) order ≡ children p rs
 children-are p order rs h o =
     let kept : List Record = filter (is_child p) rs in
     let listed : List Record = filter (is_child p) order in
-    let within : All (Contains kept) listed = passing-within (is_child p) order rs o.listed in
+    let within : All (Contains kept) listed = filter-members (is_child p) order rs o.listed in
     same-order listed (children p rs)
     (sorted-apart p listed (filter_passes (is_child p) order) (IsStrictlySortedBy-filter comes_first (is_child p) order o.rising))
     (children-apart p rs h)
     (λ i d l. Contains-permutation kept (children p rs) (get_or listed i d) (front_first-moves kept) (within i d l))
-    (All-permutation (Contains listed) kept (children p rs) (front_first-moves kept) (passing-within (is_child p) rs order o.complete))
+    (All-permutation (Contains listed) kept (children p rs) (front_first-moves kept) (filter-members (is_child p) rs order o.complete))
 
 -- one more of the items from a position on
 pub one-more : {A : Type 0} (order : List A) (start at : ℕ) (r d : A) → start ≤ at → at < length order → r ≡ get_or order at d → take (at + 1 - start) (drop start order) ≡ take (at - start) (drop start order) ++ r ∷ []

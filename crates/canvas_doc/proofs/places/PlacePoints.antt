@@ -16,8 +16,9 @@ use Rattle.canvas_record.specs.declared.records.Place.{Place}
 use Rattle.canvas_record.specs.declared.records.Record.{Record}
 use Rattle.canvas_record.specs.Children.{is_child}
 use Rattle.canvas_doc.specs.PlaceOrder.{by_parent, by_place, comes_first, AreChildrenWithin, IsPlaceOf}
-use Rattle.canvas_doc.proofs.places.ByPlace.{by_parent-total, by_place-total, less-from_lt}
+use Rattle.canvas_doc.proofs.places.ByPlace.{by_parent-total, by_place-total}
 use Rattle.canvas_doc.proofs.places.Placed.{holder-eq}
+use Rattle.canvas_doc.proofs.lists.Tests.{less-from_lt}
 
 -- whether the parent of a record compares so to p, and its place to another
 abbrev pub has_parent : (Ordering → Bool) → Parent → Record → Bool

@@ -1,5 +1,5 @@
 -- The order by place after a record was added, taken out, or replaced.
-use Rattle.std.proofs.Common.{◌≡◌, ◌≢◌, ℕ, ◌<◌, ◌≤◌, ◌+◌, ◌-◌, ◌==◌, List, [], ◌∷◌, ◌++◌, zero, suc, true, false, cond, nat_lt, refl, sym, ap, subst, ◌∙◌, arith, inl, inr, ◌⊎◌, All, length, filter, get_or, set, take, drop, Some, Bool, Result, Ok, Err, IfOk}
+use Rattle.std.proofs.Common.{◌≡◌, ◌≢◌, ℕ, ◌<◌, ◌≤◌, ◌+◌, ◌-◌, ◌==◌, List, [], ◌∷◌, ◌++◌, zero, suc, true, false, cond, nat_lt, refl, sym, ap, subst, ◌∙◌, arith, inl, inr, ◌⊎◌, All, length, filter, get_or, set, take, drop, Some, Bool}
 use Rattle.std.specs.List.{Contains, insert, remove, slice_get}
 use Rattle.std.specs.List.Sorted.{IsStrictlySortedBy}
 use Rattle.std.specs.declared.cmp.Ordering.{Ordering}
@@ -22,13 +22,14 @@ use Rattle.canvas_record.specs.Children.{same_parent}
 use Rattle.canvas_record.specs.Contents.{record_of, reaches_page, AreRising}
 use Rattle.canvas_doc.specs.PlaceOrder.{by_parent, by_place, comes_first, IsInPlaceOrder, IsPlaceOf}
 use Rattle.canvas_record.specs.Tree.{HavePlaces, IsElsewhere}
-use Rattle.canvas_doc.proofs.places.ByPlace.{comes_first-total, less-from_lt, sorted-from}
+use Rattle.canvas_doc.proofs.places.ByPlace.{comes_first-total, sorted-from}
 use Rattle.canvas_doc.proofs.tree.Found.{found-here, rising-at}
-use Rattle.canvas_doc.proofs.places.OneChanged.{id-only-here}
+use Rattle.canvas_doc.proofs.tree.OneChanged.{id-only-here}
 use Rattle.canvas_doc.proofs.spacing.Respaced.{IsIn}
 use Rattle.canvas_doc.proofs.places.Placed.{holder-eq, then-eq}
-use Rattle.canvas_doc.proofs.restoring.RestoredWell.{same-parent-sym}
 use Rattle.canvas_doc.proofs.lists.Members.{EachOnce, apart, insert-cases, insert-has, insert-new, remove-cases, remove-has, set-cases, set-has, set-new}
+use Rattle.canvas_doc.proofs.lists.Tests.{less-from_lt}
+use Rattle.canvas_doc.proofs.tree.Parents.{same_parent-flips}
 
 -- records with rising ids, and those with rising places, stand once each
 pub ids-once : (rs : List Record) → AreRising rs → EachOnce rs
@@ -128,7 +129,7 @@ equal-from_eq Greater h = cc
 tied-parts : (r s : Record) → comes_first r s ≡ Equal → (same_parent s.place.parent r.place.parent ≡ true) × (s.place.index ≡ r.place.index)
 tied-parts r s e =
     let both = and_parts (is_eq (by_parent r.place.parent s.place.parent)) (is_eq (slice_cmp nat_cmp s.place.index r.place.index)) (sym (then-eq (by_parent r.place.parent s.place.parent) (slice_cmp nat_cmp s.place.index r.place.index)) ∙ ap is_eq e) in (
-      same-parent-sym s.place.parent r.place.parent ∙ sym (holder-eq r.place.parent s.place.parent) ∙ both.0,
+      same_parent-flips s.place.parent r.place.parent ∙ sym (holder-eq r.place.parent s.place.parent) ∙ both.0,
       exact_bytes s.place.index r.place.index (equal-from_eq (slice_cmp nat_cmp s.place.index r.place.index) both.1),
     )
 

@@ -1,7 +1,7 @@
 -- A list without fault is restored as a well-formed document.
-use Rattle.std.proofs.Common.{◌≡◌, ℕ, zero, suc, ◌-◌, ◌<◌, ◌≤◌, ◌^◌, ◌==◌, ◌&&◌, ◌||◌, not, nat_lt, nat_le, List, [], ◌∷◌, ◌++◌, Bool, true, false, cond, Option, Some, None, refl, sym, ap, subst, ◌∙◌, arith, inl, inr, All, length, get_or}
+use Rattle.std.proofs.Common.{◌≡◌, ℕ, zero, suc, ◌-◌, ◌<◌, ◌≤◌, ◌^◌, ◌==◌, ◌&&◌, ◌||◌, not, nat_lt, nat_le, List, [], ◌∷◌, ◌++◌, Bool, true, false, cond, Some, None, refl, sym, ap, subst, ◌∙◌, arith, inl, inr, All, length, get_or}
 use Rattle.std.specs.List.{AllByRecursion, list_any, position, position_or_len}
-use Rattle.std.proofs.lemmas.Bool.{cases_Bool, true≢false, and_parts, eq-eqb, eqb-true, or_parts, and_from}
+use Rattle.std.proofs.lemmas.Bool.{cases_Bool, true≢false, and_parts, or_parts, and_from}
 use Rattle.std.proofs.lemmas.Bool.Decides.{nat_tests}
 use Rattle.std.proofs.lemmas.List.Elements.{All-from_recursion, recursion_from_All}
 use Rattle.std.proofs.lemmas.List.Sums.{fails_before_first}
@@ -18,17 +18,15 @@ use Rattle.canvas_key.specs.Text.{IsKey, is_same}
 use Rattle.canvas_plane.specs.Limits.{is_pose}
 use Rattle.canvas_shape.specs.Limits.{has_sides, has_vertices}
 use Rattle.canvas_shape.proofs.Limits.{sound-known}
-use Rattle.canvas_record.specs.Decision.{can_have_children, holds_container}
+use Rattle.canvas_record.specs.Decision.{can_have_children}
 use Rattle.canvas_record.specs.Tree.{HavePlaces, IsElsewhere, IsInLimits}
 use Rattle.canvas_record.specs.Restored.{is_record, record_fault, leads_to_page, same_place, is_misplaced, tree_fault_after, tree_fault, put_by_id, by_id, restored_of}
 use Rattle.canvas_doc.proofs.restoring.ById.{HaveIds, put-all, sorted-all, reaches-by_id}
 use Rattle.canvas_doc.proofs.fitting.FitMore.{pose-limits}
 use Rattle.canvas_doc.proofs.restoring.Leads.{none-below, leads-nowhere, leads-step}
 use Rattle.canvas_doc.proofs.tree.Paths.{reaches-page, reaches-step}
-
-not-false : (b : Bool) → not b ≡ false → b ≡ true
-not-false true h = refl
-not-false false h = cc
+use Rattle.canvas_record.proofs.Accepted.{not-false}
+use Rattle.canvas_doc.proofs.tree.Parents.{same_parent-flips, container-there, flip-eq}
 
 -- each passes
 abbrev pub Passes : (Record → Bool) → List Record → Type 0
@@ -92,9 +90,6 @@ placed all earlier (r ∷ later) h = elim (cases_Bool (is_misplaced all earlier 
       })
 ]
 
-flip-eq : (a b : ℕ) → (a == b) ≡ false → (b == a) ≡ false
-flip-eq a b h = grind (arith, nat_tests)
-
 flip-all : (r : Record) (rs : List Record) → AllByRecursion (λ (s : Record). (r.id == s.id) ≡ false) rs → AllByRecursion (λ (s : Record). (s.id == r.id) ≡ false) rs
 flip-all r [] a = tt
 flip-all r (s ∷ rs) a = (flip-eq r.id s.id a.0, flip-all r rs a.1)
@@ -120,31 +115,18 @@ rising-sorted : (rs : List Record) → HaveIds rs → AreRising (by_id rs)
 rising-sorted [] h = tt
 rising-sorted (r ∷ rs) h = rising-put r (by_id rs) (sorted-all (λ (s : Record). (s.id == r.id) ≡ false) rs h.0) (rising-sorted rs h.1)
 
--- places
-eq-sym : (a b : ℕ) → (a == b) ≡ (b == a)
-eq-sym a b = elim (cases_Bool (a == b)) [
-  | inl t ↦ (let e : (b == a) ≡ true = eq-eqb b a (sym (eqb-true a b t)) in rw (t, e) refl)
-  | inr f ↦ (let e : (b == a) ≡ false = flip-eq a b f in rw (f, e) refl)
-]
-
-pub same-parent-sym : (p q : Parent) → same_parent p q ≡ same_parent q p
-same-parent-sym Page Page = refl
-same-parent-sym Page (Shape b) = refl
-same-parent-sym (Shape a) Page = refl
-same-parent-sym (Shape a) (Shape b) = eq-sym a b
-
 same-itself : (a : List ℕ) → is_same a a ≡ true
 same-itself a = sym (is_eq-slice_cmp a a) ∙ ap is_eq (tied_itself nat_list_cmp_total a)
 
 elsewhere : (r s : Record) → same_place s r ≡ false → IsElsewhere r s
 elsewhere r s h p e =
     let both : (same_parent r.place.parent s.place.parent && is_same r.place.index s.place.index) ≡ true =
-    and_from (same_parent r.place.parent s.place.parent) (is_same r.place.index s.place.index) (same-parent-sym r.place.parent s.place.parent ∙ p)
+    and_from (same_parent r.place.parent s.place.parent) (is_same r.place.index s.place.index) (same_parent-flips r.place.parent s.place.parent ∙ p)
     (ap (is_same r.place.index) e ∙ same-itself r.place.index) in
     true≢false (sym both ∙ h)
 
 elsewhere-sym : (r s : Record) → IsElsewhere r s → IsElsewhere s r
-elsewhere-sym r s h p e = h (same-parent-sym s.place.parent r.place.parent ∙ p) (sym e)
+elsewhere-sym r s h p e = h (same_parent-flips s.place.parent r.place.parent ∙ p) (sym e)
 
 elsewhere-all : (r : Record) (rs : List Record) → AllByRecursion (λ s. same_place s r ≡ false) rs → AllByRecursion (IsElsewhere r) rs
 elsewhere-all r [] a = tt
@@ -172,10 +154,6 @@ found-parent p (x ∷ rs) r P a h = elim (cases_Bool (x.id == p)) [
   | inl t ↦ (let e : Some x ≡ Some r = rw t at h in let same : x ≡ r = cc in subst P same a.0)
   | inr f ↦ (let e : record_of p rs ≡ Some r = rw f at h in found-parent p rs r P a.1 e)
 ]
-
-container-there : (o : Option Record) → holds_container o ≡ true → (r : Record) × (o ≡ Some r) × (is_container r.kind ≡ true)
-container-there None h = cc
-container-there (Some r) h = (r, refl, h)
 
 reaches-from_leads : (n : ℕ) (rs : List Record) (p : Parent) → Passes (λ r. can_have_children rs r.place.parent) rs → can_have_children rs p ≡ true → leads_to_page n rs p ≡ true → reaches_page n rs p ≡ true
 reaches-from_leads n rs Page all can leads = reaches-page n rs

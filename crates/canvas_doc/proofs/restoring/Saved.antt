@@ -22,8 +22,9 @@ use Rattle.canvas_record.specs.Children.{same_parent}
 use Rattle.canvas_doc.proofs.restoring.Leads.{leads-page, leads-step}
 use Rattle.canvas_doc.proofs.restoring.Misplaced.{well-placed}
 use Rattle.canvas_doc.proofs.tree.Paths.{reaches-none, reaches-step}
-use Rattle.canvas_doc.proofs.restoring.RestoredWell.{Passes, Apart, NoneClash, same-parent-sym}
+use Rattle.canvas_doc.proofs.restoring.RestoredWell.{Passes, Apart, NoneClash}
 use Rattle.canvas_record.specs.Restored.{is_record, record_fault, leads_from, leads_to_page, same_place, tree_fault_after, tree_fault, put_by_id, by_id, restored_of, refused_at, restoration_of}
+use Rattle.canvas_doc.proofs.tree.Parents.{same_parent-flips}
 
 or-none : (a b : Bool) → a ≡ false → b ≡ false → (a || (b || false)) ≡ false
 or-none a b h k = rw (h, k) refl
@@ -101,7 +102,7 @@ ids-apart (r ∷ rs) a = (ids-differ r rs a.0, ids-apart rs a.1)
 place-differs : (r s : Record) → IsElsewhere r s → same_place s r ≡ false
 place-differs r s e = elim (cases_Bool (same_place s r)) [
   | inl t ↦ (let p = and_parts (same_parent r.place.parent s.place.parent) (is_same r.place.index s.place.index) t in
-      absurd (e (same-parent-sym s.place.parent r.place.parent ∙ p.0) (sym (same_text r.place.index s.place.index (sym p.1)))))
+      absurd (e (same_parent-flips s.place.parent r.place.parent ∙ p.0) (sym (same_text r.place.index s.place.index (sym p.1)))))
   | inr f ↦ f
 ]
 

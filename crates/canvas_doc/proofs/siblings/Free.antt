@@ -1,5 +1,5 @@
 -- The index of a spot is none of the siblings'.
-use Rattle.std.proofs.Common.{◌≡◌, ◌≢◌, ℕ, ◌==◌, List, [], ◌∷◌, Bool, true, false, cond, not, ◌&&◌, ◌||◌, Option, Some, None, Result, Ok, Err, refl, sym, ap, ◌∙◌, filter, inl, inr, subst}
+use Rattle.std.proofs.Common.{◌≡◌, ◌≢◌, ℕ, ◌==◌, List, [], ◌∷◌, Bool, true, false, cond, not, ◌&&◌, Option, Some, None, Result, Ok, Err, refl, sym, ap, ◌∙◌, filter, inl, inr, subst}
 use Rattle.std.specs.List.{AllByRecursion}
 use Rattle.std.specs.Ordering.{is_lt}
 use Rattle.std.specs.Cmp.Lexicographic.{other_text}
@@ -17,8 +17,9 @@ use Rattle.canvas_record.specs.declared.refusals.Refusal.TheVariants.{IndexTaken
 use Rattle.canvas_record.specs.Children.{is_child, same_parent}
 use Rattle.canvas_record.specs.Contents.{record_of}
 use Rattle.canvas_record.specs.Siblings.{refused_if, is_sibling, siblings, lesser, greater, is_above, least_above, greatest_index, is_taken, with_room, index_over, index_at}
-use Rattle.canvas_doc.proofs.siblings.Fronts.{before-trans, before-itself, upto-trans}
+use Rattle.canvas_doc.proofs.siblings.Fronts.{before-trans, upto-trans, before-differs}
 use Rattle.canvas_doc.proofs.siblings.Spotted.{least-apart}
+use Rattle.canvas_doc.proofs.lists.Tests.{or-cond}
 
 -- no record of the list has the index
 abbrev pub Avoids : List ℕ → List Record → Type 0
@@ -27,9 +28,6 @@ Avoids key l = AllByRecursion (λ (s : Record). s.place.index ≢ key) l
 -- each index is a key
 abbrev pub HaveKeys : List Record → Type 0
 HaveKeys l = AllByRecursion (λ (s : Record). IsKey s.place.index) l
-
-before-differs : (a b : List ℕ) → is_before a b ≡ true → a ≢ b
-before-differs a b h e = true≢false (sym h ∙ ap (λ x. is_before x b) e ∙ before-itself b)
 
 after-differs : (a b : List ℕ) → is_before a b ≡ true → b ≢ a
 after-differs a b h e = before-differs a b h (sym e)
@@ -126,10 +124,6 @@ greatest-key (s ∷ rest) h = greater-key (greatest_index rest) s.place.index (g
 taken-cases : (key : List ℕ) (s : Record) (rest : List Record) (b : Bool) → is_same s.place.index key ≡ b → cond b true (is_taken key rest) ≡ false → (is_taken key rest ≡ false → Avoids key rest) → Avoids key (s ∷ rest)
 taken-cases key s rest true e h ih = cc
 taken-cases key s rest false e h ih = (other_text s.place.index key (sym e), ih h)
-
-or-cond : (b c : Bool) → (b || c) ≡ cond b true c
-or-cond true c = refl
-or-cond false c = refl
 
 pub taken-avoids : (key : List ℕ) (l : List Record) → is_taken key l ≡ false → Avoids key l
 taken-avoids key [] h = tt

@@ -14,15 +14,10 @@ use Rattle.canvas_record.specs.Tree.{HavePlaces, IsElsewhere}
 use Rattle.canvas_record.specs.declared.records.Parent.{Parent}
 use Rattle.canvas_record.specs.declared.records.Parent.TheVariants.{Page, Shape}
 use Rattle.std.specs.List.{AllByRecursion}
-
--- the order of keys, as a test
-is_lt-Less : (o : Ordering) → is_lt o ≡ true → o ≡ Less
-is_lt-Less Less h = refl
-is_lt-Less Equal h = cc
-is_lt-Less Greater h = cc
+use Rattle.canvas_doc.proofs.lists.Tests.{less-from_lt}
 
 pub before-trans : (a b c : List ℕ) → is_before a b ≡ true → is_before b c ≡ true → is_before a c ≡ true
-before-trans a b c h k = ap is_lt (nat_list_cmp_total.trans a b c (is_lt-Less (slice_cmp nat_cmp a b) h) (is_lt-Less (slice_cmp nat_cmp b c) k))
+before-trans a b c h k = ap is_lt (nat_list_cmp_total.trans a b c (less-from_lt (slice_cmp nat_cmp a b) h) (less-from_lt (slice_cmp nat_cmp b c) k))
 
 pub before-itself : (a : List ℕ) → is_before a a ≡ false
 before-itself a = ap is_lt (tied_itself nat_list_cmp_total a)
@@ -115,3 +110,10 @@ in_order-put r (s ∷ rest) h = elim (cases_Bool (is_in_front s r)) [
 pub in_order : (rs : List Record) → AreInOrder (front_first rs)
 in_order [] = tt
 in_order (r ∷ rs) = in_order-put r (front_first rs) (in_order rs)
+
+-- of two keys of which neither comes before the other
+pub same-key : (a b : List ℕ) → is_before a b ≡ false → is_before b a ≡ false → a ≡ b
+same-key a b h k = exact_bytes a b (not_before (slice_cmp nat_cmp a b) h (sym (before-gt a b) ∙ k))
+
+pub before-differs : (a b : List ℕ) → is_before a b ≡ true → a ≢ b
+before-differs a b h e = true≢false (sym h ∙ ap (λ x. is_before x b) e ∙ before-itself b)

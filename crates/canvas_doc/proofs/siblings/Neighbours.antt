@@ -6,7 +6,7 @@ use Rattle.std.specs.Ordering.{nat_cmp, ordering_then, is_lt}
 use Rattle.std.specs.declared.cmp.Ordering.TheVariants.{Less}
 use Rattle.std.specs.Cmp.Lexicographic.{slice_cmp}
 use Rattle.std.proofs.Math.Seq.{take-add, drop-drop}
-use Rattle.std.proofs.lemmas.Bool.{cases_Bool, true≢false, eqb-true, eq-eqb, and_parts}
+use Rattle.std.proofs.lemmas.Bool.{cases_Bool, true≢false, and_parts}
 use Rattle.std.proofs.lemmas.Cmp.{tied_itself}
 use Rattle.std.proofs.lemmas.List.{get_or_append_left, get_or-take, get_or-drop, length-take, length-drop, length-append, drop-take, reverse-append}
 use Rattle.std.proofs.lemmas.List.Elements.{All-head, All-tail, All-contains, All-take, All-drop, All-filter, filter_passes, filter-append}
@@ -14,10 +14,9 @@ use Rattle.std.proofs.lemmas.List.Kept.{IsStrictlySortedBy-filter}
 use Rattle.std.proofs.lemmas.Map.Keys.{Less-from_sorted}
 use Rattle.canvas_key.specs.Order.{is_before}
 use Rattle.canvas_record.specs.declared.records.Parent.{Parent}
-use Rattle.canvas_record.specs.declared.records.Parent.TheVariants.{Page, Shape}
 use Rattle.canvas_record.specs.declared.records.Place.{Place}
 use Rattle.canvas_record.specs.declared.records.Record.{Record}
-use Rattle.canvas_record.specs.Children.{same_parent, is_child, is_in_front}
+use Rattle.canvas_record.specs.Children.{is_child, is_in_front}
 use Rattle.canvas_record.specs.Contents.{record_of}
 use Rattle.canvas_doc.specs.Ends.{first_index, last_index}
 use Rattle.canvas_doc.specs.PlaceOrder.{by_parent, by_place, comes_first, IsInPlaceOrder, AreChildrenWithin, IsPlaceOf}
@@ -28,6 +27,7 @@ use Rattle.canvas_doc.proofs.siblings.Fronts.{before-asym}
 use Rattle.canvas_doc.proofs.lists.SameMembers.{same-members, filter-members, Contains-filter, contains-first, contains-later}
 use Rattle.canvas_doc.proofs.siblings.Sorting.{AreApart}
 use Rattle.canvas_doc.proofs.siblings.Spotted.{least_with, least-turn, least-twice, greater-turn, greater-twice}
+use Rattle.canvas_doc.proofs.tree.Parents.{same_parent-itself, same_parent-is}
 
 -- a record but for one shape
 abbrev pub is_other : ℕ → Record → Bool
@@ -60,15 +60,8 @@ same-least bound xs ys h k =
     (λ r s o. least-turn o r.place.index s.place.index (is_above bound r.place.index) (is_above bound s.place.index))
     (λ r o. least-twice o r.place.index (is_above bound r.place.index)) xs ys h k
 
--- under one parent the order by place is that by index
-pub same-parent : (a p : Parent) → same_parent a p ≡ true → a ≡ p
-same-parent Page Page h = refl
-same-parent Page (Shape b) h = absurd (true≢false (sym h))
-same-parent (Shape a) Page h = absurd (true≢false (sym h))
-same-parent (Shape a) (Shape b) h = ap Shape (eqb-true a b h)
-
 pub sibling-parent : (own : ℕ) (p : Parent) (r : Record) → is_sibling own p r ≡ true → r.place.parent ≡ p
-sibling-parent own p r h = same-parent r.place.parent p (and_parts (is_child p r) (not (r.id == own)) h).0
+sibling-parent own p r h = same_parent-is r.place.parent p (and_parts (is_child p r) (not (r.id == own)) h).0
 
 pub by-index : (a b : Place) → a.parent ≡ b.parent → by_place a b ≡ slice_cmp nat_cmp b.index a.index
 by-index a b e = ap (λ o. ordering_then o (slice_cmp nat_cmp b.index a.index)) (ap (by_parent a.parent) (sym e) ∙ tied_itself by_parent-total a.parent)
@@ -210,21 +203,17 @@ in-part order low n at s w h is =
     let place : at ≡ low + h.0 = placed-at order (low + h.0) at s w (omega (arith, length-take n (drop low order), length-drop low order)) there is in
     (omega arith, omega arith)
 
-self-child : (p : Parent) → same_parent p p ≡ true
-self-child Page = refl
-self-child (Shape a) = eq-eqb a a refl
-
 -- the position of a shape's place is that of one of its parent's children
 pub among-children : (order rs : List Record) (low high at : ℕ) (s : Record) → IsInPlaceOrder order rs → Contains rs s → AreChildrenWithin s.place.parent order low high → IsPlaceOf s.place order at → (low ≤ at) × (at ≤ high)
 among-children order rs low high at s w h c is =
     let listed : Contains order s = All-contains (Contains order) rs s w.complete h in
-    let child : Contains (filter (is_child s.place.parent) order) s = Contains-filter (is_child s.place.parent) order s listed (self-child s.place.parent) in
+    let child : Contains (filter (is_child s.place.parent) order) s = Contains-filter (is_child s.place.parent) order s listed (same_parent-itself s.place.parent) in
     let part : (low ≤ at) × (at < low + (high - low)) = in-part order low (high - low) at s w.rising (subst (λ (l : List Record). Contains l s) (sym c.are) child) is in
     let from : low ≤ high = c.from in
     (part.0, omega arith)
 
 same-side : (s : Record) (b : Bool) (l : List Record) → All (λ r. is_child s.place.parent r ≡ true) l → All (λ r. is_lt (by_place r.place s.place) ≡ b) l → All (λ r. is_above (Some s.place.index) r.place.index ≡ b) l
-same-side s b l a h = λ k d i. ap is_lt (sym (by-index (get_or l k d).place s.place (same-parent (get_or l k d).place.parent s.place.parent (a k d i)))) ∙ h k d i
+same-side s b l a h = λ k d i. ap is_lt (sym (by-index (get_or l k d).place s.place (same_parent-is (get_or l k d).place.parent s.place.parent (a k d i)))) ∙ h k d i
 
 -- the last child before a shape has the least index above the shape's
 pub next-least : (own : ℕ) (order rs : List Record) (low high at : ℕ) (s : Record) → IsInPlaceOrder order rs → Contains rs s → AreChildrenWithin s.place.parent order low high → IsPlaceOf s.place order at → last_index own (take (at - low) (drop low order)) ≡ least_above (Some s.place.index) (siblings own s.place.parent rs)

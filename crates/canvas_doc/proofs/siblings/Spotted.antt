@@ -1,21 +1,15 @@
 -- The least and the greatest index, and the index of a spot.
-use Rattle.std.proofs.Common.{◌≡◌, ℕ, ◌<◌, ◌==◌, List, [], ◌∷◌, Bool, true, false, cond, ◌&&◌, ◌||◌, Option, Some, None, refl, sym, ap, ◌∙◌, arith, filter, inl, inr, subst}
+use Rattle.std.proofs.Common.{◌≡◌, ℕ, ◌<◌, ◌==◌, List, [], ◌∷◌, Bool, true, false, cond, ◌&&◌, Option, Some, None, refl, sym, ap, ◌∙◌, arith, filter, inl, inr, subst}
 use Rattle.std.specs.List.{AllByRecursion, list_any}
-use Rattle.std.specs.Ordering.{nat_cmp, is_lt}
-use Rattle.std.specs.declared.cmp.Ordering.{Ordering}
-use Rattle.std.specs.declared.cmp.Ordering.TheVariants.{Less, Equal, Greater}
+use Rattle.std.specs.Ordering.{nat_cmp}
 use Rattle.std.specs.Cmp.Lexicographic.{slice_cmp}
-use Rattle.std.proofs.lemmas.Map.Lookups.{exact_bytes}
 use Rattle.std.proofs.lemmas.Bool.{cases_Bool, true≢false, eqb-true}
 use Rattle.canvas_key.specs.Order.{is_before, AreApart, Before}
 use Rattle.canvas_record.specs.declared.records.Record.{Record}
 use Rattle.canvas_record.specs.Contents.{record_of, AreRising}
 use Rattle.canvas_record.specs.Siblings.{lesser, greater, least_above}
-use Rattle.canvas_doc.proofs.siblings.Fronts.{before-trans, before-asym, before-gt, not_before, upto-trans}
-
--- of two keys of which neither comes before the other
-same-key : (a b : List ℕ) → is_before a b ≡ false → is_before b a ≡ false → a ≡ b
-same-key a b h k = exact_bytes a b (not_before (slice_cmp nat_cmp a b) h (sym (before-gt a b) ∙ k))
+use Rattle.canvas_doc.proofs.siblings.Fronts.{before-trans, before-asym, upto-trans, same-key}
+use Rattle.canvas_doc.proofs.lists.Tests.{or-cond, less-from_lt}
 
 one-of : (a b : List ℕ) (p q : Bool) → (p ≡ true → q ≡ false) → (p ≡ false → q ≡ false → a ≡ b) → cond p b a ≡ cond q a b
 one-of a b true true k m = absurd (true≢false (k refl))
@@ -83,13 +77,8 @@ pub least-twice : (o : Option (List ℕ)) (k : List ℕ) (b : Bool) → least_wi
 least-twice o k true = ap Some (lesser-twice o k)
 least-twice o k false = refl
 
-lt-Less : (o : Ordering) → is_lt o ≡ true → o ≡ Less
-lt-Less Less h = refl
-lt-Less Equal h = cc
-lt-Less Greater h = cc
-
 pub before-fact : (a b : List ℕ) → is_before a b ≡ true → Before a b
-before-fact a b h = lt-Less (slice_cmp nat_cmp a b) h
+before-fact a b h = less-from_lt (slice_cmp nat_cmp a b) h
 
 -- above a bound
 abbrev IsOver : List ℕ → Option (List ℕ) → Type 0
@@ -125,10 +114,6 @@ any-one : (t : Record → Bool) (r : Record) (xs : List Record) (b c : Bool) →
 any-one t r xs true true e = rw e refl
 any-one t r xs true false e = rw e refl
 any-one t r xs false c e = refl
-
-or-cond : (b c : Bool) → (b || c) ≡ cond b true c
-or-cond true c = refl
-or-cond false c = refl
 
 -- what passes both tests
 pub any-filter : (t q : Record → Bool) (rs : List Record) → list_any t (filter q rs) ≡ list_any (λ r. q r && t r) rs

@@ -18,6 +18,7 @@ use Rattle.canvas_doc.proofs.places.ByPlace.{by_place-total}
 use Rattle.canvas_doc.proofs.siblings.Neighbours.{sibling-parent}
 use Rattle.canvas_doc.proofs.lists.SameMembers.{same-members, filter-members}
 use Rattle.canvas_doc.proofs.siblings.Spotted.{any-filter}
+use Rattle.canvas_doc.proofs.lists.Tests.{or-false}
 
 -- a sibling at a place
 abbrev pub takes : ℕ → Place → Record → Bool
@@ -32,10 +33,6 @@ or-turn false false c = refl
 or-twice : (a b : Bool) → (a || (a || b)) ≡ (a || b)
 or-twice true b = refl
 or-twice false b = refl
-
-or-false : (a : Bool) → (a || false) ≡ a
-or-false true = refl
-or-false false = refl
 
 -- siblings are looked for in the order
 pub taken-listed : (own : ℕ) (place : Place) (order rs : List Record) → IsInPlaceOrder order rs → list_any (takes own place) order ≡ is_taken place.index (siblings own place.parent rs)

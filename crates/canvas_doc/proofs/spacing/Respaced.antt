@@ -1,7 +1,7 @@
 -- New indexes for the children of a parent: they are distinct and in the old order, so no colour changes.
 use Rattle.std.proofs.Common.{◌≡◌, ◌≢◌, ℕ, zero, suc, ◌<◌, ◌≤◌, ◌^◌, List, [], ◌∷◌, Bool, true, false, cond, not, ◌&&◌, Option, Result, Ok, refl, sym, ap, ◌∙◌, arith, inl, inr, subst, map, length}
 use Rattle.std.specs.List.{AllByRecursion}
-use Rattle.std.proofs.lemmas.Bool.{cases_Bool, true≢false, and_parts, eq-eqb, eqb-true, and_from}
+use Rattle.std.proofs.lemmas.Bool.{cases_Bool, true≢false, and_parts, and_from}
 use Rattle.std.proofs.lemmas.List.{length-map}
 use Rattle.canvas_record.specs.declared.records.Parent.{Parent}
 use Rattle.canvas_record.specs.declared.records.Parent.TheVariants.{Page, Shape}
@@ -23,9 +23,7 @@ use Rattle.canvas_record.proofs.Accepted.{refused-ok, not-false}
 use Rattle.std.proofs.Common.{filter, ◌⊎◌, ℤ}
 use Rattle.std.specs.List.{count_by}
 use Rattle.std.proofs.lemmas.List.Sums.{length-filter, count_by-le-length}
-use Rattle.std.proofs.lemmas.Map.Lookups.{exact_bytes}
-use Rattle.std.specs.Ordering.{nat_cmp, is_lt}
-use Rattle.std.specs.Cmp.Lexicographic.{slice_cmp}
+use Rattle.std.specs.Ordering.{is_lt}
 use Rattle.canvas_key.specs.Order.{is_before}
 use Rattle.canvas_key.specs.Rank.{fresh_key}
 use Rattle.canvas_key.proofs.FreshKeys.{fresh-rises, fresh-is-key}
@@ -37,7 +35,8 @@ use Rattle.canvas_record.specs.Children.{is_child, is_in_front, put, front_first
 use Rattle.canvas_record.specs.Effect.{rank_of, respaced, IsThere}
 use Rattle.canvas_record.specs.Picture.{answer_among, answer_with, first_answer, or_else, or_white, colour, shape_answer}
 use Rattle.canvas_record.specs.Decision.{respace_decision}
-use Rattle.canvas_doc.proofs.siblings.Fronts.{before-trans, before-itself, before-asym, before-or-same, not_before, before-gt, same_parent-both}
+use Rattle.canvas_doc.proofs.siblings.Fronts.{before-trans, before-itself, before-asym, before-or-same, same_parent-both, same-key, before-differs}
+use Rattle.canvas_doc.proofs.tree.Parents.{same_parent-itself, same_parent-is}
 
 -- one of a list
 abbrev pub IsIn : Record → List Record → Type 0
@@ -69,16 +68,6 @@ weaker-lt p q i y f t (x ∷ xs) (inl e) =
     rw (no, yes) (omega arith)
 weaker-lt p q i y f t (x ∷ xs) (inr m) = lt-length p q x xs (p x) (q x) refl refl (i x) (weaker-lt p q i y f t xs m)
 
-pub same-parents : (a b : Parent) → same_parent a b ≡ true → a ≡ b
-same-parents Page Page h = refl
-same-parents Page (Shape b) h = cc
-same-parents (Shape a) Page h = cc
-same-parents (Shape a) (Shape b) h = ap (λ n. Shape n) (eqb-true a b h)
-
-pub same-itself : (a : Parent) → same_parent a a ≡ true
-same-itself Page = refl
-same-itself (Shape a) = eq-eqb a a refl
-
 -- of two children of one parent, the one in front has the greater rank
 rank-less : (rs : List Record) (r s : Record) → IsIn s rs → s.place.parent ≡ r.place.parent → is_in_front r s ≡ true → rank_of rs s < rank_of rs r
 rank-less rs r s m e h =
@@ -88,7 +77,7 @@ rank-less rs r s m e h =
     let parts = and_parts (is_child s.place.parent x) (is_in_front s x) k in
     and_from (is_child r.place.parent x) (is_in_front r x) (ap (λ y. is_child y x) (sym e) ∙ parts.0) (before-trans x.place.index s.place.index r.place.index parts.1 h) in
     let out : p s ≡ false = ap (λ b. is_child s.place.parent s && b) (before-itself s.place.index) ∙ (elim (is_child s.place.parent s) as (λ b. (b && false) ≡ false) [ true ↦ refl | false ↦ refl ]) in
-    let inside : q s ≡ true = and_from (is_child r.place.parent s) (is_in_front r s) (ap (same_parent s.place.parent) (sym e) ∙ same-itself s.place.parent) h in
+    let inside : q s ≡ true = and_from (is_child r.place.parent s) (is_in_front r s) (ap (same_parent s.place.parent) (sym e) ∙ same_parent-itself s.place.parent) h in
     let less : length (filter p rs) < length (filter q rs) = weaker-lt p q implies s out inside rs m in
     let a : length (filter p rs) ≡ rank_of rs s = length-filter p rs in
     let b : length (filter q rs) ≡ rank_of rs r = length-filter q rs in
@@ -115,9 +104,6 @@ index-child p rs r h = rw h refl
 index-other : (p : Parent) (rs : List Record) (r : Record) → is_child p r ≡ false → (respaced p rs r).place.index ≡ r.place.index
 index-other p rs r h = rw h refl
 
-before-differs : (a b : List ℕ) → is_before a b ≡ true → a ≢ b
-before-differs a b h e = true≢false (sym h ∙ ap (λ x. is_before x b) e ∙ before-itself b)
-
 -- two children of one parent with different indexes have different new ones
 fresh-differs : (rs : List Record) (r s : Record) → length rs ≤ most_records → IsIn r rs → IsIn s rs → s.place.parent ≡ r.place.parent → s.place.index ≢ r.place.index → fresh_key (rank_of rs s) ≢ fresh_key (rank_of rs r)
 fresh-differs rs r s few m n e d = elim (cases_Bool (is_in_front r s)) [
@@ -128,8 +114,8 @@ fresh-differs rs r s few m n e d = elim (cases_Bool (is_in_front r s)) [
 elsewhere-respaced : (p : Parent) (rs : List Record) (r s : Record) → length rs ≤ most_records → IsIn r rs → IsIn s rs → IsElsewhere r s → IsElsewhere (respaced p rs r) (respaced p rs s)
 elsewhere-respaced p rs r s few m n d k =
     let keeps = respaced-keeps p rs in
-    let parent : s.place.parent ≡ r.place.parent = sym (keeps.parents s) ∙ same-parents (respaced p rs s).place.parent (respaced p rs r).place.parent k ∙ keeps.parents r in
-    let differs : s.place.index ≢ r.place.index = d (ap (same_parent s.place.parent) (sym parent) ∙ same-itself s.place.parent) in
+    let parent : s.place.parent ≡ r.place.parent = sym (keeps.parents s) ∙ same_parent-is (respaced p rs s).place.parent (respaced p rs r).place.parent k ∙ keeps.parents r in
+    let differs : s.place.index ≢ r.place.index = d (ap (same_parent s.place.parent) (sym parent) ∙ same_parent-itself s.place.parent) in
     elim (cases_Bool (is_child p r)) [
       | inl t ↦ (λ i. fresh-differs rs r s few m n parent differs (sym (index-child p rs s (ap (λ x. same_parent x p) parent ∙ t)) ∙ i ∙ index-child p rs r t))
       | inr f ↦ (λ i. differs (sym (index-other p rs s (ap (λ x. same_parent x p) parent ∙ f)) ∙ i ∙ index-other p rs r f))
@@ -184,10 +170,6 @@ respace-fits d w p c h =
       left = respaced-well d w p;
     })
 
--- the order of two children of one parent stays
-order-same : (a b : List ℕ) → is_before a b ≡ false → is_before b a ≡ false → a ≡ b
-order-same a b h k = exact_bytes a b (not_before (slice_cmp nat_cmp a b) h (sym (before-gt a b) ∙ k))
-
 place-same : (a b : Place) → a.parent ≡ b.parent → a.index ≡ b.index → a ≡ b
 place-same a b e f = ap (λ p. record { parent = p; index = a.index }) e ∙ ap (λ i. record { parent = b.parent; index = i }) f
 
@@ -197,7 +179,7 @@ front-fresh rs r s few m n e = elim (cases_Bool (is_in_front s r)) [
   | inr f ↦ (elim (cases_Bool (is_in_front r s)) [
     | inl u ↦ before-asym (fresh_key (rank_of rs s)) (fresh_key (rank_of rs r)) (fresh-front rs r s few n e u) ∙ sym f
     | inr v ↦ (
-        let index : r.place.index ≡ s.place.index = order-same r.place.index s.place.index f v in
+        let index : r.place.index ≡ s.place.index = same-key r.place.index s.place.index f v in
         let place : r.place ≡ s.place = place-same r.place s.place (sym e) index in
         let rank : rank_of rs r ≡ rank_of rs s = ap (λ (x : Place). count_by (λ t. is_child x.parent t && is_before t.place.index x.index) rs) place in
         ap (λ k. is_before (fresh_key k) (fresh_key (rank_of rs s))) rank ∙ before-itself (fresh_key (rank_of rs s)) ∙ sym f)
@@ -206,7 +188,7 @@ front-fresh rs r s few m n e = elim (cases_Bool (is_in_front s r)) [
 
 pub in_front-respaced : (p q : Parent) (rs : List Record) (r s : Record) → length rs ≤ most_records → IsIn r rs × (is_child q r ≡ true) → IsIn s rs × (is_child q s ≡ true) → is_in_front (respaced p rs s) (respaced p rs r) ≡ is_in_front s r
 in_front-respaced p q rs r s few m n =
-    let parent : s.place.parent ≡ r.place.parent = same-parents s.place.parent r.place.parent (same_parent-both s.place.parent r.place.parent q n.1 m.1) in
+    let parent : s.place.parent ≡ r.place.parent = same_parent-is s.place.parent r.place.parent (same_parent-both s.place.parent r.place.parent q n.1 m.1) in
     elim (cases_Bool (is_child p r)) [
       | inl t ↦ ap (λ k. is_before k (respaced p rs s).place.index) (index-child p rs r t) ∙ ap (is_before (fresh_key (rank_of rs r))) (index-child p rs s (ap (λ x. same_parent x p) parent ∙ t)) ∙ front-fresh rs r s few m.0 n.0 parent
       | inr f ↦ ap (λ k. is_before k (respaced p rs s).place.index) (index-other p rs r f) ∙ ap (is_before r.place.index) (index-other p rs s (ap (λ x. same_parent x p) parent ∙ f))

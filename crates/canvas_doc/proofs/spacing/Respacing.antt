@@ -21,15 +21,16 @@ use Rattle.canvas_record.specs.Contents.{record_of, AreRising, HaveIds, StandsAt
 use Rattle.canvas_record.specs.Effect.{respaced}
 use Rattle.canvas_doc.specs.PlaceOrder.{by_parent, comes_first, AreChildrenWithin, IsInPlaceOrder}
 use Rattle.canvas_record.specs.Tree.{HavePlaces}
-use Rattle.canvas_doc.proofs.places.ByPlace.{less-from_lt, sorted-from}
-use Rattle.canvas_doc.proofs.places.ChildrenInOrder.{passing-has}
-use Rattle.canvas_doc.proofs.fitting.FitMore.{found-has}
-use Rattle.canvas_doc.proofs.tree.Found.{found-none, other-id}
-use Rattle.canvas_doc.proofs.places.OneChanged.{absent-id, id-only-here}
+use Rattle.canvas_doc.proofs.places.ByPlace.{sorted-from}
+use Rattle.canvas_doc.proofs.tree.Found.{found-none, other-id, found-has}
+use Rattle.canvas_doc.proofs.tree.OneChanged.{absent-id, id-only-here}
 use Rattle.canvas_doc.proofs.places.Placed.{holder-eq}
 use Rattle.canvas_doc.proofs.places.Reordered.{is-in, listed-in, passed-in, places-once, same-record}
-use Rattle.canvas_doc.proofs.spacing.Respaced.{IsIn, in_front-respaced, respaced-keeps, same-itself}
+use Rattle.canvas_doc.proofs.spacing.Respaced.{IsIn, in_front-respaced, respaced-keeps}
 use Rattle.canvas_doc.proofs.spacing.Spaced.{all-passing, respaced-id, respaced-other, respaced-same}
+use Rattle.canvas_doc.proofs.lists.Tests.{less-from_lt}
+use Rattle.canvas_doc.proofs.tree.Parents.{same_parent-itself}
+use Rattle.canvas_doc.proofs.lists.SameMembers.{passing-has}
 
 -- the record that has an id where no id stands twice
 pub found-once : (xs : List Record) (i id : ℕ) (r : Record) → HaveIds xs → i < length xs → get_or xs i r ≡ r → r.id ≡ id → record_of id xs ≡ Some r
@@ -211,7 +212,7 @@ respaced-cases p rs r s Less few m n e l = refl
 respaced-cases p rs r s Equal few m n e l =
     let alike : same_parent r.place.parent s.place.parent ≡ true = sym (holder-eq r.place.parent s.place.parent) ∙ ap is_eq e in
     less-from_lt (slice_cmp nat_cmp (respaced p rs s).place.index (respaced p rs r).place.index)
-    (in_front-respaced p s.place.parent rs s r few (n, same-itself s.place.parent) (m, alike) ∙ ap is_lt l)
+    (in_front-respaced p s.place.parent rs s r few (n, same_parent-itself s.place.parent) (m, alike) ∙ ap is_lt l)
 respaced-cases p rs r s Greater few m n e l = cc
 
 respaced-first : (p : Parent) (rs : List Record) (r s : Record) → length rs ≤ most_records → IsIn r rs → IsIn s rs → comes_first r s ≡ Less → comes_first (respaced p rs r) (respaced p rs s) ≡ Less

@@ -18,8 +18,8 @@ use Rattle.canvas_doc.specs.PlaceOrder.{comes_first, IsInPlaceOrder}
 use Rattle.canvas_record.specs.Tree.{HavePlaces}
 use Rattle.canvas_doc.proofs.places.ChildrenInOrder.{children-are, first-in_front}
 use Rattle.canvas_doc.proofs.siblings.Fronts.{before-asym, before-itself}
-use Rattle.canvas_doc.proofs.spacing.Respaced.{same-parents}
 use Rattle.canvas_doc.proofs.siblings.Sorting.{front_first-moves}
+use Rattle.canvas_doc.proofs.tree.Parents.{same_parent-is}
 
 count-some : {X : Type 0} (x : X) (xs : List X) (b : Bool) → length (cond b (x ∷ xs) xs) ≡ cond b 1 0 + length xs
 count-some x xs true = omega arith
@@ -79,7 +79,7 @@ rank-at p order i r up l e child =
     let cs : List Record = filter (is_child p) order in
     let sorted : IsStrictlySortedBy comes_first cs = IsStrictlySortedBy-filter comes_first (is_child p) order up in
     let hang : All (λ s. is_child p s ≡ true) cs = all-passing p order in
-    ap (λ q. count_by (λ s. is_child q s && is_in_front r s) order) (same-parents r.place.parent p child)
+    ap (λ q. count_by (λ s. is_child q s && is_in_front r s) order) (same_parent-is r.place.parent p child)
     ∙ count-passing (is_child p) (is_in_front r) order
     ∙ ap (count_by (is_in_front r)) (sym (take_all (length cs) cs (omega arith)))
     ∙ count-behind cs i (length cs) r (omega arith) l e

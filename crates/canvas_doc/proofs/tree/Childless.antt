@@ -13,13 +13,13 @@ use Rattle.canvas_record.specs.Children.{same_parent, is_child}
 use Rattle.canvas_record.specs.Contents.{record_of, AreRising, StandsAt}
 use Rattle.canvas_record.specs.Decision.{has_shape}
 use Rattle.canvas_record.specs.Depth.{levels_to, levels_from, levels_of, height_of, greatest, one_more}
-use Rattle.canvas_record.specs.Effect.{is_below, is_below_from, is_in_subtree}
+use Rattle.canvas_record.specs.Effect.{is_below, is_in_subtree}
 use Rattle.canvas_doc.specs.Fitting.{has_no_child}
 use Rattle.canvas_doc.specs.PlaceOrder.{AreChildrenWithin, IsInPlaceOrder}
 use Rattle.canvas_doc.proofs.fitting.Fit.{found-all}
-use Rattle.canvas_doc.proofs.fitting.FitMore.{found-has}
-use Rattle.canvas_doc.proofs.tree.Found.{above-at, other-id}
+use Rattle.canvas_doc.proofs.tree.Found.{above-at, other-id, found-has}
 use Rattle.canvas_doc.proofs.tree.Marks.{some-at}
+use Rattle.canvas_doc.proofs.tree.Parents.{below-from}
 
 -- no record hangs under a shape
 abbrev pub IsChildless : ℕ → List Record → Type 0
@@ -30,10 +30,6 @@ other-found : (id p : ℕ) (rs : List Record) (r : Record) → (p == id) ≡ fal
 other-found id p rs r apart e =
     let same : r.id ≡ p = eqb-true r.id p (found-has p rs r e) in
     ap (λ n. n == id) same ∙ apart
-
-below-from : (id : ℕ) (up : Parent → Bool) (o : Option Record) → ((r : Record) → o ≡ Some r → ((r.id == id) || up r.place.parent) ≡ false) → is_below_from id up o ≡ false
-below-from id up None k = refl
-below-from id up (Some r) k = k r refl
 
 -- no path from another parent comes to the shape
 pub below-childless : (n id : ℕ) (rs : List Record) (q : Parent) → IsChildless id rs → same_parent q (Shape id) ≡ false → is_below n id rs q ≡ false

@@ -1,7 +1,7 @@
 -- A move lies too deep exactly where depth and height together are above 32.
 use Rattle.std.proofs.Common.{◌≡◌, ℕ, zero, suc, ◌+◌, ◌-◌, ◌==◌, List, [], ◌∷◌, Bool, true, false, cond, not, ◌&&◌, ◌||◌, Option, Some, None, refl, sym, ap, ◌∙◌, arith, inl, inr, All, nat_le, nat_lt, max}
 use Rattle.std.specs.List.{list_all}
-use Rattle.std.proofs.lemmas.Bool.{cases_Bool, and_parts, or_parts}
+use Rattle.std.proofs.lemmas.Bool.{cases_Bool, or_parts}
 use Rattle.std.proofs.lemmas.Bool.Decides.{nat_tests}
 use Rattle.std.proofs.lemmas.List.Elements.{All-head, All-tail}
 use Rattle.canvas_record.specs.declared.records.Parent.{Parent}
@@ -12,10 +12,7 @@ use Rattle.canvas_record.specs.Effect.{is_below, is_below_from}
 use Rattle.canvas_record.specs.Decision.{put_under, parent_after, lies_too_deep, makes_cycle}
 use Rattle.canvas_record.specs.Depth.{depth_of, depth_from, levels_to, levels_from, levels_of, one_more, greatest, height_of, is_above_32}
 use Rattle.canvas_doc.proofs.tree.Paths.{reaches-page, reaches-step_after, deep-after}
-
-from-some : (up : Parent → Bool) (o : Option Record) → reaches_from up o ≡ true → (r : Record) × (o ≡ Some r) × (is_container r.kind ≡ true) × (up r.place.parent ≡ true)
-from-some up None h = cc
-from-some up (Some r) h = let both = and_parts (is_container r.kind) (up r.place.parent) h in (r, refl, both.0, both.1)
+use Rattle.canvas_doc.proofs.tree.Parents.{from-some}
 
 le-zero : (n : ℕ) → nat_le 0 n ≡ true
 le-zero n = grind (arith, nat_tests)
@@ -89,7 +86,7 @@ one-le a n = grind (arith, nat_tests)
 zero-le : (a j : ℕ) → false ≡ nat_le (a + suc j) 0
 zero-le a j = grind (arith, nat_tests)
 
-more-some : (n j : ℕ) → one_more n ≡ suc j → (i : ℕ) × (n ≡ suc i) × (j ≡ suc i)
+pub more-some : (n j : ℕ) → one_more n ≡ suc j → (i : ℕ) × (n ≡ suc i) × (j ≡ suc i)
 more-some zero j h = absurd (omega arith)
 more-some (suc i) j h = (i, refl, omega arith)
 

@@ -1,5 +1,5 @@
 -- Looking an id up among records in rising id.
-use Rattle.std.proofs.Common.{◌≡◌, ℕ, zero, suc, ◌<◌, ◌==◌, List, [], ◌∷◌, true, false, Some, None, refl, sym, ap, ◌∙◌, arith, inl, inr, subst, length, get_or}
+use Rattle.std.proofs.Common.{◌≡◌, ℕ, zero, suc, ◌<◌, ◌==◌, List, [], ◌∷◌, true, false, Some, None, refl, sym, ap, ◌∙◌, arith, inl, inr, subst, length, get_or, ◌++◌, cond}
 use Rattle.std.specs.List.{AllByRecursion}
 use Rattle.std.proofs.lemmas.Bool.{cases_Bool, eq-eqb, eqb-true}
 use Rattle.std.proofs.lemmas.List.{get_or_default}
@@ -45,3 +45,18 @@ pub found-here : (rs : List Record) (i id : ℕ) (d : Record) → AreRising rs �
 found-here rs i id d w h e =
     let r : Record = get_or rs i d in
     sym (found-at rs i id r w h (get_or_default rs i d r h) e)
+
+pub found-has : (p : ℕ) (rs : List Record) (r : Record) → record_of p rs ≡ Some r → (r.id == p) ≡ true
+found-has p [] r h = cc
+found-has p (x ∷ rs) r h = elim (cases_Bool (x.id == p)) [
+  | inl t ↦ (let g : Some x ≡ Some r = rw t at h in let same : x ≡ r = cc in ap (λ (s : Record). s.id == p) (sym same) ∙ t)
+  | inr f ↦ (let g : record_of p rs ≡ Some r = rw f at h in found-has p rs r g)
+]
+
+pub found-push : (p : ℕ) (rs : List Record) (r s : Record) → record_of p rs ≡ Some s → record_of p (rs ++ r ∷ []) ≡ Some s
+found-push p [] r s h = cc
+found-push p (x ∷ rs) r s h = elim (cases_Bool (x.id == p)) [ inl t ↦ rw t (rw t at h) | inr n ↦ rw n (found-push p rs r s (rw n at h)) ]
+
+pub found-last : (p : ℕ) (rs : List Record) (r : Record) → record_of p rs ≡ None → record_of p (rs ++ r ∷ []) ≡ cond (r.id == p) (Some r) None
+found-last p [] r h = refl
+found-last p (x ∷ rs) r h = elim (cases_Bool (x.id == p)) [ inl t ↦ (let g : Some x ≡ None = rw t at h in cc) | inr n ↦ rw n (found-last p rs r (rw n at h)) ]

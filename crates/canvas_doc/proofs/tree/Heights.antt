@@ -2,23 +2,24 @@
 use Rattle.std.proofs.Common.{◌≡◌, ℕ, zero, suc, ◌+◌, ◌-◌, ◌<◌, ◌≤◌, ◌==◌, List, [], ◌∷◌, Bool, true, false, cond, ◌&&◌, Option, Some, None, refl, sym, ap, ◌∙◌, arith, inl, inr, subst, All, length, get_or, filter, max, take, drop}
 use Rattle.std.specs.List.{Contains}
 use Rattle.std.specs.Option.{is_some}
-use Rattle.std.proofs.lemmas.Bool.{cases_Bool, eq-eqb, eqb-true, true≢false}
+use Rattle.std.proofs.lemmas.Bool.{cases_Bool, eqb-true, true≢false}
 use Rattle.std.proofs.lemmas.List.Elements.{All-contains, All-filter, All-head, All-tail, filter_passes, All-contains_itself}
 use Rattle.canvas_record.specs.declared.records.Parent.{Parent}
 use Rattle.canvas_record.specs.declared.records.Parent.TheVariants.{Page, Shape}
 use Rattle.canvas_record.specs.declared.records.Record.{Record}
-use Rattle.canvas_record.specs.Children.{same_parent, is_child}
+use Rattle.canvas_record.specs.Children.{is_child}
 use Rattle.canvas_record.specs.Contents.{record_of, is_container, reaches_page, AreRising}
 use Rattle.canvas_record.specs.Depth.{levels_to, levels_from, levels_of, one_more, greatest, height_of}
 use Rattle.canvas_doc.specs.Heights.{tallest}
 use Rattle.canvas_doc.specs.PlaceOrder.{AreChildrenWithin, IsInPlaceOrder}
 use Rattle.canvas_doc.proofs.tree.Childless.{IsChildless, height-childless}
-use Rattle.canvas_doc.proofs.fitting.Fit.{found-all}
-use Rattle.canvas_doc.proofs.fitting.FitMore.{found-has}
-use Rattle.canvas_doc.proofs.tree.Found.{found-at, other-id}
+use Rattle.canvas_doc.proofs.tree.Found.{found-at, other-id, found-has}
 use Rattle.canvas_doc.proofs.tree.Marks.{level-below, levels-most, levels-up, reaches-more, reaches-up}
 use Rattle.canvas_doc.proofs.tree.Paths.{levels-page, reaches-none, reaches-step}
 use Rattle.canvas_doc.proofs.lists.SameMembers.{Contains-filter, filter-members, same-members}
+use Rattle.canvas_doc.proofs.tree.Parents.{same_parent-itself, same_parent-is}
+use Rattle.canvas_doc.proofs.siblings.Neighbours.{found-contained}
+use Rattle.canvas_doc.proofs.tree.DepthAgrees.{more-some}
 
 -- all records reach the page
 abbrev pub AllGrounded : List Record → Type 0
@@ -51,17 +52,6 @@ greatest-under f m h (r ∷ rs) l a =
     max-under (f r) (greatest f rs) m h (All-head (λ (s : Record). m + f s ≤ h) r rs a)
     (greatest-under f m h rs l (All-tail (λ (s : Record). m + f s ≤ h) r rs a))
 
-same-self : (p : Parent) → same_parent p p ≡ true
-same-self Page = refl
-same-self (Shape a) = eq-eqb a a refl
-
-shape-same : (q : Parent) (id : ℕ) → same_parent q (Shape id) ≡ true → q ≡ Shape id
-shape-same Page id h = cc
-shape-same (Shape a) id h = ap (λ n. Shape n) (eqb-true a id h)
-
-found-within : (p : ℕ) (rs : List Record) (r : Record) → record_of p rs ≡ Some r → Contains rs r
-found-within p rs r e = found-all (Contains rs) p rs r (All-contains_itself rs) e
-
 -- a record is found by its own id
 member-found : (rs : List Record) (r : Record) → AreRising rs → Contains rs r → record_of r.id rs ≡ Some r
 member-found rs r w c = sym (found-at rs c.0 r.id r w c.1 (sym c.2) refl)
@@ -71,15 +61,11 @@ tallest-child : (n : ℕ) (rs : List Record) (r : Record) → Contains rs r → 
 unfolding tallest
 tallest-child n rs r c =
     greatest-has (λ s. suc (tallest n rs (Shape s.id))) (filter (is_child r.place.parent) rs) r
-    (Contains-filter (is_child r.place.parent) rs r c (same-self r.place.parent))
+    (Contains-filter (is_child r.place.parent) rs r c (same_parent-itself r.place.parent))
 
 levels-some : (id j : ℕ) (up : Parent → ℕ) (o : Option Record) → levels_from id up o ≡ suc j → (r : Record) × (o ≡ Some r) × (cond (r.id == id) 1 (one_more (up r.place.parent)) ≡ suc j)
 levels-some id j up None h = absurd (omega arith)
 levels-some id j up (Some r) h = (r, refl, h)
-
-more-some : (n j : ℕ) → one_more n ≡ suc j → (i : ℕ) × (n ≡ suc i) × (j ≡ suc i)
-more-some zero j h = absurd (omega arith)
-more-some (suc i) j h = (i, refl, omega arith)
 
 -- the shape itself, or a level above it
 level-cases : (b : Bool) (n j : ℕ) → cond b 1 (one_more n) ≡ suc j → b ≡ false → (i : ℕ) × (n ≡ suc i) × (j ≡ suc i)
@@ -111,7 +97,7 @@ walk-finds (suc n) m j id rs (Shape p) h =
           let i : ℕ = more.0 in
           let one : j ≡ suc i = more.2 in
           let up : suc i + tallest (suc m) rs r.place.parent ≤ suc (tallest (suc m + i) rs (Shape id)) = walk-finds n (suc m) i id rs r.place.parent more.1 in
-          let child : suc (tallest m rs (Shape r.id)) ≤ tallest (suc m) rs r.place.parent = tallest-child m rs r (found-within p rs r s.1) in
+          let child : suc (tallest m rs (Shape r.id)) ≤ tallest (suc m) rs r.place.parent = tallest-child m rs r (found-contained p rs r s.1) in
           let fuel : tallest (suc m + i) rs (Shape id) ≡ tallest (m + j) rs (Shape id) = ap (λ k. tallest k rs (Shape id)) (omega arith) in
           omega (arith, one, up, child, fuel, here))
     ]
@@ -191,7 +177,7 @@ walk-within (suc n) k id rs r w g c h =
     (λ i d l.
     let x : Record = get_or (filter (is_child (Shape r.id)) rs) i d in
     let there : Contains rs x = All-filter (is_child (Shape r.id)) (Contains rs) rs (All-contains_itself rs) i d l in
-    let parent : x.place.parent ≡ Shape r.id = shape-same x.place.parent r.id (filter_passes (is_child (Shape r.id)) rs i d l) in
+    let parent : x.place.parent ≡ Shape r.id = same_parent-is x.place.parent (Shape r.id) (filter_passes (is_child (Shape r.id)) rs i d l) in
     let below : suc (suc k) + tallest n rs (Shape x.id) ≤ height_of id rs = walk-within n (suc k) id rs x w g there (deeper id k rs r x w g c there parent h) in
     omega (arith, below))
 
@@ -200,7 +186,7 @@ pub height-walked : (id : ℕ) (rs : List Record) (r : Record) → AreRising rs 
 height-walked id rs r w g e =
     let own : r.id ≡ id = eqb-true r.id id (found-has id rs r e) in
     let one : levels_of id rs r ≡ 1 = ap (λ b. cond b 1 (one_more (levels_to 31 id rs r.place.parent))) (found-has id rs r e) in
-    let low : 1 + tallest 31 rs (Shape r.id) ≤ height_of id rs = walk-within 31 0 id rs r w g (found-within id rs r e) one in
+    let low : 1 + tallest 31 rs (Shape r.id) ≤ height_of id rs = walk-within 31 0 id rs r w g (found-contained id rs r e) one in
     let same : tallest 31 rs (Shape r.id) ≡ tallest 31 rs (Shape id) = ap (λ k. tallest 31 rs (Shape k)) own in
     let high : 0 + height_of id rs ≤ suc (tallest 31 rs (Shape id)) = greatest-under (levels_of id rs) 0 (suc (tallest 31 rs (Shape id))) rs (omega arith) (λ i d l. (let within : levels_of id rs (get_or rs i d) ≤ suc (tallest 31 rs (Shape id)) = level-within id rs (get_or rs i d) (All-contains_itself rs i d l) in omega (arith, within))) in
     omega (arith, low, same, high)
@@ -210,7 +196,7 @@ nothing-under : (id : ℕ) (rs : List Record) → AllGrounded rs → reaches_pag
 nothing-under id rs g h i d l =
     let x : Record = get_or rs i d in
     elim (cases_Bool (is_child (Shape id) x)) [
-      | inl t ↦ absurd (true≢false (sym (g i d l) ∙ ap (reaches_page 31 rs) (shape-same x.place.parent id t) ∙ h))
+      | inl t ↦ absurd (true≢false (sym (g i d l) ∙ ap (reaches_page 31 rs) (same_parent-is x.place.parent (Shape id) t) ∙ h))
       | inr f ↦ f
     ]
 

@@ -1,7 +1,7 @@
 -- What stays well formed where each record is changed by itself.
 use Rattle.std.proofs.Common.{◌≡◌, ◌≢◌, ℕ, zero, suc, ◌<◌, ◌≤◌, ◌==◌, List, [], ◌∷◌, Bool, true, false, cond, ◌&&◌, Option, Some, None, refl, sym, ap, ◌∙◌, arith, inl, inr, subst, map, All}
 use Rattle.std.specs.List.{AllByRecursion, list_all}
-use Rattle.std.proofs.lemmas.Bool.{cases_Bool, and_parts, eq-eqb, eqb-true}
+use Rattle.std.proofs.lemmas.Bool.{cases_Bool, and_parts, eqb-true}
 use Rattle.std.proofs.lemmas.List.Elements.{All-map, All-weaker, All-cons}
 use Rattle.canvas_record.specs.declared.records.Parent.{Parent}
 use Rattle.canvas_record.specs.declared.records.Parent.TheVariants.{Page, Shape}
@@ -12,6 +12,7 @@ use Rattle.canvas_record.specs.Contents.{record_of, is_container, reaches_from, 
 use Rattle.canvas_record.specs.Tree.{HavePlaces, IsElsewhere}
 use Rattle.canvas_record.specs.Effect.{at_id}
 use Rattle.canvas_doc.proofs.siblings.Free.{IsFree}
+use Rattle.canvas_doc.proofs.tree.Parents.{same_parent-sym}
 
 -- what a change at an id keeps of each record
 pub at-keeps : {T : Type 0} (part : Record → T) (id : ℕ) (f : Record → Record) → ((r : Record) → part (f r) ≡ part r) → (r : Record) → part (cond (r.id == id) (f r) r) ≡ part r
@@ -94,12 +95,6 @@ all-from_test t (r ∷ rs) h =
     All-cons (λ x. t x ≡ true) r rs both.0 (all-from_test t rs both.1)
 
 -- a shape at a place that is free
-same_parent-sym : (a b : Parent) → same_parent a b ≡ true → same_parent b a ≡ true
-same_parent-sym Page Page h = refl
-same_parent-sym Page (Shape b) h = cc
-same_parent-sym (Shape a) Page h = cc
-same_parent-sym (Shape a) (Shape b) h = eq-eqb b a (sym (eqb-true a b h))
-
 eqb-above : (id n m : ℕ) → n ≡ id → n < m → (m == id) ≡ false
 eqb-above id n m e h = elim (cases_Bool (m == id)) [ inl t ↦ absurd (let f : m ≡ id = eqb-true m id t in omega arith) | inr f ↦ f ]
 

@@ -7,10 +7,7 @@ use Rattle.canvas_record.specs.declared.records.Record.{Record}
 use Rattle.canvas_record.specs.Contents.{record_of, is_container, reaches_from, reaches_page}
 use Rattle.canvas_record.specs.Depth.{levels_to, levels_from, levels_of, one_more}
 use Rattle.canvas_doc.proofs.tree.Paths.{reaches-page, levels-page, levels-step, reaches-none, reaches-step}
-
-from-some : (up : Parent → Bool) (o : Option Record) → reaches_from up o ≡ true → (r : Record) × (o ≡ Some r) × (is_container r.kind ≡ true) × (up r.place.parent ≡ true)
-from-some up None h = cc
-from-some up (Some r) h = let both = and_parts (is_container r.kind) (up r.place.parent) h in (r, refl, both.0, both.1)
+use Rattle.canvas_doc.proofs.tree.Parents.{from-some}
 
 -- once the page is reached, more steps find no more levels
 levels-fuel : (n m id : ℕ) (rs : List Record) (q : Parent) → reaches_page n rs q ≡ true → levels_to (n + m) id rs q ≡ levels_to n id rs q

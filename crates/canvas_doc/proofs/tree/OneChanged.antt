@@ -13,8 +13,7 @@ use Rattle.canvas_record.specs.declared.edits.Change.TheVariants as change
 use Rattle.canvas_doc.specs.Bounds.{HaveOneShape}
 use Rattle.canvas_record.specs.Contents.{Contents, record_of, AreRising, IsStanding, StandsAt}
 use Rattle.canvas_record.specs.Effect.{effect_of, changes_one, changed_by, Replaces, ReplacesAt}
-use Rattle.canvas_doc.proofs.fitting.FitMore.{found-has}
-use Rattle.canvas_doc.proofs.tree.Found.{other-id, rising-at}
+use Rattle.canvas_doc.proofs.tree.Found.{other-id, rising-at, found-has}
 use Rattle.canvas_doc.proofs.spacing.Respaced.{IsIn}
 
 -- no record has an id that is not there
