@@ -2,11 +2,11 @@
 
 ghost use Rattle.std.specs.Prelude.{◌≡◌, ◌+◌, ◌<◌, ◌++◌, ◌∷◌, [], map, length, ◌==◌, IfOk, IfSome, MatchOption, None, false, true, slice_index_or, slice_set};
 ghost use Rattle.std.specs.List.{remove};
-ghost use Rattle.canvas_record.specs.Bounds.{AreBounds, HaveOneShape};
+ghost use Rattle.canvas_doc.specs.Bounds.{AreBounds, HaveOneShape};
 ghost use Rattle.canvas_record.specs.Contents.{AreRising, IsWellFormed};
 ghost use Rattle.canvas_record.specs.declared.records.Record.{Record};
 ghost use Rattle.canvas_record.specs.Effect.{changed_by, Replaces};
-ghost use Rattle.canvas_record.specs.PlaceOrder.{IsInPlaceOrder};
+ghost use Rattle.canvas_doc.specs.PlaceOrder.{IsInPlaceOrder};
 
 use crate::Document;
 use crate::ancestry::{STEPS, is_container};

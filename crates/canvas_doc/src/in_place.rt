@@ -5,7 +5,7 @@
 ghost use Rattle.std.specs.Prelude.{◌≡◌, ◌<◌, ◌+◌, ◌++◌, ◌∷◌, [], OnErr, OnOk, cond, length, true};
 ghost use Rattle.std.specs.List.{remove};
 ghost use Rattle.canvas_record.specs.declared.records.Record.{Record};
-ghost use Rattle.canvas_record.specs.Bounds.{HaveOneShape};
+ghost use Rattle.canvas_doc.specs.Bounds.{HaveOneShape};
 ghost use Rattle.canvas_record.specs.Contents.{IsWellFormed};
 ghost use Rattle.canvas_record.specs.Effect.{changed_by};
 

@@ -2,11 +2,11 @@ use Rattle.std.proofs.Common.{◌≡◌, ◌∙◌, ◌+◌, ◌<◌, ◌^◌, �
 use Rattle.std.proofs.lemmas.List.Elements.{All-contains, Contains-push}
 use Rattle.canvas_list.specs.declared.in_place.ItemChange.TheVariants.{Insert}
 use Rattle.canvas_list.specs.Changed.{changed_if}
-use Rattle.canvas_record.specs.declared.bounds.Bounds.{Bounds}
+use Rattle.canvas_doc.specs.declared.bounds.Bounds.{Bounds}
 use Rattle.canvas_record.specs.declared.records.Record.{Record}
 use Rattle.canvas_record.specs.Contents.{Contents, IsWellFormed}
 use Rattle.canvas_record.specs.Tree.{IsInLimits}
-use Rattle.canvas_doc.proofs.InPlace.{added-if, added-is, room-behind, room-within, unmade-is, unmade-kept, widened-kept}
+use Rattle.canvas_doc.proofs.editing.InPlace.{added-if, added-is, room-behind, room-within, unmade-is, unmade-kept, widened-kept}
 use Rattle.canvas_doc.proofs.Document.add_in_place.Goals as goal
 
 pub invariant_of-self-then-made : goal.invariant_of-self-then-made

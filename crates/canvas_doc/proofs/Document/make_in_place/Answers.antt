@@ -1,4 +1,4 @@
-use Rattle.canvas_doc.proofs.Created.{created-well}
+use Rattle.canvas_doc.proofs.editing.Created.{created-well}
 use Rattle.canvas_doc.proofs.Document.make_in_place.Goals as goal
 
 pub add_in_place-requires : goal.add_in_place-requires

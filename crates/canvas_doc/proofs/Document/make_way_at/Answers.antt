@@ -1,5 +1,5 @@
 use Rattle.std.proofs.Common.{subst, sym}
-use Rattle.canvas_record.specs.PlaceOrder.{IsKeptInOrder}
+use Rattle.canvas_doc.specs.PlaceOrder.{IsKeptInOrder}
 use Rattle.canvas_doc.specs.Placements.{Placements}
 use Rattle.canvas_doc.proofs.Document.make_way_at.Goals as goal
 

@@ -1,13 +1,13 @@
 use Rattle.std.proofs.Common.{◌<◌, List, arith, length, refl, subst}
 use Rattle.std.specs.List.{remove}
 use Rattle.std.proofs.lemmas.List.Edits.{length-remove}
-use Rattle.canvas_record.specs.declared.bounds.Bounds.{Bounds}
+use Rattle.canvas_doc.specs.declared.bounds.Bounds.{Bounds}
 use Rattle.canvas_record.specs.declared.records.Record.{Record}
-use Rattle.canvas_record.specs.Bounds.{HaveOneShape, IsHeldAbove}
+use Rattle.canvas_doc.specs.Bounds.{HaveOneShape, IsHeldAbove}
 use Rattle.canvas_record.specs.Contents.{Contents}
-use Rattle.canvas_record.specs.PlaceOrder.{IsPlaceOf}
-use Rattle.canvas_doc.proofs.InPlace.{moved-if, one-if, one-shape, one-well, widened-kept}
-use Rattle.canvas_record.proofs.Reordered.{seen-at}
+use Rattle.canvas_doc.specs.PlaceOrder.{IsPlaceOf}
+use Rattle.canvas_doc.proofs.editing.InPlace.{moved-if, one-if, one-shape, one-well, widened-kept}
+use Rattle.canvas_doc.proofs.places.Reordered.{seen-at}
 use Rattle.canvas_doc.proofs.Document.move_in_place.Goals as goal
 
 pub position_without-to-requires-clause-from : goal.position_without-to-requires-clause-from

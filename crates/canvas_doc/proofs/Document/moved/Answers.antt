@@ -4,12 +4,12 @@ use Rattle.std.proofs.Math.ListN.{length-set}
 use Rattle.std.proofs.lemmas.List.Edits.{length-remove}
 use Rattle.canvas_record.specs.declared.records.Record.{Record}
 use Rattle.canvas_record.specs.Contents.{Contents}
-use Rattle.canvas_record.specs.PlaceOrder.{IsInPlaceOrder}
-use Rattle.canvas_record.specs.declared.bounds.Bounds.{Bounds}
-use Rattle.canvas_record.specs.Bounds.{AreBoundsBut, HaveOneShape}
-use Rattle.canvas_doc.proofs.InPlace.{within-after}
-use Rattle.canvas_record.proofs.Rebounded as rebounded
-use Rattle.canvas_record.proofs.Reordered.{IsMoved, leads-up, moved-from, moved-in_order, read-at, seen-at}
+use Rattle.canvas_doc.specs.PlaceOrder.{IsInPlaceOrder}
+use Rattle.canvas_doc.specs.declared.bounds.Bounds.{Bounds}
+use Rattle.canvas_doc.specs.Bounds.{AreBoundsBut, HaveOneShape}
+use Rattle.canvas_doc.proofs.editing.InPlace.{within-after}
+use Rattle.canvas_doc.proofs.boxes.Rebounded as rebounded
+use Rattle.canvas_doc.proofs.places.Reordered.{IsMoved, leads-up, moved-from, moved-in_order, read-at, seen-at}
 use Rattle.std.proofs.lemmas.List.{get_or-set_same}
 use Rattle.std.proofs.lemmas.Result.{IfOk-weaker}
 use Rattle.canvas_doc.proofs.Document.moved.Goals as goal

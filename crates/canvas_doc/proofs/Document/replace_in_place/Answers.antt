@@ -1,11 +1,11 @@
 use Rattle.std.proofs.Common.{◌≡◌, get_or, refl, subst, sym}
 use Rattle.canvas_record.specs.declared.records.Record.{Record}
-use Rattle.canvas_record.specs.Bounds.{IsHeldAbove}
+use Rattle.canvas_doc.specs.Bounds.{IsHeldAbove}
 use Rattle.canvas_record.specs.Contents.{Contents}
-use Rattle.canvas_record.specs.PlaceOrder.{IsPlaceOf}
+use Rattle.canvas_doc.specs.PlaceOrder.{IsPlaceOf}
 use Rattle.canvas_record.specs.Tree.{IsInLimits}
-use Rattle.canvas_doc.proofs.InPlace.{one-if, one-limits, one-place, one-well, replaced-at, replaced-if, widened-kept}
-use Rattle.canvas_record.proofs.Rebounded.{Suits}
+use Rattle.canvas_doc.proofs.editing.InPlace.{one-if, one-limits, one-place, one-well, replaced-at, replaced-if, widened-kept}
+use Rattle.canvas_doc.proofs.boxes.Rebounded.{Suits}
 use Rattle.canvas_doc.proofs.Document.replace_in_place.Goals as goal
 
 pub bounds_for-bounds-requires-clause-limits : goal.bounds_for-bounds-requires-clause-limits

@@ -1,15 +1,15 @@
 use Rattle.std.proofs.Common.{◌≡◌, ◌<◌, ◌∙◌, ℕ, List, ap, arith, get_or, length, set, subst, sym}
 use Rattle.std.proofs.Math.ListN.{length-set}
 use Rattle.std.proofs.lemmas.Result.{IfOk-weaker}
-use Rattle.canvas_record.specs.declared.bounds.Bounds.{Bounds}
+use Rattle.canvas_doc.specs.declared.bounds.Bounds.{Bounds}
 use Rattle.canvas_record.specs.declared.records.Record.{Record}
-use Rattle.canvas_record.specs.Bounds.{AreBoundsBut}
+use Rattle.canvas_doc.specs.Bounds.{AreBoundsBut}
 use Rattle.canvas_record.specs.Contents.{Contents}
-use Rattle.canvas_record.specs.PlaceOrder.{IsInPlaceOrder}
+use Rattle.canvas_doc.specs.PlaceOrder.{IsInPlaceOrder}
 use Rattle.canvas_record.specs.Tree.{IsInLimits}
-use Rattle.canvas_record.proofs.Rebounded as rebounded
-use Rattle.canvas_record.proofs.Rebounded.{Suits}
-use Rattle.canvas_record.proofs.Reordered.{IsReplaced, leads-up, replaced-from, replaced-in_order}
+use Rattle.canvas_doc.proofs.boxes.Rebounded as rebounded
+use Rattle.canvas_doc.proofs.boxes.Rebounded.{Suits}
+use Rattle.canvas_doc.proofs.places.Reordered.{IsReplaced, leads-up, replaced-from, replaced-in_order}
 use Rattle.canvas_doc.proofs.Document.replaced.Goals as goal
 
 pub at-replaced-requires : goal.at-replaced-requires

@@ -5,9 +5,9 @@ use Rattle.canvas_record.specs.declared.records.Record.{Record}
 use Rattle.canvas_list.specs.Changed.{replaced_run}
 use Rattle.canvas_record.specs.Contents.{record_of, Contents, HaveIds}
 use Rattle.canvas_record.specs.Effect.{respaced}
-use Rattle.canvas_doc.proofs.InPlace.{few-within, kept-is}
-use Rattle.canvas_doc.proofs.Placements.{bounds_of, shape_of}
-use Rattle.canvas_doc.proofs.Respacings.{kept-in-place, many-within, once, records-are, shapes-many, AreRespaced, AreToBeRespaced}
+use Rattle.canvas_doc.proofs.editing.InPlace.{few-within, kept-is}
+use Rattle.canvas_doc.proofs.editing.Placements.{bounds_of, shape_of}
+use Rattle.canvas_doc.proofs.spacing.Respacings.{kept-in-place, many-within, once, records-are, shapes-many, AreRespaced, AreToBeRespaced}
 use Rattle.canvas_doc.proofs.Document.respace_in_place.Goals as goal
 
 pub with_each-requires-clause-once : goal.with_each-requires-clause-once

@@ -6,8 +6,8 @@ use Rattle.canvas_record.specs.declared.edits.Change.TheVariants.{Respace}
 use Rattle.canvas_record.specs.Contents.{Contents, IsWellFormed, most_records}
 use Rattle.canvas_record.specs.Effect.{effect_of, respaced, SpacesOnly}
 use Rattle.canvas_record.specs.Picture.{colour}
-use Rattle.canvas_record.proofs.Respaced.{colour-respaced}
-use Rattle.canvas_doc.proofs.Created.{created-well}
+use Rattle.canvas_doc.proofs.spacing.Respaced.{colour-respaced}
+use Rattle.canvas_doc.proofs.editing.Created.{created-well}
 use Rattle.canvas_doc.proofs.Document.with.Goals as goal
 
 pub returns-in-Respace-clause-colours : goal.returns-in-Respace-clause-colours

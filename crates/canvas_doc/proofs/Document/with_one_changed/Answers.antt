@@ -3,11 +3,11 @@ use Rattle.std.proofs.lemmas.List.{get_or-map}
 use Rattle.canvas_record.specs.declared.records.Record.{Record}
 use Rattle.canvas_record.specs.declared.edits.Change.{Change}
 use Rattle.canvas_record.specs.declared.edits.Change.TheVariants.{Move}
-use Rattle.canvas_record.specs.Bounds.{AreBounds, HaveOneShape}
+use Rattle.canvas_doc.specs.Bounds.{AreBounds, HaveOneShape}
 use Rattle.canvas_record.specs.Contents.{Contents, IsWellFormed}
 use Rattle.canvas_record.specs.Effect.{changed_by, effect_of}
-use Rattle.canvas_record.specs.PlaceOrder.{IsInPlaceOrder}
-use Rattle.canvas_record.proofs.OneChanged.{made-whole, one-effect, place-kept, shape-kept, whole-is}
+use Rattle.canvas_doc.specs.PlaceOrder.{IsInPlaceOrder}
+use Rattle.canvas_doc.proofs.tree.OneChanged.{made-whole, one-effect, place-kept, shape-kept, whole-is}
 use Rattle.canvas_doc.proofs.Document.with_one_changed.Goals as goal
 use Rattle.canvas_doc.proofs.Document.with_one_changed.Goals.{in-Move+in_ok-order-in-Move, in_default-change+in_ok-order-in_default-change}
 

@@ -2,16 +2,16 @@ use Rattle.std.proofs.Common.{◌≡◌, ◌∙◌, ◌+◌, ◌<◌, ◌^◌, �
 use Rattle.std.specs.List.{insert}
 use Rattle.std.proofs.lemmas.List.Edits.{insert_end}
 use Rattle.std.proofs.lemmas.List.Elements.{All-contains, Contains-push}
-use Rattle.canvas_record.specs.declared.bounds.Bounds.{Bounds}
+use Rattle.canvas_doc.specs.declared.bounds.Bounds.{Bounds}
 use Rattle.canvas_record.specs.declared.records.Record.{Record}
 use Rattle.canvas_record.specs.Contents.{Contents, IsWellFormed}
-use Rattle.canvas_record.specs.PlaceOrder.{IsInPlaceOrder}
-use Rattle.canvas_record.specs.Bounds.{AreBoundsBut}
+use Rattle.canvas_doc.specs.PlaceOrder.{IsInPlaceOrder}
+use Rattle.canvas_doc.specs.Bounds.{AreBoundsBut}
 use Rattle.canvas_record.specs.Tree.{HavePlaces, IsInLimits}
-use Rattle.canvas_doc.proofs.InPlace.{added-is, room-behind, room-within, within-after}
-use Rattle.canvas_record.proofs.Rebounded as rebounded
-use Rattle.canvas_record.proofs.Rebounded.{Suits}
-use Rattle.canvas_record.proofs.Reordered.{added, added-differs, leads-up}
+use Rattle.canvas_doc.proofs.editing.InPlace.{added-is, room-behind, room-within, within-after}
+use Rattle.canvas_doc.proofs.boxes.Rebounded as rebounded
+use Rattle.canvas_doc.proofs.boxes.Rebounded.{Suits}
+use Rattle.canvas_doc.proofs.places.Reordered.{added, added-differs, leads-up}
 use Rattle.canvas_doc.proofs.Document.with_record.Goals as goal
 
 pub bounds_for-own-requires-clause-limits : goal.bounds_for-own-requires-clause-limits

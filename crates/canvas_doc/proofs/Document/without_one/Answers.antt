@@ -2,10 +2,10 @@ use Rattle.std.proofs.Common.{◌≡◌, ◌∙◌, ℕ, List, ap, sym, subst}
 use Rattle.std.specs.List.{remove}
 use Rattle.canvas_record.specs.declared.records.Record.{Record}
 use Rattle.canvas_record.specs.Contents.{Contents, IsWellFormed}
-use Rattle.canvas_record.specs.PlaceOrder.{IsInPlaceOrder}
-use Rattle.canvas_record.specs.Bounds.{AreBounds}
-use Rattle.canvas_record.proofs.Rebounded as rebounded
-use Rattle.canvas_record.proofs.Reordered.{IsListedAt, seen-at, taken}
+use Rattle.canvas_doc.specs.PlaceOrder.{IsInPlaceOrder}
+use Rattle.canvas_doc.specs.Bounds.{AreBounds}
+use Rattle.canvas_doc.proofs.boxes.Rebounded as rebounded
+use Rattle.canvas_doc.proofs.places.Reordered.{IsListedAt, seen-at, taken}
 use Rattle.canvas_doc.proofs.Document.without_one.Goals as goal
 
 pub without-requires-2 : goal.without-requires-2

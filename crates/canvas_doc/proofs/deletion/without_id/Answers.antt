@@ -1,6 +1,6 @@
 use Rattle.std.proofs.Common.{◌≡◌, List, IfOk, subst, sym}
 use Rattle.canvas_record.specs.declared.records.Record.{Record}
-use Rattle.canvas_record.proofs.Freed.{none-gone, one-gone}
+use Rattle.canvas_doc.proofs.deleting.Freed.{none-gone, one-gone}
 use Rattle.canvas_doc.proofs.deletion.without_id.Goals as goal
 
 pub returns-in-Some : goal.returns-in-Some

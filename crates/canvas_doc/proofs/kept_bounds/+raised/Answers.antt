@@ -3,12 +3,12 @@ use Rattle.std.specs.List.{slice_get}
 use Rattle.std.proofs.lemmas.Result.{IfOk-weaker}
 use Rattle.std.proofs.lemmas.Option.{slice_get_read, slice_get_within}
 use Rattle.canvas_record.specs.declared.records.Record.{Record}
-use Rattle.canvas_record.specs.Bounds.{AreBoundsBut}
+use Rattle.canvas_doc.specs.Bounds.{AreBoundsBut}
 use Rattle.canvas_record.specs.Contents.{reaches_page}
-use Rattle.canvas_record.specs.PlaceOrder.{IsInPlaceOrder}
-use Rattle.canvas_record.proofs.BoundsLaws.{carried-within, within-itself}
-use Rattle.canvas_record.proofs.Marks.{level-blocked}
-use Rattle.canvas_record.proofs.Widened.{IsStep, all-bounds, all-but, but-children, done-above, done-held, group-at, group-limits, own-kept, reaches-group, step-from, widened, within-set}
+use Rattle.canvas_doc.specs.PlaceOrder.{IsInPlaceOrder}
+use Rattle.canvas_doc.proofs.boxes.BoundsLaws.{carried-within, within-itself}
+use Rattle.canvas_doc.proofs.tree.Marks.{level-blocked}
+use Rattle.canvas_doc.proofs.boxes.Widened.{IsStep, all-bounds, all-but, but-children, done-above, done-held, group-at, group-limits, own-kept, reaches-group, step-from, widened, within-set}
 use Rattle.canvas_doc.proofs.kept_bounds.+raised.Goals as goal
 use Rattle.canvas_doc.proofs.kept_bounds.+raised.Goals.{After-value, After-bounds_at-held}
 

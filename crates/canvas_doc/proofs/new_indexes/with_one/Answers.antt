@@ -1,7 +1,7 @@
 use Rattle.std.proofs.Common.{◌≡◌, ◌∙◌, List, [], ◌∷◌, IfOk, None, ap, arith, refl, set, subst}
 use Rattle.canvas_record.specs.declared.records.Record.{Record}
 use Rattle.canvas_record.specs.Contents.{record_of, HaveIds, StandsAt}
-use Rattle.canvas_record.proofs.Respacing.{none-put, nothing-put, one-put}
+use Rattle.canvas_doc.proofs.spacing.Respacing.{none-put, nothing-put, one-put}
 use Rattle.canvas_doc.proofs.new_indexes.with_one.Goals as goal
 
 pub returns-in_ok-try_clone-in-Some : goal.returns-in_ok-try_clone-in-Some

@@ -1,4 +1,4 @@
-use Rattle.canvas_doc.proofs.Placements.{bounds-changed, place-changed, shapes-changed}
+use Rattle.canvas_doc.proofs.editing.Placements.{bounds-changed, place-changed, shapes-changed}
 use Rattle.canvas_doc.proofs.placed_shapes.PlacedShapes.change_both.Goals as goal
 
 pub change_both-requires-clause-place : goal.change_both-requires-clause-place

@@ -1,5 +1,5 @@
 use Rattle.std.proofs.Common.{arith}
-use Rattle.canvas_doc.proofs.Placements.{bounds-moved, long, shapes-moved}
+use Rattle.canvas_doc.proofs.editing.Placements.{bounds-moved, long, shapes-moved}
 use Rattle.canvas_doc.proofs.placed_shapes.PlacedShapes.move_both.Goals as goal
 
 pub move_both-requires-clause-from : goal.move_both-requires-clause-from

@@ -1,6 +1,6 @@
 use Rattle.std.proofs.Common.{◌≡◌, ◌∙◌, cond, subst}
 use Rattle.std.specs.List.{insert, remove}
-use Rattle.canvas_record.specs.declared.bounds.Bounds.{Bounds}
+use Rattle.canvas_doc.specs.declared.bounds.Bounds.{Bounds}
 use Rattle.canvas_record.specs.declared.records.Record.{Record}
 use Rattle.canvas_doc.proofs.placed_shapes.PlacedShapes.move_to.Goals as goal
 

@@ -1,5 +1,5 @@
 use Rattle.std.proofs.Common.{arith}
-use Rattle.canvas_doc.proofs.Placements.{bounds-run, long, shapes-run}
+use Rattle.canvas_doc.proofs.editing.Placements.{bounds-run, long, shapes-run}
 use Rattle.canvas_doc.proofs.placed_shapes.PlacedShapes.replace_run.Goals as goal
 
 pub replace_run-requires-clause-within : goal.replace_run-requires-clause-within

@@ -1,7 +1,7 @@
 use Rattle.std.proofs.Common.{◌∙◌, ap, map}
 use Rattle.std.specs.List.{insert}
 use Rattle.canvas_list.specs.declared.in_place.ItemChange.TheVariants.{Insert}
-use Rattle.canvas_doc.proofs.Placements.{bounds-are, bounds_of, map-insert, place-changed, shape_of, shapes-are}
+use Rattle.canvas_doc.proofs.editing.Placements.{bounds-are, bounds_of, map-insert, place-changed, shape_of, shapes-are}
 use Rattle.canvas_doc.proofs.placed_shapes.PlacedShapes.with_inserted.Goals as goal
 
 pub returns-clause-shapes : goal.returns-clause-shapes

@@ -1,7 +1,7 @@
 use Rattle.std.proofs.Common.{◌∙◌, ap, map}
 use Rattle.std.specs.List.{insert, remove}
 use Rattle.canvas_list.specs.declared.in_place.ItemChange.TheVariants.{Remove}
-use Rattle.canvas_doc.proofs.Placements.{bounds-are, bounds_of, map-insert, map-remove, place-changed, shape_of, shapes-are}
+use Rattle.canvas_doc.proofs.editing.Placements.{bounds-are, bounds_of, map-insert, map-remove, place-changed, shape_of, shapes-are}
 use Rattle.canvas_doc.proofs.placed_shapes.PlacedShapes.with_moved.Goals as goal
 
 pub returns-clause-shapes : goal.returns-clause-shapes

@@ -1,7 +1,7 @@
 use Rattle.std.proofs.Common.{◌∙◌, ap, map, set}
 use Rattle.std.proofs.lemmas.List.{map-set}
 use Rattle.canvas_list.specs.declared.in_place.ItemChange.TheVariants.{Replace}
-use Rattle.canvas_doc.proofs.Placements.{bounds-are, bounds_of, place-changed, shape_of, shapes-are}
+use Rattle.canvas_doc.proofs.editing.Placements.{bounds-are, bounds_of, place-changed, shape_of, shapes-are}
 use Rattle.canvas_doc.proofs.placed_shapes.PlacedShapes.with_replaced.Goals as goal
 
 pub returns-clause-shapes : goal.returns-clause-shapes
