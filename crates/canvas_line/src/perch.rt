@@ -225,12 +225,8 @@ impl<B: Lines> Perch<B> {
     pub(crate) fn herald_at(&self, desk: &Desk<B>) -> Result<Herald<B>, LineFault>
         ensures herald { IfOk result (λ h. h ≡ self.now.name) }
     {
-        let own = self.name();
-        let found = desk.name();
-        if own != found {
-            return Err(LineFault::Strangers { own, found });
-        }
-        desk.herald().map_err(|_| LineFault::OutOfMemory)
+        self.meets(desk)?;
+        Ok(desk.herald()?)
     }
 
     /// Takes what is pending at the desk, under its lock.
