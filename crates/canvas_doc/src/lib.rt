@@ -6,6 +6,7 @@ ghost use Rattle.std.specs.Prelude.{◌≡◌, [], length};
 ghost use Rattle.std.specs.Option.{option_copied};
 
 mod ancestry;
+mod changed;
 mod colour;
 mod copies;
 mod damage;
@@ -13,7 +14,6 @@ mod decisions;
 mod deletion;
 mod effects;
 mod fits;
-mod in_place;
 mod kept_bounds;
 mod lookup;
 mod new_indexes;

@@ -1,6 +1,6 @@
 use Rattle.canvas_record.specs.Effect.{changed_by}
 use Rattle.canvas_record.proofs.OneChanged.{all-kept, record-changed}
-use Rattle.canvas_doc.proofs.effects.changed_record.Goals as goal
+use Rattle.canvas_doc.proofs.changed.changed_record.Goals as goal
 
 pub returns-in-Some : goal.returns-in-Some
 returns-in-Some c = record-changed c.args.change.now c.in-Some.id c.args.records.now c.locate.result c.requires c.in-Some.ensures c.locate.ensures

@@ -1,11 +1,12 @@
 use Rattle.std.proofs.Common.{◌<◌, ap, length, subst, sym}
 use Rattle.std.specs.List.{remove}
+use Rattle.std.specs.Result.{is_ok}
 use Rattle.canvas_record.specs.declared.records.Record.{Record}
 use Rattle.canvas_record.specs.Contents.{Contents, IsWellFormed}
 use Rattle.canvas_record.specs.PlaceOrder.{IsPlaceOf}
 use Rattle.canvas_doc.proofs.InPlace.{taken-if}
 use Rattle.canvas_record.proofs.Reordered.{seen-at}
-use Rattle.canvas_doc.proofs.Document.remove_at_in_place.Goals as goal
+use Rattle.canvas_doc.proofs.Document.remove_at.Goals as goal
 
 pub change_both-requires-clause-place : goal.change_both-requires-clause-place
 change_both-requires-clause-place c =
@@ -16,7 +17,7 @@ pub invariant_of-self : goal.invariant_of-self
 invariant_of-self c =
     let d : Contents = record { records = c.self.inside.records; next = c.self.inside.next } in
     taken-if d c.self.inside.order.shapes c.self.inside.order.bounds c.self.invariant c.change_both.new.records c.change_both.new.self.shapes c.change_both.new.self.bounds
-    c.change_both.result c.at.result.now c.args.at c.position_in-from.result c.change_both.ensures.other c.change_both.ensures.shapes c.change_both.ensures.bounds
+    (is_ok c.change_both.result) c.at.result.now c.args.at c.position_in-from.result c.change_both.ensures.other c.change_both.ensures.shapes c.change_both.ensures.bounds
     (subst (λ (e : Contents). IsWellFormed (record { records = remove e.records c.args.at; next = e.next })) (sym c.self.view_is) c.requires.well_formed)
     (subst (λ (e : Contents). c.args.at < length e.records) (sym c.self.view_is) c.requires.there)
     c.at.ensures
