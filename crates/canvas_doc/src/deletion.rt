@@ -15,6 +15,7 @@ use crate::place_order::{children_range, position_in};
 use crate::placed_shapes::PlacedShapes;
 use crate::records::Records;
 use canvas_code::OutOfMemory;
+use canvas_list::ItemChange;
 use canvas_record::Parent;
 use std::alloc::Global;
 use std::ops::Range;
@@ -136,10 +137,12 @@ fn without_id(alloc: Global, records: Records, id: u32) -> Result<Records, OutOf
     requires { AreRising records }
     ensures { IfOk result (λ left. left ≡ filter (λ r. not (r.id == id)) records) }
 {
-    match position_of(&records, id) {
-        Some(at) => records.without(alloc, at),
-        None => Ok(records),
-    }
+    let Some(at) = position_of(&records, id) else {
+        return Ok(records);
+    };
+    let mut left = records;
+    left.change(alloc, at, ItemChange::Remove)?;
+    Ok(left)
 }
 
 // The lists without the record of an id.
@@ -149,21 +152,24 @@ pub(crate) fn without_shape(alloc: Global, id: u32, lists: Lists) -> Result<List
     ensures records { IfOk result (λ after. after.records ≡ filter (λ r. not (r.id == id)) lists.records) }
 {
     match position_of(&lists.records, id) {
-        Some(at) => without_at(alloc, at, &lists),
+        Some(at) => without_at(alloc, at, lists),
         None => Ok(lists),
     }
 }
 
 // The lists without the record at a position.
-fn without_at(alloc: Global, at: usize, lists: &Lists) -> Result<Lists, OutOfMemory>
-    requires lists { AreLists lists.now.records lists.now.order.shapes lists.now.order.bounds }
-    requires at { at < length lists.now.records }
+fn without_at(alloc: Global, at: usize, lists: Lists) -> Result<Lists, OutOfMemory>
+    requires lists { AreLists lists.records lists.order.shapes lists.order.bounds }
+    requires at { at < length lists.records }
     ensures lists { IfOk result (λ after. AreLists after.records after.order.shapes after.order.bounds) }
-    ensures records { IfOk result (λ after. after.records ≡ remove lists.now.records at) }
+    ensures records { IfOk result (λ after. after.records ≡ remove lists.records at) }
 {
-    let from = position_in(&lists.order, &lists.records.at(at).value().place);
-    Ok(Lists {
-        records: lists.records.without(alloc, at)?,
-        order: lists.order.without(alloc, from)?,
-    })
+    let Lists {
+        mut records,
+        mut order,
+    } = lists;
+    let from = position_in(&order, &records.at(at).value().place);
+    records.change(alloc, at, ItemChange::Remove)?;
+    order.remove(alloc, from)?;
+    Ok(Lists { records, order })
 }

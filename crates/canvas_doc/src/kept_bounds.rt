@@ -1,6 +1,6 @@
 //! The upkeep of bounds: those of each record of a document, in its position in the order by place.
 
-ghost use Rattle.std.specs.Prelude.{◌≡◌, ◌<◌, ◌^◌, ℕ, All, IfOk, MatchOption, false, length, true};
+ghost use Rattle.std.specs.Prelude.{◌≡◌, ◌<◌, ◌^◌, ℕ, All, IfOk, MatchOption, false, length, slice_index_or, true};
 ghost use Rattle.std.specs.List.{slice_get};
 ghost use Rattle.std.specs.List.Sorted.{IsStrictlySortedBy};
 ghost use Rattle.std.specs.Option.{option_copied};
@@ -8,7 +8,7 @@ ghost use Rattle.canvas_shape.specs.declared.Kind.TheVariants.{Group};
 ghost use Rattle.canvas_doc.specs.declared.bounds.Bounds.{Bounds};
 ghost use Rattle.canvas_record.specs.declared.records.Parent.TheVariants.{Shape};
 ghost use Rattle.canvas_record.specs.declared.records.Record.{Record};
-ghost use Rattle.canvas_doc.specs.Bounds.{is_empty, is_group, AreBounds, AreBoundsBut, AreWithin, HoldChildren, HoldChildrenBut, HoldsOwn, IsCarriedWithin, IsGroupAt, IsGroupPosition, IsHeldAbove, IsWithinBounds};
+ghost use Rattle.canvas_doc.specs.Bounds.{is_empty, is_group, AreBounds, AreWithin, HoldChildren, HoldChildrenBut, HoldsOwn, IsCarriedWithin, IsGroupAt, IsGroupPosition, IsHeldAbove, IsWithinBounds};
 ghost use Rattle.canvas_record.specs.Children.{is_child};
 ghost use Rattle.canvas_record.specs.Contents.{reaches_page, AreRising};
 ghost use Rattle.canvas_doc.specs.PlaceOrder.{comes_first, IsInPlaceOrder};
@@ -27,8 +27,8 @@ use canvas_shape::Kind;
 use std::alloc::Global;
 use std::ops::Range;
 
-// The bounds of a shape that has its place in the order, or is to have one there.
-pub(crate) fn bounds_for(order: &PlacedShapes, shape: &Record) -> Bounds
+// The bounds of a shape that has its place in the order, or is to have one there, as they are now.
+fn bounds_for(order: &PlacedShapes, shape: &Record) -> Bounds
     requires rising { IsStrictlySortedBy comes_first order.now.shapes }
     requires limits { IsInLimits shape.now }
     ensures own { shape.now.hidden ≡ false → HoldsOwn shape.now.kind shape.now.pose result }
@@ -53,13 +53,76 @@ fn children_hull(order: &PlacedShapes, id: u32) -> Bounds
         .summed_with(&Bounds::nowhere())
 }
 
-// Whether the bounds of the shown group in which a shape hangs hold the shape's, if it hangs in one.
-pub(crate) fn is_held_above(
+/// The bounds of a shape that has its place in the order, or is to have one there. Those of the groups above are made wider first where they
+/// do not hold them.
+pub(crate) fn held_bounds_for(
+    alloc: Global,
     records: &Records,
-    order: &PlacedShapes,
+    order: &mut PlacedShapes,
     shape: &Record,
-    bounds: &Bounds,
-) -> bool
+) -> Result<Bounds, OutOfMemory>
+    requires in_order { IsInPlaceOrder order.old.shapes records.now }
+    requires rising { AreRising records.now }
+    requires limits { All IsInLimits records.now }
+    requires grounded { All (λ r. reaches_page 31 records.now r.place.parent ≡ true) records.now }
+    requires bounded { AreBounds order.old.shapes order.old.bounds }
+    requires shape { IsInLimits shape.now }
+    ensures shapes { order.new.shapes ≡ order.old.shapes }
+    ensures bounds { AreBounds order.new.shapes order.new.bounds }
+    ensures own { IfOk result (λ b. shape.now.hidden ≡ false → HoldsOwn shape.now.kind shape.now.pose b) }
+    ensures below { IfOk result (λ b. (j : ℕ) (s : Record) (c : Bounds) → slice_get order.new.shapes j ≡ Some s → slice_get order.new.bounds j ≡ Some c → is_child (Shape shape.now.id) s ≡ true → shape.now.hidden ≡ false → shape.now.kind ≡ Group → IsCarriedWithin shape.now.pose c b) }
+    ensures held { IfOk result (λ b. IsHeldAbove order.new.shapes order.new.bounds shape.now b) }
+{
+    let bounds = bounds_for(order, shape);
+    if is_held_above(records, order, shape, &bounds) {
+        return Ok(bounds);
+    }
+    widen_above(alloc, records, order, shape.place.parent, &bounds, STEPS)?;
+    let again = bounds_for(order, shape);
+    // They are held now, which no clause tells.
+    if is_held_above(records, order, shape, &again) {
+        Ok(again)
+    } else {
+        Err(OutOfMemory)
+    }
+}
+
+/// The bounds at a position of the order, which a shape is to have. Those of the groups above the shape are made wider first where they do
+/// not hold them.
+pub(crate) fn held_bounds_at(
+    alloc: Global,
+    records: &Records,
+    order: &mut PlacedShapes,
+    at: usize,
+    shape: &Record,
+) -> Result<Bounds, OutOfMemory>
+    requires in_order { IsInPlaceOrder order.old.shapes records.now }
+    requires rising { AreRising records.now }
+    requires limits { All IsInLimits records.now }
+    requires grounded { All (λ r. reaches_page 31 records.now r.place.parent ≡ true) records.now }
+    requires bounded { AreBounds order.old.shapes order.old.bounds }
+    requires at { at < length order.old.shapes }
+    ensures shapes { order.new.shapes ≡ order.old.shapes }
+    ensures bounds { AreBounds order.new.shapes order.new.bounds }
+    ensures there { IfOk result (λ b. b ≡ slice_index_or order.new.bounds at b) }
+    ensures held { IfOk result (λ b. IsHeldAbove order.new.shapes order.new.bounds shape.now b) }
+{
+    let bounds = *order.bounds_at(at);
+    if is_held_above(records, order, shape, &bounds) {
+        return Ok(bounds);
+    }
+    widen_above(alloc, records, order, shape.place.parent, &bounds, STEPS)?;
+    let again = *order.bounds_at(at);
+    // They are held now, which no clause tells.
+    if is_held_above(records, order, shape, &again) {
+        Ok(again)
+    } else {
+        Err(OutOfMemory)
+    }
+}
+
+// Whether the bounds of the shown group in which a shape hangs hold the shape's, if it hangs in one.
+fn is_held_above(records: &Records, order: &PlacedShapes, shape: &Record, bounds: &Bounds) -> bool
     requires in_order { IsInPlaceOrder order.now.shapes records.now }
     requires rising { AreRising records.now }
     requires limits { All IsInLimits records.now }
@@ -73,15 +136,16 @@ pub(crate) fn is_held_above(
     order.bounds_at(up).contains(&bounds.carried(&group.pose))
 }
 
-// Makes the bounds of the groups above wider in place, where that can be done, to hold those of a shape that hangs in a
-// parent or is to: the outermost group's first, so that all hold what lies below them throughout.
-pub(crate) fn widen_above(
+// Makes the bounds of the groups above wider to hold those of a shape that hangs in a parent or is to: the outermost group's first, so that
+// all hold what lies below them throughout.
+fn widen_above(
+    alloc: Global,
     records: &Records,
     order: &mut PlacedShapes,
     parent: Parent,
     bounds: &Bounds,
     steps: u32,
-)
+) -> Result<(), OutOfMemory>
     requires in_order { IsInPlaceOrder order.old.shapes records.now }
     requires rising { AreRising records.now }
     requires limits { All IsInLimits records.now }
@@ -91,52 +155,20 @@ pub(crate) fn widen_above(
     ensures bounds { AreBounds order.new.shapes order.new.bounds }
 {
     let Some(group) = shown_group(records, parent) else {
-        return;
+        return Ok(());
     };
     if steps == 0 {
-        return;
+        return Ok(());
     }
     let up = position_in(order, &group.place);
     let wider = order.bounds_at(up).hull(&bounds.carried(&group.pose));
     if !is_held_above(records, order, group, &wider) {
-        widen_above(records, order, group.place.parent, &wider, steps - 1);
+        widen_above(alloc, records, order, group.place.parent, &wider, steps - 1)?;
     }
     if is_held_above(records, order, group, &wider) && wider.contains(order.bounds_at(up)) {
-        order.change_bounds(up, wider);
+        order.change_bounds(alloc, up, wider)?;
     }
-}
-
-// The order, the bounds of the groups above a record made wide enough to hold the record's.
-pub(crate) fn raised(
-    alloc: Global,
-    records: &Records,
-    order: PlacedShapes,
-    at: usize,
-    steps: u32,
-) -> Result<PlacedShapes, OutOfMemory>
-    requires in_order { IsInPlaceOrder order.shapes records.now }
-    requires rising { AreRising records.now }
-    requires limits { All IsInLimits records.now }
-    requires at { at < length order.shapes }
-    requires but { AreBoundsBut at order.shapes order.bounds }
-    requires reaches { (r : Record) → slice_get order.shapes at ≡ Some r → reaches_page steps records.now r.place.parent ≡ true }
-    ensures shapes { IfOk result (λ all. all.shapes ≡ order.shapes) }
-    ensures bounds { IfOk result (λ all. AreBounds all.shapes all.bounds) }
-{
-    let Some(group) = shown_group(records, order.at(at).value().place.parent) else {
-        return Ok(order);
-    };
-    if steps == 0 {
-        return Ok(order);
-    }
-    let up = position_in(&order, &group.place);
-    let carried = order.bounds_at(at).carried(&group.pose);
-    let held = order.bounds_at(up);
-    if held.contains(&carried) {
-        return Ok(order);
-    }
-    let wider = order.with_bounds(alloc, up, held.hull(&carried))?;
-    raised(alloc, records, wider, up, steps - 1)
+    Ok(())
 }
 
 // Records by place, with bounds.

@@ -7,6 +7,7 @@ ghost use Rattle.std.specs.Option.{option_copied};
 
 mod ancestry;
 mod bounds;
+mod changed;
 mod colour;
 mod copies;
 mod corners;
@@ -15,7 +16,6 @@ mod decisions;
 mod deletion;
 mod effects;
 mod fits;
-mod in_place;
 mod kept_bounds;
 mod lookup;
 mod new_indexes;

@@ -1,6 +1,6 @@
 //! New indexes for the children of a parent.
 
-ghost use Rattle.std.specs.Prelude.{◌≡◌, ◌+◌, ◌-◌, ◌≤◌, ◌<◌, ◌∷◌, [], map, filter, length, IfOk, OnOk, drop, take, slice_set};
+ghost use Rattle.std.specs.Prelude.{◌≡◌, ◌+◌, ◌-◌, ◌≤◌, ◌<◌, map, filter, length, IfOk, drop, take};
 ghost use Rattle.std.specs.List.Sorted.{IsStrictlySortedBy};
 ghost use Rattle.std.specs.Option.{unwrap_or};
 ghost use Rattle.canvas_key.specs.Rank.{fresh_key};
@@ -43,38 +43,6 @@ impl Document {
             order,
             next: self.next,
         })
-    }
-}
-
-// Of how many children at most the order is changed in place. Of more, most of the cost is making them, which would be in
-// vain where they stand in two blocks.
-const MOST_RESPACED_IN_PLACE: usize = 16;
-
-impl Document {
-    ghost use Rattle.std.specs.Prelude.{cond};
-    ghost use Rattle.canvas_record.specs.Effect.{effect_of};
-    ghost use Rattle.canvas_record.specs.declared.edits.Change.TheVariants.{Respace};
-
-    /// Gives the few children of a parent new indexes: in the order in place, of the records a new list is made first.
-    /// Answers whether it did; else the document is as it was.
-    pub(crate) fn respace_in_place(&mut self, alloc: Global, parent: Parent) -> bool
-        ensures { self.new ≡ cond result (effect_of (Respace parent) self.old) self.old }
-    {
-        let Range { start, end } = children_range(&self.order, parent);
-        if start == end || end - start > MOST_RESPACED_IN_PLACE {
-            return false;
-        }
-        let Ok(children) = respaced_children(alloc, &self.order, parent, start, end) else {
-            return false;
-        };
-        let Ok(records) = with_each(alloc, &self.records, &children) else {
-            return false;
-        };
-        let made = self.order.replace_run(start, children);
-        if made {
-            self.records = records;
-        }
-        made
     }
 }
 
@@ -125,8 +93,8 @@ fn respaced(alloc: Global, shape: &Record, rank: u32) -> Result<Shared<Record>, 
     )
 }
 
-// Where no more than a few records change, or one in so many, each is replaced on its own, which makes a chunk and two tables
-// anew at most. Else a whole list is made, which counts up the owners of all.
+// Where no more than a few records change, or one in so many, each is replaced on its own, which copies a chunk and two tables
+// at most. Else a whole list is made, which counts up the owners of all.
 const FEW_REPLACED: usize = 4;
 
 const RECORDS_FOR_EACH_REPLACED: usize = 64;
@@ -159,49 +127,14 @@ fn with_few(
     requires once { HaveIds (placements_of others.now).shapes }
     ensures { IfOk result (λ all. all ≡ map (λ r. unwrap_or (record_of r.id (placements_of others.now).shapes) r) records.now) }
 {
-    let Some((first, rest)) = others.split_first() else {
-        return records.try_clone(alloc);
-    };
-    let mut all = with_one(alloc, records, &first.shape)?;
-    for other in rest {
+    let mut all = records.try_clone(alloc)?;
+    for other in others {
         if let Some(at) = position_of(records, other.shape.value().id) {
-            put(alloc, &mut all, at, &other.shape)?;
+            let new = ListedRecord::of(other.shape.try_clone()?);
+            all.change(alloc, at, ItemChange::Replace(new))?;
         }
     }
     Ok(all)
-}
-
-// The records, with another one in the place of that which has its id.
-fn with_one(
-    alloc: Global,
-    records: &Records,
-    other: &Shared<Record>,
-) -> Result<Records, OutOfMemory>
-    requires { AreRising records.now }
-    ensures { IfOk result (λ all. all ≡ map (λ r. unwrap_or (record_of r.id (other.now ∷ [])) r) records.now) }
-{
-    match position_of(records, other.value().id) {
-        Some(at) => records.with_replaced(alloc, at, ListedRecord::of(other.try_clone()?)),
-        None => records.try_clone(alloc),
-    }
-}
-
-// Puts another record in the place of the one at a position: in place where no other list has the chunk.
-fn put(
-    alloc: Global,
-    records: &mut Records,
-    at: usize,
-    shape: &Shared<Record>,
-) -> Result<(), OutOfMemory>
-    requires { at < length records.old }
-    ensures { OnOk result (records.new ≡ slice_set records.old at shape.now) }
-{
-    let new = ListedRecord::of(shape.try_clone()?);
-    if !records.change(at, ItemChange::Replace(new)) {
-        let new = ListedRecord::of(shape.try_clone()?);
-        *records = records.with_replaced(alloc, at, new)?;
-    }
-    Ok(())
 }
 
 // The same, where the others are many: a list made at once.

@@ -88,30 +88,3 @@ module _ {X : Type 0} (cs : List (List X)) (xs : List X) (n k s at : ℕ) (c : L
   pub some-after : (made : Bool) (change : ItemChange X) (new : List X) → IsChangedPart cs xs n k s at c change → 0 < length new → 0 < length (joined (set cs k new))
   some-after made change new p some =
       omega (arith, ap length (other-part cs k new p.spot.within), length-append (joined (take k cs) ++ new) (joined (drop (k + 1) cs)), length-append (joined (take k cs)) new)
-
-  -- the table has one item less
-  pub table-less : (made : Bool) (new : List X) → IsChangedPart cs xs n k s at c Remove → new ≡ changed_if made Remove (at - s) c → made ≡ true → 0 < length new → IsTable (set cs k new) (n - 1)
-  table-less made new p e is some =
-      let less : new ≡ remove c (at - s) = e ∙ ap (λ m. changed_if m Remove (at - s) c) is in
-      subst (λ m. IsTable (set cs k new) m) (omega (arith, ap length less, length-remove c (at - s) (place-in Remove p), place-in Remove p, part-fewer Remove p)) (table-after made Remove new (length c) (length new) p e refl refl some)
-
-  pub less-is-some : IsChangedPart cs xs n k s at c Remove → 1 ≤ n
-  less-is-some p = omega (arith, place-in Remove p, part-fewer Remove p)
-
-  -- the part stayed, and so did the table
-  pub table-kept : (made : Bool) (change : ItemChange X) (new : List X) → IsChangedPart cs xs n k s at c change → new ≡ changed_if made change (at - s) c → made ≡ false → IsTable (set cs k new) n
-  table-kept made change new p e is =
-      subst (λ (l : List (List X)). IsTable l n) (sym (ap (λ d. set cs k d) (e ∙ ap (λ m. changed_if m change (at - s) c) is ∙ p.is) ∙ set-get_or cs k c)) p.table
-
-  -- the part has one item more, and so has the table
-  pub part-more : (made : Bool) (item : X) (new : List X) → IsChangedPart cs xs n k s at c (Insert item) → new ≡ changed_if made (Insert item) (at - s) c → made ≡ true → length new ≡ length c + 1
-  part-more made item new p e is = ap length (e ∙ ap (λ m. changed_if m (Insert item) (at - s) c) is) ∙ length-insert c (at - s) item (place-in (Insert item) p).0
-
-  pub table-more : (made : Bool) (item : X) (new : List X) → IsChangedPart cs xs n k s at c (Insert item) → new ≡ changed_if made (Insert item) (at - s) c → made ≡ true → IsTable (set cs k new) (n + 1)
-  table-more made item new p e is =
-      let more : length new ≡ length c + 1 = part-more made item new p e is in
-      subst (λ m. IsTable (set cs k new) m) (omega (arith, more, part-fewer (Insert item) p)) (table-after made (Insert item) new (length c) (length new) p e refl refl (omega (arith, more)))
-
--- a part that is as it was
-pub same-part : {X : Type 0} (cs : List (List X)) (k : ℕ) (old new : List X) → new ≡ old → old ≡ get_or cs k old → set cs k new ≡ cs
-same-part cs k old new e is = ap (λ d. set cs k d) (e ∙ is) ∙ set-get_or cs k old

@@ -8,9 +8,7 @@ pub mod Held
 pub mod InPlace
 pub mod Joined
 pub mod Kept
-mod Moved
 pub mod Parted
-pub mod Replaced
 pub mod Runs
 pub mod Spliced
 pub mod Visited

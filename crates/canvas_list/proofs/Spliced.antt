@@ -1,11 +1,17 @@
 -- Other items in place of some chunks.
-use Rattle.std.proofs.Common.{◌≡◌, ◌∙◌, ℕ, suc, ◌+◌, ◌-◌, ◌<◌, ◌≤◌, List, [], ◌∷◌, ◌++◌, take, drop, slice_set, slice_range, sym, ap, arith, length}
+use Rattle.std.proofs.Common.{◌≡◌, ◌∙◌, ℕ, ◌+◌, ◌-◌, ◌<◌, ◌≤◌, ◌^◌, List, ◌++◌, take, drop, slice_set, slice_range, inl, inr, sym, ap, subst, arith, length}
 use Rattle.std.specs.List.{insert, remove, sum_by}
-use Rattle.std.proofs.lemmas.List.{append_assoc, length-append, set-append_left, set-append_right, set_split, take-append-drop, take_rest}
-use Rattle.std.proofs.lemmas.List.Edits.{insert-append_left, insert-append_right, length-remove, remove-append_left, remove-append_right, split_between}
+use Rattle.std.proofs.lemmas.Bool.{cases_lt}
+use Rattle.std.proofs.lemmas.List.{append_assoc, length-append, set-append_left, set-append_right, take-append-drop, take-take, take_all}
+use Rattle.std.proofs.lemmas.List.Edits.{insert-append_left, insert-append_right, remove-append_left, remove-append_right, split_between}
+use Rattle.std.proofs.lemmas.List.Sums.{sum_by-take-le}
 use Rattle.std.proofs.Math.Seq.{take-add}
-use Rattle.canvas_list.specs.Chunks.{joined, IsSpot, IsTable}
-use Rattle.canvas_list.proofs.Joined.{fewer, found, joined-append, len-is, start-read, IsFound}
+use Rattle.canvas_list.specs.Changed.{changed, IsPositionOf}
+use Rattle.canvas_list.specs.Chunks.{joined, IsPartAbout, IsSpot, IsTable}
+use Rattle.canvas_list.specs.declared.in_place.ItemChange.{ItemChange}
+use Rattle.canvas_list.specs.declared.in_place.ItemChange.TheVariants.{Replace, Remove, Insert}
+use Rattle.canvas_list.proofs.Joined.{fewer, found, joined-append, len-is, start-read, sum-joined, IsFound}
+use Rattle.canvas_list.proofs.Kept.{few-changed}
 
 -- the items before some chunks, those in them, and those behind them
 pub parts : {X : Type 0} (cs : List (List X)) (i j : ℕ) → i ≤ j → joined cs ≡ joined (take i cs) ++ (joined (slice_range cs i j) ++ joined (drop j cs))
@@ -94,51 +100,6 @@ removed {X} cs ds xs i j s at old new p q e is h =
     ∙ sym (remove-append_right front (old ++ back) s at (sym p.start) q.from)
     ∙ ap (λ l. remove l at) (sym whole)
 
-pub moved : {X : Type 0} (cs ds : List (List X)) (xs : List X) (i j s from to : ℕ) (old new : List X) (x : X) → IsPart cs xs i j s old → IsIn xs s from old → ds ≡ cs → new ≡ insert (remove old (from - s)) (to - s) x → from < length xs → s ≤ to → to - s < length old
-    → joined (take i ds) ++ new ++ joined (drop j ds) ≡ insert (remove xs from) to x
-moved {X} cs ds xs i j s from to old new x p q e is h low high =
-    let front : List X = joined (take i cs) in
-    let back : List X = joined (drop j cs) in
-    let left : List X = remove old (from - s) in
-    let whole : xs ≡ front ++ (old ++ back) = sym p.all ∙ parts cs i j p.order ∙ ap (λ l. front ++ (l ++ back)) (sym p.items) in
-    let others : remove xs from ≡ front ++ (left ++ back) =
-    ap (λ l. remove l from) whole
-    ∙ remove-append_right front (old ++ back) s from (sym p.start) q.from
-    ∙ ap (λ l. front ++ l) (remove-append_left old back (from - s) (q.before h)) in
-    let within : to - s ≤ length left = omega (arith, length-remove old (from - s) (q.before h)) in
-    ap (λ l. joined (take i l) ++ new ++ joined (drop j l)) e
-    ∙ ap (λ l. front ++ l ++ back) is
-    ∙ append_assoc front (insert left (to - s) x) back
-    ∙ ap (λ l. front ++ l) (sym (insert-append_left left back (to - s) x within))
-    ∙ sym (insert-append_right front (left ++ back) s to x (sym p.start) low)
-    ∙ ap (λ l. insert l to x) (sym others)
-
--- one between others
-pub one-between : {X : Type 0} (front back none one all : List X) (x : X) → all ≡ front ++ one ++ back → one ≡ insert none 0 x → none ≡ [] → all ≡ front ++ x ∷ back
-one-between front back none one all x e is n = e ∙ ap (λ l. front ++ l ++ back) (is ∙ ap (λ l. insert l 0 x) n) ∙ append_assoc front (x ∷ []) back
-
--- the items before one, and those behind it
-pub all-but : {X : Type 0} (xs all none front items : List X) (i : ℕ) → all ≡ xs → none ≡ [] → front ≡ none ++ take i all → items ≡ front ++ take (length all - (i + 1)) (drop (i + 1) all) → items ≡ remove xs i
-all-but xs all none front items i a n f e =
-    let next : i + 1 ≡ suc i = omega arith in
-    e
-    ∙ ap (λ l. l ++ take (length all - (i + 1)) (drop (i + 1) all)) (f ∙ ap (λ l. l ++ take i all) n)
-    ∙ ap (λ l. take i all ++ l) (take_rest all (i + 1))
-    ∙ ap (λ l. take i l ++ drop (i + 1) l) a
-    ∙ ap (λ n. take i xs ++ drop n xs) next
-
--- and another between them
-pub all-with : {X : Type 0} (xs all none front more items : List X) (i : ℕ) (x : X) → all ≡ xs → none ≡ [] → front ≡ none ++ take i all → more ≡ front ++ x ∷ [] → items ≡ more ++ take (length all - (i + 1)) (drop (i + 1) all) → i < length xs → items ≡ slice_set xs i x
-all-with xs all none front more items i x a n f m e h =
-    let next : i + 1 ≡ suc i = omega arith in
-    e
-    ∙ ap (λ l. l ++ take (length all - (i + 1)) (drop (i + 1) all)) (m ∙ ap (λ l. l ++ x ∷ []) (f ∙ ap (λ l. l ++ take i all) n))
-    ∙ append_assoc (take i all) (x ∷ []) (take (length all - (i + 1)) (drop (i + 1) all))
-    ∙ ap (λ l. take i all ++ x ∷ l) (take_rest all (i + 1))
-    ∙ ap (λ l. take i l ++ x ∷ drop (i + 1) l) a
-    ∙ ap (λ n. take i xs ++ x ∷ drop n xs) next
-    ∙ sym (set_split xs i x h)
-
 -- the items of the chunk of a position
 pub record IsOfSpot {X : Type 0} (cs : List (List X)) (xs : List X) (k s at : ℕ) (old : List X) : Type 0 where
   pub within : k < length cs
@@ -156,23 +117,64 @@ pub record IsOfPart {X : Type 0} (cs : List (List X)) (xs : List X) (i j s at : 
   pub part : IsPart cs xs i j s old
   pub place : IsIn xs s at old
 
-pub of-part : {X : Type 0} (cs ds rs bs : List (List X)) (xs : List X) (n k t i j s at : ℕ) (old : List X) → IsTable cs n → rs ≡ cs → IsSpot length rs at k t → joined cs ≡ xs → ds ≡ cs → i ≤ k → k < j → bs ≡ cs → s ≡ sum_by length (take i bs) → old ≡ joined (slice_range ds i j) → IsOfPart cs xs i j s at old
-of-part cs ds rs bs xs n k t i j s at old table e last all d l m b read is =
-    let f : IsFound cs n k t at = found cs rs n k t at table e last in
-    let start : s ≡ length (joined (take i cs)) = start-read cs bs i s b read in
-    let p : IsPart cs xs i j s old = is-part cs ds xs i j s old (omega arith) all start d is in
-    record { part = p; place = is-in cs xs n k t i j s at old f (len-is cs n xs table all) l m p }
+-- fewer parts have no more items
+sum-fewer : {P : Type 0} (size : P → ℕ) (parts : List P) (i j : ℕ) → i ≤ j → sum_by size (take i parts) ≤ sum_by size (take j parts)
+sum-fewer size parts i j h = subst (λ l. sum_by size l ≤ sum_by size (take j parts)) (take-take i j parts h) (sum_by-take-le size (take j parts) i)
 
--- the same items in place of some chunks, cut in two
-pub untouched : {X : Type 0} (cs ds : List (List X)) (xs : List X) (i j s : ℕ) (old : List X) → IsPart cs xs i j s old → ds ≡ cs → joined (take i ds) ++ old ++ joined (drop j ds) ≡ xs
-untouched {X} cs ds xs i j s old p e =
-    let F : List X = joined (take i cs) in
-    let B : List X = joined (drop j cs) in
-    ap (λ l. joined (take i l) ++ old ++ joined (drop j l)) e
-    ∙ ap (λ l. (F ++ l) ++ B) p.items
-    ∙ append_assoc F (joined (slice_range cs i j)) B
-    ∙ sym (parts cs i j p.order)
-    ∙ p.all
+-- the part of a position, and some beside it
+pub part-about : {P : Type 0} (size : P → ℕ) (parts : List P) (at k t i j s : ℕ) → IsSpot size parts at k t → i ≤ k → k < j → j ≤ length parts → s ≡ sum_by size (take i parts) → IsPartAbout size parts at i j s
+part-about size parts at k t i j s spot l m within is =
+    let low : sum_by size (take i parts) ≤ sum_by size (take k parts) = sum-fewer size parts i k l in
+    let high : sum_by size (take (k + 1) parts) ≤ sum_by size (take j parts) = sum-fewer size parts (k + 1) j (omega arith) in
+    elim (cases_lt (k + 1) (length parts)) [
+      | inl more ↦
+          (let next : at < sum_by size (take (k + 1) parts) = spot.upto more in
+          record { order = omega arith; within = within; is = is; from = omega (arith, spot.is, spot.from); before = λ h. omega arith; behind = λ h. omega arith })
+      | inr none ↦
+          (let all : sum_by size (take j parts) ≡ sum_by size parts = ap (λ l. sum_by size l) (take_all j parts (omega arith)) in
+          record { order = omega arith; within = within; is = is; from = omega (arith, spot.is, spot.from); before = λ h. omega arith; behind = λ h. omega arith })
+    ]
+
+pub of-about : {X : Type 0} (cs ds rs : List (List X)) (xs : List X) (n i j s at : ℕ) (old : List X) → IsTable cs n → rs ≡ cs → IsPartAbout length rs at i j s → joined cs ≡ xs → ds ≡ cs → old ≡ joined (slice_range ds i j) → IsOfPart cs xs i j s at old
+of-about cs ds rs xs n i j s at old table e a all d is =
+    let start : s ≡ length (joined (take i cs)) = start-read cs rs i s e a.is in
+    let p : IsPart cs xs i j s old = is-part cs ds xs i j s old a.order all start d is in
+    let end : length (joined (take j cs)) ≡ s + length old = part-end cs i j p.order ∙ omega (arith, start, ap length p.items) in
+    let read : sum_by length (take j rs) ≡ length (joined (take j cs)) = sum-joined (take j rs) ∙ ap (λ l. length (joined (take j l))) e in
+    let whole : sum_by length rs ≡ length xs = sum-joined rs ∙ ap (λ l. length (joined l)) e ∙ ap length all in
+    record {
+      part = p;
+      place = record {
+        from = a.from;
+        before = λ h. omega (arith, a.from, read, end, whole, a.before (omega (arith, whole)));
+        behind = λ h. omega (arith, a.from, read, end, whole, a.behind (omega (arith, whole)));
+      };
+    }
+
+-- a change of the items of some parts
+module _ {X : Type 0} (cs ds : List (List X)) (xs : List X) (i j s at : ℕ) (old : List X) (p : IsOfPart cs xs i j s at old) (same : ds ≡ cs) where
+  pub part-small : length old ≤ length xs
+  part-small = omega (arith, sum-parts cs ds xs i j s old p.part same)
+
+  pub place-of : (made : List X) (change : ItemChange X) → made ≡ old → IsPositionOf change at xs → IsPositionOf change (at - s) made
+  place-of made (Replace item) e h = omega (arith, ap length e, p.place.before h)
+  place-of made Remove e h = omega (arith, ap length e, p.place.before h)
+  place-of made (Insert item) e h = (omega (arith, ap length e, p.place.behind h.0), omega (arith, ap length e, part-small, h.1))
+
+  pub changed-in : (made new : List X) (change : ItemChange X) → made ≡ old → new ≡ changed change (at - s) made → IsPositionOf change at xs → joined (take i ds) ++ new ++ joined (drop j ds) ≡ changed change at xs
+  changed-in made new (Replace item) e is h = replaced cs ds xs i j s at old new item p.part p.place same (is ∙ ap (λ l. slice_set l (at - s) item) e) h
+  changed-in made new Remove e is h = removed cs ds xs i j s at old new p.part p.place same (is ∙ ap (λ l. remove l (at - s)) e) h
+  changed-in made new (Insert item) e is h = inserted cs ds xs i j s at old new item p.part p.place same (is ∙ ap (λ l. insert l (at - s) item) e) h.0
+
+  pub few-in : (made new : List X) (change : ItemChange X) → made ≡ old → new ≡ changed change (at - s) made → IsPositionOf change at xs → length xs < 2 ^ 32 → length (joined (take i ds)) + length new + length (joined (drop j ds)) < 2 ^ 32
+  few-in made new change e is h few =
+      omega (
+        arith,
+        length-append (joined (take i ds) ++ new) (joined (drop j ds)),
+        length-append (joined (take i ds)) new,
+        ap length (changed-in made new change e is h),
+        few-changed change at xs h few,
+      )
 
 -- items that were cut in two, put behind others
 cut-same : {X : Type 0} (old first second : List X) (k : ℕ) → first ≡ take k old → second ≡ drop k old → first ++ second ≡ old

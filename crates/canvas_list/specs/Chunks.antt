@@ -26,6 +26,15 @@ pub record IsSpot {P : Type 0} (size : P → ℕ) (parts : List P) (at part star
   pub from : start ≤ at
   pub upto : part + 1 < length parts → at < sum_by size (take (part + 1) parts)
 
+-- of parts of some sizes, some side by side that have a position: from the first up to the end, and where they start
+pub record IsPartAbout {P : Type 0} (size : P → ℕ) (parts : List P) (at first end start : ℕ) : Type 0 where
+  pub order : first ≤ end
+  pub within : end ≤ length parts
+  pub is : start ≡ sum_by size (take first parts)
+  pub from : start ≤ at
+  pub before : at < sum_by size parts → at < sum_by size (take end parts)
+  pub behind : at ≤ sum_by size parts → at ≤ sum_by size (take end parts)
+
 -- whether the first item passes a test
 abbrev pub first_passes : {X : Type 0} → (X → Bool) → List X → Bool
 first_passes p [] = false

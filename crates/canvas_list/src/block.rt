@@ -1,17 +1,20 @@
 //! Chunks side by side, shared by all lists that have them.
 
-ghost use Rattle.std.specs.Prelude.{◌≡◌, ◌<◌, ◌≤◌, ◌+◌, ◌^◌, All, IfOk, cond, length};
-ghost use Rattle.std.specs.List.{insert, remove, slice_get};
+ghost use Rattle.std.specs.Prelude.{◌≡◌, ◌<◌, ◌^◌, All, IfOk, OnErr, OnOk, length, ⊤};
+ghost use Rattle.std.specs.Arc.{arc_value};
+ghost use Rattle.std.specs.List.{slice_get};
+ghost use Rattle.std.specs.Result.{is_ok};
 ghost use Rattle.canvas_list.specs.Chunks.{joined, FitsChunk};
-ghost use Rattle.canvas_list.specs.Changed.{changed_if, replaced_run, IsPositionOf};
+ghost use Rattle.canvas_list.specs.Changed.{changed_if, IsKept, IsPositionOf};
 
+use crate::also::Also;
 use crate::chunks::Chunks;
 use crate::counted::Counted;
 use crate::hint::Hint;
 use crate::in_place::ItemChange;
 use crate::noted::Noted;
 use crate::share::Share;
-use crate::table::SharedList;
+use crate::sizes::PartSizes;
 use canvas_code::OutOfMemory;
 use std::alloc::Global;
 use std::marker::Model;
@@ -70,149 +73,33 @@ impl<T: Share> Block<T> {
         &self.chunks
     }
 
-    /// Changes an item in place, if no other list shares the block and no other block the item's chunk. A
-    /// chunk gets so many items.
-    pub(crate) fn change(&mut self, at: usize, change: ItemChange<T>, per_chunk: usize) -> bool
-        requires chunk { FitsChunk per_chunk }
-        requires place { IsPositionOf change at self.old }
-        ensures { self.new ≡ changed_if result change at self.old }
-    {
-        let Some(chunks) = Arc::get_mut(&mut self.chunks) else {
-            drop(change);
-            return false;
-        };
-        let made = chunks.change(at, change, per_chunk);
-        if made {
-            self.noted = noted_after(self.noted, chunks, at);
-            self.summary = chunks.summary();
-        }
-        made
-    }
-
-    /// The same together with a change of a list: both are made in place, or neither.
-    pub(crate) fn change_both<U: Share>(
+    /// Changes an item together with something else. A table of chunks that another list shares is copied first.
+    pub(crate) fn change<O: Also>(
         &mut self,
+        alloc: Global,
         at: usize,
         change: ItemChange<T>,
-        per_chunk: usize,
-        other: &mut SharedList<U>,
-        other_at: usize,
-        other_change: ItemChange<U>,
-    ) -> bool
-        requires chunk { FitsChunk per_chunk }
+        sizes: PartSizes,
+        other: &mut O,
+        also: O::Change,
+    ) -> Result<(), OutOfMemory>
+        requires chunk { FitsChunk sizes.per_chunk }
         requires place { IsPositionOf change at self.old }
-        requires other { IsPositionOf other_change other_at other.old }
-        ensures items { self.new ≡ changed_if result change at self.old }
-        ensures other { other.new ≡ changed_if result other_change other_at other.old }
+        requires kept { IsKept change (length self.old) ⊤ }
+        requires other { O.may also other.old }
+        ensures items { self.new ≡ changed_if (is_ok result) change at self.old }
+        ensures made { OnOk result (O.makes also other.old other.new) }
+        ensures same { OnErr result (other.new ≡ other.old) }
     {
+        own_chunks(alloc, &mut self.chunks)?;
+        // They have no other owner now, which no clause tells.
         let Some(chunks) = Arc::get_mut(&mut self.chunks) else {
-            drop(change);
-            drop(other_change);
-            return false;
+            return Err(OutOfMemory);
         };
-        let made = chunks.change_both(at, change, per_chunk, other, other_at, other_change);
-        if made {
-            self.noted = noted_after(self.noted, chunks, at);
-            self.summary = chunks.summary();
-        }
-        made
-    }
-
-    /// Takes the item at `from` away and puts another in front of what then stands at `to`, or at the end, together
-    /// with a change of a list: both are made in place, or neither. A chunk gets so many items.
-    pub(crate) fn move_both<U: Share>(
-        &mut self,
-        from: usize,
-        to: usize,
-        item: T,
-        per_chunk: usize,
-        other: &mut SharedList<U>,
-        other_at: usize,
-        other_change: ItemChange<U>,
-    ) -> bool
-        requires chunk { FitsChunk per_chunk }
-        requires from { from < length self.old }
-        requires to { to < length self.old }
-        requires other { IsPositionOf other_change other_at other.old }
-        ensures items { self.new ≡ cond result (insert (remove self.old from) to item) self.old }
-        ensures other { other.new ≡ changed_if result other_change other_at other.old }
-    {
-        let Some(chunks) = Arc::get_mut(&mut self.chunks) else {
-            drop(other_change);
-            return false;
-        };
-        let made = chunks.move_both(from, to, item, per_chunk, other, other_at, other_change);
-        if made {
-            self.noted = noted_after(self.noted, chunks, 0);
-            self.summary = chunks.summary();
-        }
-        made
-    }
-
-    /// Takes the item at `from` away and puts another into another block, together with a change of a list: all is
-    /// made in place, or nothing. A chunk gets so many items.
-    pub(crate) fn move_to<U: Share>(
-        &mut self,
-        from: usize,
-        target: &mut Block<T>,
-        place: usize,
-        item: T,
-        per_chunk: usize,
-        other: &mut SharedList<U>,
-        other_at: usize,
-        other_change: ItemChange<U>,
-    ) -> bool
-        requires chunk { FitsChunk per_chunk }
-        requires from { from < length self.old }
-        requires place { IsPositionOf (ItemChange.Insert item) place target.old }
-        requires other { IsPositionOf other_change other_at other.old }
-        ensures items { self.new ≡ changed_if result ItemChange.Remove from self.old }
-        ensures some { 0 < length self.new }
-        ensures target { target.new ≡ changed_if result (ItemChange.Insert item) place target.old }
-        ensures other { other.new ≡ changed_if result other_change other_at other.old }
-    {
-        let Some(chunks) = Arc::get_mut(&mut self.chunks) else {
-            drop(other_change);
-            return false;
-        };
-        let Some(goal) = Arc::get_mut(&mut target.chunks) else {
-            drop(other_change);
-            return false;
-        };
-        let made = chunks.move_to(
-            from,
-            goal,
-            place,
-            item,
-            per_chunk,
-            other,
-            other_at,
-            other_change,
-        );
-        if made {
-            self.noted = noted_after(self.noted, chunks, from);
-            self.summary = chunks.summary();
-            target.noted = noted_after(target.noted, goal, place);
-            target.summary = goal.summary();
-        }
-        made
-    }
-
-    /// Puts items in the place of as many that stand side by side, from a position on: all in place, or none.
-    pub(crate) fn replace_run(&mut self, at: usize, items: Vec<T>) -> bool
-        requires some { 0 < length items.items }
-        requires within { at + length items.items ≤ length self.old }
-        ensures { self.new ≡ cond result (replaced_run at items.items self.old) self.old }
-    {
-        let Some(chunks) = Arc::get_mut(&mut self.chunks) else {
-            return false;
-        };
-        let made = chunks.replace_run(at, items);
-        if made {
-            self.noted = noted_after(self.noted, chunks, at);
-            self.summary = chunks.summary();
-        }
-        made
+        chunks.change(alloc, at, change, sizes, other, also)?;
+        self.noted = noted_after(self.noted, chunks, at);
+        self.summary = chunks.summary();
+        Ok(())
     }
 
     /// A summary of all items.
@@ -235,6 +122,8 @@ impl<T: Share> Block<T> {
 impl<T: Share> Counted for Block<T> {
     ghost size = { λ block. length block };
 
+    ghost has_room = { λ block. ⊤ };
+
     #[inline(always)]
     fn count(&self) -> usize {
         self.noted.count as usize
@@ -244,6 +133,25 @@ impl<T: Share> Counted for Block<T> {
     fn hint(&self) -> Hint {
         self.noted.hint()
     }
+
+    fn takes_more(&self, sizes: PartSizes) -> bool {
+        !self.chunks.is_over(sizes.per_block)
+    }
+
+    fn is_short_beside(&self, other: &Block<T>, sizes: PartSizes) -> bool {
+        self.chunks.is_small(sizes.per_block) && other.chunks.is_small(sizes.per_block)
+    }
+}
+
+// Copies a table of chunks that has another owner.
+fn own_chunks<T: Share>(alloc: Global, chunks: &mut Arc<Chunks<T>>) -> Result<(), OutOfMemory>
+    ensures { arc_value chunks.new ≡ arc_value chunks.old }
+{
+    if Arc::strong_count(chunks) > 1 {
+        let own = chunks.copied(alloc)?;
+        *chunks = Arc::new(alloc, own)?;
+    }
+    Ok(())
 }
 
 // What is noted of chunks of which an item was changed.

@@ -1,17 +1,19 @@
 //! Items side by side, shared by all lists that have them.
 
-ghost use Rattle.std.specs.Prelude.{◌≡◌, ◌<◌, ◌≤◌, ◌+◌, ◌++◌, All, IfOk, OnOk, cond, length, slice_set};
-ghost use Rattle.std.specs.List.{insert, remove, slice_get};
+ghost use Rattle.std.specs.Prelude.{◌≡◌, ◌<◌, ◌≤◌, ◌+◌, ◌++◌, All, IfOk, OnErr, OnOk, length};
+ghost use Rattle.std.specs.Arc.{arc_value};
+ghost use Rattle.std.specs.List.{slice_get};
+ghost use Rattle.std.specs.Result.{is_ok};
 ghost use Rattle.canvas_list.specs.Chunks.{joined, FitsChunk};
-ghost use Rattle.canvas_list.specs.Changed.{changed_if, replaced_run, IsPositionOf};
+ghost use Rattle.canvas_list.specs.Changed.{changed_if, IsKept, IsPositionOf};
 
+use crate::also::Also;
 use crate::counted::Counted;
 use crate::hint::Hint;
 use crate::in_place::{ItemChange, change_items, make_room};
 use crate::noted::Noted;
 use crate::share::Share;
-use crate::sizes::MOST_IN_CHUNK;
-use crate::table::SharedList;
+use crate::sizes::{MOST_IN_CHUNK, PartSizes};
 use canvas_code::OutOfMemory;
 use std::alloc::Global;
 use std::marker::Model;
@@ -73,195 +75,34 @@ impl<T: Share> Chunk<T> {
         &self.items
     }
 
-    /// Changes an item in place, if no other block shares the chunk, and answers whether it did. A chunk gets
-    /// so many items.
-    pub(crate) fn change(&mut self, at: usize, change: ItemChange<T>, per_chunk: usize) -> bool
-        requires chunk { FitsChunk per_chunk }
-        requires place { IsPositionOf change at self.old }
-        ensures { self.new ≡ changed_if result change at self.old }
-    {
-        let Some(items) = Arc::get_mut(&mut self.items) else {
-            drop(change);
-            return false;
-        };
-        if !make_room(items, &change, per_chunk) {
-            drop(change);
-            return false;
-        }
-        change_items(items, at, change);
-        self.noted = noted_after(self.noted, items, at);
-        self.summary = summary_of(items);
-        true
-    }
-
-    /// The same together with a change of a list: both are made in place, or neither.
-    pub(crate) fn change_both<U: Share>(
+    /// Changes an item together with something else. Items that another block shares are copied first, with room for so many.
+    pub(crate) fn change<O: Also>(
         &mut self,
-        at: usize,
-        change: ItemChange<T>,
-        per_chunk: usize,
-        other: &mut SharedList<U>,
-        other_at: usize,
-        other_change: ItemChange<U>,
-    ) -> bool
-        requires chunk { FitsChunk per_chunk }
-        requires place { IsPositionOf change at self.old }
-        requires other { IsPositionOf other_change other_at other.old }
-        ensures items { self.new ≡ changed_if result change at self.old }
-        ensures other { other.new ≡ changed_if result other_change other_at other.old }
-    {
-        let Some(items) = Arc::get_mut(&mut self.items) else {
-            drop(change);
-            drop(other_change);
-            return false;
-        };
-        if !make_room(items, &change, per_chunk) {
-            drop(change);
-            drop(other_change);
-            return false;
-        }
-        let made = other.change(other_at, other_change);
-        if !made {
-            drop(change);
-            return false;
-        }
-        change_items(items, at, change);
-        self.noted = noted_after(self.noted, items, at);
-        self.summary = summary_of(items);
-        true
-    }
-
-    /// Takes the item at `from` away and puts another in front of what then stands at `to`, or at the end, together
-    /// with a change of a list: both are made in place, or neither.
-    pub(crate) fn move_both<U: Share>(
-        &mut self,
-        from: usize,
-        to: usize,
-        item: T,
-        other: &mut SharedList<U>,
-        other_at: usize,
-        other_change: ItemChange<U>,
-    ) -> bool
-        requires from { from < length self.old }
-        requires to { to < length self.old }
-        requires other { IsPositionOf other_change other_at other.old }
-        ensures items { self.new ≡ cond result (insert (remove self.old from) to item) self.old }
-        ensures other { other.new ≡ changed_if result other_change other_at other.old }
-    {
-        let Some(items) = Arc::get_mut(&mut self.items) else {
-            drop(other_change);
-            return false;
-        };
-        if !other.change(other_at, other_change) {
-            return false;
-        }
-        items.remove(from);
-        // There is room, so it can't fail.
-        let _ = items.insert(to, item);
-        self.noted = noted_after(self.noted, items, 0);
-        self.summary = summary_of(items);
-        true
-    }
-
-    /// Takes the item at `at` away and puts another into another chunk, together with a change of a list: all is
-    /// made in place, or nothing. It is not made where no item would be left. A chunk gets so many items.
-    pub(crate) fn move_to<U: Share>(
-        &mut self,
-        at: usize,
-        target: &mut Chunk<T>,
-        place: usize,
-        item: T,
-        per_chunk: usize,
-        other: &mut SharedList<U>,
-        other_at: usize,
-        other_change: ItemChange<U>,
-    ) -> bool
-        requires chunk { FitsChunk per_chunk }
-        requires at { at < length self.old }
-        requires place { IsPositionOf (ItemChange.Insert item) place target.old }
-        requires other { IsPositionOf other_change other_at other.old }
-        ensures items { self.new ≡ changed_if result ItemChange.Remove at self.old }
-        ensures some { 0 < length self.new }
-        ensures target { target.new ≡ changed_if result (ItemChange.Insert item) place target.old }
-        ensures other { other.new ≡ changed_if result other_change other_at other.old }
-    {
-        let Some(items) = Arc::get_mut(&mut self.items) else {
-            drop(other_change);
-            return false;
-        };
-        if items.len() == 1 {
-            drop(other_change);
-            return false;
-        }
-        let insert = ItemChange::Insert(item);
-        if !target.change_both(place, insert, per_chunk, other, other_at, other_change) {
-            return false;
-        }
-        items.remove(at);
-        self.noted = noted_after(self.noted, items, at);
-        self.summary = summary_of(items);
-        true
-    }
-
-    /// Puts items in the place of as many that stand side by side, from a position on, here and in the chunks behind:
-    /// all in place, or none. None where a block shares one of these chunks, or room is refused.
-    pub(crate) fn replace_run(&mut self, at: usize, items: Vec<T>, behind: &mut [Chunk<T>]) -> bool
-        requires place { at ≤ length self.old }
-        requires within { at + length items.items ≤ length (self.old ++ joined behind.old) }
-        ensures items { self.new ++ joined behind.new ≡ cond result (replaced_run at items.items (self.old ++ joined behind.old)) (self.old ++ joined behind.old) }
-        ensures some { 0 < length self.new }
-        ensures some_behind { All (λ chunk. 0 < length chunk) behind.old → All (λ chunk. 0 < length chunk) behind.new }
-    {
-        let Some(own) = Arc::get_mut(&mut self.items) else {
-            return false;
-        };
-        let mut first = items;
-        let room = own.len() - at;
-        if first.len() > room {
-            let Ok(rest) = first.split_off(room) else {
-                return false;
-            };
-            let Some((next, others)) = behind.split_first_mut() else {
-                return false;
-            };
-            if !next.replace_run(0, rest, others) {
-                return false;
-            }
-        }
-        put_run(own, at, first);
-        self.noted = noted_after(self.noted, own, at);
-        self.summary = summary_of(own);
-        true
-    }
-
-    /// All items but one, to be changed, with room for as many as there are.
-    pub(crate) fn items_but(&self, alloc: Global, at: usize) -> Result<Vec<T>, OutOfMemory>
-        requires { at < length self.now }
-        ensures { IfOk result (λ items. items.items ≡ remove self.now at) }
-    {
-        let all = self.items();
-        let mut items = Vec::with_capacity(alloc, all.len())?;
-        push_shared(&mut items, &all[..at])?;
-        push_shared(&mut items, &all[at + 1..])?;
-        Ok(items)
-    }
-
-    /// The items with another one in the place of one.
-    pub(crate) fn items_with(
-        &self,
         alloc: Global,
         at: usize,
-        item: T,
-    ) -> Result<Vec<T>, OutOfMemory>
-        requires { at < length self.now }
-        ensures { IfOk result (λ items. items.items ≡ slice_set self.now at item) }
+        change: ItemChange<T>,
+        room: usize,
+        other: &mut O,
+        also: O::Change,
+    ) -> Result<(), OutOfMemory>
+        requires place { IsPositionOf change at self.old }
+        requires kept { IsKept change (length self.old) (FitsChunk (length self.old + 1)) }
+        requires other { O.may also other.old }
+        ensures items { self.new ≡ changed_if (is_ok result) change at self.old }
+        ensures made { OnOk result (O.makes also other.old other.new) }
+        ensures same { OnErr result (other.new ≡ other.old) }
     {
-        let all = self.items();
-        let mut items = Vec::with_capacity(alloc, all.len())?;
-        push_shared(&mut items, &all[..at])?;
-        items.push(item)?;
-        push_shared(&mut items, &all[at + 1..])?;
-        Ok(items)
+        own_items(alloc, &mut self.items, room)?;
+        // They have no other owner now, which no clause tells.
+        let Some(items) = Arc::get_mut(&mut self.items) else {
+            return Err(OutOfMemory);
+        };
+        make_room(items, &change, room)?;
+        other.make(alloc, also)?;
+        change_items(items, at, change);
+        self.noted = noted_after(self.noted, items, at);
+        self.summary = summary_of(items);
+        Ok(())
     }
 
     /// A summary of all items.
@@ -284,6 +125,8 @@ impl<T: Share> Chunk<T> {
 impl<T: Share> Counted for Chunk<T> {
     ghost size = { λ chunk. length chunk };
 
+    ghost has_room = { λ chunk. FitsChunk (length chunk + 1) };
+
     #[inline(always)]
     fn count(&self) -> usize {
         self.noted.count as usize
@@ -293,16 +136,30 @@ impl<T: Share> Counted for Chunk<T> {
     fn hint(&self) -> Hint {
         self.noted.hint()
     }
+
+    fn takes_more(&self, sizes: PartSizes) -> bool {
+        self.count() < sizes.per_chunk
+    }
+
+    fn is_short_beside(&self, other: &Chunk<T>, sizes: PartSizes) -> bool {
+        self.count() + other.count() <= sizes.per_chunk / 2
+    }
 }
 
-// Puts items in the place of as many, from a position on.
-fn put_run<T: Drop>(items: &mut Vec<T>, at: usize, mut others: Vec<T>)
-    requires { at + length others.items ≤ length items.old.items }
-    ensures items { items.new.items ≡ replaced_run at others.items items.old.items }
-    ensures long { length items.new.items ≡ length items.old.items }
+// Copies items that have another owner, with room for so many.
+fn own_items<T: Share>(
+    alloc: Global,
+    items: &mut Arc<Vec<T>>,
+    room: usize,
+) -> Result<(), OutOfMemory>
+    ensures { (arc_value items.new).items ≡ (arc_value items.old).items }
 {
-    let end = at + others.len();
-    items[at..end].swap_with_slice(&mut others);
+    if Arc::strong_count(items) > 1 {
+        let mut own = Vec::with_capacity(alloc, items.len().max(room))?;
+        push_shared(&mut own, items)?;
+        *items = Arc::new(alloc, own)?;
+    }
+    Ok(())
 }
 
 // What is noted of items of which some were changed, the first of them at a position.

@@ -3,6 +3,7 @@
 //! in place.
 #![tactic(auto)]
 
+mod also;
 mod block;
 mod chunk;
 mod chunk_items;
@@ -15,19 +16,17 @@ mod made;
 mod moves;
 mod noted;
 mod reader;
-mod run_in_place;
 mod search;
 mod share;
 mod sizes;
 mod splice;
 mod table;
-mod way;
 
 pub use hint::{Hint, Hinted, ShortHint};
 pub use in_place::ItemChange;
 pub use items::Items;
+pub use moves::ListChange;
 pub use reader::Reader;
 pub use search::{Found, FoundRange};
 pub use share::{Share, Shared};
 pub use table::SharedList;
-pub use way::Way;

@@ -1,16 +1,15 @@
 //! The list, as a table of its blocks.
 
-ghost use Rattle.std.specs.Prelude.{◌≡◌, ◌↔◌, ◌<◌, ◌≤◌, ◌+◌, ◌^◌, ◌++◌, ◌∷◌, [], IfOk, IsTrue, false, take, drop, length, slice_set, slice_index_or};
-ghost use Rattle.std.specs.List.{insert, remove, slice_get};
+ghost use Rattle.std.specs.Prelude.{◌≡◌, ◌↔◌, ◌<◌, ◌≤◌, ◌+◌, ◌^◌, ◌++◌, [], IfOk, IsTrue, take, drop, length, slice_index_or};
+ghost use Rattle.std.specs.List.{slice_get};
 ghost use Rattle.std.specs.Option.{option_copied};
-ghost use Rattle.canvas_list.specs.Chunks.{joined, FitsChunk};
+ghost use Rattle.canvas_list.specs.Chunks.{joined};
 
 use crate::block::{Block, chunks_of};
 use crate::chunk::Chunk;
-use crate::chunks::{Chunks, Part};
-use crate::counted::{Counted, count_of, spot_of};
+use crate::chunks::Chunks;
+use crate::counted::{Counted, Part, spot_of};
 use crate::share::Share;
-use crate::sizes::PartSizes;
 use canvas_code::OutOfMemory;
 use std::alloc::Global;
 use std::marker::Model;
@@ -208,180 +207,25 @@ impl<T: Share> SharedList<T> {
     }
 }
 
-impl<T: Share> SharedList<T> {
-    /// The list with another item at a position.
-    pub fn with_replaced(
-        &self,
-        alloc: Global,
-        at: usize,
-        item: T,
-    ) -> Result<SharedList<T>, OutOfMemory>
-        requires { at < length self.now }
-        ensures { IfOk result (λ list. list ≡ slice_set self.now at item) }
-    {
-        let spot = spot_of(&self.blocks, at);
-        let end = spot.chunk + 1;
-        let old = self.blocks[spot.chunk].chunks();
-        let sizes = PartSizes::of(self.len());
-        let new = old.with_replaced(alloc, at - spot.start, item, sizes.per_chunk)?;
-        spliced(alloc, &self.blocks, spot.chunk, end, new, sizes.per_block)
-    }
-
-    /// The list with one more item before the one at a position, or at the end.
-    pub fn with_inserted(
-        &self,
-        alloc: Global,
-        at: usize,
-        item: T,
-    ) -> Result<SharedList<T>, OutOfMemory>
-        requires within { at ≤ length self.now }
-        requires few { length self.now + 1 < 2 ^ 32 }
-        ensures { IfOk result (λ list. list ≡ insert self.now at item) }
-    {
-        let sizes = PartSizes::of(self.len());
-        if at == self.len() && ends_full(&self.blocks, sizes) {
-            return with_block(alloc, &self.blocks, self.blocks.len(), item, sizes);
-        }
-        if at == 0 && starts_full(&self.blocks, sizes) {
-            return with_block(alloc, &self.blocks, 0, item, sizes);
-        }
-        let spot = spot_of(&self.blocks, at);
-        let end = spot.chunk + 1;
-        let old = self.blocks[spot.chunk].chunks();
-        let new = old.with_inserted(alloc, at - spot.start, item, sizes.per_chunk)?;
-        let list = spliced(alloc, &self.blocks, spot.chunk, end, new, sizes.per_block)?;
-        list.balanced(alloc, sizes.per_block)
-    }
-
-    /// The list without the item at a position.
-    pub fn without(&self, alloc: Global, at: usize) -> Result<SharedList<T>, OutOfMemory>
-        requires { at < length self.now }
-        ensures { IfOk result (λ list. list ≡ remove self.now at) }
-    {
-        let spot = spot_of(&self.blocks, at);
-        let sizes = PartSizes::of(self.len());
-        let part = small_blocks_about(&self.blocks, spot.chunk, sizes.per_block);
-        let place = at - count_of(&self.blocks[..part.first]);
-        let new = without_in(
-            alloc,
-            &self.blocks[part.first..part.end],
-            place,
-            sizes.per_chunk,
-        )?;
-        spliced(
-            alloc,
-            &self.blocks,
-            part.first,
-            part.end,
-            new,
-            sizes.per_block,
-        )
-    }
-
-    /// The list without the item at a position, and with another one in front of what then stands at
-    /// `to`, or at the end. It copies less than the two changes in turn where both are near.
-    pub fn with_moved(
-        &self,
-        alloc: Global,
-        from: usize,
-        to: usize,
-        item: T,
-    ) -> Result<SharedList<T>, OutOfMemory>
-        requires from { from < length self.now }
-        requires to { to < length self.now }
-        ensures { IfOk result (λ list. list ≡ insert (remove self.now from) to item) }
-    {
-        let spot = spot_of(&self.blocks, from);
-        let end = spot.chunk + 1;
-        let old = self.blocks[spot.chunk].chunks();
-        if to < spot.start || to - spot.start >= old.len() {
-            return self.without(alloc, from)?.with_inserted(alloc, to, item);
-        }
-        let sizes = PartSizes::of(self.len());
-        let new = old.with_moved(
-            alloc,
-            from - spot.start,
-            to - spot.start,
-            item,
-            sizes.per_chunk,
-        )?;
-        spliced(alloc, &self.blocks, spot.chunk, end, new, sizes.per_block)
-    }
-}
-
-// The chunks of some blocks, without the item at a position. A chunk gets so many items.
-fn without_in<T: Share>(
+/// Other chunks in place of some blocks, where a block gets about so many.
+pub(crate) fn spliced<T: Share>(
     alloc: Global,
     blocks: &[Block<T>],
-    at: usize,
-    per_chunk: usize,
-) -> Result<Chunks<T>, OutOfMemory>
-    requires chunk { FitsChunk per_chunk }
-    requires within { at < length (joined blocks.now) }
-    requires few { length (joined blocks.now) < 2 ^ 32 }
-    ensures { IfOk result (λ chunks. chunks ≡ remove (joined blocks.now) at) }
-{
-    if blocks.len() == 1 {
-        return blocks[0].chunks().without(alloc, at, per_chunk);
-    }
-    chunks_of(alloc, blocks)?.without(alloc, at, per_chunk)
-}
-
-// Other chunks in place of some blocks, where a block gets about so many.
-fn spliced<T: Share>(
-    alloc: Global,
-    blocks: &[Block<T>],
-    first: usize,
-    end: usize,
+    part: Part,
     new: Chunks<T>,
     per_block: usize,
 ) -> Result<SharedList<T>, OutOfMemory>
     requires some { 0 < per_block }
-    requires first { first ≤ end }
-    requires end { end ≤ length blocks.now }
-    requires small { length (joined (take first blocks.now)) + length new + length (joined (drop end blocks.now)) < 2 ^ 32 }
-    ensures { IfOk result (λ list. list ≡ joined (take first blocks.now) ++ new ++ joined (drop end blocks.now)) }
+    requires first { part.first ≤ part.end }
+    requires end { part.end ≤ length blocks.now }
+    requires small { length (joined (take part.first blocks.now)) + length new + length (joined (drop part.end blocks.now)) < 2 ^ 32 }
+    ensures { IfOk result (λ list. list ≡ joined (take part.first blocks.now) ++ new ++ joined (drop part.end blocks.now)) }
 {
     SharedList::with_room(alloc, blocks.len() + 2)?
-        .and_all(&blocks[..first])?
+        .and_all(&blocks[..part.first])?
         .and_chunks(alloc, new, per_block)?
-        .and_all(&blocks[end..])
-}
-
-// One more block, of one item, before the one at a place or at the end.
-fn with_block<T: Share>(
-    alloc: Global,
-    blocks: &[Block<T>],
-    place: usize,
-    item: T,
-    sizes: PartSizes,
-) -> Result<SharedList<T>, OutOfMemory>
-    requires chunk { FitsChunk sizes.per_chunk }
-    requires some { 0 < sizes.per_block }
-    requires within { place ≤ length blocks.now }
-    requires few { length (joined blocks.now) + 1 < 2 ^ 32 }
-    ensures { IfOk result (λ list. list ≡ joined (take place blocks.now) ++ item ∷ joined (drop place blocks.now)) }
-{
-    let one = Chunks::empty(alloc).with_inserted(alloc, 0, item, sizes.per_chunk)?;
-    spliced(alloc, blocks, place, place, one, sizes.per_block)?.balanced(alloc, sizes.per_block)
-}
-
-// Whether the last block has no room for one more item at its end, or there is no block.
-fn ends_full<T: Share>(blocks: &[Block<T>], sizes: PartSizes) -> bool
-    ensures { result ≡ false → 0 < length blocks.now }
-{
-    match blocks.last() {
-        None => true,
-        Some(block) => block.chunks().ends_full(sizes),
-    }
-}
-
-// Whether the first block has no room for one more item at its start, or there is no block.
-fn starts_full<T: Share>(blocks: &[Block<T>], sizes: PartSizes) -> bool {
-    match blocks.first() {
-        None => true,
-        Some(block) => block.chunks().starts_full(sizes),
-    }
+        .and_all(&blocks[part.end..])?
+        .balanced(alloc, per_block)
 }
 
 // Whether blocks have well fewer chunks in the mean than a block gets. Blocks that were just made anew
@@ -392,35 +236,4 @@ fn have_few_chunks<T: Share>(blocks: &[Block<T>], per_block: usize) -> bool {
         chunks = chunks.saturating_add(block.chunks().chunks().len());
     }
     chunks / blocks.len().max(1) < per_block.saturating_mul(7) / 8
-}
-
-// A block, with one beside it if both are small.
-fn small_blocks_about<T: Share>(blocks: &[Block<T>], block: usize, per_block: usize) -> Part
-    requires { block < length blocks.now }
-    ensures first { result.first ≤ block }
-    ensures end { block < result.end }
-    ensures within { result.end ≤ length blocks.now }
-{
-    if !blocks[block].chunks().is_small(per_block) {
-        return Part {
-            first: block,
-            end: block + 1,
-        };
-    }
-    if block > 0 && blocks[block - 1].chunks().is_small(per_block) {
-        return Part {
-            first: block - 1,
-            end: block + 1,
-        };
-    }
-    if block + 1 < blocks.len() && blocks[block + 1].chunks().is_small(per_block) {
-        return Part {
-            first: block,
-            end: block + 2,
-        };
-    }
-    Part {
-        first: block,
-        end: block + 1,
-    }
 }

@@ -7,7 +7,6 @@ use Rattle.std.proofs.Math.Facts.{Fits-of_lt}
 use Rattle.std.proofs.lemmas.List.{get_or_default, get_or-set_same}
 use Rattle.std.proofs.lemmas.List.Edits.{insert_end, length-insert}
 use Rattle.std.proofs.lemmas.List.Elements.{Contains-push}
-use Rattle.canvas_list.specs.declared.in_place.ItemChange.{ItemChange}
 use Rattle.canvas_list.specs.declared.in_place.ItemChange.TheVariants.{Replace, Remove, Insert}
 use Rattle.canvas_list.specs.Changed.{changed_if}
 use Rattle.canvas_doc.specs.declared.bounds.Bounds.{Bounds}
@@ -145,11 +144,6 @@ module _ (d : Contents) (order : List Record) (bounds : List Bounds) (kept : IsK
       kept-is now (remove order k) made (remove bounds k) boxes f g
       (taken-kept d order bounds kept now (subst (λ (l : List Record). IsWellFormed (record { records = l; next = d.next })) (sym e) well) r at k within here p e)
 
-  -- a change that was not made
-  pub unmade-kept : (b : Bool) → b ≡ false → (other shape : ItemChange Record) (box : ItemChange Bounds) (at k : ℕ) → rs ≡ changed_if b other at d.records → made ≡ changed_if b shape k order → boxes ≡ changed_if b box k bounds → IsKeptInOrder (record { records = rs; next = d.next }) made boxes
-  unmade-kept false h other shape box at k e f g = stays e f g
-  unmade-kept true h other shape box at k e f g = cc
-
   pub added-if : (b : Bool) → b ≡ true → (n : ℕ) (s : Record) (box : Bounds) (last k : ℕ) → last ≡ length d.records → rs ≡ changed_if b (Insert s) last d.records → made ≡ changed_if b (Insert s) k order → boxes ≡ changed_if b (Insert box) k bounds → IsWellFormed (record { records = d.records ++ s ∷ []; next = n })
       → IsPlaceOf s.place order k → Suits order bounds s box → IsHeldAbove order bounds s box → IsKeptInOrder (record { records = rs; next = n }) made boxes
   added-if false h n s box last k end e f g well p suits above = cc
@@ -183,19 +177,6 @@ widened-kept d order bounds kept made boxes e bounded =
       in_order = subst (λ (l : List Record). IsInPlaceOrder l d.records) (sym e) kept.in_order;
       bounded = bounded;
     }
-
--- ---- contents after a change that was made, or not
-
-module _ (inside now : Contents) (same : inside ≡ now) (rs : List Record) where
-  pub added-is : (b : Bool) → b ≡ true → (s : Record) (last : ℕ) → last ≡ length inside.records → rs ≡ changed_if b (Insert s) last inside.records → record { records = rs; next = inside.next + 1 } ≡ cond b (record { records = now.records ++ s ∷ []; next = now.next + 1 }) now
-  added-is true h s last end e =
-      ap (λ (l : List Record). record { records = l; next = inside.next + 1 }) (e ∙ ap (λ m. insert inside.records m s) end ∙ insert_end inside.records s)
-      ∙ ap (λ (d : Contents). record { records = d.records ++ s ∷ []; next = d.next + 1 }) same
-  added-is false h s last end e = cc
-
-  pub unmade-is : (after : Contents) (b : Bool) → b ≡ false → (change : ItemChange Record) (at : ℕ) → rs ≡ changed_if b change at inside.records → record { records = rs; next = inside.next } ≡ cond b after now
-  unmade-is after false h change at e = ap (λ (l : List Record). record { records = l; next = inside.next }) e ∙ same
-  unmade-is after true h change at e = cc
 
 -- ---- room for one more record
 

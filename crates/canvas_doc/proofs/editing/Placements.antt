@@ -1,13 +1,14 @@
 -- Records by place and their bounds, as one list is read and changed.
-use Rattle.std.proofs.Common.{◌≡◌, ℕ, suc, ◌+◌, ◌-◌, ◌<◌, ◌≤◌, List, [], ◌∷◌, ◌++◌, Bool, true, false, cond, ap, sym, subst, ◌∙◌, arith, map, length, get_or, set, take, drop}
+use Rattle.std.proofs.Common.{◌≡◌, ℕ, suc, ◌+◌, ◌-◌, ◌<◌, ◌≤◌, List, [], ◌∷◌, ◌++◌, Bool, true, false, Result, Ok, Err, OnOk, OnErr, cond, ap, sym, subst, ◌∙◌, arith, map, length, get_or, set, take, drop}
 use Rattle.std.specs.List.{AllWithin, insert, remove, take-map, drop-map}
+use Rattle.std.specs.Result.{is_ok}
 use Rattle.std.specs.List.Sorted.{IsPartitionPoint, IsPartitionedBy}
 use Rattle.std.proofs.Math.ListN.{get_or-map}
 use Rattle.std.proofs.lemmas.List as list
 use Rattle.std.proofs.lemmas.List.{append_assoc, drop-drop, length-map, map-append, map-set, take-append-drop}
 use Rattle.canvas_list.specs.declared.in_place.ItemChange.{ItemChange}
 use Rattle.canvas_list.specs.declared.in_place.ItemChange.TheVariants.{Replace, Remove, Insert}
-use Rattle.canvas_list.specs.Changed.{changed_if, replaced_run, IsPositionOf}
+use Rattle.canvas_list.specs.Changed.{changed_if, IsPositionOf}
 use Rattle.canvas_doc.specs.declared.bounds.Bounds.{Bounds}
 use Rattle.canvas_doc.specs.declared.placed_shapes.PlacedShape.{PlacedShape}
 use Rattle.canvas_record.specs.declared.records.Record.{Record}
@@ -103,7 +104,17 @@ module _ (all : List PlacedShape) (p : Placements) (is : placements_of all ≡ p
       subst (λ l. IsPartitionPoint (λ r. q r ≡ true) (λ r. q r ≡ false) l at) shapes-are
       (map-point shape_of q all at b (found (map-parted shape_of q all (subst (IsPartitionedBy q) (sym shapes-are) parted))))
 
--- ---- a change in place
+-- ---- a change
+
+-- more of what a call made
+pub on-ok : {T E P Q : Type 0} (r : Result T E) → (P → Q) → OnOk r P → OnOk r Q
+on-ok (Ok t) f h = f h
+on-ok (Err e) f h = h
+
+-- what a call made, or left
+pub if-made : {X T E : Type 0} (r : Result T E) (new after before : X) → OnOk r (new ≡ after) → OnErr r (new ≡ before) → new ≡ cond (is_ok r) after before
+if-made (Ok t) new after before made same = made
+if-made (Err e) new after before made same = same
 
 pub place-changed : (list : List PlacedShape) (all : Placements) (at : ℕ) (ch : ItemChange PlacedShape) → placements_of list ≡ all → IsPositionOf (shape_change ch) at all.shapes → IsPositionOf ch at list
 place-changed list all at (Replace placed) e h = omega (arith, length-map list shape_of, ap length (shapes-are list all e))
@@ -122,7 +133,7 @@ bounds-changed list new all at (Replace placed) true e is = ap (map bounds_of) i
 bounds-changed list new all at Remove true e is = ap (map bounds_of) is ∙ map-remove bounds_of list at ∙ ap (λ l. remove l at) (bounds-are list all e)
 bounds-changed list new all at (Insert placed) true e is = ap (map bounds_of) is ∙ map-insert bounds_of list at placed ∙ ap (λ l. insert l at placed.bounds) (bounds-are list all e)
 
--- ---- a move in place
+-- ---- a move
 
 pub shapes-moved : (list new : List PlacedShape) (all : Placements) (from to : ℕ) (placed : PlacedShape) (made : Bool) → placements_of list ≡ all → new ≡ cond made (insert (remove list from) to placed) list → map shape_of new ≡ cond made (insert (remove all.shapes from) to placed.shape) all.shapes
 shapes-moved list new all from to placed false e is = ap (map shape_of) is ∙ shapes-are list all e
@@ -133,19 +144,3 @@ pub bounds-moved : (list new : List PlacedShape) (all : Placements) (from to : �
 bounds-moved list new all from to placed false e is = ap (map bounds_of) is ∙ bounds-are list all e
 bounds-moved list new all from to placed true e is =
     ap (map bounds_of) is ∙ map-insert bounds_of (remove list from) to placed ∙ ap (λ l. insert l to placed.bounds) (map-remove bounds_of list from ∙ ap (λ l. remove l from) (bounds-are list all e))
-
--- ---- others in the place of as many that stand side by side
-
-map-run : {X Y : Type 0} (f : X → Y) (list new items : List X) (others : List Y) (at : ℕ) (made : Bool) → map f list ≡ others → new ≡ cond made (replaced_run at items list) list → map f new ≡ cond made (replaced_run at (map f items) others) others
-map-run f list new items others at false all is = ap (map f) is ∙ all
-map-run f list new items others at true all is =
-    ap (map f) is
-    ∙ map-splice f list items at (at + length items)
-    ∙ ap (λ n. take at (map f list) ++ map f items ++ drop (at + n) (map f list)) (sym (length-map items f))
-    ∙ ap (replaced_run at (map f items)) all
-
-pub shapes-run : (list new items : List PlacedShape) (all : Placements) (at : ℕ) (made : Bool) → placements_of list ≡ all → new ≡ cond made (replaced_run at items list) list → map shape_of new ≡ cond made (replaced_run at (map shape_of items) all.shapes) all.shapes
-shapes-run list new items all at made e is = map-run shape_of list new items all.shapes at made (shapes-are list all e) is
-
-pub bounds-run : (list new items : List PlacedShape) (all : Placements) (at : ℕ) (made : Bool) → placements_of list ≡ all → new ≡ cond made (replaced_run at items list) list → map bounds_of new ≡ cond made (replaced_run at (map bounds_of items) all.bounds) all.bounds
-bounds-run list new items all at made e is = map-run bounds_of list new items all.bounds at made (bounds-are list all e) is

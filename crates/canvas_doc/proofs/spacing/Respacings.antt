@@ -1,19 +1,21 @@
 -- A document after the children of a parent got new indexes, each of which is found in the list of records by id.
-use Rattle.std.proofs.Common.{◌≡◌, ◌∙◌, ℕ, ◌+◌, ◌-◌, ◌^◌, ◌<◌, ◌≤◌, Bool, true, cond, List, ◌++◌, ap, arith, drop, filter, length, map, subst, sym, take}
+use Rattle.std.proofs.Common.{◌≡◌, ◌∙◌, ℕ, ℤ, ◌+◌, ◌-◌, ◌^◌, ◌<◌, ◌≤◌, List, ◌++◌, ap, arith, drop, filter, length, map, subst, sym, take}
 use Rattle.std.specs.Option.{unwrap_or}
 use Rattle.std.proofs.lemmas.List.{length-drop, length-map, length-take-le}
-use Rattle.canvas_list.specs.Changed.{replaced_run}
 use Rattle.canvas_doc.specs.declared.bounds.Bounds.{Bounds}
 use Rattle.canvas_record.specs.declared.records.Parent.{Parent}
 use Rattle.canvas_record.specs.declared.records.Record.{Record}
 use Rattle.canvas_doc.specs.Bounds.{AreBounds}
 use Rattle.canvas_record.specs.Children.{is_child}
 use Rattle.canvas_record.specs.Contents.{most_records, record_of, Contents, HaveIds, IsWellFormed}
-use Rattle.canvas_record.specs.Effect.{respaced}
+use Rattle.canvas_record.specs.declared.edits.Change.{Change}
+use Rattle.canvas_record.specs.declared.edits.Change.TheVariants.{Create, Move, Pose, Reshape, Show, Delete, Respace}
+use Rattle.canvas_record.specs.Effect.{effect_of, respaced, SpacesOnly}
+use Rattle.canvas_record.specs.Picture.{colour}
 use Rattle.canvas_doc.specs.PlaceOrder.{AreChildrenWithin, IsInPlaceOrder, IsKeptInOrder}
 use Rattle.canvas_doc.proofs.editing.Placements.{parts-whole}
 use Rattle.canvas_doc.proofs.boxes.Rebounded.{respaced-bounds}
-use Rattle.canvas_doc.proofs.spacing.Respaced.{respaced-well}
+use Rattle.canvas_doc.proofs.spacing.Respaced.{colour-respaced, respaced-well}
 use Rattle.canvas_doc.proofs.spacing.Respacing.{children-ids, each-respaced, order-respaced, respaced-order}
 
 -- a document, and where the children of a parent stand in the order
@@ -71,23 +73,14 @@ module _ (d : Contents) (order : List Record) (bounds : List Bounds) (p : Parent
       let within : start + length shapes ≤ length order = many-within in
       omega (arith, few, within, at.kept.in_order.long)
 
-  pub boxes-many : length boxes ≡ end - start
-  boxes-many =
-      let bound : end ≤ length order = at.children.bound in
-      let long : length bounds ≡ length order = at.kept.bounded.long in
-      ap length are.boxes_are ∙ length-take-le (end - start) (drop start bounds) (omega (arith, length-drop start bounds))
-
-  -- a run of so many ends with the children
-  run-ends : {X : Type 0} (xs items : List X) → length items ≡ end - start → replaced_run start items xs ≡ take start xs ++ items ++ drop end xs
-  run-ends xs items long =
-      let from : start ≤ end = at.children.from in
-      let there : start + length items ≡ end = omega arith in
-      ap (λ n. take start xs ++ items ++ drop n xs) there
-
-  -- the same where they were put in the place of the children
-  pub kept-in-place : (made : Bool) (records new : List Record) (boxes-new : List Bounds) → made ≡ true → records ≡ map (λ r. unwrap_or (record_of r.id shapes) r) d.records → new ≡ cond made (replaced_run start shapes order) order → boxes-new ≡ cond made (replaced_run start boxes bounds) bounds
-      → IsKeptInOrder (record d { records = records }) new boxes-new
-  kept-in-place made records new boxes-new done is new-is boxes-is =
-      kept-respaced records new boxes-new is
-      (new-is ∙ ap (λ m. cond m (replaced_run start shapes order) order) done ∙ run-ends order shapes shapes-many)
-      (boxes-is ∙ ap (λ m. cond m (replaced_run start boxes bounds) bounds) done ∙ run-ends bounds boxes boxes-many)
+-- a change that gives new indexes and nothing else changes no colour
+pub spaces-only : (ch : Change) (d : Contents) → SpacesOnly ch → IsWellFormed (effect_of ch d) → (x y : ℤ) → colour (effect_of ch d).records x y ≡ colour d.records x y
+spaces-only (Create id kind pose hidden place) d spaced well x y = absurd spaced
+spaces-only (Move id place) d spaced well x y = absurd spaced
+spaces-only (Pose id pose) d spaced well x y = absurd spaced
+spaces-only (Reshape id kind) d spaced well x y = absurd spaced
+spaces-only (Show id hidden) d spaced well x y = absurd spaced
+spaces-only (Delete id) d spaced well x y = absurd spaced
+spaces-only (Respace p) d spaced well x y =
+    let few : length d.records ≤ most_records = subst (λ n. n ≤ most_records) (length-map d.records (respaced p d.records)) well.few in
+    colour-respaced p d.records few x y

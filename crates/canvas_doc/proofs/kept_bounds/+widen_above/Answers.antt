@@ -1,5 +1,6 @@
 use Rattle.std.proofs.Common.{◌≡◌, ◌≢◌, ◌∙◌, ◌<◌, ◌-◌, arith, ℕ, List, Some, ap, length, refl, subst, sym}
 use Rattle.std.specs.List.{slice_get}
+use Rattle.std.specs.Result.{is_ok}
 use Rattle.std.proofs.lemmas.Option.{slice_get_within}
 use Rattle.canvas_record.specs.declared.records.Record.{Record}
 use Rattle.canvas_doc.specs.Bounds.{AreBounds}
@@ -10,7 +11,7 @@ use Rattle.canvas_doc.proofs.boxes.Rebounded.{no-own_child}
 use Rattle.canvas_doc.proofs.boxes.Widened.{group-at, group-limits}
 use Rattle.canvas_doc.proofs.boxes.WidenedAbove.{wider-if}
 use Rattle.canvas_doc.proofs.kept_bounds.+widen_above.Goals as goal
-use Rattle.canvas_doc.proofs.kept_bounds.+widen_above.Goals.{then-not-is_held_above, else-not-is_held_above}
+use Rattle.canvas_doc.proofs.kept_bounds.+widen_above.Goals.{then-not-is_held_above+in_ok-widen_above, else-not-is_held_above}
 
 fewer : (steps t : ℕ) → steps ≢ 0 → steps ≡ t → steps - 1 < t
 fewer steps t some is = omega (arith, some, is)
@@ -28,7 +29,7 @@ pub bounds_at-requires-then-is_held_above : goal.bounds_at-requires-then-is_held
 bounds_at-requires-then-is_held_above t c =
     let same : c.if-not-is_held_above.order.shapes ≡ c.args.order.now.shapes =
     elim c.if-not-is_held_above.branch [
-      | then-not-is_held_above w ↦ ap (λ (p : Placements). p.shapes) w.order-is ∙ w.widen_above.ensures.shapes
+      | then-not-is_held_above+in_ok-widen_above w ↦ ap (λ (p : Placements). p.shapes) w.order-is ∙ w.in_ok-widen_above.ensures.shapes
       | else-not-is_held_above w ↦ ap (λ (p : Placements). p.shapes) w.order-is
     ] in
     subst (λ (l : List Record). c.position_in-up.result < length l) (sym same) (slice_get_within c.args.order.now.shapes c.position_in-up.result c.in-Some.group.now (group-at c.args.order.now.shapes c.args.records.now c.requires.in_order c.requires.rising c.args.parent c.in-Some.group.now c.position_in-up.result c.in-Some.ensures c.position_in-up.ensures))
@@ -37,26 +38,26 @@ pub change_bounds-requires : goal.change_bounds-requires
 change_bounds-requires t c =
     let same : c.if-not-is_held_above.order.shapes ≡ c.args.order.now.shapes =
     elim c.if-not-is_held_above.branch [
-      | then-not-is_held_above w ↦ ap (λ (p : Placements). p.shapes) w.order-is ∙ w.widen_above.ensures.shapes
+      | then-not-is_held_above+in_ok-widen_above w ↦ ap (λ (p : Placements). p.shapes) w.order-is ∙ w.in_ok-widen_above.ensures.shapes
       | else-not-is_held_above w ↦ ap (λ (p : Placements). p.shapes) w.order-is
     ] in
     subst (λ (l : List Record). c.position_in-up.result < length l) (sym same) (slice_get_within c.args.order.now.shapes c.position_in-up.result c.in-Some.group.now (group-at c.args.order.now.shapes c.args.records.now c.requires.in_order c.requires.rising c.args.parent c.in-Some.group.now c.position_in-up.result c.in-Some.ensures c.position_in-up.ensures))
 
-pub returns-then-contains-clause-bounds : goal.returns-then-contains-clause-bounds
-returns-then-contains-clause-bounds t c =
+pub returns-in_ok-change_bounds-clause-bounds : goal.returns-in_ok-change_bounds-clause-bounds
+returns-in_ok-change_bounds-clause-bounds t c =
     let same : c.if-not-is_held_above.order.shapes ≡ c.args.order.now.shapes =
     elim c.if-not-is_held_above.branch [
-      | then-not-is_held_above w ↦ ap (λ (p : Placements). p.shapes) w.order-is ∙ w.widen_above.ensures.shapes
+      | then-not-is_held_above+in_ok-widen_above w ↦ ap (λ (p : Placements). p.shapes) w.order-is ∙ w.in_ok-widen_above.ensures.shapes
       | else-not-is_held_above w ↦ ap (λ (p : Placements). p.shapes) w.order-is
     ] in
     let kept : AreBounds c.if-not-is_held_above.order.shapes c.if-not-is_held_above.order.bounds =
     elim c.if-not-is_held_above.branch [
-      | then-not-is_held_above w ↦ subst (λ (p : Placements). AreBounds p.shapes p.bounds) (sym w.order-is) w.widen_above.ensures.bounds
+      | then-not-is_held_above+in_ok-widen_above w ↦ subst (λ (p : Placements). AreBounds p.shapes p.bounds) (sym w.order-is) w.in_ok-widen_above.ensures.bounds
       | else-not-is_held_above w ↦ subst (λ (p : Placements). AreBounds p.shapes p.bounds) (sym w.order-is) c.requires.bounded
     ] in
     let there : slice_get c.if-not-is_held_above.order.shapes c.position_in-up.result ≡ Some c.in-Some.group.now =
     subst (λ (l : List Record). slice_get l c.position_in-up.result ≡ Some c.in-Some.group.now) (sym same) (group-at c.args.order.now.shapes c.args.records.now c.requires.in_order c.requires.rising c.args.parent c.in-Some.group.now c.position_in-up.result c.in-Some.ensures c.position_in-up.ensures) in
-    wider-if c.change_bounds.result c.if-not-is_held_above.order.shapes c.change_bounds.new.self.shapes c.if-not-is_held_above.order.bounds c.change_bounds.new.self.bounds c.position_in-up.result c.in-Some.group.now c.bounds_at-then-is_held_above.result.now c.hull-wider.result
+    wider-if (is_ok c.change_bounds.result) c.if-not-is_held_above.order.shapes c.change_bounds.new.self.shapes c.if-not-is_held_above.order.bounds c.change_bounds.new.self.bounds c.position_in-up.result c.in-Some.group.now c.bounds_at-then-is_held_above.result.now c.hull-wider.result
     c.change_bounds.ensures.shapes c.change_bounds.ensures.bounds kept there c.bounds_at-then-is_held_above.ensures
     (c.contains.ensures c.if-contains.true)
     (group-limits c.args.order.now.shapes c.args.records.now c.requires.in_order c.requires.rising c.args.parent c.in-Some.group.now c.requires.limits c.in-Some.ensures).quarter
@@ -97,7 +98,7 @@ pub is_held_above-requires-2-clause-in_order : goal.is_held_above-requires-2-cla
 is_held_above-requires-2-clause-in_order t c =
     let same : c.if-not-is_held_above.order.shapes ≡ c.args.order.now.shapes =
     elim c.if-not-is_held_above.branch [
-      | then-not-is_held_above w ↦ ap (λ (p : Placements). p.shapes) w.order-is ∙ w.widen_above.ensures.shapes
+      | then-not-is_held_above+in_ok-widen_above w ↦ ap (λ (p : Placements). p.shapes) w.order-is ∙ w.in_ok-widen_above.ensures.shapes
       | else-not-is_held_above w ↦ ap (λ (p : Placements). p.shapes) w.order-is
     ] in
     subst (λ (l : List Record). IsInPlaceOrder l c.args.records.now) (sym same) c.requires.in_order
@@ -112,16 +113,16 @@ pub is_held_above-requires-2-clause-long : goal.is_held_above-requires-2-clause-
 is_held_above-requires-2-clause-long t c =
     let kept : AreBounds c.if-not-is_held_above.order.shapes c.if-not-is_held_above.order.bounds =
     elim c.if-not-is_held_above.branch [
-      | then-not-is_held_above w ↦ subst (λ (p : Placements). AreBounds p.shapes p.bounds) (sym w.order-is) w.widen_above.ensures.bounds
+      | then-not-is_held_above+in_ok-widen_above w ↦ subst (λ (p : Placements). AreBounds p.shapes p.bounds) (sym w.order-is) w.in_ok-widen_above.ensures.bounds
       | else-not-is_held_above w ↦ subst (λ (p : Placements). AreBounds p.shapes p.bounds) (sym w.order-is) c.requires.bounded
     ] in
     kept.long
 
-pub returns-then-contains-clause-shapes : goal.returns-then-contains-clause-shapes
-returns-then-contains-clause-shapes t c =
+pub returns-in_ok-change_bounds-clause-shapes : goal.returns-in_ok-change_bounds-clause-shapes
+returns-in_ok-change_bounds-clause-shapes t c =
     let same : c.if-not-is_held_above.order.shapes ≡ c.args.order.now.shapes =
     elim c.if-not-is_held_above.branch [
-      | then-not-is_held_above w ↦ ap (λ (p : Placements). p.shapes) w.order-is ∙ w.widen_above.ensures.shapes
+      | then-not-is_held_above+in_ok-widen_above w ↦ ap (λ (p : Placements). p.shapes) w.order-is ∙ w.in_ok-widen_above.ensures.shapes
       | else-not-is_held_above w ↦ ap (λ (p : Placements). p.shapes) w.order-is
     ] in
     c.change_bounds.ensures.shapes ∙ same

@@ -1,28 +1,29 @@
 use Rattle.std.proofs.Common.{arith}
-use Rattle.canvas_list.proofs.InPlace.{changed-part, items-after, part-fewer, place-in, table-after, some-after}
+use Rattle.std.specs.Result.{is_ok}
+use Rattle.canvas_list.proofs.InPlace.{changed-part, items-after, part-fewer, place-in, some-after, table-after}
 use Rattle.canvas_list.proofs.chunks.Chunks.change.Goals as goal
 
 pub change-made-requires-clause-place : goal.change-made-requires-clause-place
 change-made-requires-clause-place g c =
-    let p = changed-part c.self.inside.chunks.items c.deref.result.now c.args.self.now c.self.inside.count c.spot_of-spot.result.chunk c.spot_of-spot.result.start c.args.at c.index_mut-chunk.result.now c.args.change c.self.invariant c.deref.ensures.value c.spot_of-spot.ensures c.self.view_is c.index_mut-chunk.ensures.value c.requires.place in
-    place-in c.self.inside.chunks.items c.args.self.now c.self.inside.count c.spot_of-spot.result.chunk c.spot_of-spot.result.start c.args.at c.index_mut-chunk.result.now c.args.change p
+    let p = changed-part c.self.inside.chunks.items c.deref.result.now c.args.self.now c.self.inside.count c.in-Some.spot.chunk c.in-Some.spot.start c.args.at c.index_mut-chunk.result.now c.args.change c.self.invariant c.deref.ensures.value c.in-Some.ensures.spot c.self.view_is c.index_mut-chunk.ensures.value c.requires.place in
+    place-in c.self.inside.chunks.items c.args.self.now c.self.inside.count c.in-Some.spot.chunk c.in-Some.spot.start c.args.at c.index_mut-chunk.result.now c.args.change p
 
 pub overflow_sub-self : goal.overflow_sub-self
 overflow_sub-self g c =
-    let p = changed-part c.self.inside.chunks.items c.deref.result.now c.args.self.now c.self.inside.count c.spot_of-spot.result.chunk c.spot_of-spot.result.start c.args.at c.index_mut-chunk.result.now c.args.change c.self.invariant c.deref.ensures.value c.spot_of-spot.ensures c.self.view_is c.index_mut-chunk.ensures.value c.requires.place in
-    omega (arith, c.count-before.ensures.count, part-fewer c.self.inside.chunks.items c.args.self.now c.self.inside.count c.spot_of-spot.result.chunk c.spot_of-spot.result.start c.args.at c.index_mut-chunk.result.now c.args.change p)
+    let p = changed-part c.self.inside.chunks.items c.deref.result.now c.args.self.now c.self.inside.count c.in-Some.spot.chunk c.in-Some.spot.start c.args.at c.index_mut-chunk.result.now c.args.change c.self.invariant c.deref.ensures.value c.in-Some.ensures.spot c.self.view_is c.index_mut-chunk.ensures.value c.requires.place in
+    omega (arith, c.count-before.ensures.count, part-fewer c.self.inside.chunks.items c.args.self.now c.self.inside.count c.in-Some.spot.chunk c.in-Some.spot.start c.args.at c.index_mut-chunk.result.now c.args.change p)
 
-pub invariant_of-self : goal.invariant_of-self
-invariant_of-self g c =
-    let p = changed-part c.self.inside.chunks.items c.deref.result.now c.args.self.now c.self.inside.count c.spot_of-spot.result.chunk c.spot_of-spot.result.start c.args.at c.index_mut-chunk.result.now c.args.change c.self.invariant c.deref.ensures.value c.spot_of-spot.ensures c.self.view_is c.index_mut-chunk.ensures.value c.requires.place in
-    table-after c.self.inside.chunks.items c.args.self.now c.self.inside.count c.spot_of-spot.result.chunk c.spot_of-spot.result.start c.args.at c.index_mut-chunk.result.now c.change-made.result c.args.change c.change-made.new.self c.count-before.result c.count-after.result p c.change-made.ensures c.count-before.ensures.count c.count-after.ensures.count (omega (arith, c.count-after.ensures.count, c.count-after.ensures.some))
+pub invariant_of-self-2 : goal.invariant_of-self-2
+invariant_of-self-2 g c =
+    let p = changed-part c.self.inside.chunks.items c.deref.result.now c.args.self.now c.self.inside.count c.in-Some.spot.chunk c.in-Some.spot.start c.args.at c.index_mut-chunk.result.now c.args.change c.self.invariant c.deref.ensures.value c.in-Some.ensures.spot c.self.view_is c.index_mut-chunk.ensures.value c.requires.place in
+    table-after c.self.inside.chunks.items c.args.self.now c.self.inside.count c.in-Some.spot.chunk c.in-Some.spot.start c.args.at c.index_mut-chunk.result.now (is_ok c.change-made.result) c.args.change c.change-made.new.self c.count-before.result c.count-after.result p c.change-made.ensures.items c.count-before.ensures.count c.count-after.ensures.count (omega (arith, c.count-after.ensures.count, c.count-after.ensures.some))
 
 pub returns-clause-items : goal.returns-clause-items
 returns-clause-items g c =
-    let p = changed-part c.self.inside.chunks.items c.deref.result.now c.args.self.now c.self.inside.count c.spot_of-spot.result.chunk c.spot_of-spot.result.start c.args.at c.index_mut-chunk.result.now c.args.change c.self.invariant c.deref.ensures.value c.spot_of-spot.ensures c.self.view_is c.index_mut-chunk.ensures.value c.requires.place in
-    items-after c.self.inside.chunks.items c.args.self.now c.self.inside.count c.spot_of-spot.result.chunk c.spot_of-spot.result.start c.args.at c.index_mut-chunk.result.now c.change-made.result c.args.change c.change-made.new.self p c.change-made.ensures
+    let p = changed-part c.self.inside.chunks.items c.deref.result.now c.args.self.now c.self.inside.count c.in-Some.spot.chunk c.in-Some.spot.start c.args.at c.index_mut-chunk.result.now c.args.change c.self.invariant c.deref.ensures.value c.in-Some.ensures.spot c.self.view_is c.index_mut-chunk.ensures.value c.requires.place in
+    items-after c.self.inside.chunks.items c.args.self.now c.self.inside.count c.in-Some.spot.chunk c.in-Some.spot.start c.args.at c.index_mut-chunk.result.now (is_ok c.change-made.result) c.args.change c.change-made.new.self p c.change-made.ensures.items
 
 pub returns-clause-some : goal.returns-clause-some
 returns-clause-some g c =
-    let p = changed-part c.self.inside.chunks.items c.deref.result.now c.args.self.now c.self.inside.count c.spot_of-spot.result.chunk c.spot_of-spot.result.start c.args.at c.index_mut-chunk.result.now c.args.change c.self.invariant c.deref.ensures.value c.spot_of-spot.ensures c.self.view_is c.index_mut-chunk.ensures.value c.requires.place in
-    λ h. some-after c.self.inside.chunks.items c.args.self.now c.self.inside.count c.spot_of-spot.result.chunk c.spot_of-spot.result.start c.args.at c.index_mut-chunk.result.now c.change-made.result c.args.change c.change-made.new.self p c.count-after.ensures.some
+    let p = changed-part c.self.inside.chunks.items c.deref.result.now c.args.self.now c.self.inside.count c.in-Some.spot.chunk c.in-Some.spot.start c.args.at c.index_mut-chunk.result.now c.args.change c.self.invariant c.deref.ensures.value c.in-Some.ensures.spot c.self.view_is c.index_mut-chunk.ensures.value c.requires.place in
+    some-after c.self.inside.chunks.items c.args.self.now c.self.inside.count c.in-Some.spot.chunk c.in-Some.spot.start c.args.at c.index_mut-chunk.result.now (is_ok c.change-made.result) c.args.change c.change-made.new.self p c.count-after.ensures.some

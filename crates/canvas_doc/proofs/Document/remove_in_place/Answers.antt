@@ -1,9 +1,0 @@
-use Rattle.std.proofs.Common.{◌≡◌, cond, subst, sym}
-use Rattle.canvas_record.specs.Contents.{Contents, IsWellFormed}
-use Rattle.canvas_doc.proofs.Document.remove_in_place.Goals as goal
-
-pub remove_at_in_place-requires-clause-well_formed : goal.remove_at_in_place-requires-clause-well_formed
-remove_at_in_place-requires-clause-well_formed c = subst IsWellFormed c.in-Some.ensures.alone c.requires.left
-
-pub returns-in-Some : goal.returns-in-Some
-returns-in-Some c = subst (λ (d : Contents). c.remove_at_in_place.new.self ≡ cond c.remove_at_in_place.result d c.args.self.now) (sym c.in-Some.ensures.alone) c.remove_at_in_place.ensures

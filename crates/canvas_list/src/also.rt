@@ -1,0 +1,60 @@
+//! What is changed together with a list: both, or neither.
+
+ghost use Rattle.std.specs.Prelude.{◌≡◌, OnErr, OnOk, ⊤};
+ghost use Rattle.canvas_list.specs.Changed.{list_changed, MayChange};
+
+use crate::moves::ListChange;
+use crate::share::Share;
+use crate::table::SharedList;
+use canvas_code::OutOfMemory;
+use std::alloc::Global;
+
+/// What may be changed together with a list. A list makes that change once its own can't fail any more, and makes its own after that.
+pub(crate) trait Also {
+    /// A change of it.
+    type Change: Drop;
+
+    // The change may be made.
+    ghost may: { Self.Change → Self → Type 0 };
+
+    // The change leads from one to another.
+    ghost makes: { Self.Change → Self → Self → Type 0 };
+
+    /// Makes the change. Where memory is refused, nothing is changed.
+    fn make(&mut self, alloc: Global, change: Self::Change) -> Result<(), OutOfMemory>
+        requires { may change self.old }
+        ensures made { OnOk result (makes change self.old self.new) }
+        ensures same { OnErr result (self.new ≡ self.old) };
+}
+
+/// Nothing: a list is changed alone.
+#[derive(Drop)]
+pub(crate) struct Alone;
+
+impl Also for Alone {
+    type Change = ();
+
+    ghost may = { λ change alone. ⊤ };
+
+    ghost makes = { λ change old new. ⊤ };
+
+    #[inline(always)]
+    fn make(&mut self, _: Global, _: ()) -> Result<(), OutOfMemory> {
+        Ok(())
+    }
+}
+
+impl<T: Share> Also for SharedList<T> {
+    type Change = ListChange<T>;
+
+    ghost may = { λ change list. MayChange change list };
+
+    ghost makes = { λ change old new. new ≡ list_changed change old };
+
+    fn make(&mut self, alloc: Global, change: ListChange<T>) -> Result<(), OutOfMemory> {
+        match change {
+            ListChange::At(at, change) => self.change(alloc, at, change),
+            ListChange::Move(from, to, item) => self.shift(alloc, from, to, item),
+        }
+    }
+}
