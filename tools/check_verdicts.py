@@ -76,6 +76,8 @@ def faults_of_contracts():
         ("a clause", SOURCE.replace(") -> u32 {", ") -> u32\n    ensures { result ≡ side }\n{"), False),
     ):
         yield None if (without_bodies(text) == bare) == is_same else f"{what}: without bodies it reads {without_bodies(text)!r}"
+    parted = SOURCE.replace(") -> u32 {", ") -> u32\n    ensures { result ≡ side }\n\n    ensures { result ≤ side }\n{")
+    yield None if "    side\n" not in without_bodies(parted) else "the body below a contract of two parts is still there"
     constant = SOURCE.replace("pub fn", "pub const fn")
     yield None if "    side\n" in without_bodies(constant) else "the body of a const fn is gone"
 

@@ -39,7 +39,7 @@ def opening(lines, at, indent):
         line = lines[number]
         if line == f"{indent}{{" or line.endswith(" {") and (number == at or line.startswith(f"{indent})")):
             return number
-        if not line or number > at and HEAD.match(line) or line.endswith(("{}", ";", "}")) and not line.startswith(f"{indent} "):
+        if number > at and HEAD.match(line) or line.endswith(("{}", ";", "}")) and not line.startswith(f"{indent} "):
             return None
     return None
 

@@ -8,7 +8,7 @@ use Rattle.canvas_record.specs.declared.edits.Change.{Change}
 use Rattle.canvas_record.specs.declared.edits.Edit.{Edit}
 use Rattle.canvas_record.specs.Contents.{Contents, IsWellFormed}
 use Rattle.canvas_record.specs.History.{replay_of, AllFit}
-use Rattle.canvas_record.proofs.Damaged.{damage-keeps}
+use Rattle.canvas_doc.proofs.extents.Damaged.{damage-keeps}
 use Rattle.canvas_record.proofs.Histories.{all_fit-front, replay-append, replay-well}
 use Rattle.canvas_line.specs.declared.version.Version.{Version}
 use Rattle.canvas_line.specs.declared.fault.Edited.{Edited}

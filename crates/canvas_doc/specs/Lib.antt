@@ -1,1 +1,9 @@
+pub mod Listed
+pub mod PlaceOrder
+pub mod Ends
+pub mod Edges
+pub mod Bounds
+pub mod Heights
+pub mod Fitting
+pub mod Deletion
 pub mod Placements

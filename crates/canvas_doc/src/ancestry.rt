@@ -6,7 +6,7 @@ ghost use Rattle.std.specs.Option.{option_copied};
 ghost use Rattle.canvas_record.specs.Contents.{record_of, reaches_page, is_container, AreRising};
 ghost use Rattle.canvas_record.specs.Effect.{is_below};
 ghost use Rattle.canvas_record.specs.Depth.{depth_of, height_of, is_above_32};
-ghost use Rattle.canvas_record.specs.Heights.{tallest};
+ghost use Rattle.canvas_doc.specs.Heights.{tallest};
 ghost use Rattle.canvas_record.specs.declared.records.Parent.TheVariants.{Shape};
 ghost use Rattle.canvas_record.specs.Decision.{has_shape, has_parent, can_have_children, holds_container, lies_too_deep, put_under, parent_after};
 
@@ -72,7 +72,7 @@ pub(crate) fn can_have_children(records: &Records, parent: Parent) -> bool
 }
 
 // Whether a parent is the shape or lies below it.
-#[tactic(auto, using(canvas_record::proofs::Paths::below_rules))]
+#[tactic(auto, using(crate::proofs::tree::Paths::below_rules))]
 pub(crate) fn is_below(records: &Records, steps: u32, id: u32, parent: Parent) -> bool
     requires { AreRising records.now }
     ensures { result ≡ is_below steps id records.now parent }
@@ -90,7 +90,7 @@ pub(crate) fn is_below(records: &Records, steps: u32, id: u32, parent: Parent) -
 }
 
 // Whether following parents reaches the page.
-#[tactic(auto, using(canvas_record::proofs::Paths::reach_rules))]
+#[tactic(auto, using(crate::proofs::tree::Paths::reach_rules))]
 pub(crate) fn reaches_page(records: &Records, steps: u32, parent: Parent) -> bool
     requires { AreRising records.now }
     ensures { result ≡ reaches_page steps records.now parent }
@@ -119,7 +119,7 @@ fn parent_after(shape: &Record, id: u32, under: Parent) -> Parent
 }
 
 // Whether following parents reaches the page once a shape hangs under another parent.
-#[tactic(auto, using(canvas_record::proofs::Paths::reach_rules))]
+#[tactic(auto, using(crate::proofs::tree::Paths::reach_rules))]
 fn reaches_page_after(records: &Records, steps: u32, id: u32, under: Parent, parent: Parent) -> bool
     requires { AreRising records.now }
     ensures { result ≡ reaches_page steps (put_under id under records.now) parent }
@@ -154,7 +154,7 @@ pub(crate) fn lies_too_deep(records: &Records, id: u32, under: Parent) -> bool
 }
 
 // How many shapes lie on the path from a parent to the page.
-#[tactic(auto, using(canvas_record::proofs::Paths::depth_rules))]
+#[tactic(auto, using(crate::proofs::tree::Paths::depth_rules))]
 fn depth_of(records: &Records, steps: u32, parent: Parent) -> u32
     requires { AreRising records.now }
     ensures value { result ≡ depth_of steps records.now parent }

@@ -7,10 +7,11 @@ ghost use Rattle.canvas_record.specs.Picture.{answer_among, answer_of, or_else, 
 ghost use Rattle.canvas_record.specs.Tree.{IsInLimits};
 
 use crate::Document;
+use crate::bounds::Bounds;
 use crate::place_order::children_of;
 use canvas_list::FoundRange;
 use canvas_plane::{PageBox, Pose};
-use canvas_record::{Bounds, Parent, Record};
+use canvas_record::{Parent, Record};
 use canvas_shape::{Colour, Kind};
 
 impl Document {

@@ -6,8 +6,8 @@ ghost use Rattle.std.specs.List.Sorted.{IsStrictlySortedBy};
 ghost use Rattle.canvas_record.specs.Children.{is_child};
 ghost use Rattle.canvas_record.specs.Contents.{AreRising};
 ghost use Rattle.canvas_record.specs.declared.records.Parent.TheVariants.{Shape};
-ghost use Rattle.canvas_record.specs.Deletion.{is_held, has_id_of, container_ids, containers_under, holders_below, AreLists};
-ghost use Rattle.canvas_record.specs.PlaceOrder.{comes_first};
+ghost use Rattle.canvas_doc.specs.Deletion.{is_held, has_id_of, container_ids, containers_under, holders_below, AreLists};
+ghost use Rattle.canvas_doc.specs.PlaceOrder.{comes_first};
 
 use crate::ancestry::is_container;
 use crate::lookup::position_of;

@@ -4,7 +4,7 @@ ghost use Rattle.std.specs.Prelude.{◌≡◌, ◌<◌, ◌+◌, ◌++◌, ◌�
 ghost use Rattle.std.specs.List.{remove};
 ghost use Rattle.std.specs.Result.{is_ok};
 ghost use Rattle.canvas_record.specs.declared.records.Record.{Record};
-ghost use Rattle.canvas_record.specs.Bounds.{HaveOneShape};
+ghost use Rattle.canvas_doc.specs.Bounds.{HaveOneShape};
 ghost use Rattle.canvas_record.specs.Contents.{IsWellFormed};
 ghost use Rattle.canvas_record.specs.Effect.{changed_by};
 

@@ -4,7 +4,7 @@ ghost use Rattle.std.specs.Prelude.{◌≡◌, Decides, IsTrue};
 ghost use Rattle.canvas_key.specs.Text.{IsKey};
 ghost use Rattle.canvas_record.specs.Contents.{IsWellFormed};
 ghost use Rattle.canvas_record.specs.Effect.{Fits, HasKey};
-ghost use Rattle.canvas_record.specs.Fitting.{creation_test, fits_test, has_no_child, kind_test, move_test};
+ghost use Rattle.canvas_doc.specs.Fitting.{creation_test, fits_test, has_no_child, kind_test, move_test};
 
 use crate::ancestry::{has_parent, has_shape, is_container, lies_too_deep, reaches_page};
 use crate::decisions::is_pose;

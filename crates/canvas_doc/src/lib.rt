@@ -6,9 +6,11 @@ ghost use Rattle.std.specs.Prelude.{◌≡◌, [], length};
 ghost use Rattle.std.specs.Option.{option_copied};
 
 mod ancestry;
+mod bounds;
 mod changed;
 mod colour;
 mod copies;
+mod corners;
 mod damage;
 mod decisions;
 mod deletion;
@@ -45,7 +47,7 @@ pub struct Document {
 
 impl Model for Document {
     ghost use Rattle.canvas_record.specs.Contents.{Contents};
-    ghost use Rattle.canvas_record.specs.PlaceOrder.{IsKeptInOrder};
+    ghost use Rattle.canvas_doc.specs.PlaceOrder.{IsKeptInOrder};
 
     ghost Value = { Contents };
 

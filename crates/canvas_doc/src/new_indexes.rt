@@ -8,7 +8,7 @@ ghost use Rattle.canvas_record.specs.Children.{is_child};
 ghost use Rattle.canvas_record.specs.Contents.{record_of, HaveIds, AreRising, most_records};
 ghost use Rattle.canvas_record.specs.Effect.{respaced};
 ghost use Rattle.canvas_doc.specs.Placements.{placements_of};
-ghost use Rattle.canvas_record.specs.PlaceOrder.{comes_first, AreChildrenWithin};
+ghost use Rattle.canvas_doc.specs.PlaceOrder.{comes_first, AreChildrenWithin};
 
 use crate::Document;
 use crate::lookup::position_of;

@@ -6,16 +6,17 @@ ghost use Rattle.canvas_plane.specs.Motion.{carry, reach_of};
 ghost use Rattle.canvas_plane.specs.Page.{is_in};
 ghost use Rattle.canvas_record.specs.Children.{IsPartOf, children, is_child};
 ghost use Rattle.canvas_record.specs.Picture.{answer_of, first_answer};
-ghost use Rattle.canvas_record.specs.PlaceOrder.{comes_first};
+ghost use Rattle.canvas_doc.specs.PlaceOrder.{comes_first};
 ghost use Rattle.canvas_record.specs.Tree.{IsInLimits};
 
 use crate::Document;
+use crate::bounds::Bounds;
 use crate::place_order::children_of;
 use crate::placed_shapes::PlacedShapes;
 use canvas_code::OutOfMemory;
 use canvas_list::FoundRange;
 use canvas_plane::{PageBox, Pose};
-use canvas_record::{Bounds, Parent, Record};
+use canvas_record::{Parent, Record};
 use std::alloc::Allocator;
 
 /// How many children that may show get room at once, at most: those of most parents.

@@ -5,9 +5,9 @@ ghost use Rattle.std.specs.Prelude.{◌≡◌, ◌<◌, ◌^◌, IfOk, length};
 ghost use Rattle.std.specs.List.{remove};
 ghost use Rattle.std.specs.List.Sorted.{IsStrictlySortedBy};
 ghost use Rattle.std.specs.Ordering.{is_le, is_lt};
-ghost use Rattle.canvas_record.specs.Listed.{holder_of};
+ghost use Rattle.canvas_doc.specs.Listed.{holder_of};
 ghost use Rattle.canvas_doc.specs.Placements.{placements_of};
-ghost use Rattle.canvas_record.specs.PlaceOrder.{by_parent, by_place, comes_first, AreChildrenWithin, IsInPlaceOrder, IsPlaceOf};
+ghost use Rattle.canvas_doc.specs.PlaceOrder.{by_parent, by_place, comes_first, AreChildrenWithin, IsInPlaceOrder, IsPlaceOf};
 ghost use Rattle.canvas_record.specs.Tree.{HavePlaces};
 
 use crate::placed_shapes::{PlacedShape, PlacedShapes};

@@ -8,11 +8,12 @@ ghost use Rattle.canvas_list.specs.declared.in_place.ItemChange.TheVariants.{Rep
 ghost use Rattle.canvas_list.specs.Changed.{changed_if, IsPositionOf};
 ghost use Rattle.canvas_doc.specs.Placements.{bounds_change, placements_of, shape_change};
 
+use crate::bounds::Bounds;
 use crate::place_order::hint_of_place;
 use crate::records::{ListedRecord, Records};
 use canvas_code::OutOfMemory;
 use canvas_list::{Hint, ItemChange, ListChange, Reader, Share, Shared, SharedList, ShortHint};
-use canvas_record::{Bounds, Record};
+use canvas_record::Record;
 use std::alloc::Global;
 use std::marker::Model;
 
@@ -43,7 +44,7 @@ impl PlacedShape {
 
 // A summary of some shapes is a box that holds all that their bounds hold. A walk seeks those whose bounds meet a box.
 impl Share for PlacedShape {
-    ghost use Rattle.canvas_record.specs.Bounds.{IsWithinBounds, LieApart};
+    ghost use Rattle.canvas_doc.specs.Bounds.{IsWithinBounds, LieApart};
 
     type Summary = Bounds;
 

@@ -9,7 +9,7 @@ ghost use Rattle.canvas_key.specs.Text.{IsKey};
 ghost use Rattle.canvas_record.specs.Contents.{record_of, IsWellFormed, most_records};
 ghost use Rattle.canvas_record.specs.Decision.{can_have_children};
 ghost use Rattle.canvas_record.specs.Restored.{is_record, record_fault, leads_to_page, same_place, tree_fault, by_id, restoration_of, tree_fault_code};
-ghost use Rattle.canvas_record.specs.Listed.{GivesFirsts, holder_of, has_place};
+ghost use Rattle.canvas_doc.specs.Listed.{GivesFirsts, holder_of, has_place};
 
 use crate::Document;
 use crate::ancestry::{STEPS, is_container};
@@ -191,7 +191,7 @@ fn can_have_children(records: &[Record], firsts: &BTreeMap<u32, usize>, parent: 
 }
 
 // Whether following parents comes to the page within so many steps.
-#[tactic(auto, using(canvas_record::proofs::Leads::leads_rules))]
+#[tactic(auto, using(crate::proofs::restoring::Leads::leads_rules))]
 fn leads_to_page(
     records: &[Record],
     firsts: &BTreeMap<u32, usize>,

@@ -7,7 +7,7 @@ ghost use Rattle.canvas_key.specs.Order.{AreApart};
 ghost use Rattle.canvas_key.specs.Text.{IsKey, is_same};
 ghost use Rattle.canvas_key.specs.Between.{key_between};
 ghost use Rattle.canvas_record.specs.Siblings.{is_sibling, siblings, least_above, greatest_index, is_taken, with_room, index_at};
-ghost use Rattle.canvas_record.specs.Ends.{first_index, last_index};
+ghost use Rattle.canvas_doc.specs.Ends.{first_index, last_index};
 
 use crate::Document;
 use crate::lookup::find;

@@ -70,6 +70,13 @@ impl<D: Device + Drop, B: Lines> Keeper<D, B> {
         self.kept
     }
 
+    // How many versions it has seen, kept or not.
+    pub(crate) fn seen(&self) -> u64
+        ensures { result ≡ length self.now.line.front }
+    {
+        self.seat.number()
+    }
+
     /// Whether all that a seat of this line has seen is kept.
     pub fn has(&self, seat: &Seat<B>) -> bool
         requires { seat.now.name ≡ self.now.line.name }

@@ -4,6 +4,7 @@
 mod fault;
 mod keeper;
 mod opening;
+mod reach;
 mod replaying;
 mod settling;
 mod slot;

@@ -91,7 +91,7 @@ fn settled_until<B: Lines, H: Wait + Abort>(
         watch,
         mut two,
     } = line;
-    let keep = Keep::new(alloc, keeper, watch);
+    let keep = Keep::new(rt, alloc, keeper, watch).expect(rt, "a keep");
     let mut kept = 0;
     for made in 1..=EDITS {
         make(rt, &mut two, made);
@@ -99,6 +99,7 @@ fn settled_until<B: Lines, H: Wait + Abort>(
             match keep.settle(rt) {
                 Ok(settled) => {
                     equal(rt, "settled", &settled, &made);
+                    equal(rt, "settled again", &keep.settle(rt), &Ok(settled));
                     kept = settled;
                 }
                 Err(fault) => {

@@ -87,7 +87,7 @@ fn rest<B: Lines, H: Wait + Abort>(rt: &H, alloc: Global, line: Kept<B>) -> Part
         mut two,
     } = line;
     let mut told = keeper.kept();
-    let keep = Keep::new(alloc, keeper, watch);
+    let keep = Keep::new(rt, alloc, keeper, watch).expect(rt, "a keep");
     for version in told.saturating_add(1)..=EDITS {
         make_again(rt, &mut two, version);
         match keep.settle(rt) {

@@ -70,7 +70,8 @@ fn crowd_at<B: Lines + Send + Sync, H: Threads + Wait + Abort + Sync>(
 {
     let line = kept_line::<B, H>(rt, alloc, opened, document, disk).expect(rt, "a line");
     let Kept { keeper, watch, two } = line;
-    race(rt, &Keep::new(alloc, keeper, watch), two)
+    let keep = Keep::new(rt, alloc, keeper, watch).expect(rt, "a keep");
+    race(rt, &keep, two)
 }
 
 fn race<K: Waits + Sync, B: Lines + Send, H: Threads + Wait + Abort + Sync>(

@@ -1,4 +1,4 @@
--- The exchange that adds a change keeps the rule of the book.
+-- The exchange that adds a change keeps the rule of the book, and so does a look.
 use Rattle.std.proofs.Common.{◌≡◌, ℕ, ◌+◌, ◌<◌, ◌==◌, Bool, true, false, List, [], ◌∷◌, ◌++◌, length, refl, ap, sym, subst, arith, inl, length-append, None}
 use Rattle.std.proofs.lemmas.List.{append-nil}
 use Rattle.std.proofs.lemmas.Bool.Decides.{nat_tests}
@@ -6,7 +6,7 @@ use mathlib.Core.List.{IsPrefix}
 use prog.Atomic.{either}
 use Rattle.logbook.specs.Pages.{Cell, cell, keeps, no_nib, step, Moves, Goes}
 use Rattle.canvas_record.specs.declared.edits.Change.{Change}
-use Rattle.canvas_line.specs.Books.{IsKept, Adds}
+use Rattle.canvas_line.specs.Books.{IsKept, Adds, Looks}
 use Rattle.canvas_line.proofs.Prefixes.{prefix_whole}
 
 abbrev pub shown : List Change → List Change
@@ -48,3 +48,11 @@ pub adds_moves : (v : List Change) (e : Change) (old : ℕ) → length v ≡ old
 adds_moves v e old len cs log kept pre away =
     let P : List Cell → Type 0 = λ c. (0 < length c) × ((cell c 0).1 ≡ true) × Goes IsKept shown moved 0 (v, (no_nib, None)) (λ n. either (n == old) (old + 1) n) (Adds (step 0 old (old + 1) e) (v, (no_nib, None))) c log in
     subst P (sym kept) (omega arith, refl, adds_goes log v e old len pre (length log == old) refl)
+
+-- whatever the book is, a look adds nothing, and sees all of it
+pub looks_moves : (v : List Change) (e : Change)
+    → Moves IsKept shown moved 0 (v, (no_nib, None)) (λ n. n) (Looks (step 0 0 0 e) (v, (no_nib, None)))
+looks_moves v e cs log kept pre away =
+    let all : log ++ [] ≡ log = append-nil log in
+    let P : List Cell → Type 0 = λ c. (0 < length c) × ((cell c 0).1 ≡ true) × Goes IsKept shown moved 0 (v, (no_nib, None)) (λ n. n) (Looks (step 0 0 0 e) (v, (no_nib, None))) c log in
+    subst P (sym kept) (omega arith, refl, (keeps, [], None, tt, ap (λ (k : ℕ). (k, true) ∷ (0, true) ∷ []) (ap length (sym all)), inl (refl, refl), ap length all))

@@ -13,3 +13,7 @@ head_of b = record { tracked = true; key = 0; book = b }
 -- the change was added to all that had been seen; or the history was longer, and was seen
 abbrev pub Adds : Step Change → View Change ℕ → ℕ → View Change ℕ → Type 0
 Adds s v found w = MatchBool (found == s.old) (w.0 ≡ v.0 ++ s.ask ∷ []) (length w.0 ≡ found)
+
+-- the whole history was seen, and its length found
+abbrev pub Looks : Step Change → View Change ℕ → ℕ → View Change ℕ → Type 0
+Looks s v found w = length w.0 ≡ found

@@ -1,5 +1,7 @@
 //! What lies under the lock: the writer, the head of the history, and what is recorded of it.
 ghost use Rattle.std.specs.Prelude.{◌≡◌, ◌≤◌, [], None, length, IfOk, IfSome, MatchResult};
+ghost use Rattle.std.specs.Arc.{arc_value};
+ghost use Rattle.crossbeam_utils.specs.Padded.{padded_value};
 ghost use Rattle.canvas_record.specs.History.{AllFit};
 ghost use Rattle.canvas_line.specs.Lines.{Accepts, Rightly, Takes, line_of, recording};
 ghost use Rattle.canvas_line.specs.Rule.{Knows};
@@ -7,6 +9,7 @@ ghost use Rattle.left_right.specs.Sides.{view as seat_view};
 
 use crate::fault::{Edited, LineFault};
 use crate::front::{Head, Lines, Trace};
+use crate::herald::Herald;
 use crate::next::next_published;
 use crate::recorder::{Recorder, Taken};
 use crate::rule::Note;
@@ -14,7 +17,8 @@ use crate::version::Version;
 use crate::viewer::Viewer;
 use crate::writer::{LineWriter, publish_at};
 use canvas_doc::Edit;
-use std::alloc::Global;
+use crossbeam_utils::CachePadded;
+use std::alloc::{AllocError, Global};
 use std::marker::{Model, PhantomData};
 use std::mem::ManuallyDrop;
 use std::sync::{Arc, Wait};
@@ -24,7 +28,7 @@ use std::sync::{Arc, Wait};
 #[derive(Drop)]
 pub struct Desk<B: Lines> {
     writer: ManuallyDrop<LineWriter>,
-    head: Head,
+    head: Arc<CachePadded<Head>, Global>,
     name: u64,
     alloc: Global,
     // The version before the published one, and the one before that until it is taken. A desk keeps them so that no version
@@ -37,7 +41,9 @@ pub struct Desk<B: Lines> {
 
 impl<B: Lines> Model for Desk<B> {
     ghost use Rattle.std.specs.Prelude.{◌≡◌, ◌≤◌};
+    ghost use Rattle.std.specs.Arc.{arc_value};
     ghost use Rattle.std.specs.Mem.{manually_drop_value};
+    ghost use Rattle.crossbeam_utils.specs.Padded.{padded_value};
     ghost use Rattle.left_right.specs.Sides.{view as seat_view};
     ghost use Rattle.canvas_line.specs.Rule.{Knows};
     ghost use Rattle.canvas_line.specs.Lines.{Line, line_of};
@@ -47,14 +53,19 @@ impl<B: Lines> Model for Desk<B> {
 
     ghost view = { λ d. line_of d.name (B.line d.name) (manually_drop_value d.writer).desk.shown.value.changes d.recorder.taken };
 
-    ghost invariant = { λ d. Knows (seat_view (manually_drop_value d.writer).desk.place) (B.line d.name) × ((manually_drop_value d.writer).desk.shown.value.facts ≡ B.line d.name) × (d.head.word.book ≡ (B.line d.name).book) × ((B.line d.name).limit ≤ 1000000) × Records (B.line d.name).opening (manually_drop_value d.writer).desk.shown.value.changes d.recorder.taken d.recorder.edits.items };
+    ghost invariant = { λ d. Knows (seat_view (manually_drop_value d.writer).desk.place) (B.line d.name) × ((manually_drop_value d.writer).desk.shown.value.facts ≡ B.line d.name) × ((padded_value (arc_value d.head)).word.book ≡ (B.line d.name).book) × ((B.line d.name).limit ≤ 1000000) × Records (B.line d.name).opening (manually_drop_value d.writer).desk.shown.value.changes d.recorder.taken d.recorder.edits.items };
 }
 
 impl<B: Lines> Desk<B> {
     // The desk of a line, whose history is the writer's.
-    pub(crate) fn new(alloc: Global, name: u64, head: Head, writer: LineWriter) -> Desk<B>
+    pub(crate) fn new(
+        alloc: Global,
+        name: u64,
+        head: Arc<CachePadded<Head>, Global>,
+        writer: LineWriter,
+    ) -> Desk<B>
         requires view { Knows (seat_view writer.desk.place) (B.line name) }
-        requires facts { (writer.desk.shown.value.facts ≡ B.line name) × (head.word.book ≡ (B.line name).book) × ((B.line name).limit ≤ 1000000) }
+        requires facts { (writer.desk.shown.value.facts ≡ B.line name) × ((padded_value (arc_value head)).word.book ≡ (B.line name).book) × ((B.line name).limit ≤ 1000000) }
         ensures { result ≡ line_of name (B.line name) writer.desk.shown.value.changes None }
     {
         Desk {
@@ -93,6 +104,13 @@ impl<B: Lines> Desk<B> {
         ensures facts { (self.now.opening ≡ (B.line self.now.name).opening) × (self.now.limit ≡ (B.line self.now.name).limit) }
     {
         self.name
+    }
+
+    // Who tells how long the history is. Want of memory is the only refusal.
+    pub(crate) fn herald(&self) -> Result<Herald<B>, AllocError>
+        ensures { IfOk result (λ h. h ≡ self.now.name) }
+    {
+        Ok(Herald::new(Arc::try_clone(&self.head)?, self.name))
     }
 
     // The whole history.

@@ -57,6 +57,25 @@ impl Plain<Snapshot<Change>, Change, u64> for Add {
     ghost state = { λ change. None };
 }
 
+/// A step that finds how long the history is.
+pub struct Look;
+
+impl Play<Change, u64> for Look {
+    ghost use Rattle.canvas_line.specs.Books.{Looks};
+
+    ghost then = { Looks };
+}
+
+/// It asks for no change, so any will do.
+impl Plain<(), Change, u64> for Look {
+    ghost use Rattle.std.specs.Prelude.{None};
+    ghost use Rattle.canvas_record.specs.declared.edits.Change.TheVariants as change;
+
+    ghost ask = { λ _. change.Delete 0 };
+
+    ghost state = { λ _. None };
+}
+
 /// Gives a line's book, opening document and limit from the line's name. A program picks it where it opens its lines.
 pub trait Lines {
     ghost use Rattle.std.specs.Prelude.{ℕ};
@@ -89,6 +108,16 @@ impl Head {
         };
         (head, Trace { count: 0, seen })
     }
+
+    /// How long the history is by now: no shorter than any that was seen. Whose glimpse it is makes no difference.
+    pub(crate) fn number(&self, seen: &Glimpse) -> u64
+        requires { seen.now.book ≡ self.now.word.book }
+        ensures { length seen.now.changes ≤ result }
+    {
+        let mut seen = seen.seen.again();
+        let mut offer: Offer<Change, u64, Law, Nothing> = seen.plain::<Nothing, (), Look>(&());
+        self.word.load::<Look, Nothing>(&mut seen, &mut offer)
+    }
 }
 
 /// A new book with an empty history, which belongs to no line yet.
@@ -104,6 +133,20 @@ impl Opened {
         let (head, trace) = Head::open();
         Opened { head, trace }
     }
+}
+
+/// What was seen of a book's history, for clauses alone: it has no bytes, so nothing that runs rests on how much that is.
+#[derive(Drop)]
+pub struct Glimpse {
+    seen: Seen<Change, u64, Law>,
+}
+
+impl Model for Glimpse {
+    ghost use Rattle.canvas_line.specs.Trails.{Trail};
+
+    ghost Value = { Trail };
+
+    ghost view = { λ g. record { book = g.seen.book; changes = g.seen.log } };
 }
 
 /// A beginning of a book's history that was seen.
@@ -129,6 +172,15 @@ impl Trace {
         ensures { result ≡ length self.now.changes }
     {
         self.count
+    }
+
+    /// The same for clauses alone.
+    pub(crate) fn glimpse(&self) -> Glimpse
+        ensures { result ≡ self.now }
+    {
+        Glimpse {
+            seen: self.seen.again(),
+        }
     }
 
     /// A copy.

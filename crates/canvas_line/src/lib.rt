@@ -5,6 +5,7 @@
 mod desk;
 mod fault;
 mod front;
+mod herald;
 mod line;
 mod mark;
 mod next;
@@ -21,7 +22,8 @@ mod writer;
 
 pub use desk::Desk;
 pub use fault::{Edited, LineFault};
-pub use front::{Lines, Opened};
+pub use front::{Glimpse, Lines, Opened};
+pub use herald::Herald;
 pub use line::Line;
 pub use mark::Mark;
 pub use recent::{Damage, MOST_RECENT, Recent};

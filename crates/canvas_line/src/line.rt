@@ -50,6 +50,9 @@ impl Line {
             return Err(LineFault::BadSetting);
         }
         let Opened { head, trace } = opened;
+        let Ok(head) = Arc::new(alloc, CachePadded::new(head)) else {
+            return Err(LineFault::OutOfMemory);
+        };
         let viewers = (seats as usize).min(MOST_VIEWERS);
         let Ok(writer) = first_writer(rt, alloc, &trace, document, viewers, limit) else {
             return Err(LineFault::OutOfMemory);

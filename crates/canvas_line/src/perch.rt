@@ -8,7 +8,8 @@ ghost use Rattle.canvas_line.specs.declared.fault.LineFault.TheVariants as fault
 
 use crate::desk::Desk;
 use crate::fault::{Edited, LineFault};
-use crate::front::{Lines, Trace};
+use crate::front::{Glimpse, Lines, Trace};
+use crate::herald::Herald;
 use crate::mark::Mark;
 use crate::painters::Painters;
 use crate::published::Latest;
@@ -88,6 +89,14 @@ impl<B: Lines> Perch<B> {
         ensures { result ≡ length self.now.front }
     {
         self.trace.len()
+    }
+
+    /// The front, for clauses alone.
+    pub(crate) fn glimpse(&self) -> Glimpse
+        ensures book { result.book ≡ (B.line self.now.name).book }
+        ensures changes { result.changes ≡ self.now.front }
+    {
+        self.trace.glimpse()
     }
 
     /// A mark at the front.
@@ -210,6 +219,14 @@ impl<B: Lines> Perch<B> {
         desk.start_recording();
         self.follow(desk.trace());
         Ok(())
+    }
+
+    /// Who tells how long the desk's history is.
+    pub(crate) fn herald_at(&self, desk: &Desk<B>) -> Result<Herald<B>, LineFault>
+        ensures herald { IfOk result (λ h. h ≡ self.now.name) }
+    {
+        self.meets(desk)?;
+        Ok(desk.herald()?)
     }
 
     /// Takes what is pending at the desk, under its lock.

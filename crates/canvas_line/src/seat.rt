@@ -7,7 +7,8 @@ ghost use Rattle.canvas_line.specs.declared.fault.LineFault.TheVariants as fault
 
 use crate::desk::Desk;
 use crate::fault::{Edited, LineFault};
-use crate::front::Lines;
+use crate::front::{Glimpse, Lines};
+use crate::herald::Herald;
 use crate::mark::Mark;
 use crate::painters::Painters;
 use crate::perch::Perch;
@@ -137,6 +138,23 @@ impl<B: Lines> Seat<B> {
         ensures { result ≡ length self.now.front }
     {
         self.perch.number()
+    }
+
+    /// Who tells, without the lock, how many changes the line has accepted.
+    pub fn herald<R: Wait>(&self, rt: &R) -> Result<Herald<B>, LineFault>
+        ensures { IfOk result (λ h. h ≡ self.now.name) }
+    {
+        let Seat { desk, perch } = self;
+        let guard = held(rt, desk, perch.painters());
+        perch.herald_at(&*guard)
+    }
+
+    /// The front, for clauses alone.
+    pub fn glimpse(&self) -> Glimpse
+        ensures book { result.book ≡ (B.line self.now.name).book }
+        ensures changes { result.changes ≡ self.now.front }
+    {
+        self.perch.glimpse()
     }
 
     /// A mark at the front.

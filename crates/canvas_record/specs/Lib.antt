@@ -8,13 +8,5 @@ pub mod Decision
 pub mod Refused
 pub mod History
 pub mod Depth
-pub mod Heights
-pub mod Fitting
 pub mod Restored
-pub mod Listed
-pub mod PlaceOrder
-pub mod Ends
-pub mod Edges
-pub mod Bounds
 pub mod Damage
-pub mod Deletion

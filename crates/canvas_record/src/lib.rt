@@ -2,14 +2,11 @@
 //! document decides of an edit, what a change makes of a document and what it shows is defined here, on lists of records.
 #![tactic(auto)]
 
-mod bounds;
-mod corners;
 mod edits;
 mod records;
 mod refusals;
 mod tree_faults;
 
-pub use bounds::Bounds;
 pub use edits::{Change, Edit, Spot};
 pub use records::{Parent, Place, Record, Standing};
 pub use refusals::Refusal;

@@ -15,7 +15,7 @@ use Rattle.canvas_record.specs.declared.records.Record.{Record}
 use Rattle.canvas_record.specs.Contents.{Contents, IsWellFormed}
 use Rattle.canvas_record.specs.Restored.{is_record}
 use Rattle.canvas_record.specs.Tree.{IsInLimits}
-use Rattle.canvas_record.proofs.Saved.{restoration_of-same}
+use Rattle.canvas_doc.proofs.restoring.Saved.{restoration_of-same}
 use Rattle.canvas_saved.specs.declared.formats.Format.{Format}
 use Rattle.canvas_saved.specs.declared.formats.Format.TheVariants.{One, Two}
 use Rattle.canvas_saved.specs.declared.formats.Head.{Head}

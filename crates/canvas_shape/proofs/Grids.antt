@@ -8,9 +8,9 @@ use Rattle.std.specs.Prelude.{int_lt, nat_lt, min, int_le, unsigned_abs}
 use Rattle.std.proofs.lemmas.Bool.{cases_lt, lt-ltb, le-ltb, false≢true}
 use Rattle.std.proofs.lemmas.Int.{ints, to_z-of_z}
 use Rattle.std.proofs.lemmas.Nat.{div_below, le-div, mul-le, pow_pos}
-use Rattle.std.proofs.Math.Nat.{div-mul-le_self, pow-le-pow_right}
+use Rattle.std.proofs.Math.Nat.{div-mul-le_self, mul-lt-mul_of_pos_right, pow-le-pow_right}
 use Rattle.canvas_plane.specs.Sides.{scale_of}
-use Rattle.canvas_plane.specs.Window.{row_shown}
+use Rattle.canvas_plane.specs.Window.{column_shown, row_shown}
 use Rattle.canvas_plane.specs.declared.windows.Window.{Window}
 use Rattle.canvas_shape.proofs.Edge.{lt-lt_test, le-lt_test, times-add, lt_test-true, le_test-true, le-le_test}
 
@@ -55,6 +55,18 @@ no-more z = omega (arith, ints)
 -- what a window shows lies so many steps behind its first
 pub shown-steps : (x : ℤ) (k s : ℕ) → (x +ℤ pos k) *ℤ pos s ≡ (x +ℤ pos 0) *ℤ pos s +ℤ pos (k * s)
 shown-steps x k s = times-add x (pos k) s ∙ ap (λ z. z *ℤ pos s +ℤ pos k *ℤ pos s) (sym (no-more x))
+
+-- no column lies left of the first
+pub columns-from : (window : Window) (i : ℕ) → column_shown window 0 ≤ℤ column_shown window i
+columns-from window i = let a = shown-steps window.x i (scale_of window.level) in omega (arith, ints, a)
+
+-- columns rise
+pub columns-rise : (window : Window) (i k : ℕ) → i < k → column_shown window i <ℤ column_shown window k
+columns-rise window i k lt =
+    let s = scale_of window.level in
+    let a = shown-steps window.x i s in let b = shown-steps window.x k s in
+    let c : i * s < k * s = mul-lt-mul_of_pos_right {k = s} lt (scale-positive window.level) in
+    omega (arith, ints, a, b, c)
 
 -- and one step behind the one before it
 pub shown-next : (y : ℤ) (j s : ℕ) → (y +ℤ pos (j + 1)) *ℤ pos s ≡ (y +ℤ pos j) *ℤ pos s +ℤ pos s

@@ -9,10 +9,13 @@ use Rattle.std.proofs.lemmas.List.{get_or-set_same, get_or-set_other}
 use Rattle.std.proofs.Math.ListN.{drop_of_length-le}
 use Rattle.canvas_plane.specs.declared.Point.{Point}
 use Rattle.canvas_plane.specs.Motion.{not_same, size_of}
+use Rattle.canvas_plane.specs.Window.{column_shown}
+use Rattle.canvas_plane.specs.declared.windows.Window.{Window}
 use Rattle.canvas_shape.specs.declared.edge_flags.EdgeFlags.{EdgeFlags}
 use Rattle.canvas_shape.specs.Edges.{counts, crosses_row, is_right_of, is_odd_along}
 use Rattle.canvas_shape.specs.Flags.{is_held}
 use Rattle.canvas_shape.proofs.Edge.{lt_test-true, lt_test-false}
+use Rattle.canvas_shape.proofs.Grids.{columns-from}
 use Rattle.canvas_shape.proofs.Outside.{counts-left, counts-past}
 use Rattle.canvas_shape.proofs.Odd.{same-false, not_same-assoc}
 
@@ -77,6 +80,24 @@ right-of a x h = omega (arith, ints)
 
 not-right-of : (a x : ℤ) → a ≤ℤ x → ((a -ℤ x -ℤ pos 1) +ℤ pos 1) ≤ℤ pos 0
 not-right-of a x h = omega (arith, ints)
+
+no-later : (a left x : ℤ) → a ≤ℤ left → left ≤ℤ x → a ≤ℤ x
+no-later a left x h k = omega (arith, ints)
+
+-- a row is right as it is if all columns lie to the right of both ends
+pub column-right : (p q : Point) (y : ℤ) (window : Window) (old : List ℕ) (i : ℕ) → p.x ≤ℤ column_shown window 0 → q.x ≤ℤ column_shown window 0 → is_held old i ≡ not_same (is_held old i) (nat_lt i window.w && counts p q (column_shown window i) y)
+column-right p q y window old i hp hq =
+    let x = column_shown window i in
+    kept-row old i window.w (counts p q x y) (counts-past p q x y (not-right-of p.x x (no-later p.x _ x hp (columns-from window i))) (not-right-of q.x x (no-later q.x _ x hq (columns-from window i))))
+
+-- in a row that it crosses, an edge counts in all columns to the left of both ends
+pub columns-left : (p q : Point) (shown : ℕ → ℤ) (y : ℤ) (width i : ℕ) → crosses_row p q y ≡ true → ((k : ℕ) → k < width → (shown k <ℤ p.x) × (shown k <ℤ q.x)) → nat_lt i width ≡ (nat_lt i width && counts p q (shown i) y)
+columns-left p q shown y width i cross left = elim (cases_lt i width) [
+  | inl lt ↦
+      lt-ltb i width lt
+      ∙ sym (ap (λ b. b && counts p q (shown i) y) (lt-ltb i width lt) ∙ counts-left p q (shown i) y (right-of p.x (shown i) (left i lt).0) (right-of q.x (shown i) (left i lt).1) ∙ cross)
+  | inr ge ↦ le-ltb i width ge ∙ sym (ap (λ b. b && counts p q (shown i) y) (le-ltb i width ge))
+]
 
 -- the threshold of an edge lies between its ends
 pub between-ends : (p q : Point) (y left right t : ℤ) → crosses_row p q y ≡ true → ((x : ℤ) → counts p q x y ≡ int_lt x t) → (left <ℤ p.x) × (p.x ≤ℤ right) → (left <ℤ q.x) × (q.x ≤ℤ right) → (left <ℤ t) × (t ≤ℤ right)

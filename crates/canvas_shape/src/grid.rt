@@ -30,6 +30,20 @@ impl Grid {
         }
     }
 
+    /// Whether all columns lie at a place or to the right of it.
+    pub(crate) fn is_right_of(&self, edge: i64) -> bool
+        ensures { IsTrue result ↔ (edge ≤ℤ column_shown self.now.window 0) }
+    {
+        edge <= self.covered.left
+    }
+
+    /// Whether all columns lie to the left of a place.
+    pub(crate) fn is_left_of(&self, edge: i64) -> bool
+        ensures { IsTrue result ↔ (column_shown self.now.window self.now.window.w ≤ℤ edge) }
+    {
+        self.covered.right <= edge
+    }
+
     /// Whether a threshold lies in the window, to the right of its left side.
     pub(crate) fn has_inside(&self, edge: i64) -> bool
         ensures { IsTrue result ↔ ((column_shown self.now.window 0 <ℤ edge) × (edge ≤ℤ column_shown self.now.window self.now.window.w)) }

@@ -50,17 +50,36 @@ fn flag_edges(points: &[Point], grid: Grid, rows: &mut [EdgeFlags])
     }
 }
 
-// Turns over the columns in which an edge counts. The loop over its rows is made twice, so that it asks no threshold of an edge
-// that lies inside where the window ends.
+// Turns over the columns in which an edge counts: none where it lies to the left of them, and all where it lies to the right. The
+// loop over its rows is made twice more, so that it asks no threshold of an edge that lies inside where the window ends.
 fn flag_edge(from: Point, to: Point, grid: Grid, rows: &mut [EdgeFlags])
     requires near { (size_of from ≤ 2 ^ 27) × (size_of to ≤ 2 ^ 27) }
     requires bottom { grid.first + length rows.old ≤ grid.window.h }
     ensures { (k i : ℕ) (d : EdgeFlags) → k < length rows.new → is_held (get_or rows.new k d).words i ≡ not_same (is_held (get_or rows.old k d).words i) (nat_lt i grid.window.w && counts from to (column_shown grid.window i) (row_shown grid.window (grid.first + k))) }
 {
-    if grid.has_inside(from.x) && grid.has_inside(to.x) {
+    if grid.is_right_of(from.x) && grid.is_right_of(to.x) {
+        return;
+    }
+    if grid.is_left_of(from.x) && grid.is_left_of(to.x) {
+        flag_whole(from, to, grid, rows);
+    } else if grid.has_inside(from.x) && grid.has_inside(to.x) {
         flag_crossed(from, to, grid, true, rows);
     } else {
         flag_crossed(from, to, grid, false, rows);
+    }
+}
+
+// Turns over all columns in each row that an edge to the right of them crosses.
+fn flag_whole(from: Point, to: Point, grid: Grid, rows: &mut [EdgeFlags])
+    requires near { (size_of from ≤ 2 ^ 27) × (size_of to ≤ 2 ^ 27) }
+    requires beyond { (column_shown grid.window grid.window.w ≤ℤ from.x) × (column_shown grid.window grid.window.w ≤ℤ to.x) }
+    requires bottom { grid.first + length rows.old ≤ grid.window.h }
+    ensures { (k i : ℕ) (d : EdgeFlags) → k < length rows.new → is_held (get_or rows.new k d).words i ≡ not_same (is_held (get_or rows.old k d).words i) (nat_lt i grid.window.w && counts from to (column_shown grid.window i) (row_shown grid.window (grid.first + k))) }
+{
+    let start = grid.rows_before(from.y.min(to.y), rows.len());
+    let end = grid.rows_before(from.y.max(to.y), rows.len());
+    for k in start..end {
+        rows[k].toggle_before(grid.window.w() as usize);
     }
 }
 

@@ -28,7 +28,7 @@ use Rattle.canvas_record.specs.declared.refusals.Refusal.TheVariants.{NoSuchShap
 use Rattle.canvas_record.specs.Contents.{Contents, record_of, reaches_page, most_records}
 use Rattle.canvas_record.specs.Decision.{decision_of, allowed, create_index, reshape_judgement, pose_decision, has_shape, has_parent, can_have_children, is_another_kind}
 use Rattle.canvas_record.specs.Siblings.{refused_if, siblings, index_at}
-use Rattle.canvas_record.proofs.Fit.{refused-ok, placed-ok, not-false}
+use Rattle.canvas_record.proofs.Accepted.{refused-ok, placed-ok, not-false}
 use Rattle.canvas_json.specs.Fit.{IsPoseInRange, IsKindInRange}
 use Rattle.canvas_json.specs.Json.{has_others}
 use Rattle.canvas_json.specs.Places.{key_named}

@@ -6,7 +6,7 @@ use crate::watch::{Standing, Watch, Watched, start_watch};
 use canvas_feed::Scribe;
 use canvas_journal::Device;
 use canvas_keep::{Keep, Keeper};
-use canvas_line::{Lines, Seat};
+use canvas_line::{LineFault, Lines, Seat};
 use canvas_server::{Door, DoorSettings, Ended, Events, ServerFault, Settles, serve_doors};
 use canvas_status::Counts;
 use log::Log;
@@ -24,21 +24,27 @@ pub struct Gate<D: Device, B: Lines> {
     pub keep: Keep<D, B>,
     // With how many edits the generation ends.
     limit: u64,
-    // Whether so many are kept, or the journal is lost. Each reply asks for it, and need not take the lock of `keep` again.
+    // Whether so many are kept, or the journal is lost. Each reply asks for it.
     is_over: AtomicBool,
 }
 
 impl<D: Device + Drop, B: Lines> Gate<D, B> {
     /// The gate of a keeper's line, whose generation ends with so many edits. `watch` is another seat of the line.
-    pub fn new(alloc: Global, keeper: Keeper<D, B>, watch: Seat<B>, limit: u64) -> Gate<D, B>
+    pub fn new<R: Wait>(
+        rt: &R,
+        alloc: Global,
+        keeper: Keeper<D, B>,
+        watch: Seat<B>,
+        limit: u64,
+    ) -> Result<Gate<D, B>, LineFault>
         requires { watch.name ≡ keeper.line.name }
     {
         let is_over = AtomicBool::new(limit <= keeper.kept());
-        Gate {
-            keep: Keep::new(alloc, keeper, watch),
+        Ok(Gate {
+            keep: Keep::new(rt, alloc, keeper, watch)?,
             limit,
             is_over,
-        }
+        })
     }
 }
 

@@ -298,7 +298,10 @@ fn serve_line<
         Err(fault) => return Err(open_fault(&fault, run)),
     };
     tell_recovery(rt, log, keeper.kept(), run);
-    let gate = Gate::new(alloc, keeper, watch, run.house.service.limit);
+    let gate = match Gate::new(rt, alloc, keeper, watch, run.house.service.limit) {
+        Ok(gate) => gate,
+        Err(fault) => return Err(line_fault(&fault)),
+    };
     serve_gate(rt, log, alloc, seats, &gate, run)?;
     let next = newest_text(rt, alloc, &gate, run)?;
     let Gate { keep, .. } = gate;

@@ -143,6 +143,15 @@ async def by_keys(desk, server):
     yield "the address names a version", await wrong_at(desk, server, 5)
 
 
+async def seconds_of_a_step(desk, version):
+    """How long this machine takes from a key until the next edit is shown, in the mean of five steps on from a version and five back."""
+    begin = time.monotonic()
+    for key, to in [(".", version + 1), (",", version)] * 5:
+        await desk.press(key)
+        await desk.tab.until(SHOWN % (to, to))
+    return (time.monotonic() - begin) / 10
+
+
 async def beside_others(desk, server):
     """What others do meanwhile changes nothing of what is shown, lengthens the slider, and is there afterwards; playing shows what is in between."""
     await go(desk, 10)
@@ -150,12 +159,14 @@ async def beside_others(desk, server):
     draw(server, 20)
     await desk.tab.until(f"document.getElementById('past-slider').max === '{STEPS + 20}'")
     yield "the past stays as it is", difference((await desk.picture()).tobytes() == picture, True)
+    step = await seconds_of_a_step(desk, 10)
     await desk.tab.value("window.played = [], app.past.picture.addEventListener('shown', () => window.played.push(...app.past.picture.versions)), 0")
+    begin = time.monotonic()
     await desk.press("k")
     await desk.tab.until(SHOWN % (STEPS + 20, STEPS + 20))
-    played = await desk.tab.value("window.played")
+    played, wanted = await desk.tab.value("window.played"), (time.monotonic() - begin) / step / 2
     yield "what is played rises", difference(played, sorted(played))
-    yield "and is seen", None if len(set(played)) >= 20 else f"{len(set(played))} versions"
+    yield "and is seen", None if len(set(played)) >= min(20, wanted) else f"{len(set(played))} versions, where a step takes {step:.2f} s"
     yield "the last one", await wrong_at(desk, server, STEPS + 20)
     await desk.press("Escape")
     await desk.tab.until(f"!app.past.isOn && app.picture.isSettled && app.state.tree.version === {STEPS + 20}")

@@ -1,11 +1,11 @@
 use Rattle.std.proofs.Common.{◌≡◌, ◌∙◌, ◌+◌, ◌++◌, ◌∷◌, [], List, true, refl, subst, sym}
 use Rattle.canvas_list.specs.declared.in_place.ItemChange.TheVariants.{Insert}
 use Rattle.canvas_list.specs.Changed.{changed_if}
-use Rattle.canvas_record.specs.declared.bounds.Bounds.{Bounds}
+use Rattle.canvas_doc.specs.declared.bounds.Bounds.{Bounds}
 use Rattle.canvas_record.specs.declared.records.Record.{Record}
 use Rattle.canvas_record.specs.Contents.{Contents, IsWellFormed}
-use Rattle.canvas_record.specs.PlaceOrder.{IsKeptInOrder, IsPlaceOf}
-use Rattle.canvas_doc.proofs.InPlace.{added-if, widened-kept}
+use Rattle.canvas_doc.specs.PlaceOrder.{IsKeptInOrder, IsPlaceOf}
+use Rattle.canvas_doc.proofs.editing.InPlace.{added-if, widened-kept}
 use Rattle.canvas_doc.proofs.Document.add.Goals as goal
 
 pub invariant_of-self-2 : goal.invariant_of-self-2

@@ -1,4 +1,4 @@
-use Rattle.canvas_doc.proofs.Created.{created-well}
+use Rattle.canvas_doc.proofs.editing.Created.{created-well}
 use Rattle.canvas_doc.proofs.Document.apply.Goals as goal
 
 pub add-requires : goal.add-requires

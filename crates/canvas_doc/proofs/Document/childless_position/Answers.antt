@@ -1,5 +1,5 @@
 use Rattle.std.proofs.Common.{◌∙◌, arith, sym}
-use Rattle.canvas_doc.proofs.InPlace.{deleted-leaf, deleted-one}
+use Rattle.canvas_doc.proofs.editing.InPlace.{deleted-leaf, deleted-one}
 use Rattle.canvas_doc.proofs.Document.childless_position.Goals as goal
 
 pub returns-else-below-clause-alone : goal.returns-else-below-clause-alone

@@ -4,8 +4,8 @@ use Rattle.canvas_record.specs.declared.records.Record.{Record}
 use Rattle.canvas_record.specs.Children.{children}
 use Rattle.canvas_record.specs.Contents.{Contents}
 use Rattle.canvas_record.specs.Tree.{IsInLimits}
-use Rattle.canvas_record.proofs.ChildrenInOrder.{children-are}
-use Rattle.canvas_record.proofs.Sorting.{all-by_reference, all-children, record_of}
+use Rattle.canvas_doc.proofs.places.ChildrenInOrder.{children-are}
+use Rattle.canvas_doc.proofs.siblings.Sorting.{all-by_reference, all-children, record_of}
 use Rattle.canvas_doc.proofs.Document.children.Goals as goal
 
 pub returns-clause-children : goal.returns-clause-children

@@ -1,18 +1,18 @@
 use Rattle.std.proofs.Common.{◌≡◌, ◌<◌, ◌≤◌, ◌∙◌, ◌+◌, ◌-◌, ◌++◌, [], ◌∷◌, ℕ, All, List, arith, ap, drop, length, map, refl, subst, sym, take}
 use Rattle.std.proofs.lemmas.List.{map-append}
-use Rattle.canvas_record.specs.declared.bounds.Bounds.{Bounds}
+use Rattle.canvas_doc.specs.declared.bounds.Bounds.{Bounds}
 use Rattle.canvas_doc.specs.declared.placed_shapes.PlacedShape.{PlacedShape}
 use Rattle.canvas_record.specs.declared.records.Record.{Record}
 use Rattle.canvas_record.specs.Children.{children}
 use Rattle.canvas_record.specs.Contents.{Contents}
 use Rattle.canvas_doc.specs.Placements.{Placements}
-use Rattle.canvas_record.specs.PlaceOrder.{IsKeptInOrder}
+use Rattle.canvas_doc.specs.PlaceOrder.{IsKeptInOrder}
 use Rattle.canvas_record.specs.Tree.{IsInLimits}
-use Rattle.canvas_doc.proofs.InPlace.{room-next}
-use Rattle.canvas_doc.proofs.InSight.{AreInSight, StandsThere, children-in_sight, none-seen, one-seen, part-all, read-below, read-upto, stands-there}
-use Rattle.canvas_doc.proofs.PassedOver.{sight-kept}
-use Rattle.canvas_doc.proofs.Placements.{shape_of}
-use Rattle.canvas_record.proofs.Sorting.{all-by_reference, all-children, record_of}
+use Rattle.canvas_doc.proofs.editing.InPlace.{room-next}
+use Rattle.canvas_doc.proofs.boxes.InSight.{AreInSight, StandsThere, children-in_sight, none-seen, one-seen, part-all, read-below, read-upto, stands-there}
+use Rattle.canvas_doc.proofs.boxes.PassedOver.{sight-kept}
+use Rattle.canvas_doc.proofs.editing.Placements.{shape_of}
+use Rattle.canvas_doc.proofs.siblings.Sorting.{all-by_reference, all-children, record_of}
 use Rattle.canvas_doc.proofs.Document.children_meeting.Goals as goal
 
 less : (a b : ℕ) → a < b → a ≤ b

@@ -1,7 +1,7 @@
 use Rattle.std.proofs.Common.{◌≡◌, ◌≤◌, ◌-◌, drop, map, take}
-use Rattle.canvas_doc.proofs.InSight.{AreInSight}
-use Rattle.canvas_doc.proofs.Placements.{shape_of}
-use Rattle.canvas_record.proofs.Sorting.{record_of}
+use Rattle.canvas_doc.proofs.boxes.InSight.{AreInSight}
+use Rattle.canvas_doc.proofs.editing.Placements.{shape_of}
+use Rattle.canvas_doc.proofs.siblings.Sorting.{record_of}
 use Rattle.canvas_doc.proofs.Document.children_meeting.Given as goal
 
 abbrev pub invariant-walk : goal.invariant-walk

@@ -8,8 +8,8 @@ use Rattle.canvas_record.specs.Contents.{Contents, IsWellFormed}
 use Rattle.canvas_record.specs.Damage.{damage_of, own_extent, to_page}
 use Rattle.canvas_record.specs.Effect.{effect_of, Fits}
 use Rattle.canvas_record.specs.Picture.{colour}
-use Rattle.canvas_record.proofs.BothExtents.{create-damage, delete-damage, kind-sound, move-damage, pose-damage, pose-limits, reshape-damage, respace-damage, show-damage}
-use Rattle.canvas_record.proofs.Damaged.{damage-keeps}
+use Rattle.canvas_doc.proofs.extents.BothExtents.{create-damage, delete-damage, kind-sound, move-damage, pose-damage, pose-limits, reshape-damage, respace-damage, show-damage}
+use Rattle.canvas_doc.proofs.extents.Damaged.{damage-keeps}
 use Rattle.canvas_doc.proofs.Document.damage.Goals as goal
 
 -- outside a box that is the damage

@@ -1,5 +1,5 @@
 use Rattle.std.proofs.Common.{refl}
-use Rattle.canvas_record.proofs.Decided.{ok-fits}
+use Rattle.canvas_doc.proofs.fitting.Decided.{ok-fits}
 use Rattle.canvas_doc.proofs.Document.decide.Goals as goal
 
 pub returns-clause-fits : goal.returns-clause-fits

@@ -3,12 +3,12 @@ use Rattle.std.specs.List.{Contains}
 use Rattle.std.proofs.lemmas.List.Elements.{All-nil}
 use Rattle.std.proofs.lemmas.Option.{slice_get_within}
 use Rattle.canvas_record.specs.declared.records.Record.{Record}
-use Rattle.canvas_record.specs.Bounds.{AreBounds}
+use Rattle.canvas_doc.specs.Bounds.{AreBounds}
 use Rattle.canvas_record.specs.Contents.{IsWellFormed, reaches_page}
 use Rattle.canvas_doc.specs.Placements.{Placements}
-use Rattle.canvas_record.specs.PlaceOrder.{IsInPlaceOrder, IsKeptInOrder}
+use Rattle.canvas_doc.specs.PlaceOrder.{IsInPlaceOrder, IsKeptInOrder}
 use Rattle.canvas_record.specs.Tree.{IsInLimits}
-use Rattle.canvas_record.proofs.ByPlace.{sorted-from}
+use Rattle.canvas_doc.proofs.places.ByPlace.{sorted-from}
 use Rattle.canvas_doc.proofs.Document.empty.Goals as goal
 
 no-records : IsWellFormed (record { records = []; next = 1 })

@@ -1,5 +1,5 @@
 use Rattle.std.proofs.Common.{refl}
-use Rattle.canvas_record.proofs.FitsOnly.{fits-decides}
+use Rattle.canvas_doc.proofs.fitting.FitsOnly.{fits-decides}
 use Rattle.canvas_doc.proofs.Document.fits.Goals as goal
 
 pub returns : goal.returns

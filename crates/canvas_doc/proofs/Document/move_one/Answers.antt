@@ -2,16 +2,16 @@ use Rattle.std.proofs.Common.{◌≡◌, ◌∙◌, ◌<◌, List, ap, arith, le
 use Rattle.std.specs.List.{remove}
 use Rattle.std.specs.Result.{is_ok}
 use Rattle.std.proofs.lemmas.List.Edits.{length-remove}
-use Rattle.canvas_record.specs.declared.bounds.Bounds.{Bounds}
+use Rattle.canvas_doc.specs.declared.bounds.Bounds.{Bounds}
 use Rattle.canvas_record.specs.declared.edits.Change.{Change}
 use Rattle.canvas_record.specs.declared.records.Record.{Record}
-use Rattle.canvas_record.specs.Bounds.{HaveOneShape, IsHeldAbove}
+use Rattle.canvas_doc.specs.Bounds.{HaveOneShape, IsHeldAbove}
 use Rattle.canvas_record.specs.Contents.{Contents}
 use Rattle.canvas_record.specs.Effect.{changed_by}
-use Rattle.canvas_record.specs.PlaceOrder.{IsKeptInOrder, IsPlaceOf}
-use Rattle.canvas_record.proofs.OneChanged.{one-effect}
-use Rattle.canvas_record.proofs.Reordered.{seen-at}
-use Rattle.canvas_doc.proofs.InPlace.{moved-if, one-if, one-shape, one-well, widened-kept}
+use Rattle.canvas_doc.specs.PlaceOrder.{IsKeptInOrder, IsPlaceOf}
+use Rattle.canvas_doc.proofs.places.OneChanged.{one-effect}
+use Rattle.canvas_doc.proofs.places.Reordered.{seen-at}
+use Rattle.canvas_doc.proofs.editing.InPlace.{moved-if, one-if, one-shape, one-well, widened-kept}
 use Rattle.canvas_doc.proofs.Document.move_one.Goals as goal
 
 pub returns-in_default : goal.returns-in_default

@@ -1,6 +1,6 @@
 use Rattle.std.proofs.Common.{List, subst, sym}
 use Rattle.canvas_record.specs.declared.records.Record.{Record}
-use Rattle.canvas_record.specs.PlaceOrder.{IsInPlaceOrder}
+use Rattle.canvas_doc.specs.PlaceOrder.{IsInPlaceOrder}
 use Rattle.canvas_doc.proofs.Document.of_sorted.Goals as goal
 
 pub invariant_of-result : goal.invariant_of-result

@@ -3,9 +3,9 @@ use Rattle.std.specs.List.{remove}
 use Rattle.std.specs.Result.{is_ok}
 use Rattle.canvas_record.specs.declared.records.Record.{Record}
 use Rattle.canvas_record.specs.Contents.{Contents, IsWellFormed}
-use Rattle.canvas_record.specs.PlaceOrder.{IsPlaceOf}
-use Rattle.canvas_doc.proofs.InPlace.{taken-if}
-use Rattle.canvas_record.proofs.Reordered.{seen-at}
+use Rattle.canvas_doc.specs.PlaceOrder.{IsPlaceOf}
+use Rattle.canvas_doc.proofs.editing.InPlace.{taken-if}
+use Rattle.canvas_doc.proofs.places.Reordered.{seen-at}
 use Rattle.canvas_doc.proofs.Document.remove_at.Goals as goal
 
 pub change_both-requires-clause-place : goal.change_both-requires-clause-place

@@ -1,16 +1,16 @@
 use Rattle.std.proofs.Common.{◌≡◌, ◌∙◌, List, ap, get_or, map, refl, subst, sym}
 use Rattle.std.specs.Result.{is_ok}
-use Rattle.canvas_record.specs.declared.bounds.Bounds.{Bounds}
+use Rattle.canvas_doc.specs.declared.bounds.Bounds.{Bounds}
 use Rattle.canvas_record.specs.declared.edits.Change.{Change}
 use Rattle.canvas_record.specs.declared.records.Record.{Record}
-use Rattle.canvas_record.specs.Bounds.{IsHeldAbove}
+use Rattle.canvas_doc.specs.Bounds.{IsHeldAbove}
 use Rattle.canvas_record.specs.Contents.{Contents}
 use Rattle.canvas_record.specs.Effect.{changed_by}
-use Rattle.canvas_record.specs.PlaceOrder.{IsKeptInOrder, IsPlaceOf}
+use Rattle.canvas_doc.specs.PlaceOrder.{IsKeptInOrder, IsPlaceOf}
 use Rattle.canvas_record.specs.Tree.{IsInLimits}
-use Rattle.canvas_record.proofs.OneChanged.{one-effect}
-use Rattle.canvas_record.proofs.Rebounded.{Suits}
-use Rattle.canvas_doc.proofs.InPlace.{one-if, one-limits, one-place, one-well, replaced-at, replaced-if, widened-kept}
+use Rattle.canvas_doc.proofs.places.OneChanged.{one-effect}
+use Rattle.canvas_doc.proofs.boxes.Rebounded.{Suits}
+use Rattle.canvas_doc.proofs.editing.InPlace.{one-if, one-limits, one-place, one-well, replaced-at, replaced-if, widened-kept}
 use Rattle.canvas_doc.proofs.Document.replace_one.Goals as goal
 
 pub returns-in_default : goal.returns-in_default

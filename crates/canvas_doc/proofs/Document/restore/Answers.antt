@@ -3,8 +3,8 @@ use Rattle.canvas_key.specs.Text.{IsKey}
 use Rattle.canvas_record.specs.declared.records.Record.{Record}
 use Rattle.canvas_record.specs.Contents.{IsWellFormed, most_records}
 use Rattle.canvas_record.specs.Restored.{record_fault, tree_fault}
-use Rattle.canvas_record.proofs.Saved.{restoration_of-same}
-use Rattle.canvas_record.proofs.RestoredWell.{length-by_id, restores-well}
+use Rattle.canvas_doc.proofs.restoring.Saved.{restoration_of-same}
+use Rattle.canvas_doc.proofs.restoring.RestoredWell.{length-by_id, restores-well}
 use Rattle.canvas_doc.proofs.Document.restore.Goals as goal
 
 pub shared-requires : goal.shared-requires

@@ -1,6 +1,6 @@
 use Rattle.std.proofs.Common.{List, subst, sym}
 use Rattle.canvas_record.specs.declared.records.Record.{Record}
-use Rattle.canvas_record.specs.PlaceOrder.{IsKeptInOrder}
+use Rattle.canvas_doc.specs.PlaceOrder.{IsKeptInOrder}
 use Rattle.canvas_doc.specs.Placements.{Placements}
 use Rattle.canvas_doc.proofs.Document.try_clone.Goals as goal
 

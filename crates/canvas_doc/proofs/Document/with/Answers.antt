@@ -2,7 +2,7 @@ use Rattle.std.proofs.Common.{◌≡◌, ◌∙◌, ℤ, ap, subst}
 use Rattle.canvas_record.specs.Contents.{Contents}
 use Rattle.canvas_record.specs.Effect.{effect_of}
 use Rattle.canvas_record.specs.Picture.{colour}
-use Rattle.canvas_doc.proofs.Respacings.{spaces-only}
+use Rattle.canvas_doc.proofs.spacing.Respacings.{spaces-only}
 use Rattle.canvas_doc.proofs.Document.with.Goals as goal
 
 pub returns-clause-colours : goal.returns-clause-colours

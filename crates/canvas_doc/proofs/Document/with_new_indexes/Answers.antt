@@ -4,9 +4,9 @@ use Rattle.std.specs.Option.{unwrap_or}
 use Rattle.canvas_record.specs.declared.records.Record.{Record}
 use Rattle.canvas_record.specs.Contents.{record_of, Contents, HaveIds}
 use Rattle.canvas_record.specs.Effect.{respaced}
-use Rattle.canvas_doc.proofs.InPlace.{few-within}
-use Rattle.canvas_doc.proofs.Placements.{bounds_of, shape_of}
-use Rattle.canvas_doc.proofs.Respacings.{kept-respaced, many-more, once, records-are, AreRespaced, AreToBeRespaced}
+use Rattle.canvas_doc.proofs.editing.InPlace.{few-within}
+use Rattle.canvas_doc.proofs.editing.Placements.{bounds_of, shape_of}
+use Rattle.canvas_doc.proofs.spacing.Respacings.{kept-respaced, many-more, once, records-are, AreRespaced, AreToBeRespaced}
 use Rattle.canvas_doc.proofs.Document.with_new_indexes.Goals as goal
 
 pub with_each-requires-clause-once : goal.with_each-requires-clause-once

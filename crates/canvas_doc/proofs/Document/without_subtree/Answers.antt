@@ -1,10 +1,10 @@
 use Rattle.std.proofs.Common.{◌≡◌, ◌∙◌, ◌∷◌, ◌==◌, [], Bool, List, ap, filter, not, subst, sym}
 use Rattle.canvas_record.specs.declared.records.Record.{Record}
 use Rattle.canvas_record.specs.Contents.{Contents, IsWellFormed}
-use Rattle.canvas_record.specs.Deletion.{holders_below, is_held}
+use Rattle.canvas_doc.specs.Deletion.{holders_below, is_held}
 use Rattle.canvas_record.specs.Effect.{is_in_subtree}
-use Rattle.canvas_record.proofs.HeldBelow.{subtree-gone}
-use Rattle.canvas_doc.proofs.InPlace.{lists-kept}
+use Rattle.canvas_doc.proofs.deleting.HeldBelow.{subtree-gone}
+use Rattle.canvas_doc.proofs.editing.InPlace.{lists-kept}
 use Rattle.canvas_doc.proofs.Document.without_subtree.Goals as goal
 use Rattle.canvas_doc.proofs.Document.without_subtree.Goals.{In_ok-left}
 

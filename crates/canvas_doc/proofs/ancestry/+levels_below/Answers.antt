@@ -5,11 +5,11 @@ use Rattle.canvas_record.specs.declared.records.Parent.TheVariants.{Shape}
 use Rattle.canvas_record.specs.declared.records.Record.{Record}
 use Rattle.canvas_record.specs.Contents.{Contents, IsWellFormed}
 use Rattle.canvas_record.specs.Depth.{greatest}
-use Rattle.canvas_record.specs.Heights.{tallest}
+use Rattle.canvas_doc.specs.Heights.{tallest}
 use Rattle.canvas_doc.specs.Placements.{Placements, placements_of}
-use Rattle.canvas_record.specs.PlaceOrder.{IsInPlaceOrder}
-use Rattle.canvas_record.proofs.Heights.{children-listed, greatest-end, greatest-init, greatest-next, next-found, rest-listed, tallest-done, tallest-leaf, tallest-none}
-use Rattle.canvas_doc.proofs.Placements.{long, shape_of, shapes-are}
+use Rattle.canvas_doc.specs.PlaceOrder.{IsInPlaceOrder}
+use Rattle.canvas_doc.proofs.tree.Heights.{children-listed, greatest-end, greatest-init, greatest-next, next-found, rest-listed, tallest-done, tallest-leaf, tallest-none}
+use Rattle.canvas_doc.proofs.editing.Placements.{long, shape_of, shapes-are}
 use Rattle.canvas_doc.proofs.ancestry.+levels_below.Goals as goal
 
 pub returns-then-levels-eq0-clause-value : goal.returns-then-levels-eq0-clause-value

@@ -2,8 +2,8 @@ use Rattle.std.proofs.Common.{◌≡◌, ◌≤◌, ◌-◌, All, map, max, suc}
 use Rattle.std.specs.List.{Contains}
 use Rattle.canvas_record.specs.declared.records.Parent.TheVariants.{Shape}
 use Rattle.canvas_record.specs.Depth.{greatest}
-use Rattle.canvas_record.specs.Heights.{tallest}
-use Rattle.canvas_doc.proofs.Placements.{shape_of}
+use Rattle.canvas_doc.specs.Heights.{tallest}
+use Rattle.canvas_doc.proofs.editing.Placements.{shape_of}
 use Rattle.canvas_doc.proofs.ancestry.+levels_below.Given as goal
 
 abbrev pub decreases-levels_below : goal.decreases-levels_below

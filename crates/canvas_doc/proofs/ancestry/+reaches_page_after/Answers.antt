@@ -1,5 +1,5 @@
 use Rattle.std.proofs.Common.{◌∙◌, sym, arith}
-use Rattle.canvas_record.proofs.Paths.{reaches-by_after, reaches-leaf_after}
+use Rattle.canvas_doc.proofs.tree.Paths.{reaches-by_after, reaches-leaf_after}
 use Rattle.canvas_doc.proofs.ancestry.+reaches_page_after.Goals as goal
 
 pub returns-then-is_container : goal.returns-then-is_container

@@ -2,8 +2,8 @@ use Rattle.std.proofs.Common.{◌≡◌, ◌∙◌, ◌+◌, List, None, Some, a
 use Rattle.canvas_record.specs.declared.records.Parent.TheVariants.{Shape}
 use Rattle.canvas_record.specs.declared.records.Record.{Record}
 use Rattle.canvas_record.specs.Contents.{Contents, IsWellFormed, record_of}
-use Rattle.canvas_record.specs.Heights.{tallest}
-use Rattle.canvas_record.proofs.Heights.{found-own, height-found, height-none}
+use Rattle.canvas_doc.specs.Heights.{tallest}
+use Rattle.canvas_doc.proofs.tree.Heights.{found-own, height-found, height-none}
 use Rattle.canvas_doc.proofs.ancestry.height_of.Goals as goal
 
 pub levels_below-requires : goal.levels_below-requires

@@ -5,7 +5,7 @@ use Rattle.std.proofs.lemmas.List.Folds.{list_all_more}
 use Rattle.canvas_record.specs.declared.records.Record.{Record}
 use Rattle.canvas_record.specs.Contents.{reaches_page}
 use Rattle.canvas_record.specs.Decision.{put_under, parent_after}
-use Rattle.canvas_record.proofs.Paths.{deep-at, deep-none}
+use Rattle.canvas_doc.proofs.tree.Paths.{deep-at, deep-none}
 use Rattle.canvas_doc.proofs.ancestry.lies_too_deep.Goals as goal
 
 reaches-more : (t : Record → Bool) (rs : List Record) (i : ℕ) (r : Record) → i < length rs → r ≡ get_or rs i r → t r ≡ true → list_all t (take i rs) ≡ true → list_all t (take (i + 1) rs) ≡ true

@@ -3,17 +3,17 @@ use Rattle.std.specs.Option.{is_some}
 use Rattle.std.proofs.lemmas.Option.{get_or_from_slice_get, slice_get_within}
 use Rattle.canvas_plane.specs.Motion.{carry}
 use Rattle.canvas_shape.specs.declared.Colour.{Colour}
-use Rattle.canvas_record.specs.declared.bounds.Bounds.{Bounds}
+use Rattle.canvas_doc.specs.declared.bounds.Bounds.{Bounds}
 use Rattle.canvas_record.specs.declared.records.Record.{Record}
 use Rattle.canvas_record.specs.Children.{children}
 use Rattle.canvas_record.specs.Contents.{Contents}
 use Rattle.canvas_record.specs.Picture.{answer_of, first_answer}
-use Rattle.canvas_record.specs.PlaceOrder.{IsKeptInOrder}
+use Rattle.canvas_doc.specs.PlaceOrder.{IsKeptInOrder}
 use Rattle.canvas_record.specs.Tree.{IsInLimits}
-use Rattle.canvas_record.proofs.ChildrenInOrder.{all-in_order, children-are, first-and-rest}
-use Rattle.canvas_doc.proofs.InSight.{pixel-held, read-below, read-upto, stands-there}
-use Rattle.canvas_doc.proofs.PassedOver.{answer-kept}
-use Rattle.canvas_doc.proofs.Placements.{shape_of, shapes-are}
+use Rattle.canvas_doc.proofs.places.ChildrenInOrder.{all-in_order, children-are, first-and-rest}
+use Rattle.canvas_doc.proofs.boxes.InSight.{pixel-held, read-below, read-upto, stands-there}
+use Rattle.canvas_doc.proofs.boxes.PassedOver.{answer-kept}
+use Rattle.canvas_doc.proofs.editing.Placements.{shape_of, shapes-are}
 use Rattle.canvas_record.proofs.Walk.{answer-by, answer-children, answer-none, first-answer, silent-rest}
 use Rattle.canvas_doc.proofs.colour.+walk.Goals as goal
 

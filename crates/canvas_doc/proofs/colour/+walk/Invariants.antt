@@ -1,7 +1,7 @@
 use Rattle.std.proofs.Common.{◌≡◌, ◌*◌, ◌+◌, ◌-◌, ◌≤◌, drop, map, take}
 use Rattle.canvas_plane.specs.Motion.{carry}
 use Rattle.canvas_record.specs.Picture.{answer_of, first_answer}
-use Rattle.canvas_doc.proofs.Placements.{shape_of}
+use Rattle.canvas_doc.proofs.editing.Placements.{shape_of}
 use Rattle.canvas_doc.proofs.colour.+walk.Given as goal
 
 abbrev pub decreases-answer_among : goal.decreases-answer_among

@@ -1,7 +1,7 @@
 use Rattle.std.proofs.Common.{◌∙◌, ◌++◌, Bor, List, ap, append-nil, map, sym}
 use Rattle.canvas_record.specs.declared.records.Record.{Record}
-use Rattle.canvas_record.proofs.Sorting.{record_of}
-use Rattle.canvas_doc.proofs.Listing.{one-more}
+use Rattle.canvas_doc.proofs.siblings.Sorting.{record_of}
+use Rattle.canvas_doc.proofs.lists.Listing.{one-more}
 use Rattle.canvas_doc.proofs.copies.in_order.Goals as goal
 
 pub loop-shape-init : goal.loop-shape-init

@@ -5,12 +5,12 @@ use Rattle.canvas_record.specs.declared.records.Record.{Record}
 use Rattle.canvas_record.specs.Children.{children}
 use Rattle.canvas_record.specs.Contents.{Contents, record_of, IsWellFormed}
 use Rattle.canvas_record.specs.Damage.{extent_of, hull_round}
-use Rattle.canvas_record.specs.PlaceOrder.{IsInPlaceOrder}
+use Rattle.canvas_doc.specs.PlaceOrder.{IsInPlaceOrder}
 use Rattle.canvas_record.specs.Tree.{IsInLimits}
-use Rattle.canvas_record.proofs.ChildrenInOrder.{children-are}
-use Rattle.canvas_record.proofs.AfterChange.{extent-childless, leaf-childless}
-use Rattle.canvas_record.proofs.Extents.{extent-by, extent-children, extent-none, order-there, round-more}
-use Rattle.canvas_record.proofs.Fit.{found-all}
+use Rattle.canvas_doc.proofs.places.ChildrenInOrder.{children-are}
+use Rattle.canvas_doc.proofs.extents.AfterChange.{extent-childless, leaf-childless}
+use Rattle.canvas_doc.proofs.extents.Extents.{extent-by, extent-children, extent-none, order-there, round-more}
+use Rattle.canvas_doc.proofs.fitting.Fit.{found-all}
 use Rattle.canvas_doc.proofs.damage.+extents.Goals as goal
 
 pub extent_among-returns-then-levels-eq0 : goal.extent_among-returns-then-levels-eq0

@@ -1,8 +1,8 @@
 use Rattle.std.proofs.Common.{sym, arith}
 use Rattle.canvas_plane.specs.Motion.{carry}
 use Rattle.canvas_record.specs.Tree.{IsInLimits}
-use Rattle.canvas_record.proofs.Extents.{still-page, still-none, still-nowhere, step-up}
-use Rattle.canvas_record.proofs.Fit.{found-all}
+use Rattle.canvas_doc.proofs.extents.Extents.{still-page, still-none, still-nowhere, step-up}
+use Rattle.canvas_doc.proofs.fitting.Fit.{found-all}
 use Rattle.canvas_doc.proofs.damage.+page_pose.Goals as goal
 use Rattle.canvas_doc.proofs.damage.+page_pose.Goals.{After-find}
 

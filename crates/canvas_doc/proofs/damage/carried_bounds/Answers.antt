@@ -1,7 +1,7 @@
 use Rattle.std.proofs.Common.{pos}
 use Rattle.canvas_plane.specs.declared.Point.{Point}
 use Rattle.canvas_plane.specs.Motion.{carry}
-use Rattle.canvas_record.proofs.Extents.{grown-carried}
+use Rattle.canvas_doc.proofs.extents.Extents.{grown-carried}
 use Rattle.canvas_doc.proofs.damage.carried_bounds.Goals as goal
 
 pub loop-point-preserved : goal.loop-point-preserved

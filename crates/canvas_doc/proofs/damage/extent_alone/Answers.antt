@@ -1,7 +1,7 @@
 use Rattle.std.proofs.Common.{◌∙◌}
 use Rattle.canvas_plane.specs.Motion.{carry}
 use Rattle.canvas_record.specs.Damage.{to_page}
-use Rattle.canvas_record.proofs.Extents.{alone-by}
+use Rattle.canvas_doc.proofs.extents.Extents.{alone-by}
 use Rattle.canvas_doc.proofs.damage.extent_alone.Goals as goal
 
 pub returns : goal.returns

@@ -2,9 +2,9 @@ use Rattle.std.proofs.Common.{◌∙◌, sym, ap}
 use Rattle.canvas_record.specs.Contents.{Contents, record_of}
 use Rattle.canvas_record.specs.Damage.{extent_on_page}
 use Rattle.canvas_record.specs.Tree.{IsInLimits}
-use Rattle.canvas_record.proofs.BothExtents.{leaf-found}
-use Rattle.canvas_record.proofs.Extents.{on-page}
-use Rattle.canvas_record.proofs.Fit.{found-all}
+use Rattle.canvas_doc.proofs.extents.BothExtents.{leaf-found}
+use Rattle.canvas_doc.proofs.extents.Extents.{on-page}
+use Rattle.canvas_doc.proofs.fitting.Fit.{found-all}
 use Rattle.canvas_doc.proofs.damage.extent_at.Goals as goal
 
 pub extent_of-requires-clause-leaf : goal.extent_of-requires-clause-leaf

@@ -2,9 +2,9 @@ use Rattle.std.proofs.Common.{◌≡◌, List, sym, ap}
 use Rattle.canvas_record.specs.declared.records.Record.{Record}
 use Rattle.canvas_record.specs.Contents.{Contents}
 use Rattle.canvas_record.specs.Tree.{IsInLimits}
-use Rattle.canvas_record.proofs.BothExtents.{leaf-found, round-both}
-use Rattle.canvas_record.proofs.Extents.{on-page}
-use Rattle.canvas_record.proofs.Fit.{found-all}
+use Rattle.canvas_doc.proofs.extents.BothExtents.{leaf-found, round-both}
+use Rattle.canvas_doc.proofs.extents.Extents.{on-page}
+use Rattle.canvas_doc.proofs.fitting.Fit.{found-all}
 use Rattle.canvas_doc.proofs.damage.reshaped_extents.Goals as goal
 
 pub extent_of-before-requires-clause-leaf : goal.extent_of-before-requires-clause-leaf

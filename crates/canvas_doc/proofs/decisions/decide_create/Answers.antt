@@ -1,5 +1,5 @@
 use Rattle.std.proofs.Common.{sym}
-use Rattle.canvas_doc.proofs.Created.{created-decided}
+use Rattle.canvas_doc.proofs.editing.Created.{created-decided}
 use Rattle.canvas_doc.proofs.decisions.decide_create.Goals as goal
 
 pub returns-clause-value : goal.returns-clause-value

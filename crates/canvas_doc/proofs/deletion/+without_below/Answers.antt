@@ -1,6 +1,6 @@
 use Rattle.std.proofs.Common.{◌≡◌, ◌∙◌, List, IfOk, subst}
 use Rattle.canvas_record.specs.declared.records.Record.{Record}
-use Rattle.canvas_record.proofs.Freed.{levels-more, none-below}
+use Rattle.canvas_doc.proofs.deleting.Freed.{levels-more, none-below}
 use Rattle.canvas_doc.proofs.deletion.+without_below.Goals as goal
 
 pub returns-then-levels-eq0-clause-records : goal.returns-then-levels-eq0-clause-records

@@ -1,7 +1,7 @@
 use Rattle.std.proofs.Common.{◌∙◌, ap, get_or, refl}
 use Rattle.std.proofs.lemmas.List.{take_all}
-use Rattle.canvas_record.specs.Deletion.{containers_under}
-use Rattle.canvas_record.proofs.Freed.{under-more}
+use Rattle.canvas_doc.specs.Deletion.{containers_under}
+use Rattle.canvas_doc.proofs.deleting.Freed.{under-more}
 use Rattle.canvas_doc.proofs.deletion.containers_under.Goals as goal
 
 pub loop-holder-preserved : goal.loop-holder-preserved

@@ -1,5 +1,5 @@
 use Rattle.std.proofs.Common.{◌≡◌, take}
-use Rattle.canvas_record.specs.Deletion.{containers_under}
+use Rattle.canvas_doc.specs.Deletion.{containers_under}
 use Rattle.canvas_doc.proofs.deletion.containers_under.Given as goal
 
 abbrev pub invariant-loop-holder : goal.invariant-loop-holder

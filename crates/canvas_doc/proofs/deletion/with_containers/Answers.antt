@@ -1,8 +1,8 @@
 use Rattle.std.proofs.Common.{◌≡◌, ◌<◌, ◌+◌, ◌-◌, ◌∙◌, ◌++◌, ◌∷◌, [], ℕ, Bool, List, ap, arith, cond, drop, length, sym, take}
 use Rattle.std.proofs.lemmas.List.{append-nil}
 use Rattle.canvas_record.specs.declared.records.Record.{Record}
-use Rattle.canvas_record.specs.Deletion.{container_ids}
-use Rattle.canvas_record.proofs.Freed.{containers-more}
+use Rattle.canvas_doc.specs.Deletion.{container_ids}
+use Rattle.canvas_doc.proofs.deleting.Freed.{containers-more}
 use Rattle.canvas_doc.proofs.deletion.with_containers.Goals as goal
 use Rattle.canvas_doc.proofs.deletion.with_containers.Goals.{then-is_container+in_ok-push, else-is_container}
 

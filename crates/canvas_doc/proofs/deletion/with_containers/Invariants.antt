@@ -1,5 +1,5 @@
 use Rattle.std.proofs.Common.{◌≡◌, ◌++◌, ◌-◌, drop, take}
-use Rattle.canvas_record.specs.Deletion.{container_ids}
+use Rattle.canvas_doc.specs.Deletion.{container_ids}
 use Rattle.canvas_doc.proofs.deletion.with_containers.Given as goal
 
 abbrev pub invariant-loop-at : goal.invariant-loop-at

@@ -1,6 +1,6 @@
 use Rattle.std.proofs.Common.{refl}
-use Rattle.canvas_doc.proofs.InPlace.{lists-taken}
-use Rattle.canvas_record.proofs.Reordered.{seen-at}
+use Rattle.canvas_doc.proofs.editing.InPlace.{lists-taken}
+use Rattle.canvas_doc.proofs.places.Reordered.{seen-at}
 use Rattle.canvas_doc.proofs.deletion.without_at.Goals as goal
 
 pub remove-requires : goal.remove-requires

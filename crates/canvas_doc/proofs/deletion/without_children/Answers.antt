@@ -1,10 +1,10 @@
 use Rattle.std.proofs.Common.{◌∙◌, ◌++◌, List, ap, drop, map, take}
 use Rattle.std.proofs.lemmas.List.{append-nil}
-use Rattle.canvas_record.specs.declared.bounds.Bounds.{Bounds}
+use Rattle.canvas_doc.specs.declared.bounds.Bounds.{Bounds}
 use Rattle.canvas_doc.specs.declared.placed_shapes.PlacedShape.{PlacedShape}
 use Rattle.canvas_record.specs.declared.records.Record.{Record}
-use Rattle.canvas_record.proofs.Freed.{lists-after, records-after}
-use Rattle.canvas_doc.proofs.Placements.{bounds_of, shape_of}
+use Rattle.canvas_doc.proofs.deleting.Freed.{lists-after, records-after}
+use Rattle.canvas_doc.proofs.editing.Placements.{bounds_of, shape_of}
 use Rattle.canvas_doc.proofs.deletion.without_children.Goals as goal
 
 pub returns-clause-lists : goal.returns-clause-lists

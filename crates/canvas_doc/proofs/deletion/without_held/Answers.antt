@@ -2,8 +2,8 @@ use Rattle.std.proofs.Common.{◌≡◌, ◌+◌, ◌∙◌, ℕ, [], List, ap, 
 use Rattle.std.proofs.lemmas.List.{take_all}
 use Rattle.canvas_record.specs.declared.records.Parent.TheVariants.{Shape}
 use Rattle.canvas_record.specs.Children.{is_child}
-use Rattle.canvas_record.specs.Deletion.{is_held}
-use Rattle.canvas_record.proofs.Freed.{filter-both, filter-none, held-more}
+use Rattle.canvas_doc.specs.Deletion.{is_held}
+use Rattle.canvas_doc.proofs.deleting.Freed.{filter-both, filter-none, held-more}
 use Rattle.canvas_doc.proofs.deletion.without_held.Goals as goal
 
 pub loop-holder-init : goal.loop-holder-init

@@ -1,5 +1,5 @@
 use Rattle.std.proofs.Common.{◌≡◌, filter, not, take}
-use Rattle.canvas_record.specs.Deletion.{is_held, AreLists}
+use Rattle.canvas_doc.specs.Deletion.{is_held, AreLists}
 use Rattle.canvas_doc.proofs.deletion.without_held.Given as goal
 
 abbrev pub invariant-loop-holder : goal.invariant-loop-holder

@@ -1,5 +1,5 @@
 use Rattle.std.proofs.Common.{◌∙◌, sym}
-use Rattle.canvas_record.proofs.Freed.{none-gone, one-gone}
+use Rattle.canvas_doc.proofs.deleting.Freed.{none-gone, one-gone}
 use Rattle.canvas_doc.proofs.deletion.without_id.Goals as goal
 
 pub returns : goal.returns

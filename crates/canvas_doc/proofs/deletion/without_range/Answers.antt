@@ -1,9 +1,9 @@
 use Rattle.std.proofs.Common.{◌≡◌, ◌==◌, ◌<◌, ◌+◌, ◌-◌, ◌∙◌, ℕ, [], List, ap, arith, drop, filter, length, not, refl, subst, sym, take}
 use Rattle.canvas_record.specs.declared.records.Record.{Record}
 use Rattle.canvas_record.specs.Contents.{AreRising}
-use Rattle.canvas_record.specs.Deletion.{has_id_of}
-use Rattle.canvas_record.proofs.FitDelete.{rising-filter}
-use Rattle.canvas_record.proofs.Freed.{filter-both, filter-none, ids-more}
+use Rattle.canvas_doc.specs.Deletion.{has_id_of}
+use Rattle.canvas_doc.proofs.fitting.FitDelete.{rising-filter}
+use Rattle.canvas_doc.proofs.deleting.Freed.{filter-both, filter-none, ids-more}
 use Rattle.canvas_doc.proofs.deletion.without_range.Goals as goal
 
 pub loop-at-init : goal.loop-at-init

@@ -1,5 +1,5 @@
 use Rattle.std.proofs.Common.{◌≡◌, ◌-◌, drop, filter, not, take}
-use Rattle.canvas_record.specs.Deletion.{has_id_of}
+use Rattle.canvas_doc.specs.Deletion.{has_id_of}
 use Rattle.canvas_doc.proofs.deletion.without_range.Given as goal
 
 abbrev pub invariant-loop-at : goal.invariant-loop-at

@@ -1,6 +1,6 @@
 use Rattle.std.proofs.Common.{◌≡◌, IfOk, List, subst, sym}
 use Rattle.canvas_record.specs.declared.records.Record.{Record}
-use Rattle.canvas_record.proofs.Freed.{none-gone, one-gone}
+use Rattle.canvas_doc.proofs.deleting.Freed.{none-gone, one-gone}
 use Rattle.canvas_doc.proofs.deletion.without_shape.Goals as goal
 
 pub returns-in-Some-clause-records : goal.returns-in-Some-clause-records

@@ -1,7 +1,7 @@
 use Rattle.std.proofs.Common.{◌∙◌, ap}
 use Rattle.canvas_record.specs.Contents.{Contents}
-use Rattle.canvas_record.specs.Fitting.{has_no_child}
-use Rattle.canvas_record.proofs.Childless.{no_child-from_range}
+use Rattle.canvas_doc.specs.Fitting.{has_no_child}
+use Rattle.canvas_doc.proofs.tree.Childless.{no_child-from_range}
 use Rattle.canvas_doc.proofs.fits.has_no_child.Goals as goal
 
 pub returns : goal.returns

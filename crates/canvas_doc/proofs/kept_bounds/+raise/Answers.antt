@@ -1,15 +1,16 @@
 use Rattle.std.proofs.Common.{◌≡◌, ◌≢◌, ◌<◌, ℕ, Some, set, length, sym, subst, arith}
 use Rattle.std.specs.List.{slice_get}
 use Rattle.std.proofs.lemmas.Option.{slice_get_within}
-use Rattle.canvas_record.specs.declared.bounds.Bounds.{Bounds}
+use Rattle.canvas_doc.specs.declared.bounds.Bounds.{Bounds}
 use Rattle.canvas_record.specs.declared.records.Record.{Record}
-use Rattle.canvas_record.specs.Bounds.{IsCarriedWithin, IsGroupPosition, IsWithinBounds}
+use Rattle.canvas_doc.specs.Bounds.{IsCarriedWithin, IsGroupPosition, IsWithinBounds}
 use Rattle.canvas_record.specs.Tree.{IsInLimits}
-use Rattle.canvas_record.proofs.BoundsLaws.{carried-within, within-itself}
-use Rattle.canvas_record.proofs.Marks.{level-blocked}
-use Rattle.canvas_record.proofs.Widened.{IsStep, done-above, done-held, above-at, above-read, group-limits, item-at, one-item, reaches-group, step-read, widened, within-set, within-steps}
+use Rattle.canvas_doc.proofs.boxes.BoundsLaws.{carried-within, within-itself}
+use Rattle.canvas_doc.proofs.tree.Marks.{level-blocked}
+use Rattle.canvas_doc.proofs.boxes.Widened.{IsStep, done-above, done-held, above-at, above-read, group-limits, one-item, reaches-group, step-read, widened, within-set, within-steps}
 use Rattle.canvas_doc.proofs.kept_bounds.+raise.Goals as goal
 use Rattle.canvas_doc.proofs.kept_bounds.+raise.Goals.{In-Some, After-contains, After-value-group}
+use Rattle.canvas_doc.proofs.lists.Members.{item-at}
 
 -- where the group above the record stands
 position : (t : ℕ) (c : In-Some t) → (s : Record) × (slice_get c.args.order.now c.args.at ≡ Some s) × IsGroupPosition s.place.parent c.args.records.now c.args.order.now (Some c.in-Some.up)

@@ -3,13 +3,13 @@ use Rattle.std.specs.List.{slice_get}
 use Rattle.std.specs.Result.{is_ok}
 use Rattle.std.proofs.lemmas.Option.{slice_get_within}
 use Rattle.canvas_record.specs.declared.records.Record.{Record}
-use Rattle.canvas_record.specs.Bounds.{AreBounds}
+use Rattle.canvas_doc.specs.Bounds.{AreBounds}
 use Rattle.canvas_doc.specs.Placements.{Placements}
-use Rattle.canvas_record.specs.PlaceOrder.{IsInPlaceOrder}
-use Rattle.canvas_record.proofs.Neighbours.{found-contained}
-use Rattle.canvas_record.proofs.Rebounded.{no-own_child}
-use Rattle.canvas_record.proofs.Widened.{group-at, group-limits}
-use Rattle.canvas_record.proofs.WidenedAbove.{wider-if}
+use Rattle.canvas_doc.specs.PlaceOrder.{IsInPlaceOrder}
+use Rattle.canvas_doc.proofs.siblings.Neighbours.{found-contained}
+use Rattle.canvas_doc.proofs.boxes.Rebounded.{no-own_child}
+use Rattle.canvas_doc.proofs.boxes.Widened.{group-at, group-limits}
+use Rattle.canvas_doc.proofs.boxes.WidenedAbove.{wider-if}
 use Rattle.canvas_doc.proofs.kept_bounds.+widen_above.Goals as goal
 use Rattle.canvas_doc.proofs.kept_bounds.+widen_above.Goals.{then-not-is_held_above+in_ok-widen_above, else-not-is_held_above}
 

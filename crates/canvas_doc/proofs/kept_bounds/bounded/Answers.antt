@@ -1,7 +1,7 @@
 use Rattle.std.proofs.Common.{◌∙◌, List, drop, length, subst, sym}
 use Rattle.canvas_record.specs.declared.records.Record.{Record}
-use Rattle.canvas_record.specs.PlaceOrder.{IsInPlaceOrder}
-use Rattle.canvas_doc.proofs.Listing.{bounded-if, bounds-written}
+use Rattle.canvas_doc.specs.PlaceOrder.{IsInPlaceOrder}
+use Rattle.canvas_doc.proofs.lists.Listing.{bounded-if, bounds-written}
 use Rattle.canvas_doc.proofs.kept_bounds.bounded.Goals as goal
 
 pub raise_all-requires-clause-in_order : goal.raise_all-requires-clause-in_order

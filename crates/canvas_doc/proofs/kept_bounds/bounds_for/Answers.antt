@@ -1,4 +1,4 @@
-use Rattle.canvas_record.proofs.BoundsLaws.{carried-within, within-itself}
+use Rattle.canvas_doc.proofs.boxes.BoundsLaws.{carried-within, within-itself}
 use Rattle.canvas_doc.proofs.kept_bounds.bounds_for.Goals as goal
 
 pub returns-then-not-shape-clause-below : goal.returns-then-not-shape-clause-below

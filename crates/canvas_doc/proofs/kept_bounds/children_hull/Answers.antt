@@ -1,12 +1,12 @@
 use Rattle.std.proofs.Common.{◌≡◌, ◌-◌, ◌∙◌, All, List, ap, drop, map, subst, sym, take}
 use Rattle.std.specs.List.{drop-map, take-map}
 use Rattle.std.proofs.lemmas.List.Elements.{All-map}
-use Rattle.canvas_record.specs.declared.bounds.Bounds.{Bounds}
+use Rattle.canvas_doc.specs.declared.bounds.Bounds.{Bounds}
 use Rattle.canvas_doc.specs.declared.placed_shapes.PlacedShape.{PlacedShape}
 use Rattle.canvas_record.specs.declared.records.Parent.TheVariants.{Shape}
-use Rattle.canvas_record.specs.Bounds.{IsWithinBounds}
-use Rattle.canvas_record.proofs.Hulled.{children-hulled}
-use Rattle.canvas_doc.proofs.Placements.{bounds-are, bounds_of, long-bounds}
+use Rattle.canvas_doc.specs.Bounds.{IsWithinBounds}
+use Rattle.canvas_doc.proofs.boxes.Hulled.{children-hulled}
+use Rattle.canvas_doc.proofs.editing.Placements.{bounds-are, bounds_of, long-bounds}
 use Rattle.canvas_doc.proofs.kept_bounds.children_hull.Goals as goal
 
 pub returns : goal.returns

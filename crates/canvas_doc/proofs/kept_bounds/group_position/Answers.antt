@@ -1,4 +1,4 @@
-use Rattle.canvas_record.proofs.Widened.{group-at}
+use Rattle.canvas_doc.proofs.boxes.Widened.{group-at}
 use Rattle.canvas_doc.proofs.kept_bounds.group_position.Goals as goal
 
 pub returns : goal.returns

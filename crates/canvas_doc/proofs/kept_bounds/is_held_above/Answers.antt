@@ -1,8 +1,8 @@
 use Rattle.std.proofs.Common.{◌≡◌, Some, arith, length, refl}
 use Rattle.std.specs.List.{slice_get}
 use Rattle.std.proofs.lemmas.Option.{slice_get_read, slice_get_within}
-use Rattle.canvas_record.proofs.BoundsLaws.{carried-within, within-itself}
-use Rattle.canvas_record.proofs.Widened.{found-above, group-at, group-limits, none-above}
+use Rattle.canvas_doc.proofs.boxes.BoundsLaws.{carried-within, within-itself}
+use Rattle.canvas_doc.proofs.boxes.Widened.{found-above, group-at, group-limits, none-above}
 use Rattle.canvas_doc.proofs.kept_bounds.is_held_above.Goals as goal
 
 pub returns-in_default : goal.returns-in_default

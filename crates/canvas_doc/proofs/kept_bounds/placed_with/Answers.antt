@@ -5,8 +5,8 @@ use Rattle.std.specs.Slice.Iter.{iter_rest}
 use Rattle.std.specs.Vec.Iter.{into_iter_items}
 use Rattle.canvas_doc.specs.declared.placed_shapes.PlacedShape.{PlacedShape}
 use Rattle.canvas_record.specs.declared.records.Record.{Record}
-use Rattle.canvas_doc.proofs.Listing.{bounds-if, none-behind, one-more, shapes-if}
-use Rattle.canvas_doc.proofs.Placements.{bounds_of, shape_of}
+use Rattle.canvas_doc.proofs.lists.Listing.{bounds-if, none-behind, one-more, shapes-if}
+use Rattle.canvas_doc.proofs.editing.Placements.{bounds_of, shape_of}
 use Rattle.canvas_doc.proofs.kept_bounds.placed_with.Goals as goal
 use Rattle.canvas_doc.proofs.kept_bounds.placed_with.Goals.{After-from_vec}
 

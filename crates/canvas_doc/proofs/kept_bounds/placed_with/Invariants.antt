@@ -2,7 +2,7 @@ use Rattle.std.proofs.Common.{◌≡◌, ◌++◌, map}
 use Rattle.std.specs.Iterator.Adapters.{zip_first, zip_second}
 use Rattle.std.specs.Slice.Iter.{iter_rest}
 use Rattle.std.specs.Vec.Iter.{into_iter_items}
-use Rattle.canvas_doc.proofs.Placements.{bounds_of, shape_of}
+use Rattle.canvas_doc.proofs.editing.Placements.{bounds_of, shape_of}
 use Rattle.canvas_doc.proofs.kept_bounds.placed_with.Given as goal
 
 abbrev pub invariant-loop-shape : goal.invariant-loop-shape

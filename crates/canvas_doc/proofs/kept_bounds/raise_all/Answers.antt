@@ -2,8 +2,8 @@ use Rattle.std.proofs.Common.{◌≡◌, ◌∙◌, ◌<◌, Some, length, refl,
 use Rattle.std.specs.List.{slice_get}
 use Rattle.std.proofs.lemmas.Option.{slice_get_read}
 use Rattle.canvas_record.specs.declared.records.Record.{Record}
-use Rattle.canvas_record.specs.Bounds.{IsGroupPosition, IsWithinBounds}
-use Rattle.canvas_record.proofs.Widened.{all-bounds, grown, none-held, one-item, order-limits, order-reaches, own-more, own-of_all, page-no-group}
+use Rattle.canvas_doc.specs.Bounds.{IsGroupPosition, IsWithinBounds}
+use Rattle.canvas_doc.proofs.boxes.Widened.{all-bounds, grown, none-held, one-item, order-limits, order-reaches, own-more, own-of_all, page-no-group}
 use Rattle.canvas_doc.proofs.kept_bounds.raise_all.Goals as goal
 use Rattle.canvas_doc.proofs.kept_bounds.raise_all.Goals.{After-hull, After-value-shape}
 

@@ -1,5 +1,5 @@
-use Rattle.canvas_record.specs.Bounds.{HoldChildren, IsGroupPosition}
-use Rattle.canvas_record.proofs.Widened.{HoldOwnBelow}
+use Rattle.canvas_doc.specs.Bounds.{HoldChildren, IsGroupPosition}
+use Rattle.canvas_doc.proofs.boxes.Widened.{HoldOwnBelow}
 use Rattle.canvas_doc.proofs.kept_bounds.raise_all.Given as goal
 
 abbrev pub invariant-loop-at : goal.invariant-loop-at

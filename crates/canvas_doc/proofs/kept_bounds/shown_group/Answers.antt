@@ -1,5 +1,5 @@
 use Rattle.std.proofs.Common.{◌∙◌, sym}
-use Rattle.canvas_record.proofs.Widened.{group-found}
+use Rattle.canvas_doc.proofs.boxes.Widened.{group-found}
 use Rattle.canvas_doc.proofs.kept_bounds.shown_group.Goals as goal
 
 pub returns-then-not-shape : goal.returns-then-not-shape

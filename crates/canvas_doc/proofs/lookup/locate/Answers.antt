@@ -3,7 +3,7 @@ use Rattle.std.specs.Option.{option_copied}
 use Rattle.std.proofs.lemmas.List.Sorted.{IsPartitionPoint-from_clause}
 use Rattle.std.proofs.lemmas.Option.{same_Some}
 use Rattle.canvas_record.specs.declared.records.Record.{Record}
-use Rattle.canvas_record.proofs.Searched.{is-standing, is_less, less-parted, stands-nowhere}
+use Rattle.canvas_doc.proofs.tree.Searched.{is-standing, is_less, less-parted, stands-nowhere}
 use Rattle.canvas_doc.proofs.lookup.locate.Goals as goal
 use Rattle.canvas_doc.proofs.lookup.locate.Goals.{in_default-via-in-Some+else-id, in_default-via-in_default}
 

@@ -1,16 +1,16 @@
 use Rattle.std.proofs.Common.{◌≡◌, ◌<◌, ◌≤◌, ◌+◌, ◌-◌, ◌∙◌, ◌++◌, ◌∷◌, [], ℕ, List, true, ap, arith, drop, filter, get_or, length, map, refl, subst, sym, take}
 use Rattle.std.proofs.lemmas.List.{get_or-drop, get_or-take, length-drop, length-take-le, map-append}
-use Rattle.canvas_record.specs.declared.bounds.Bounds.{Bounds}
+use Rattle.canvas_doc.specs.declared.bounds.Bounds.{Bounds}
 use Rattle.canvas_doc.specs.declared.placed_shapes.PlacedShape.{PlacedShape}
 use Rattle.canvas_record.specs.declared.records.Parent.{Parent}
 use Rattle.canvas_record.specs.declared.records.Record.{Record}
 use Rattle.canvas_record.specs.Children.{is_child}
 use Rattle.canvas_record.specs.Effect.{rank_of, respaced}
 use Rattle.canvas_doc.specs.Placements.{placements_of}
-use Rattle.canvas_record.proofs.ChildrenInOrder.{one-more}
-use Rattle.canvas_doc.proofs.InSight.{read-below}
-use Rattle.canvas_doc.proofs.Placements.{bounds-at, bounds_of, long-bounds, shape-at, shape_of}
-use Rattle.canvas_record.proofs.Spaced.{all-passing, rank-at, respaced-child}
+use Rattle.canvas_doc.proofs.places.ChildrenInOrder.{one-more}
+use Rattle.canvas_doc.proofs.boxes.InSight.{read-below}
+use Rattle.canvas_doc.proofs.editing.Placements.{bounds-at, bounds_of, long-bounds, shape-at, shape_of}
+use Rattle.canvas_doc.proofs.spacing.Spaced.{all-passing, rank-at, respaced-child}
 use Rattle.canvas_doc.proofs.new_indexes.respaced_children.Goals as goal
 
 pub loop-at-preserved : goal.loop-at-preserved

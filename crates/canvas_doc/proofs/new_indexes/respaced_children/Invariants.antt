@@ -1,7 +1,7 @@
 use Rattle.std.proofs.Common.{◌≡◌, ◌-◌, drop, map, take}
 use Rattle.canvas_record.specs.Effect.{respaced}
 use Rattle.canvas_doc.specs.Placements.{placements_of}
-use Rattle.canvas_doc.proofs.Placements.{bounds_of, shape_of}
+use Rattle.canvas_doc.proofs.editing.Placements.{bounds_of, shape_of}
 use Rattle.canvas_doc.proofs.new_indexes.respaced_children.Given as goal
 
 abbrev pub invariant-loop-at : goal.invariant-loop-at

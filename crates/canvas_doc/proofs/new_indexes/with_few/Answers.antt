@@ -4,8 +4,8 @@ use Rattle.std.proofs.lemmas.List.{length-map, take_all}
 use Rattle.canvas_doc.specs.declared.placed_shapes.PlacedShape.{PlacedShape}
 use Rattle.canvas_record.specs.declared.records.Record.{Record}
 use Rattle.canvas_record.specs.Contents.{record_of, StandsAt}
-use Rattle.canvas_doc.proofs.Placements.{map-read, shape_of}
-use Rattle.canvas_record.proofs.Respacing.{none-put, nothing-put, one-put}
+use Rattle.canvas_doc.proofs.editing.Placements.{map-read, shape_of}
+use Rattle.canvas_doc.proofs.spacing.Respacing.{none-put, nothing-put, one-put}
 use Rattle.canvas_doc.proofs.new_indexes.with_few.Goals as goal
 use Rattle.canvas_doc.proofs.new_indexes.with_few.Goals.{in-Some+in_ok-try_clone+in_ok-change, in_default}
 

@@ -1,7 +1,7 @@
 use Rattle.std.proofs.Common.{◌≡◌, map, take}
 use Rattle.std.specs.Option.{unwrap_or}
 use Rattle.canvas_record.specs.Contents.{record_of}
-use Rattle.canvas_doc.proofs.Placements.{shape_of}
+use Rattle.canvas_doc.proofs.editing.Placements.{shape_of}
 use Rattle.canvas_doc.proofs.new_indexes.with_few.Given as goal
 
 abbrev pub invariant-loop-other : goal.invariant-loop-other

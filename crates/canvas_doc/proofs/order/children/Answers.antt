@@ -1,10 +1,10 @@
 use Rattle.std.proofs.Common.{◌≡◌, ◌∙◌, ◌-◌, Bor, List, arith, drop, map, refl, take, ap}
 use Rattle.canvas_record.specs.declared.records.Record.{Record}
 use Rattle.canvas_doc.specs.Placements.{placements_of}
-use Rattle.canvas_record.proofs.ChildrenInOrder.{one-more-listed}
-use Rattle.canvas_doc.proofs.InSight.{read-below}
-use Rattle.canvas_doc.proofs.Placements.{shape-at}
-use Rattle.canvas_record.proofs.Sorting.{record_of}
+use Rattle.canvas_doc.proofs.places.ChildrenInOrder.{one-more-listed}
+use Rattle.canvas_doc.proofs.boxes.InSight.{read-below}
+use Rattle.canvas_doc.proofs.editing.Placements.{shape-at}
+use Rattle.canvas_doc.proofs.siblings.Sorting.{record_of}
 use Rattle.canvas_doc.proofs.order.children.Goals as goal
 
 pub loop-at-init : goal.loop-at-init

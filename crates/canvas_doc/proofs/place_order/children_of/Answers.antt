@@ -3,8 +3,8 @@ use Rattle.std.specs.Ordering.{is_le, is_lt}
 use Rattle.std.proofs.lemmas.List.Sorted.{IsPartitionPoint-from_clause}
 use Rattle.canvas_doc.specs.declared.placed_shapes.PlacedShape.{PlacedShape}
 use Rattle.canvas_record.specs.declared.records.Record.{Record}
-use Rattle.canvas_doc.proofs.Placements.{long, point, shape_of}
-use Rattle.canvas_record.proofs.PlacePoints.{children-within, has_parent, parted-before, parted-up_to}
+use Rattle.canvas_doc.proofs.editing.Placements.{long, point, shape_of}
+use Rattle.canvas_doc.proofs.places.PlacePoints.{children-within, has_parent, parted-before, parted-up_to}
 use Rattle.canvas_doc.proofs.place_order.children_of.Goals as goal
 
 pub returns-clause-children : goal.returns-clause-children

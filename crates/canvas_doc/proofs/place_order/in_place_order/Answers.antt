@@ -4,9 +4,9 @@ use Rattle.std.specs.Ordering.{is_lt}
 use Rattle.std.proofs.lemmas.Fn.{always_returns_same}
 use Rattle.std.proofs.lemmas.List.Sorted.{ranks_by}
 use Rattle.canvas_record.specs.declared.records.Record.{Record}
-use Rattle.canvas_record.specs.PlaceOrder.{comes_first}
-use Rattle.canvas_record.proofs.ByPlace.{comes_first-total}
-use Rattle.canvas_record.proofs.PlaceSorted.{sorted-in_order}
+use Rattle.canvas_doc.specs.PlaceOrder.{comes_first}
+use Rattle.canvas_doc.proofs.places.ByPlace.{comes_first-total}
+use Rattle.canvas_doc.proofs.places.PlaceSorted.{sorted-in_order}
 use Rattle.canvas_doc.proofs.place_order.in_place_order.Goals as goal
 
 pub returns-clause-order : goal.returns-clause-order

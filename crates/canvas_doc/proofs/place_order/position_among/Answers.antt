@@ -1,7 +1,7 @@
 use Rattle.std.proofs.Common.{List, rules}
 use Rattle.std.proofs.lemmas.List.Sorted.{IsPartitionPoint-from_clause}
 use Rattle.canvas_record.specs.declared.records.Record.{Record}
-use Rattle.canvas_record.proofs.PlacePoints.{parted-at, place-of, stands_before}
+use Rattle.canvas_doc.proofs.places.PlacePoints.{parted-at, place-of, stands_before}
 use Rattle.canvas_doc.proofs.place_order.position_among.Goals as goal
 
 pub returns : goal.returns

@@ -2,8 +2,8 @@ use Rattle.std.proofs.Common.{◌≤◌, List, rules, subst}
 use Rattle.std.proofs.lemmas.List.Sorted.{IsPartitionPoint-from_clause}
 use Rattle.canvas_doc.specs.declared.placed_shapes.PlacedShape.{PlacedShape}
 use Rattle.canvas_record.specs.declared.records.Record.{Record}
-use Rattle.canvas_doc.proofs.Placements.{long, point, shape_of}
-use Rattle.canvas_record.proofs.PlacePoints.{parted-at, place-of, stands_before}
+use Rattle.canvas_doc.proofs.editing.Placements.{long, point, shape_of}
+use Rattle.canvas_doc.proofs.places.PlacePoints.{parted-at, place-of, stands_before}
 use Rattle.canvas_doc.proofs.place_order.position_in.Goals as goal
 
 pub returns : goal.returns

@@ -1,5 +1,5 @@
 use Rattle.std.proofs.Common.{arith}
-use Rattle.canvas_record.proofs.LeftOut.{left-before, left-behind}
+use Rattle.canvas_doc.proofs.places.LeftOut.{left-before, left-behind}
 use Rattle.canvas_doc.proofs.place_order.position_without.Goals as goal
 
 pub returns-then-from-at : goal.returns-then-from-at

@@ -1,4 +1,4 @@
-use Rattle.canvas_doc.proofs.Listing.{moved-on}
+use Rattle.canvas_doc.proofs.lists.Listing.{moved-on}
 use Rattle.canvas_doc.proofs.place_order.shares.Goals as goal
 
 pub loop-shape-preserved : goal.loop-shape-preserved

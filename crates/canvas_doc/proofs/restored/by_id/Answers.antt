@@ -2,7 +2,7 @@ use Rattle.std.proofs.Common.{rules}
 use Rattle.std.proofs.lemmas.Fn.{always_returns_same}
 use Rattle.std.proofs.lemmas.List.Sorted.{IsNonDecreasingBy-from_sort_by_key}
 use Rattle.canvas_record.specs.declared.records.Record.{Record}
-use Rattle.canvas_record.proofs.InOrder.{sorted-by_id}
+use Rattle.canvas_doc.proofs.restoring.InOrder.{sorted-by_id}
 use Rattle.canvas_doc.proofs.restored.by_id.Goals as goal
 
 pub returns : goal.returns

@@ -1,6 +1,6 @@
 use Rattle.std.proofs.Common.{arith}
 use Rattle.std.proofs.lemmas.Grind.{common_steps}
-use Rattle.canvas_record.proofs.Leads.{position_of-nil, position_of-more}
+use Rattle.canvas_doc.proofs.restoring.Leads.{position_of-nil, position_of-more}
 use Rattle.canvas_doc.proofs.restored.first_positions.Goals as goal
 
 pub loop-position-init : goal.loop-position-init

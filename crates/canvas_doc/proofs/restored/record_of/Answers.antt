@@ -1,7 +1,7 @@
 use Rattle.std.proofs.Common.{rules, ◌≡◌, ◌<◌, Some, sym, ap, ◌∙◌, length}
 use Rattle.std.specs.Option.{option_copied}
-use Rattle.canvas_record.specs.Listed.{position_of}
-use Rattle.canvas_record.proofs.Leads.{position_of-within, record_of-position, record_of-nowhere}
+use Rattle.canvas_doc.specs.Listed.{position_of}
+use Rattle.canvas_doc.proofs.restoring.Leads.{position_of-within, record_of-position, record_of-nowhere}
 use Rattle.canvas_doc.proofs.restored.record_of.Goals as goal
 
 pub offset_bounds-records-position : goal.offset_bounds-records-position

@@ -1,5 +1,5 @@
 use Rattle.std.proofs.Common.{refl, ◌∙◌}
-use Rattle.canvas_record.proofs.Leads.{repeats-found}
+use Rattle.canvas_doc.proofs.restoring.Leads.{repeats-found}
 use Rattle.canvas_doc.proofs.restored.repeats_id.Goals as goal
 
 pub returns : goal.returns

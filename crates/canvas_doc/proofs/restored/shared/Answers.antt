@@ -1,7 +1,7 @@
 use Rattle.std.proofs.Common.{ap, arith, length}
 use Rattle.std.specs.Vec.Iter.{into_iter_items}
 use Rattle.std.proofs.lemmas.List.{length-append}
-use Rattle.canvas_doc.proofs.Listing.{moved-on}
+use Rattle.canvas_doc.proofs.lists.Listing.{moved-on}
 use Rattle.canvas_doc.proofs.restored.shared.Goals as goal
 
 pub loop-shape-preserved : goal.loop-shape-preserved

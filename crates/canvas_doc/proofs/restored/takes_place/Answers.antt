@@ -1,5 +1,5 @@
 use Rattle.std.proofs.Common.{◌∙◌, ap, not}
-use Rattle.canvas_record.proofs.Placed.{has-key, has-more}
+use Rattle.canvas_doc.proofs.places.Placed.{has-key, has-more}
 use Rattle.canvas_doc.proofs.restored.takes_place.Goals as goal
 
 pub returns : goal.returns

@@ -4,10 +4,10 @@ use Rattle.std.proofs.lemmas.List.Elements.{All-nil, All-more}
 use Rattle.std.proofs.lemmas.Option.{slice_get_read}
 use Rattle.canvas_key.specs.Text.{IsKey}
 use Rattle.canvas_record.specs.declared.records.Record.{Record}
-use Rattle.canvas_record.specs.Listed.{has_place}
+use Rattle.canvas_doc.specs.Listed.{has_place}
 use Rattle.canvas_record.specs.Restored.{is_misplaced, same_place}
-use Rattle.canvas_record.proofs.Placed.{none-placed}
-use Rattle.canvas_record.proofs.Misplaced.{fault-here, fault-later, places-more, misplaced-repeats, misplaced-hangs, misplaced-taken, well-placed, taken-from, free-from}
+use Rattle.canvas_doc.proofs.places.Placed.{none-placed}
+use Rattle.canvas_doc.proofs.restoring.Misplaced.{fault-here, fault-later, places-more, misplaced-repeats, misplaced-hangs, misplaced-taken, well-placed, taken-from, free-from}
 use Rattle.canvas_doc.proofs.restored.tree_fault.Goals as goal
 use Rattle.canvas_doc.proofs.restored.tree_fault.Goals.{then-repeats_id-via-then-repeats_id, then-repeats_id-via-else-repeats_id+then-not-hangs_in, then-repeats_id-via-else-repeats_id+else-not-hangs_in+in_ok-takes_place+then-not-branch}
 

@@ -2,7 +2,7 @@ use Rattle.std.proofs.Common.{◌≡◌, All, take, drop}
 use Rattle.std.specs.List.{list_any}
 use Rattle.canvas_key.specs.Text.{IsKey}
 use Rattle.canvas_record.specs.declared.records.Record.{Record}
-use Rattle.canvas_record.specs.Listed.{has_place}
+use Rattle.canvas_doc.specs.Listed.{has_place}
 use Rattle.canvas_record.specs.Restored.{tree_fault, tree_fault_after, same_place}
 use Rattle.canvas_doc.proofs.restored.tree_fault.Given as goal
 

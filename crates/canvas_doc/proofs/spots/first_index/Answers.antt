@@ -1,5 +1,5 @@
 use Rattle.std.proofs.Common.{◌∙◌, sym}
-use Rattle.canvas_record.proofs.Ends.{first-found, first-later}
+use Rattle.canvas_doc.proofs.siblings.Ends.{first-found, first-later}
 use Rattle.canvas_doc.proofs.spots.first_index.Goals as goal
 
 pub returns-then-shape-own : goal.returns-then-shape-own

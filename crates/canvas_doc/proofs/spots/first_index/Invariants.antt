@@ -1,5 +1,5 @@
 use Rattle.std.proofs.Common.{◌≡◌, ◌-◌, take, drop}
-use Rattle.canvas_record.specs.Ends.{first_index}
+use Rattle.canvas_doc.specs.Ends.{first_index}
 use Rattle.canvas_doc.proofs.spots.first_index.Given as goal
 
 abbrev pub invariant-loop-at : goal.invariant-loop-at

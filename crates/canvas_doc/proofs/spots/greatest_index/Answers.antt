@@ -1,8 +1,8 @@
 use Rattle.std.proofs.Common.{◌∙◌, ap}
 use Rattle.canvas_record.specs.Contents.{Contents}
-use Rattle.canvas_record.specs.Ends.{first_index}
+use Rattle.canvas_doc.specs.Ends.{first_index}
 use Rattle.canvas_record.specs.Siblings.{siblings, greatest_index}
-use Rattle.canvas_record.proofs.Neighbours.{greatest-first}
+use Rattle.canvas_doc.proofs.siblings.Neighbours.{greatest-first}
 use Rattle.canvas_doc.proofs.spots.greatest_index.Goals as goal
 
 pub returns : goal.returns

@@ -4,8 +4,8 @@ use Rattle.canvas_record.specs.declared.records.Parent.{Parent}
 use Rattle.canvas_record.specs.declared.records.Record.{Record}
 use Rattle.canvas_record.specs.Contents.{Contents, record_of}
 use Rattle.canvas_record.specs.Siblings.{is_sibling, siblings, least_above, index_over, with_room}
-use Rattle.canvas_record.proofs.Neighbours.{found-contained, sibling-parent}
-use Rattle.canvas_record.proofs.Spotted.{found-filter, if_passes}
+use Rattle.canvas_doc.proofs.siblings.Neighbours.{found-contained, sibling-parent}
+use Rattle.canvas_doc.proofs.siblings.Spotted.{found-filter, if_passes}
 use Rattle.canvas_doc.proofs.spots.index_over.Goals as goal
 use Rattle.canvas_doc.proofs.spots.index_over.Goals.{After-find}
 

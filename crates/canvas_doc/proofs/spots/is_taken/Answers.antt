@@ -2,7 +2,7 @@ use Rattle.std.proofs.Common.{◌≡◌, ◌∙◌, ap, sym}
 use Rattle.std.specs.List.{list_any}
 use Rattle.canvas_record.specs.Contents.{Contents}
 use Rattle.canvas_record.specs.Siblings.{siblings, is_taken}
-use Rattle.canvas_record.proofs.Taken.{takes, taken-here, taken-nowhere, taken-listed}
+use Rattle.canvas_doc.proofs.siblings.Taken.{takes, taken-here, taken-nowhere, taken-listed}
 use Rattle.canvas_doc.proofs.spots.is_taken.Goals as goal
 use Rattle.canvas_doc.proofs.spots.is_taken.Goals.{After-get}
 

@@ -1,5 +1,5 @@
 use Rattle.std.proofs.Common.{◌∙◌, sym, arith}
-use Rattle.canvas_record.proofs.Ends.{last-found, last-earlier}
+use Rattle.canvas_doc.proofs.siblings.Ends.{last-found, last-earlier}
 use Rattle.canvas_doc.proofs.spots.last_index.Goals as goal
 
 pub returns-then-shape-own : goal.returns-then-shape-own

@@ -1,8 +1,8 @@
 use Rattle.std.proofs.Common.{◌∙◌, ap, None}
 use Rattle.canvas_record.specs.Contents.{Contents}
-use Rattle.canvas_record.specs.Ends.{last_index}
+use Rattle.canvas_doc.specs.Ends.{last_index}
 use Rattle.canvas_record.specs.Siblings.{siblings, least_above}
-use Rattle.canvas_record.proofs.Neighbours.{least-last}
+use Rattle.canvas_doc.proofs.siblings.Neighbours.{least-last}
 use Rattle.canvas_doc.proofs.spots.least_index.Goals as goal
 
 pub returns : goal.returns

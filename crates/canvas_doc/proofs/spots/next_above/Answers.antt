@@ -4,8 +4,8 @@ use Rattle.std.specs.Option.{option_copied}
 use Rattle.canvas_key.specs.Order.{AreApart}
 use Rattle.canvas_record.specs.Contents.{Contents}
 use Rattle.canvas_record.specs.Siblings.{siblings, least_above}
-use Rattle.canvas_record.proofs.Neighbours.{next-least, among-children}
-use Rattle.canvas_record.proofs.Spotted.{least-apart}
+use Rattle.canvas_doc.proofs.siblings.Neighbours.{next-least, among-children}
+use Rattle.canvas_doc.proofs.siblings.Spotted.{least-apart}
 use Rattle.canvas_doc.proofs.spots.next_above.Goals as goal
 use Rattle.canvas_doc.proofs.spots.next_above.Goals.{After-last_index}
 

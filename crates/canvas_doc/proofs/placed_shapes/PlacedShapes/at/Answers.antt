@@ -1,5 +1,5 @@
 use Rattle.std.proofs.Common.{◌<◌, subst, sym}
-use Rattle.canvas_doc.proofs.Placements.{long, shape-at}
+use Rattle.canvas_doc.proofs.editing.Placements.{long, shape-at}
 use Rattle.canvas_doc.proofs.placed_shapes.PlacedShapes.at.Goals as goal
 
 pub at-requires : goal.at-requires

@@ -1,5 +1,5 @@
 use Rattle.std.proofs.Common.{◌<◌, subst, sym}
-use Rattle.canvas_doc.proofs.Placements.{bounds-at, long}
+use Rattle.canvas_doc.proofs.editing.Placements.{bounds-at, long}
 use Rattle.canvas_doc.proofs.placed_shapes.PlacedShapes.bounds_at.Goals as goal
 
 pub at-requires : goal.at-requires

@@ -1,6 +1,6 @@
 use Rattle.std.specs.Result.{is_ok}
 use Rattle.canvas_list.specs.Changed.{changed}
-use Rattle.canvas_doc.proofs.Placements.{bounds-changed, if-made, place-changed, shapes-changed}
+use Rattle.canvas_doc.proofs.editing.Placements.{bounds-changed, if-made, place-changed, shapes-changed}
 use Rattle.canvas_doc.proofs.placed_shapes.PlacedShapes.change_both.Goals as goal
 
 pub change_both-requires-clause-place : goal.change_both-requires-clause-place

@@ -2,10 +2,10 @@ use Rattle.std.proofs.Common.{◌≡◌, ◌∙◌, ap, cond, get_or, set, subst
 use Rattle.std.specs.Result.{is_ok}
 use Rattle.canvas_list.specs.declared.in_place.ItemChange.TheVariants.{Replace}
 use Rattle.canvas_list.specs.Changed.{changed}
-use Rattle.canvas_record.specs.declared.bounds.Bounds.{Bounds}
+use Rattle.canvas_doc.specs.declared.bounds.Bounds.{Bounds}
 use Rattle.canvas_record.specs.declared.records.Record.{Record}
-use Rattle.canvas_doc.proofs.Placements.{bounds-changed, if-made, place-changed, shapes-changed}
-use Rattle.canvas_record.proofs.WidenedAbove.{stays-if}
+use Rattle.canvas_doc.proofs.editing.Placements.{bounds-changed, if-made, place-changed, shapes-changed}
+use Rattle.canvas_doc.proofs.boxes.WidenedAbove.{stays-if}
 use Rattle.canvas_doc.proofs.placed_shapes.PlacedShapes.change_bounds.Goals as goal
 
 pub returns-clause-shapes : goal.returns-clause-shapes

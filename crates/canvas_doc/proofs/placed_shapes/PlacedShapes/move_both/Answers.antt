@@ -1,9 +1,9 @@
 use Rattle.std.proofs.Common.{◌≡◌, ◌∙◌, arith, cond, map, set, subst}
 use Rattle.std.specs.List.{insert, remove}
 use Rattle.std.specs.Result.{is_ok}
-use Rattle.canvas_record.specs.declared.bounds.Bounds.{Bounds}
+use Rattle.canvas_doc.specs.declared.bounds.Bounds.{Bounds}
 use Rattle.canvas_record.specs.declared.records.Record.{Record}
-use Rattle.canvas_doc.proofs.Placements.{bounds-moved, bounds_of, if-made, long, shape_of, shapes-moved}
+use Rattle.canvas_doc.proofs.editing.Placements.{bounds-moved, bounds_of, if-made, long, shape_of, shapes-moved}
 use Rattle.canvas_doc.proofs.placed_shapes.PlacedShapes.move_both.Goals as goal
 
 pub change_both-requires-clause-other : goal.change_both-requires-clause-other

@@ -1,7 +1,7 @@
 use Rattle.std.proofs.Common.{◌∙◌, ap, map}
 use Rattle.std.specs.List.{remove}
 use Rattle.canvas_list.specs.declared.in_place.ItemChange.TheVariants.{Remove}
-use Rattle.canvas_doc.proofs.Placements.{bounds-are, bounds_of, map-remove, on-ok, place-changed, shape_of, shapes-are}
+use Rattle.canvas_doc.proofs.editing.Placements.{bounds-are, bounds_of, map-remove, on-ok, place-changed, shape_of, shapes-are}
 use Rattle.canvas_doc.proofs.placed_shapes.PlacedShapes.remove.Goals as goal
 
 pub change-requires : goal.change-requires

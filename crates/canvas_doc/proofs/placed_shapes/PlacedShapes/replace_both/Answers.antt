@@ -2,7 +2,7 @@ use Rattle.std.proofs.Common.{◌≡◌, ◌∙◌, subst}
 use Rattle.std.specs.Result.{is_ok}
 use Rattle.canvas_list.specs.declared.in_place.ItemChange.TheVariants.{Replace}
 use Rattle.canvas_list.specs.Changed.{changed_if}
-use Rattle.canvas_record.specs.declared.bounds.Bounds.{Bounds}
+use Rattle.canvas_doc.specs.declared.bounds.Bounds.{Bounds}
 use Rattle.canvas_record.specs.declared.records.Record.{Record}
 use Rattle.canvas_doc.proofs.placed_shapes.PlacedShapes.replace_both.Goals as goal
 

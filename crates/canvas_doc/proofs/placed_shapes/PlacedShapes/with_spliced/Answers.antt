@@ -1,5 +1,5 @@
 use Rattle.std.proofs.Common.{◌∙◌, ◌++◌, ap, drop, map, take}
-use Rattle.canvas_doc.proofs.Placements.{bounds-are, bounds_of, map-splice, shape_of, shapes-are}
+use Rattle.canvas_doc.proofs.editing.Placements.{bounds-are, bounds_of, map-splice, shape_of, shapes-are}
 use Rattle.canvas_doc.proofs.placed_shapes.PlacedShapes.with_spliced.Goals as goal
 
 pub returns-clause-shapes : goal.returns-clause-shapes

@@ -1,0 +1,10 @@
+-- Bounds of records, and what shows outside of them.
+pub mod EdgeLaws
+pub mod BoundsLaws
+pub mod Hulled
+pub mod Rebounded
+pub mod Widened
+pub mod WidenedAbove
+pub mod Culled
+pub mod InSight
+pub mod PassedOver

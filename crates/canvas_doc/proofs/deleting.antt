@@ -1,0 +1,3 @@
+-- Documents without a shape and all below it.
+pub mod Freed
+pub mod HeldBelow

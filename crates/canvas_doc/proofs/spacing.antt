@@ -1,0 +1,5 @@
+-- New indexes for the children of a parent.
+pub mod Respaced
+pub mod Spaced
+pub mod Respacing
+pub mod Respacings
