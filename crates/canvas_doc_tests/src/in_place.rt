@@ -1,4 +1,4 @@
-//! Histories of documents that are changed in place, beside clones that are kept.
+//! Histories of documents that change, beside clones that are kept.
 
 use crate::asserts::holds;
 use crate::dice::Dice;
@@ -11,7 +11,7 @@ use canvas_doc::{Document, Edit, Refusal};
 use std::alloc::Global;
 use std::process::Abort;
 
-/// Makes an edit, in place where that can be.
+/// Makes an edit of a document itself.
 pub(crate) fn make(alloc: Global, document: &mut Document, edit: &Edit) -> Result<(), Refusal> {
     let change = document.decide(alloc, edit)?;
     let made = document.apply(alloc, &change);
@@ -62,7 +62,7 @@ fn a_long_history_in_place(rt: HostRuntime) {
     history(&rt, rt.alloc(), true);
 }
 
-// A document that is changed in place, and an equal one that each edit makes anew.
+// A document that changes, and an equal one that each edit makes anew.
 #[derive(Drop)]
 struct Twice {
     document: Document,

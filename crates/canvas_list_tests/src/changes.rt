@@ -8,7 +8,7 @@ use crate::dice::Dice;
 use crate::in_place::clone_of;
 use crate::moves::move_plain;
 use crate::numbers::{NumberItem, Numbers, has, number_item};
-use crate::picks::{MOST, Pick, change_plain, insert_plain, keep, made_anew, remove_plain};
+use crate::picks::{MOST, Pick, change_both_lists, insert_plain, remove_plain};
 use crate::reader::reads_about;
 use canvas_list::{ItemChange, SharedList};
 use std::alloc::Global;
@@ -36,13 +36,11 @@ impl Both {
         drop(self);
     }
 
-    /// Makes a change, by which the list is made anew.
+    /// Makes a change of both.
     pub(crate) fn change(&mut self, rt: &impl Abort, alloc: Global, pick: Pick)
         requires { IsPositionOf pick.change pick.at self.old.list }
     {
-        change_plain(rt, &mut self.plain, &pick);
-        let made = made_anew(alloc, &self.list, pick.at, pick.change);
-        keep(rt, &mut self.list, made);
+        change_both_lists(rt, alloc, &mut self.list, &mut self.plain, pick);
     }
 
     fn insert(&mut self, rt: &impl Abort, alloc: Global, at: usize, value: u32)
@@ -50,6 +48,14 @@ impl Both {
         requires few { length self.old.list + 1 < 2 ^ 32 }
     {
         let change = ItemChange::Insert(number_item(rt, alloc, value));
+        self.change(rt, alloc, Pick { at, change });
+    }
+
+    /// Takes the number at a position away.
+    pub(crate) fn remove(&mut self, rt: &impl Abort, alloc: Global, at: usize)
+        requires { at < length self.old.list }
+    {
+        let change = ItemChange::Remove;
         self.change(rt, alloc, Pick { at, change });
     }
 
@@ -66,8 +72,7 @@ impl Both {
     {
         move_plain(rt, &mut self.plain, from, to, value);
         let item = number_item(rt, alloc, value);
-        let made = self.list.with_moved(alloc, from, to, item);
-        keep(rt, &mut self.list, made);
+        self.list.shift(alloc, from, to, item).expect(rt, "memory");
     }
 
     // Puts a number so many times in the place of those from one position up to another.
@@ -87,7 +92,7 @@ impl Both {
         splice_plain(rt, &mut self.plain, first, end, count, value);
         let items = number_items(rt, alloc, count, value);
         let made = self.list.with_spliced(alloc, first, end, items);
-        keep(rt, &mut self.list, made);
+        self.list = made.expect(rt, "memory");
     }
 }
 
@@ -149,10 +154,7 @@ fn change_some(rt: &impl Abort, alloc: Global, dice: &mut Dice, both: &mut Both,
     let len = both.list.len();
     let at = dice.below(len);
     match dice.below(8) {
-        0..4 => {
-            let change = ItemChange::Remove;
-            both.change(rt, alloc, Pick { at, change })
-        }
+        0..4 => both.remove(rt, alloc, at),
         4 => both.move_item(rt, alloc, at, dice.below(len), value),
         5 => both.move_item(rt, alloc, at, (at + dice.below(4)).min(len - 1), value),
         6 => both.replace(rt, alloc, at, value),

@@ -24,8 +24,4 @@ mod picks;
 #[cfg(test)]
 mod reader;
 #[cfg(test)]
-mod runs;
-#[cfg(test)]
 mod together;
-#[cfg(test)]
-mod way;

@@ -1,76 +1,115 @@
 //! Changes for which memory may be refused: run with each allocation refused in turn, they answer want of
 //! memory or the list that they answer with ample memory, and leave the list as it was.
 
-ghost use Rattle.std.specs.Prelude.{◌<◌, ◌≡◌, length};
+ghost use Rattle.std.specs.Prelude.{◌<◌, ◌≡◌, List, IfOk, length};
+ghost use Rattle.canvas_list.specs.Changed.{MayChange};
 
 use crate::asserts::holds_at;
-use crate::numbers::{Numbers, evens, has, plain_evens, shared_number};
+use crate::numbers::{NumberItem, Numbers, evens, has, plain_evens, shared_number};
 use canvas_code::OutOfMemory;
-use canvas_list::SharedList;
+use canvas_list::{ItemChange, ListChange, SharedList};
 use std::alloc::Global;
 use std::process::Abort;
 use std::test::Fail;
 
 const COUNT: u32 = 600;
 
-// Each sort of change that takes a number.
-fn changed(alloc: Global, list: &Numbers, sort: u32) -> Result<Numbers, OutOfMemory>
-    requires { length list.now ≡ 600 }
+// A change of each sort at some place of 600 items.
+fn pick_of(alloc: Global, sort: u32) -> Result<ListChange<NumberItem>, OutOfMemory>
+    ensures { IfOk result (λ change. (xs : List NumberItem) → length xs ≡ 600 → MayChange change xs) }
 {
     let item = shared_number(alloc, 7)?;
-    match sort {
-        0 => list.with_replaced(alloc, 300, item),
-        1 => list.with_inserted(alloc, 600, item),
-        2 => list.with_inserted(alloc, 300, item),
-        3 => list.with_moved(alloc, 300, 301, item),
-        4 => list.with_moved(alloc, 300, 305, item),
-        _ => list.with_moved(alloc, 300, 599, item),
-    }
+    Ok(match sort {
+        0 => ListChange::At(300, ItemChange::Replace(item)),
+        1 => ListChange::At(600, ItemChange::Insert(item)),
+        2 => ListChange::At(300, ItemChange::Insert(item)),
+        3 => ListChange::Move(300, 301, item),
+        4 => ListChange::Move(300, 305, item),
+        5 => ListChange::Move(300, 599, item),
+        _ => ListChange::At(300, ItemChange::Remove),
+    })
 }
 
-// Each other sort.
-fn made(alloc: Global, list: &Numbers, sort: u32) -> Result<Numbers, OutOfMemory>
-    requires { length list.now ≡ 600 }
+// How many items each sort leaves.
+const LENS: [usize; 7] = [600, 601, 601, 600, 600, 600, 599];
+
+// Replaces an item of a list and changes a list with it. Where memory is refused, both stay.
+fn check_both(
+    rt: &impl Abort,
+    alloc: Global,
+    list: &mut Numbers,
+    other: &mut Numbers,
+    sort: u32,
+    len: usize,
+    plain: &[u32],
+) -> Result<(), OutOfMemory>
+    requires list { length list.old ≡ 600 }
+    requires other { length other.old ≡ 600 }
 {
-    match sort {
-        6 => list.without(alloc, 300),
-        7 => list.with_spliced(alloc, 100, 500, Vec::new(alloc)),
-        8 => list.try_clone(alloc),
-        _ => SharedList::from_vec(alloc, evens(alloc, COUNT)?),
-    }
+    let also = pick_of(alloc, sort)?;
+    let item = ItemChange::Replace(shared_number(alloc, 8)?);
+    let made = list.change_both(alloc, 200, item, other, also);
+    let is_right = if made.is_ok() {
+        other.len() == len && !has(list, plain)
+    } else {
+        has(list, plain) && has(other, plain)
+    };
+    holds_at(rt, "both after sort", sort, is_right);
+    made
 }
 
-// How many items each sort gives.
-const LENS: [usize; 10] = [600, 601, 601, 600, 600, 600, 599, 200, 600, 600];
-
-// Asserts that a change gives so many items, if there is memory for it.
-fn check_changed(rt: &impl Abort, after: Result<Numbers, OutOfMemory>, sort: u32, len: usize) {
-    if let Ok(after) = after {
-        holds_at(rt, "items after sort", sort, after.len() == len);
-    }
-}
-
-// Asserts that each sort of change gives so many items or wants memory, and leaves the list.
-fn check_changes(rt: &impl Abort, alloc: Global, list: &Numbers, plain: &[u32])
-    requires { length list.now ≡ 600 }
-{
-    let mut sort: u32 = 0;
-    for len in &LENS {
-        if sort < 6 {
-            check_changed(rt, changed(alloc, list, sort), sort, *len);
-        } else {
-            check_changed(rt, made(alloc, list, sort), sort, *len);
-        }
-        holds_at(rt, "list after sort", sort, has(list, plain));
-        sort = sort.saturating_add(1);
-    }
+// The same for lists that share their items with a third, or with none.
+fn check_sort(
+    rt: &impl Abort,
+    alloc: Global,
+    sort: u32,
+    len: usize,
+    plain: &[u32],
+) -> Result<(), OutOfMemory> {
+    let mut list = SharedList::from_vec(alloc, evens(alloc, COUNT)?)?;
+    let third = list.try_clone(alloc)?;
+    let mut other = list.try_clone(alloc)?;
+    let first = check_both(rt, alloc, &mut list, &mut other, sort, len, plain);
+    holds_at(rt, "third after sort", sort, has(&third, plain));
+    drop(third);
+    first?;
+    let mut list = SharedList::from_vec(alloc, evens(alloc, COUNT)?)?;
+    let mut other = SharedList::from_vec(alloc, evens(alloc, COUNT)?)?;
+    check_both(rt, alloc, &mut list, &mut other, sort, len, plain)
 }
 
 #[test]
-fn changes_with_little_memory(rt: HostRuntime) -> Result<(), Fail> {
+fn changes_of_two_lists_with_little_memory(rt: HostRuntime) -> Result<(), Fail> {
+    let alloc = rt.alloc();
+    let plain = plain_evens(alloc, COUNT)?;
+    let mut sort: u32 = 0;
+    for len in &LENS {
+        check_sort(&rt, alloc, sort, *len, &plain)?;
+        sort = sort.saturating_add(1);
+    }
+    Ok(())
+}
+
+// A list without a range.
+fn check_spliced(
+    rt: &impl Abort,
+    alloc: Global,
+    list: &Numbers,
+    plain: &[u32],
+) -> Result<(), OutOfMemory>
+    requires { length list.now ≡ 600 }
+{
+    let after = list.with_spliced(alloc, 100, 500, Vec::new(alloc));
+    holds_at(rt, "list after splice", 200, has(list, plain));
+    holds_at(rt, "spliced to", 200, after?.len() == 200);
+    Ok(())
+}
+
+#[test]
+fn splices_with_little_memory(rt: HostRuntime) -> Result<(), Fail> {
     let alloc = rt.alloc();
     let plain = plain_evens(alloc, COUNT)?;
     let list = SharedList::from_vec(alloc, evens(alloc, COUNT)?)?;
-    check_changes(&rt, alloc, &list, &plain);
+    check_spliced(&rt, alloc, &list, &plain)?;
     Ok(())
 }

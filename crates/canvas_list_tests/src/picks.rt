@@ -1,12 +1,11 @@
 //! Changes of lists of numbers that the dice pick, and what they make of plain lists.
 
-ghost use Rattle.std.specs.Prelude.{◌≡◌, ◌<◌, length};
+ghost use Rattle.std.specs.Prelude.{◌<◌, length};
 ghost use Rattle.canvas_list.specs.Changed.{IsPositionOf};
 
 use crate::dice::Dice;
 use crate::numbers::{NumberItem, Numbers, number_item};
-use canvas_code::OutOfMemory;
-use canvas_list::{ItemChange, Share};
+use canvas_list::ItemChange;
 use std::alloc::Global;
 use std::process::Abort;
 
@@ -20,12 +19,6 @@ pub(crate) type NumberChange = ItemChange<NumberItem>;
 pub(crate) struct Pick {
     pub(crate) at: usize,
     pub(crate) change: NumberChange,
-}
-
-impl Pick {
-    pub(crate) fn is_replacement(&self) -> bool {
-        matches!(self.change, ItemChange::Replace(_))
-    }
 }
 
 fn some_number(rt: &impl Abort, alloc: Global, dice: &mut Dice) -> NumberItem {
@@ -75,43 +68,19 @@ pub(crate) fn some_change(
     }
 }
 
-/// The same change once more.
-pub(crate) fn again(rt: &impl Abort, change: &NumberChange) -> NumberChange
-    ensures { result ≡ change.now }
-{
-    match change {
-        ItemChange::Replace(item) => ItemChange::Replace(item.share().expect(rt, "memory")),
-        ItemChange::Remove => ItemChange::Remove,
-        ItemChange::Insert(item) => ItemChange::Insert(item.share().expect(rt, "memory")),
-    }
-}
-
-/// Another list, which has the change.
-pub(crate) fn made_anew(
+/// Makes a change of a list and of its plain one.
+pub(crate) fn change_both_lists(
+    rt: &impl Abort,
     alloc: Global,
-    list: &Numbers,
-    at: usize,
-    change: NumberChange,
-) -> Result<Numbers, OutOfMemory>
-    requires { IsPositionOf change at list.now }
+    list: &mut Numbers,
+    plain: &mut Vec<u32>,
+    pick: Pick,
+)
+    requires { IsPositionOf pick.change pick.at list.old }
 {
-    match change {
-        ItemChange::Replace(item) => list.with_replaced(alloc, at, item),
-        ItemChange::Remove => list.without(alloc, at),
-        ItemChange::Insert(item) => list.with_inserted(alloc, at, item),
-    }
-}
-
-/// Keeps a list that was made in the place of one.
-pub(crate) fn keep(rt: &impl Abort, list: &mut Numbers, made: Result<Numbers, OutOfMemory>) {
-    *list = made.expect(rt, "memory");
-}
-
-/// A plain list after the same.
-pub(crate) fn plain_after(rt: &impl Abort, plain: &Vec<u32>, pick: &Pick) -> Vec<u32> {
-    let mut after = plain.clone().expect(rt, "memory");
-    change_plain(rt, &mut after, pick);
-    after
+    change_plain(rt, plain, &pick);
+    list.change(alloc, pick.at, pick.change)
+        .expect(rt, "memory");
 }
 
 /// Changes a plain list, if it has the place of the change.
