@@ -4,6 +4,7 @@ use denote.Param.Send.{IsSend, IsSync, sendable, owning_send, view_send, view_sy
 use denote.Param.SendFields.{as_row_send, declared_send, declared_sync}
 use denote.Struct.Field.{row_field}
 use Rattle.std.proofs.Crossing.{crosses}
+use Rattle.std.proofs.alloc.Global.TheSendSync as heap
 use Rattle.std.proofs.option.Option.TheSendSync as option
 use Rattle.canvas_journal.specs.declared.device.Device as device
 use Rattle.canvas_journal.proofs.journal.Journal.TheSendSync as journal
@@ -40,4 +41,4 @@ module _ (D B : RattleType) (d : device.Ghosts D.Denot) (l : lines.Ghosts B.Deno
   keep-sync =
       let held = slot-send in
       view_sync (keep_inside.the_row D B d l) _ _ _ _ (declared_sync (keep_inside.the_type D B d l) (
-        herald.the_sync B l, (reach.the_sync, (search (sendable, crosses, held) depth 40, (search (sendable, crosses), (glimpse.the_sync, (search sendable, tt)))))))
+        herald.the_sync B l, (reach.the_sync, (search (sendable, crosses, held) depth 40, (search (sendable, crosses), (glimpse.the_sync, (heap.the_sync, tt)))))))
