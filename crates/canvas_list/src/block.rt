@@ -88,6 +88,7 @@ impl<T: Share> Block<T> {
         requires kept { IsKept change (length self.old) ⊤ }
         requires other { O.may also other.old }
         ensures items { self.new ≡ changed_if (is_ok result) change at self.old }
+        ensures some { 0 < length self.new }
         ensures made { OnOk result (O.makes also other.old other.new) }
         ensures same { OnErr result (other.new ≡ other.old) }
     {

@@ -1,13 +1,20 @@
 //! Changes of a list as a whole: at one position, or a move of an item.
 
-ghost use Rattle.std.specs.Prelude.{◌≡◌, ◌<◌, OnErr, OnOk, length};
+ghost use Rattle.std.specs.Prelude.{◌≡◌, ◌≢◌, ◌<◌, ◌≤◌, ◌+◌, ◌^◌, List, OnErr, OnOk, length, slice_set, slice_index_or, true};
+ghost use Rattle.std.specs.Borrow.{sem, Array, LendsBoth};
 ghost use Rattle.std.specs.List.{insert, remove};
+ghost use Rattle.canvas_list.specs.Chunks.{FitsChunk, IsSpot};
 
+use crate::also::BlockChange;
+use crate::block::Block;
+use crate::counted::{Counted, Spot, keeps_parts, spot_of};
 use crate::in_place::ItemChange;
 use crate::share::Share;
+use crate::sizes::PartSizes;
 use crate::table::SharedList;
 use canvas_code::OutOfMemory;
 use std::alloc::Global;
+use std::marker::Model;
 
 /// What becomes of a list.
 #[derive(Drop)]
@@ -33,10 +40,95 @@ impl<T: Share> SharedList<T> {
         ensures made { OnOk result (self.new ≡ insert (remove self.old from) to item) }
         ensures same { OnErr result (self.new ≡ self.old) }
     {
+        let sizes = PartSizes::of(self.len());
+        let (source, target, place) = spots_of(&self.blocks, from, to);
+        if !may_pass(&self.blocks, source.chunk, target.chunk, sizes) {
+            return self.shift_in_clone(alloc, from, to, item);
+        }
+        let (block, goal) = two_of(&mut self.blocks, source.chunk, target.chunk);
+        let also = BlockChange {
+            at: place - target.start,
+            change: ItemChange::Insert(item),
+            sizes,
+        };
+        let at = from - source.start;
+        block.change(alloc, at, ItemChange::Remove, sizes, goal, also)
+    }
+
+    // The same by two changes of a clone.
+    fn shift_in_clone(
+        &mut self,
+        alloc: Global,
+        from: usize,
+        to: usize,
+        item: T,
+    ) -> Result<(), OutOfMemory>
+        requires from { from < length self.old }
+        requires to { to < length self.old }
+        ensures made { OnOk result (self.new ≡ insert (remove self.old from) to item) }
+        ensures same { OnErr result (self.new ≡ self.old) }
+    {
         let mut list = self.try_clone(alloc)?;
         list.change(alloc, from, ItemChange::Remove)?;
         list.change(alloc, to, ItemChange::Insert(item))?;
         *self = list;
         Ok(())
+    }
+}
+
+// Where an item is put in, by the items before it was taken away, so that it then stands at `to`.
+fn place_before(from: usize, to: usize) -> usize
+    requires { to < 2 ^ 32 }
+    ensures behind { from < to → result ≡ to + 1 }
+    ensures before { to ≤ from → result ≡ to }
+{
+    if from < to { to + 1 } else { to }
+}
+
+// The part that an item leaves, the one that it comes to, and the place where it is put in.
+fn spots_of<P: Counted>(parts: &[P], from: usize, to: usize) -> (Spot, Spot, usize)
+    requires some { 0 < length parts.now }
+    requires to { to < 2 ^ 32 }
+    ensures source { IsSpot P.size parts.now from result.0.chunk result.0.start }
+    ensures target { IsSpot P.size parts.now result.2 result.1.chunk result.1.start }
+    ensures behind { from < to → result.2 ≡ to + 1 }
+    ensures before { to ≤ from → result.2 ≡ to }
+{
+    let place = place_before(from, to);
+    (spot_of(parts, from), spot_of(parts, place), place)
+}
+
+// Whether an item may go from one block to another: the first one keeps an item and stays a block, and the second has room.
+fn may_pass<T: Share>(blocks: &[Block<T>], source: usize, target: usize, sizes: PartSizes) -> bool
+    requires chunk { FitsChunk sizes.per_chunk }
+    requires source { source < length blocks.now }
+    requires target { target < length blocks.now }
+    ensures apart { result ≡ true → source ≢ target }
+    ensures kept { result ≡ true → (block : List T) → block ≡ slice_index_or blocks.now source block → 1 < length block }
+{
+    if source == target {
+        return false;
+    }
+    if !blocks[target].takes_more(sizes) {
+        return false;
+    }
+    keeps_parts(blocks, source, &ItemChange::<T>::Remove, sizes)
+}
+
+// Two parts at once, to be changed.
+fn two_of<P>(parts: &mut [P], first: usize, second: usize) -> (&mut P, &mut P)
+    requires first { first < length parts.old }
+    requires second { second < length parts.old }
+    requires apart { first ≢ second }
+    ensures* writes_back { sem 𝓛 (LendsBoth (Array P.row 0) P.row P.row parts.entry result (λ x y. slice_set (slice_set parts.old second y) first x)) }
+    ensures first { result.0.now ≡ slice_index_or parts.old first result.0.now }
+    ensures second { result.1.now ≡ slice_index_or parts.old second result.1.now }
+{
+    if first < second {
+        let (front, back) = parts.split_at_mut(second);
+        (&mut front[first], &mut back[0])
+    } else {
+        let (front, back) = parts.split_at_mut(first);
+        (&mut back[0], &mut front[second])
     }
 }
