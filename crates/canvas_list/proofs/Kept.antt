@@ -34,6 +34,17 @@ few-changed (Replace item) at xs place few = omega (arith, length-set xs at item
 few-changed Remove at xs place few = omega (arith, length-remove xs at place, few)
 few-changed (Insert item) at xs place few = omega (arith, length-insert xs at item place.0, place.1)
 
+-- a move leaves as many items
+moved-long : {X : Type 0} (old new : List X) (from to : ℕ) (item : X) → new ≡ insert (remove old from) to item → from < length old → to < length old → length new ≡ length old
+moved-long old new from to item is h k =
+    omega (arith, ap length is, length-remove old from h, length-insert (remove old from) to item (omega (arith, length-remove old from h)))
+
+pub some-moved : {X : Type 0} (old new : List X) (from to : ℕ) (item : X) → new ≡ insert (remove old from) to item → from < length old → to < length old → 0 < length new
+some-moved old new from to item is h k = omega (arith, moved-long old new from to item is h k)
+
+pub fits-moved : {X : Type 0} (old new : List X) (from to : ℕ) (item : X) → FitsChunk (length old) → new ≡ insert (remove old from) to item → from < length old → to < length old → FitsChunk (length new)
+fits-moved old new from to item fits is h k = subst FitsChunk (sym (moved-long old new from to item is h k)) fits
+
 -- an item that is put where there is room
 has-place : (len more cap room : ℕ) → more + 1 ≡ len → room ≡ cap → len ≤ cap → more < room
 has-place len more cap room e is h = omega arith

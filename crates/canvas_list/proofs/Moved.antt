@@ -13,7 +13,7 @@ use Rattle.canvas_list.proofs.Blocks.{of-block, one-part}
 use Rattle.canvas_list.proofs.Ends.{chunk-unchanged}
 use Rattle.canvas_list.proofs.InPlace.{other-part}
 use Rattle.canvas_list.proofs.Joined.{fewer, joined-append, len-is, split_at}
-use Rattle.canvas_list.proofs.Spliced.{inserted, is-part, part-end, removed, IsIn, IsOfSpot, IsPart}
+use Rattle.canvas_list.proofs.Spliced.{inserted, is-part, moved, part-end, removed, IsIn, IsOfSpot, IsPart}
 
 -- one of two numbers that are not the same is below the other
 pub below : (i j : ℕ) → i ≤ j → i ≢ j → i < j
@@ -76,6 +76,11 @@ cut cs k =
 pub to-small : {X : Type 0} (cs : List (List X)) (n : ℕ) (xs : List X) (to : ℕ) → IsTable cs n → joined cs ≡ xs → to < length xs → to < 2 ^ 32
 to-small cs n xs to table all h = omega (arith, len-is cs n xs table all, table.is_small)
 
+-- within one part
+pub moved-within : {X : Type 0} (cs : List (List X)) (xs : List X) (k s from to : ℕ) (old new : List X) (item : X) → IsOfSpot cs xs k s from old → new ≡ insert (remove old (from - s)) (to - s) item → from < length xs → s ≤ to → to - s < length old → joined (set cs k new) ≡ insert (remove xs from) to item
+moved-within cs xs k s from to old new item p e within low high =
+    other-part cs k new p.within ∙ moved cs cs xs k (k + 1) s from to old new item p.part p.place refl e within low high
+
 -- what is found of the part that an item leaves, and of the one where it comes to
 pub record IsMove {X : Type 0} (cs : List (List X)) (xs : List X) (k s m t from to place : ℕ) (old goal : List X) : Type 0 where
   pub source : IsOfSpot cs xs k s from old
@@ -104,9 +109,55 @@ module _ {X : Type 0} (cs : List (List X)) (xs : List X) (k s m t from to place 
   place-near : place ≤ to + 1
   place-near = elim (cases_lt from to) [ inl up ↦ omega (arith, move.behind up) | inr down ↦ omega (arith, move.before (omega arith)) ]
 
+  -- the parts are the same one
+  pub same-part : k ≡ m → (s ≤ to) × (to - s < length old)
+  same-part e =
+      let start : s ≡ t = move.source.part.start ∙ ap (λ i. length (joined (take i cs))) e ∙ sym move.target.part.start in
+      let long : length old ≡ length goal = ap length (move.source.part.items ∙ ap (λ i. joined (slice_range cs i (i + 1))) e ∙ sym move.target.part.items) in
+      elim (cases_lt from to) [
+        | inl up ↦
+            (let at : place ≡ to + 1 = move.behind up in
+            let room : place ≤ length xs → place - t ≤ length goal = move.target.place.behind in
+            (omega (arith, move.source.place.from), omega (arith, room (omega (arith, move.to_within)))))
+        | inr down ↦
+            (let at : place ≡ to = move.before (omega arith) in
+            (omega (arith, move.target.place.from), omega (arith, move.source.place.from, move.source.place.before move.from_within)))
+      ]
+
+  -- the items after a move within one part, if it was made
+  pub items-within : (made : Bool) (new : List X) (item : X) → k ≡ m → new ≡ cond made (insert (remove old (from - s)) (to - s) item) old → joined (set cs k new) ≡ cond made (insert (remove xs from) to item) xs
+  items-within true new item e in_ =
+      let place : (s ≤ to) × (to - s < length old) = same-part e in
+      moved-within cs xs k s from to old new item move.source in_ move.from_within place.0 place.1
+  items-within false new item e in_ =
+      other-part cs k new move.source.within
+      ∙ ap (λ l. joined (take k cs) ++ l ++ joined (drop (k + 1) cs)) (in_ ∙ move.was)
+      ∙ append_assoc (joined (take k cs)) (get_or cs k old) (joined (drop (k + 1) cs))
+      ∙ sym (split_at cs k old move.source.within)
+      ∙ move.source.part.all
+
+  -- the part has as many items as before
+  long-within : (made : Bool) (new : List X) (item : X) → k ≡ m → new ≡ cond made (insert (remove old (from - s)) (to - s) item) old → length new ≡ length old
+  long-within true new item e in_ =
+      let place : (s ≤ to) × (to - s < length old) = same-part e in
+      let inside : from - s < length old = move.source.place.before move.from_within in
+      let less : length (remove old (from - s)) + 1 ≡ length old = omega (arith, length-remove old (from - s) inside, inside) in
+      omega (arith, ap length in_, length-insert (remove old (from - s)) (to - s) item (omega (arith, less, place.1)), less)
+  long-within false new item e in_ = ap length in_
+
   all-long : (made : Bool) (item : X) → length (cond made (insert (remove xs from) to item) xs) ≡ length xs
   all-long true item = omega (arith, length-insert (remove xs from) to item (omega (arith, length-remove xs from move.from_within, move.to_within)), length-remove xs from move.from_within, move.from_within)
   all-long false item = refl
+
+  pub table-within : (made : Bool) (n : ℕ) (new : List X) (item : X) → IsTable cs n → k ≡ m → new ≡ cond made (insert (remove old (from - s)) (to - s) item) old → IsTable (set cs k new) n
+  table-within made n new item table e in_ =
+      let has : List X → Type 0 = λ d. 0 < length d in
+      let inside : from - s < length old = move.source.place.before move.from_within in
+      record {
+        some = All-set has cs k new (omega (arith, long-within made new item e in_)) table.some;
+        has_len = len-is cs n xs table move.source.part.all ∙ sym (all-long made item) ∙ ap length (sym (items-within made new item e in_));
+        is_small = table.is_small;
+      }
 
   -- the part that the item left, and the list without it
   module _ (left : List X) (out : left ≡ remove old (from - s)) where

@@ -1,12 +1,13 @@
 //! Changes of a list as a whole: at one position, or a move of an item.
 
-ghost use Rattle.std.specs.Prelude.{◌≡◌, ◌≢◌, ◌<◌, ◌≤◌, ◌+◌, ◌^◌, List, OnErr, OnOk, length, slice_set, slice_index_or, true};
+ghost use Rattle.std.specs.Prelude.{◌≡◌, ◌≢◌, ◌<◌, ◌≤◌, ◌+◌, ◌^◌, OnErr, OnOk, cond, length, slice_set, slice_index_or, true};
 ghost use Rattle.std.specs.Borrow.{sem, Array, LendsBoth};
 ghost use Rattle.std.specs.List.{insert, remove};
+ghost use Rattle.std.specs.Result.{is_ok};
 ghost use Rattle.canvas_list.specs.Chunks.{FitsChunk, IsSpot};
 
-use crate::also::BlockChange;
-use crate::block::Block;
+use crate::also::PartChange;
+use crate::chunks::Chunks;
 use crate::counted::{Counted, Spot, keeps_parts, spot_of};
 use crate::in_place::ItemChange;
 use crate::share::Share;
@@ -42,11 +43,15 @@ impl<T: Share> SharedList<T> {
     {
         let sizes = PartSizes::of(self.len());
         let (source, target, place) = spots_of(&self.blocks, from, to);
+        if source.chunk == target.chunk {
+            let (from, to) = (from - source.start, to - source.start);
+            return self.blocks[source.chunk].shift(alloc, from, to, item, sizes);
+        }
         if !may_pass(&self.blocks, source.chunk, target.chunk, sizes) {
             return self.shift_in_clone(alloc, from, to, item);
         }
         let (block, goal) = two_of(&mut self.blocks, source.chunk, target.chunk);
-        let also = BlockChange {
+        let also = PartChange {
             at: place - target.start,
             change: ItemChange::Insert(item),
             sizes,
@@ -76,6 +81,60 @@ impl<T: Share> SharedList<T> {
     }
 }
 
+impl<T: Share> Chunks<T> {
+    /// Takes the item at `from` away, and puts another one in front of what then stands at `to`, or at the end.
+    pub(crate) fn shift(
+        &mut self,
+        alloc: Global,
+        from: usize,
+        to: usize,
+        item: T,
+        sizes: PartSizes,
+    ) -> Result<(), OutOfMemory>
+        requires chunk { FitsChunk sizes.per_chunk }
+        requires from { from < length self.old }
+        requires to { to < length self.old }
+        ensures { self.new ≡ cond (is_ok result) (insert (remove self.old from) to item) self.old }
+    {
+        let (source, target, place) = spots_of(&self.chunks, from, to);
+        if source.chunk == target.chunk {
+            let (from, to) = (from - source.start, to - source.start);
+            return self.chunks[source.chunk].shift(alloc, from, to, item);
+        }
+        if !may_pass(&self.chunks, source.chunk, target.chunk, sizes) {
+            return self.shift_remade(alloc, from, to, item, sizes);
+        }
+        let (chunk, goal) = two_of(&mut self.chunks, source.chunk, target.chunk);
+        let also = PartChange {
+            at: place - target.start,
+            change: ItemChange::Insert(item),
+            sizes,
+        };
+        let at = from - source.start;
+        chunk.change(alloc, at, ItemChange::Remove, sizes.per_chunk, goal, also)
+    }
+
+    // The same by two changes that make chunks anew.
+    fn shift_remade(
+        &mut self,
+        alloc: Global,
+        from: usize,
+        to: usize,
+        item: T,
+        sizes: PartSizes,
+    ) -> Result<(), OutOfMemory>
+        requires chunk { FitsChunk sizes.per_chunk }
+        requires from { from < length self.old }
+        requires to { to < length self.old }
+        ensures { self.new ≡ cond (is_ok result) (insert (remove self.old from) to item) self.old }
+    {
+        let _chunks = &self.chunks;
+        let list = self.remade(alloc, from, ItemChange::Remove, sizes)?;
+        *self = list.remade(alloc, to, ItemChange::Insert(item), sizes)?;
+        Ok(())
+    }
+}
+
 // Where an item is put in, by the items before it was taken away, so that it then stands at `to`.
 fn place_before(from: usize, to: usize) -> usize
     requires { to < 2 ^ 32 }
@@ -98,21 +157,22 @@ fn spots_of<P: Counted>(parts: &[P], from: usize, to: usize) -> (Spot, Spot, usi
     (spot_of(parts, from), spot_of(parts, place), place)
 }
 
-// Whether an item may go from one block to another: the first one keeps an item and stays a block, and the second has room.
-fn may_pass<T: Share>(blocks: &[Block<T>], source: usize, target: usize, sizes: PartSizes) -> bool
+// Whether an item may go from one part to another: the first one keeps an item and stays a part, and the second has room.
+fn may_pass<P: Counted>(parts: &[P], source: usize, target: usize, sizes: PartSizes) -> bool
     requires chunk { FitsChunk sizes.per_chunk }
-    requires source { source < length blocks.now }
-    requires target { target < length blocks.now }
+    requires source { source < length parts.now }
+    requires target { target < length parts.now }
     ensures apart { result ≡ true → source ≢ target }
-    ensures kept { result ≡ true → (block : List T) → block ≡ slice_index_or blocks.now source block → 1 < length block }
+    ensures kept { result ≡ true → (part : P) → part ≡ slice_index_or parts.now source part → 1 < P.size part }
+    ensures room { result ≡ true → (part : P) → part ≡ slice_index_or parts.now target part → P.has_room part }
 {
     if source == target {
         return false;
     }
-    if !blocks[target].takes_more(sizes) {
+    if !parts[target].takes_more(sizes) {
         return false;
     }
-    keeps_parts(blocks, source, &ItemChange::<T>::Remove, sizes)
+    keeps_parts(parts, source, &ItemChange::<()>::Remove, sizes)
 }
 
 // Two parts at once, to be changed.
