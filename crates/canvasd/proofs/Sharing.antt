@@ -1,6 +1,6 @@
 -- Which of the types that a server's threads share may cross threads. Types with a part that only clauses read get these lemmas by hand.
 use denote.RattleType.{RattleType}
-use denote.Param.Send.{IsSend, IsSync, sendable, owning_send, view_send}
+use denote.Param.Send.{IsSend, IsSync, sendable, owning_send, view_send, view_sync}
 use denote.Param.SendFields.{as_row_send, declared_send, declared_sync}
 use denote.Struct.Field.{row_field}
 use Rattle.std.proofs.Crossing.{crosses}
@@ -12,11 +12,15 @@ use Rattle.canvas_journal_file.specs.contracts.asked.Asked.TheInside as asked_in
 use Rattle.canvas_journal_file.specs.contracts.record.Record as noted
 use Rattle.canvas_line.specs.declared.front.Lines as lines
 use Rattle.canvas_line.proofs.seat.Seat.TheSendSync as seat
+use Rattle.canvas_line.proofs.front.Glimpse.TheSendSync as glimpse
+use Rattle.canvas_line.proofs.herald.Herald.TheSendSync as herald
 use Rattle.canvas_keep.proofs.fault.KeepFault.TheSendSync as fault
+use Rattle.canvas_keep.proofs.reach.Reach.TheSendSync as reach
 use Rattle.canvas_keep.specs.contracts.keeper.Keeper as keeper
 use Rattle.canvas_keep.specs.contracts.keeper.Keeper.TheInside as keeper_inside
 use Rattle.canvas_keep.specs.contracts.slot.Slot as slot
 use Rattle.canvas_keep.specs.contracts.settling.Keep as keep
+use Rattle.canvas_keep.specs.contracts.settling.Keep.TheInside as keep_inside
 use Rattle.canvasd.specs.contracts.gate.Gate as gate
 
 -- it owns nothing
@@ -34,7 +38,10 @@ module _ (D B : RattleType) (d : device.Ghosts D.Denot) (l : lines.Ghosts B.Deno
   slot-send = declared_send (slot.the_type D B d l) (option.the_send (keeper.the_row D B d l) keeper-send, (search sendable, (option.the_send _ fault.the_send, (seat.the_send B l, (search sendable, tt)))))
 
   keep-sync : IsSync (keep.the_row D B d l)
-  keep-sync = let held = slot-send in search (sendable, crosses, held) depth 40
+  keep-sync =
+      let held = slot-send in
+      view_sync (keep_inside.the_row D B d l) _ _ _ _ (declared_sync (keep_inside.the_type D B d l) (
+        herald.the_sync B l, (reach.the_sync, (search (sendable, crosses, held) depth 40, (search (sendable, crosses), (glimpse.the_sync, (search sendable, tt)))))))
 
   pub gate-sync : IsSync (gate.the_row D B d l)
   gate-sync = declared_sync (gate.the_type D B d l) (keep-sync, (search sendable, (search (sendable, crosses), tt)))

@@ -9,7 +9,7 @@ use Rattle.canvas_doc.specs.Bounds.{HaveOneShape, IsHeldAbove}
 use Rattle.canvas_record.specs.Contents.{Contents}
 use Rattle.canvas_record.specs.Effect.{changed_by}
 use Rattle.canvas_doc.specs.PlaceOrder.{IsKeptInOrder, IsPlaceOf}
-use Rattle.canvas_doc.proofs.places.OneChanged.{one-effect}
+use Rattle.canvas_doc.proofs.tree.OneChanged.{one-effect}
 use Rattle.canvas_doc.proofs.places.Reordered.{seen-at}
 use Rattle.canvas_doc.proofs.editing.InPlace.{moved-if, one-if, one-shape, one-well, widened-kept}
 use Rattle.canvas_doc.proofs.Document.move_one.Goals as goal

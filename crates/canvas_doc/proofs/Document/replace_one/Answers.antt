@@ -8,7 +8,7 @@ use Rattle.canvas_record.specs.Contents.{Contents}
 use Rattle.canvas_record.specs.Effect.{changed_by}
 use Rattle.canvas_doc.specs.PlaceOrder.{IsKeptInOrder, IsPlaceOf}
 use Rattle.canvas_record.specs.Tree.{IsInLimits}
-use Rattle.canvas_doc.proofs.places.OneChanged.{one-effect}
+use Rattle.canvas_doc.proofs.tree.OneChanged.{one-effect}
 use Rattle.canvas_doc.proofs.boxes.Rebounded.{Suits}
 use Rattle.canvas_doc.proofs.editing.InPlace.{one-if, one-limits, one-place, one-well, replaced-at, replaced-if, widened-kept}
 use Rattle.canvas_doc.proofs.Document.replace_one.Goals as goal

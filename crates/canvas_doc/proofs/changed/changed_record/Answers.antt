@@ -1,5 +1,5 @@
 use Rattle.canvas_record.specs.Effect.{changed_by}
-use Rattle.canvas_doc.proofs.places.OneChanged.{all-kept, record-changed}
+use Rattle.canvas_doc.proofs.tree.OneChanged.{all-kept, record-changed}
 use Rattle.canvas_doc.proofs.changed.changed_record.Goals as goal
 
 pub returns-in-Some : goal.returns-in-Some
