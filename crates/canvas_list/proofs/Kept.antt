@@ -1,5 +1,5 @@
 -- A chunk or a block after a change of its items.
-use Rattle.std.proofs.Common.{◌≡◌, ◌∙◌, ◌+◌, ◌<◌, ◌≤◌, ◌^◌, ℕ, List, Result, sym, ap, subst, arith, length}
+use Rattle.std.proofs.Common.{◌≡◌, ◌∙◌, ◌+◌, ◌<◌, ◌≤◌, ◌^◌, ℕ, List, Result, Ok, Err, OnOk, OnErr, cond, sym, ap, subst, arith, length}
 use Rattle.std.specs.Bool.{if◌then◌else◌}
 use Rattle.std.specs.Result.{is_ok, IsOk}
 use Rattle.std.specs.List.{insert, remove}
@@ -34,6 +34,17 @@ few-changed (Replace item) at xs place few = omega (arith, length-set xs at item
 few-changed Remove at xs place few = omega (arith, length-remove xs at place, few)
 few-changed (Insert item) at xs place few = omega (arith, length-insert xs at item place.0, place.1)
 
+-- a move leaves as many items
+moved-long : {X : Type 0} (old new : List X) (from to : ℕ) (item : X) → new ≡ insert (remove old from) to item → from < length old → to < length old → length new ≡ length old
+moved-long old new from to item is h k =
+    omega (arith, ap length is, length-remove old from h, length-insert (remove old from) to item (omega (arith, length-remove old from h)))
+
+pub some-moved : {X : Type 0} (old new : List X) (from to : ℕ) (item : X) → new ≡ insert (remove old from) to item → from < length old → to < length old → 0 < length new
+some-moved old new from to item is h k = omega (arith, moved-long old new from to item is h k)
+
+pub fits-moved : {X : Type 0} (old new : List X) (from to : ℕ) (item : X) → FitsChunk (length old) → new ≡ insert (remove old from) to item → from < length old → to < length old → FitsChunk (length new)
+fits-moved old new from to item fits is h k = subst FitsChunk (sym (moved-long old new from to item is h k)) fits
+
 -- an item that is put where there is room
 has-place : (len more cap room : ℕ) → more + 1 ≡ len → room ≡ cap → len ≤ cap → more < room
 has-place len more cap room e is h = omega arith
@@ -41,3 +52,16 @@ has-place len more cap room e is h = omega arith
 pub put-there : {X T E : Type 0} (r : Result T E) (new after before : List X) (len more cap room : ℕ) → new ≡ (if is_ok r then after else before) → (more < room → IsOk r) → more + 1 ≡ len → room ≡ cap → len ≤ cap → new ≡ after
 put-there r new after before len more cap room is ok e same h =
     is ∙ ap (λ done. if done then after else before) (ok (has-place len more cap room e same h))
+
+-- what a call made, or left
+pub if-made : {X T E : Type 0} (r : Result T E) (new after before : X) → OnOk r (new ≡ after) → OnErr r (new ≡ before) → new ≡ cond (is_ok r) after before
+if-made (Ok t) new after before made same = made
+if-made (Err e) new after before made same = same
+
+pub made-if : {X T E : Type 0} (r : Result T E) (new after before : X) → new ≡ cond (is_ok r) after before → OnOk r (new ≡ after)
+made-if (Ok t) new after before is = is
+made-if (Err e) new after before is = tt
+
+pub same-if : {X T E : Type 0} (r : Result T E) (new after before : X) → new ≡ cond (is_ok r) after before → OnErr r (new ≡ before)
+same-if (Ok t) new after before is = tt
+same-if (Err e) new after before is = is

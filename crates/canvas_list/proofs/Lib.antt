@@ -8,6 +8,7 @@ pub mod Held
 pub mod InPlace
 pub mod Joined
 pub mod Kept
+pub mod Moved
 pub mod Parted
 pub mod Runs
 pub mod Spliced

@@ -3,7 +3,7 @@ use Rattle.std.proofs.Common.{◌≡◌, ◌∙◌, ℕ, ◌+◌, ◌-◌, ◌<�
 use Rattle.std.specs.List.{insert, remove, sum_by}
 use Rattle.std.proofs.lemmas.Bool.{cases_lt}
 use Rattle.std.proofs.lemmas.List.{append_assoc, length-append, set-append_left, set-append_right, take-append-drop, take-take, take_all}
-use Rattle.std.proofs.lemmas.List.Edits.{insert-append_left, insert-append_right, remove-append_left, remove-append_right, split_between}
+use Rattle.std.proofs.lemmas.List.Edits.{insert-append_left, insert-append_right, length-remove, remove-append_left, remove-append_right, split_between}
 use Rattle.std.proofs.lemmas.List.Sums.{sum_by-take-le}
 use Rattle.std.proofs.Math.Seq.{take-add}
 use Rattle.canvas_list.specs.Changed.{changed, IsPositionOf}
@@ -99,6 +99,25 @@ removed {X} cs ds xs i j s at old new p q e is h =
     ∙ ap (λ l. front ++ l) (sym (remove-append_left old back (at - s) (q.before h)))
     ∙ sym (remove-append_right front (old ++ back) s at (sym p.start) q.from)
     ∙ ap (λ l. remove l at) (sym whole)
+
+pub moved : {X : Type 0} (cs ds : List (List X)) (xs : List X) (i j s from to : ℕ) (old new : List X) (x : X) → IsPart cs xs i j s old → IsIn xs s from old → ds ≡ cs → new ≡ insert (remove old (from - s)) (to - s) x → from < length xs → s ≤ to → to - s < length old
+    → joined (take i ds) ++ new ++ joined (drop j ds) ≡ insert (remove xs from) to x
+moved {X} cs ds xs i j s from to old new x p q e is h low high =
+    let front : List X = joined (take i cs) in
+    let back : List X = joined (drop j cs) in
+    let left : List X = remove old (from - s) in
+    let whole : xs ≡ front ++ (old ++ back) = sym p.all ∙ parts cs i j p.order ∙ ap (λ l. front ++ (l ++ back)) (sym p.items) in
+    let others : remove xs from ≡ front ++ (left ++ back) =
+    ap (λ l. remove l from) whole
+    ∙ remove-append_right front (old ++ back) s from (sym p.start) q.from
+    ∙ ap (λ l. front ++ l) (remove-append_left old back (from - s) (q.before h)) in
+    let within : to - s ≤ length left = omega (arith, length-remove old (from - s) (q.before h)) in
+    ap (λ l. joined (take i l) ++ new ++ joined (drop j l)) e
+    ∙ ap (λ l. front ++ l ++ back) is
+    ∙ append_assoc front (insert left (to - s) x) back
+    ∙ ap (λ l. front ++ l) (sym (insert-append_left left back (to - s) x within))
+    ∙ sym (insert-append_right front (left ++ back) s to x (sym p.start) low)
+    ∙ ap (λ l. insert l to x) (sym others)
 
 -- the items of the chunk of a position
 pub record IsOfSpot {X : Type 0} (cs : List (List X)) (xs : List X) (k s at : ℕ) (old : List X) : Type 0 where

@@ -1,10 +1,15 @@
 //! What is changed together with a list: both, or neither.
 
-ghost use Rattle.std.specs.Prelude.{◌≡◌, OnErr, OnOk, ⊤};
-ghost use Rattle.canvas_list.specs.Changed.{list_changed, MayChange};
+ghost use Rattle.std.specs.Prelude.{◌≡◌, ◌+◌, OnErr, OnOk, length, ⊤};
+ghost use Rattle.canvas_list.specs.Changed.{changed, list_changed, IsKept, IsPositionOf, MayChange};
+ghost use Rattle.canvas_list.specs.Chunks.{FitsChunk};
 
+use crate::block::Block;
+use crate::chunk::Chunk;
+use crate::in_place::ItemChange;
 use crate::moves::ListChange;
 use crate::share::Share;
+use crate::sizes::PartSizes;
 use crate::table::SharedList;
 use canvas_code::OutOfMemory;
 use std::alloc::Global;
@@ -56,5 +61,39 @@ impl<T: Share> Also for SharedList<T> {
             ListChange::At(at, change) => self.change(alloc, at, change),
             ListChange::Move(from, to, item) => self.shift(alloc, from, to, item),
         }
+    }
+}
+
+/// A change at a position of a part, in a list whose parts get so large.
+#[derive(Drop)]
+pub(crate) struct PartChange<T> {
+    pub(crate) at: usize,
+    pub(crate) change: ItemChange<T>,
+    pub(crate) sizes: PartSizes,
+}
+
+impl<T: Share> Also for Block<T> {
+    type Change = PartChange<T>;
+
+    ghost may = { λ change block. FitsChunk change.sizes.per_chunk × IsPositionOf change.change change.at block × IsKept change.change (length block) ⊤ };
+
+    ghost makes = { λ change old new. new ≡ changed change.change change.at old };
+
+    fn make(&mut self, alloc: Global, change: PartChange<T>) -> Result<(), OutOfMemory> {
+        let PartChange { at, change, sizes } = change;
+        self.change(alloc, at, change, sizes, &mut Alone, ())
+    }
+}
+
+impl<T: Share> Also for Chunk<T> {
+    type Change = PartChange<T>;
+
+    ghost may = { λ change chunk. IsPositionOf change.change change.at chunk × IsKept change.change (length chunk) (FitsChunk (length chunk + 1)) };
+
+    ghost makes = { λ change old new. new ≡ changed change.change change.at old };
+
+    fn make(&mut self, alloc: Global, change: PartChange<T>) -> Result<(), OutOfMemory> {
+        let PartChange { at, change, sizes } = change;
+        self.change(alloc, at, change, sizes.per_chunk, &mut Alone, ())
     }
 }

@@ -1,8 +1,8 @@
 //! Chunks side by side, shared by all lists that have them.
 
-ghost use Rattle.std.specs.Prelude.{◌≡◌, ◌<◌, ◌^◌, All, IfOk, OnErr, OnOk, length, ⊤};
+ghost use Rattle.std.specs.Prelude.{◌≡◌, ◌<◌, ◌^◌, All, IfOk, OnErr, OnOk, cond, length, ⊤};
 ghost use Rattle.std.specs.Arc.{arc_value};
-ghost use Rattle.std.specs.List.{slice_get};
+ghost use Rattle.std.specs.List.{insert, remove, slice_get};
 ghost use Rattle.std.specs.Result.{is_ok};
 ghost use Rattle.canvas_list.specs.Chunks.{joined, FitsChunk};
 ghost use Rattle.canvas_list.specs.Changed.{changed_if, IsKept, IsPositionOf};
@@ -88,6 +88,7 @@ impl<T: Share> Block<T> {
         requires kept { IsKept change (length self.old) ⊤ }
         requires other { O.may also other.old }
         ensures items { self.new ≡ changed_if (is_ok result) change at self.old }
+        ensures some { 0 < length self.new }
         ensures made { OnOk result (O.makes also other.old other.new) }
         ensures same { OnErr result (other.new ≡ other.old) }
     {
@@ -98,6 +99,31 @@ impl<T: Share> Block<T> {
         };
         chunks.change(alloc, at, change, sizes, other, also)?;
         self.noted = noted_after(self.noted, chunks, at);
+        self.summary = chunks.summary();
+        Ok(())
+    }
+
+    /// Takes the item at `from` away, and puts another one in front of what then stands at `to`, or at the end. A table of chunks that
+    /// another list shares is copied first.
+    pub(crate) fn shift(
+        &mut self,
+        alloc: Global,
+        from: usize,
+        to: usize,
+        item: T,
+        sizes: PartSizes,
+    ) -> Result<(), OutOfMemory>
+        requires chunk { FitsChunk sizes.per_chunk }
+        requires from { from < length self.old }
+        requires to { to < length self.old }
+        ensures { self.new ≡ cond (is_ok result) (insert (remove self.old from) to item) self.old }
+    {
+        own_chunks(alloc, &mut self.chunks)?;
+        let Some(chunks) = Arc::get_mut(&mut self.chunks) else {
+            return Err(OutOfMemory);
+        };
+        chunks.shift(alloc, from, to, item, sizes)?;
+        self.noted = noted_after(self.noted, chunks, 0);
         self.summary = chunks.summary();
         Ok(())
     }

@@ -1,8 +1,8 @@
 //! Items side by side, shared by all lists that have them.
 
-ghost use Rattle.std.specs.Prelude.{◌≡◌, ◌<◌, ◌≤◌, ◌+◌, ◌++◌, All, IfOk, OnErr, OnOk, length};
+ghost use Rattle.std.specs.Prelude.{◌≡◌, ◌<◌, ◌≤◌, ◌+◌, ◌++◌, All, IfOk, OnErr, OnOk, cond, length};
 ghost use Rattle.std.specs.Arc.{arc_value};
-ghost use Rattle.std.specs.List.{slice_get};
+ghost use Rattle.std.specs.List.{insert, remove, slice_get};
 ghost use Rattle.std.specs.Result.{is_ok};
 ghost use Rattle.canvas_list.specs.Chunks.{joined, FitsChunk};
 ghost use Rattle.canvas_list.specs.Changed.{changed_if, IsKept, IsPositionOf};
@@ -89,6 +89,7 @@ impl<T: Share> Chunk<T> {
         requires kept { IsKept change (length self.old) (FitsChunk (length self.old + 1)) }
         requires other { O.may also other.old }
         ensures items { self.new ≡ changed_if (is_ok result) change at self.old }
+        ensures some { 0 < length self.new }
         ensures made { OnOk result (O.makes also other.old other.new) }
         ensures same { OnErr result (other.new ≡ other.old) }
     {
@@ -101,6 +102,31 @@ impl<T: Share> Chunk<T> {
         other.make(alloc, also)?;
         change_items(items, at, change);
         self.noted = noted_after(self.noted, items, at);
+        self.summary = summary_of(items);
+        Ok(())
+    }
+
+    /// Takes the item at `from` away, and puts another one in front of what then stands at `to`, or at the end. Items that another block
+    /// shares are copied first.
+    pub(crate) fn shift(
+        &mut self,
+        alloc: Global,
+        from: usize,
+        to: usize,
+        item: T,
+    ) -> Result<(), OutOfMemory>
+        requires from { from < length self.old }
+        requires to { to < length self.old }
+        ensures { self.new ≡ cond (is_ok result) (insert (remove self.old from) to item) self.old }
+    {
+        own_items(alloc, &mut self.items, 0)?;
+        let Some(items) = Arc::get_mut(&mut self.items) else {
+            return Err(OutOfMemory);
+        };
+        items.remove(from);
+        // There is room, so it can't fail.
+        let _ = items.insert(to, item);
+        self.noted = noted_after(self.noted, items, 0);
         self.summary = summary_of(items);
         Ok(())
     }

@@ -117,8 +117,8 @@ pub(crate) fn spot_for<P: Counted, T>(
     }
 }
 
-// Whether parts stay parts where an item of one is changed.
-fn keeps_parts<P: Counted, T>(
+/// Whether parts stay parts where an item of one is changed.
+pub(crate) fn keeps_parts<P: Counted, T>(
     parts: &[P],
     part: usize,
     change: &ItemChange<T>,

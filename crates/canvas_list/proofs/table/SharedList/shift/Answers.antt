@@ -1,0 +1,113 @@
+use Rattle.std.proofs.Common.{◌≡◌, ◌∙◌, ◌<◌, ◌-◌, List, ap, get_or, length, subst, sym}
+use Rattle.std.specs.List.{insert, remove}
+use Rattle.std.specs.Result.{is_ok}
+use Rattle.canvas_list.specs.Chunks.{joined, IsTable}
+use Rattle.canvas_list.proofs.Joined.{has-chunk, search-some}
+use Rattle.canvas_list.proofs.Kept.{if-made, made-if, same-if}
+use Rattle.canvas_list.proofs.Moved.{as-many, goal-fits, is-move, items-changed, items-within, same-part, table-changed, table-within, to-small}
+use Rattle.canvas_list.proofs.table.SharedList.shift.Goals as goal
+
+pub spots_of-place-requires-clause-some : goal.spots_of-place-requires-clause-some
+spots_of-place-requires-clause-some g c = search-some c.self.inside.blocks.items c.deref.result.now c.deref.ensures.value (has-chunk c.self.inside.blocks.items c.args.self.now c.args.from c.self.view_is c.requires.from)
+
+pub spots_of-place-requires-clause-to : goal.spots_of-place-requires-clause-to
+spots_of-place-requires-clause-to g c = to-small c.self.inside.blocks.items c.self.inside.count c.args.self.now c.args.to c.self.invariant c.self.view_is c.requires.to
+
+pub shift-requires-clause-from : goal.shift-requires-clause-from
+shift-requires-clause-from g c =
+    let move = is-move c.self.inside.blocks.items c.deref.result.now c.deref.result.now c.args.self.now c.self.inside.count c.spots_of-place.result.0.chunk c.spots_of-place.result.0.start c.spots_of-place.result.1.chunk c.spots_of-place.result.1.start c.args.from c.args.to c.spots_of-place.result.2 c.index_mut.result.now c.index_mut.result.now
+    c.self.invariant c.self.view_is c.deref.ensures.value c.spots_of-place.ensures.source c.deref.ensures.value c.spots_of-place.ensures.target
+    c.index_mut.ensures.value (c.index_mut.ensures.value ∙ ap (λ i. get_or c.self.inside.blocks.items i c.index_mut.result.now) c.if-source-target.true)
+    c.requires.from c.requires.to c.spots_of-place.ensures.behind c.spots_of-place.ensures.before in
+    move.source.place.before c.requires.from
+
+pub shift-requires-clause-to : goal.shift-requires-clause-to
+shift-requires-clause-to g c =
+    let move = is-move c.self.inside.blocks.items c.deref.result.now c.deref.result.now c.args.self.now c.self.inside.count c.spots_of-place.result.0.chunk c.spots_of-place.result.0.start c.spots_of-place.result.1.chunk c.spots_of-place.result.1.start c.args.from c.args.to c.spots_of-place.result.2 c.index_mut.result.now c.index_mut.result.now
+    c.self.invariant c.self.view_is c.deref.ensures.value c.spots_of-place.ensures.source c.deref.ensures.value c.spots_of-place.ensures.target
+    c.index_mut.ensures.value (c.index_mut.ensures.value ∙ ap (λ i. get_or c.self.inside.blocks.items i c.index_mut.result.now) c.if-source-target.true)
+    c.requires.from c.requires.to c.spots_of-place.ensures.behind c.spots_of-place.ensures.before in
+    (same-part c.self.inside.blocks.items c.args.self.now c.spots_of-place.result.0.chunk c.spots_of-place.result.0.start c.spots_of-place.result.1.chunk c.spots_of-place.result.1.start c.args.from c.args.to c.spots_of-place.result.2 c.index_mut.result.now c.index_mut.result.now move c.if-source-target.true).1
+
+pub two_of-block-requires-clause-first : goal.two_of-block-requires-clause-first
+two_of-block-requires-clause-first g c = subst (λ (l : List (List g.row.T.Denot)). c.spots_of-place.result.0.chunk < length l) (c.deref.ensures.value ∙ sym c.deref_mut.ensures.value) c.spots_of-place.ensures.source.within
+
+pub two_of-block-requires-clause-second : goal.two_of-block-requires-clause-second
+two_of-block-requires-clause-second g c = subst (λ (l : List (List g.row.T.Denot)). c.spots_of-place.result.1.chunk < length l) (c.deref.ensures.value ∙ sym c.deref_mut.ensures.value) c.spots_of-place.ensures.target.within
+
+pub change-requires-clause-place : goal.change-requires-clause-place
+change-requires-clause-place g c =
+    let move = is-move c.self.inside.blocks.items c.deref.result.now c.deref.result.now c.args.self.now c.self.inside.count c.spots_of-place.result.0.chunk c.spots_of-place.result.0.start c.spots_of-place.result.1.chunk c.spots_of-place.result.1.start c.args.from c.args.to c.spots_of-place.result.2 c.two_of-block.result.0.now c.two_of-block.result.1.now
+    c.self.invariant c.self.view_is c.deref.ensures.value c.spots_of-place.ensures.source c.deref.ensures.value c.spots_of-place.ensures.target
+    (c.two_of-block.ensures.first ∙ ap (λ l. get_or l c.spots_of-place.result.0.chunk c.two_of-block.result.0.now) c.deref_mut.ensures.value)
+    (c.two_of-block.ensures.second ∙ ap (λ l. get_or l c.spots_of-place.result.1.chunk c.two_of-block.result.1.now) c.deref_mut.ensures.value)
+    c.requires.from c.requires.to c.spots_of-place.ensures.behind c.spots_of-place.ensures.before in
+    move.source.place.before c.requires.from
+
+pub change-requires-clause-other : goal.change-requires-clause-other
+change-requires-clause-other g c =
+    let move = is-move c.self.inside.blocks.items c.deref.result.now c.deref.result.now c.args.self.now c.self.inside.count c.spots_of-place.result.0.chunk c.spots_of-place.result.0.start c.spots_of-place.result.1.chunk c.spots_of-place.result.1.start c.args.from c.args.to c.spots_of-place.result.2 c.two_of-block.result.0.now c.two_of-block.result.1.now
+    c.self.invariant c.self.view_is c.deref.ensures.value c.spots_of-place.ensures.source c.deref.ensures.value c.spots_of-place.ensures.target
+    (c.two_of-block.ensures.first ∙ ap (λ l. get_or l c.spots_of-place.result.0.chunk c.two_of-block.result.0.now) c.deref_mut.ensures.value)
+    (c.two_of-block.ensures.second ∙ ap (λ l. get_or l c.spots_of-place.result.1.chunk c.two_of-block.result.1.now) c.deref_mut.ensures.value)
+    c.requires.from c.requires.to c.spots_of-place.ensures.behind c.spots_of-place.ensures.before in
+    (c.of-sizes.ensures.chunk, goal-fits c.self.inside.blocks.items c.args.self.now c.spots_of-place.result.0.chunk c.spots_of-place.result.0.start c.spots_of-place.result.1.chunk c.spots_of-place.result.1.start c.args.from c.args.to c.spots_of-place.result.2 c.two_of-block.result.0.now c.two_of-block.result.1.now move c.self.inside.count c.self.invariant c.if-source-target.false, tt)
+
+pub invariant_of-self : goal.invariant_of-self
+invariant_of-self g c =
+    let move = is-move c.self.inside.blocks.items c.deref.result.now c.deref.result.now c.args.self.now c.self.inside.count c.spots_of-place.result.0.chunk c.spots_of-place.result.0.start c.spots_of-place.result.1.chunk c.spots_of-place.result.1.start c.args.from c.args.to c.spots_of-place.result.2 c.index_mut.result.now c.index_mut.result.now
+    c.self.invariant c.self.view_is c.deref.ensures.value c.spots_of-place.ensures.source c.deref.ensures.value c.spots_of-place.ensures.target
+    c.index_mut.ensures.value (c.index_mut.ensures.value ∙ ap (λ i. get_or c.self.inside.blocks.items i c.index_mut.result.now) c.if-source-target.true)
+    c.requires.from c.requires.to c.spots_of-place.ensures.behind c.spots_of-place.ensures.before in
+    table-within c.self.inside.blocks.items c.args.self.now c.spots_of-place.result.0.chunk c.spots_of-place.result.0.start c.spots_of-place.result.1.chunk c.spots_of-place.result.1.start c.args.from c.args.to c.spots_of-place.result.2 c.index_mut.result.now c.index_mut.result.now move (is_ok c.shift.result) c.self.inside.count c.shift.new.self c.args.item c.self.invariant c.if-source-target.true c.shift.ensures
+
+pub invariant_of-self-2 : goal.invariant_of-self-2
+invariant_of-self-2 g c =
+    let move = is-move c.self.inside.blocks.items c.deref.result.now c.deref.result.now c.args.self.now c.self.inside.count c.spots_of-place.result.0.chunk c.spots_of-place.result.0.start c.spots_of-place.result.1.chunk c.spots_of-place.result.1.start c.args.from c.args.to c.spots_of-place.result.2 c.two_of-block.result.0.now c.two_of-block.result.1.now
+    c.self.invariant c.self.view_is c.deref.ensures.value c.spots_of-place.ensures.source c.deref.ensures.value c.spots_of-place.ensures.target
+    (c.two_of-block.ensures.first ∙ ap (λ l. get_or l c.spots_of-place.result.0.chunk c.two_of-block.result.0.now) c.deref_mut.ensures.value)
+    (c.two_of-block.ensures.second ∙ ap (λ l. get_or l c.spots_of-place.result.1.chunk c.two_of-block.result.1.now) c.deref_mut.ensures.value)
+    c.requires.from c.requires.to c.spots_of-place.ensures.behind c.spots_of-place.ensures.before in
+    subst (λ (l : List (List g.row.T.Denot)). IsTable l c.self.inside.count)
+    (sym (as-many c.self.inside.blocks.items c.deref_mut.result.now c.self.inside.blocks.len c.spots_of-place.result.0.chunk c.spots_of-place.result.1.chunk c.change.new.self c.change.new.other c.self.inside.blocks.ok.0 c.deref_mut.ensures.value))
+    (table-changed c.self.inside.blocks.items c.args.self.now c.spots_of-place.result.0.chunk c.spots_of-place.result.0.start c.spots_of-place.result.1.chunk c.spots_of-place.result.1.start c.args.from c.args.to c.spots_of-place.result.2 c.two_of-block.result.0.now c.two_of-block.result.1.now move (is_ok c.change.result) c.self.inside.count c.change.new.self c.change.new.other c.args.item c.self.invariant c.change.ensures.some c.change.ensures.items (if-made c.change.result c.change.new.other (insert c.two_of-block.result.1.now (c.spots_of-place.result.2 - c.spots_of-place.result.1.start) c.args.item) c.two_of-block.result.1.now c.change.ensures.made c.change.ensures.same) c.if-source-target.false)
+
+pub returns-then-source-target-clause-made : goal.returns-then-source-target-clause-made
+returns-then-source-target-clause-made g c =
+    let move = is-move c.self.inside.blocks.items c.deref.result.now c.deref.result.now c.args.self.now c.self.inside.count c.spots_of-place.result.0.chunk c.spots_of-place.result.0.start c.spots_of-place.result.1.chunk c.spots_of-place.result.1.start c.args.from c.args.to c.spots_of-place.result.2 c.index_mut.result.now c.index_mut.result.now
+    c.self.invariant c.self.view_is c.deref.ensures.value c.spots_of-place.ensures.source c.deref.ensures.value c.spots_of-place.ensures.target
+    c.index_mut.ensures.value (c.index_mut.ensures.value ∙ ap (λ i. get_or c.self.inside.blocks.items i c.index_mut.result.now) c.if-source-target.true)
+    c.requires.from c.requires.to c.spots_of-place.ensures.behind c.spots_of-place.ensures.before in
+    made-if c.shift.result _ (insert (remove c.args.self.now c.args.from) c.args.to c.args.item) c.args.self.now
+    (items-within c.self.inside.blocks.items c.args.self.now c.spots_of-place.result.0.chunk c.spots_of-place.result.0.start c.spots_of-place.result.1.chunk c.spots_of-place.result.1.start c.args.from c.args.to c.spots_of-place.result.2 c.index_mut.result.now c.index_mut.result.now move (is_ok c.shift.result) c.shift.new.self c.args.item c.if-source-target.true c.shift.ensures)
+
+pub returns-then-source-target-clause-same : goal.returns-then-source-target-clause-same
+returns-then-source-target-clause-same g c =
+    let move = is-move c.self.inside.blocks.items c.deref.result.now c.deref.result.now c.args.self.now c.self.inside.count c.spots_of-place.result.0.chunk c.spots_of-place.result.0.start c.spots_of-place.result.1.chunk c.spots_of-place.result.1.start c.args.from c.args.to c.spots_of-place.result.2 c.index_mut.result.now c.index_mut.result.now
+    c.self.invariant c.self.view_is c.deref.ensures.value c.spots_of-place.ensures.source c.deref.ensures.value c.spots_of-place.ensures.target
+    c.index_mut.ensures.value (c.index_mut.ensures.value ∙ ap (λ i. get_or c.self.inside.blocks.items i c.index_mut.result.now) c.if-source-target.true)
+    c.requires.from c.requires.to c.spots_of-place.ensures.behind c.spots_of-place.ensures.before in
+    same-if c.shift.result _ (insert (remove c.args.self.now c.args.from) c.args.to c.args.item) c.args.self.now
+    (items-within c.self.inside.blocks.items c.args.self.now c.spots_of-place.result.0.chunk c.spots_of-place.result.0.start c.spots_of-place.result.1.chunk c.spots_of-place.result.1.start c.args.from c.args.to c.spots_of-place.result.2 c.index_mut.result.now c.index_mut.result.now move (is_ok c.shift.result) c.shift.new.self c.args.item c.if-source-target.true c.shift.ensures)
+
+pub returns-clause-made : goal.returns-clause-made
+returns-clause-made g c =
+    let move = is-move c.self.inside.blocks.items c.deref.result.now c.deref.result.now c.args.self.now c.self.inside.count c.spots_of-place.result.0.chunk c.spots_of-place.result.0.start c.spots_of-place.result.1.chunk c.spots_of-place.result.1.start c.args.from c.args.to c.spots_of-place.result.2 c.two_of-block.result.0.now c.two_of-block.result.1.now
+    c.self.invariant c.self.view_is c.deref.ensures.value c.spots_of-place.ensures.source c.deref.ensures.value c.spots_of-place.ensures.target
+    (c.two_of-block.ensures.first ∙ ap (λ l. get_or l c.spots_of-place.result.0.chunk c.two_of-block.result.0.now) c.deref_mut.ensures.value)
+    (c.two_of-block.ensures.second ∙ ap (λ l. get_or l c.spots_of-place.result.1.chunk c.two_of-block.result.1.now) c.deref_mut.ensures.value)
+    c.requires.from c.requires.to c.spots_of-place.ensures.behind c.spots_of-place.ensures.before in
+    made-if c.change.result _ (insert (remove c.args.self.now c.args.from) c.args.to c.args.item) c.args.self.now
+    (ap joined (as-many c.self.inside.blocks.items c.deref_mut.result.now c.self.inside.blocks.len c.spots_of-place.result.0.chunk c.spots_of-place.result.1.chunk c.change.new.self c.change.new.other c.self.inside.blocks.ok.0 c.deref_mut.ensures.value)
+    ∙ items-changed c.self.inside.blocks.items c.args.self.now c.spots_of-place.result.0.chunk c.spots_of-place.result.0.start c.spots_of-place.result.1.chunk c.spots_of-place.result.1.start c.args.from c.args.to c.spots_of-place.result.2 c.two_of-block.result.0.now c.two_of-block.result.1.now move (is_ok c.change.result) c.change.new.self c.change.new.other c.args.item c.change.ensures.items (if-made c.change.result c.change.new.other (insert c.two_of-block.result.1.now (c.spots_of-place.result.2 - c.spots_of-place.result.1.start) c.args.item) c.two_of-block.result.1.now c.change.ensures.made c.change.ensures.same) c.if-source-target.false)
+
+pub returns-clause-same : goal.returns-clause-same
+returns-clause-same g c =
+    let move = is-move c.self.inside.blocks.items c.deref.result.now c.deref.result.now c.args.self.now c.self.inside.count c.spots_of-place.result.0.chunk c.spots_of-place.result.0.start c.spots_of-place.result.1.chunk c.spots_of-place.result.1.start c.args.from c.args.to c.spots_of-place.result.2 c.two_of-block.result.0.now c.two_of-block.result.1.now
+    c.self.invariant c.self.view_is c.deref.ensures.value c.spots_of-place.ensures.source c.deref.ensures.value c.spots_of-place.ensures.target
+    (c.two_of-block.ensures.first ∙ ap (λ l. get_or l c.spots_of-place.result.0.chunk c.two_of-block.result.0.now) c.deref_mut.ensures.value)
+    (c.two_of-block.ensures.second ∙ ap (λ l. get_or l c.spots_of-place.result.1.chunk c.two_of-block.result.1.now) c.deref_mut.ensures.value)
+    c.requires.from c.requires.to c.spots_of-place.ensures.behind c.spots_of-place.ensures.before in
+    same-if c.change.result _ (insert (remove c.args.self.now c.args.from) c.args.to c.args.item) c.args.self.now
+    (ap joined (as-many c.self.inside.blocks.items c.deref_mut.result.now c.self.inside.blocks.len c.spots_of-place.result.0.chunk c.spots_of-place.result.1.chunk c.change.new.self c.change.new.other c.self.inside.blocks.ok.0 c.deref_mut.ensures.value)
+    ∙ items-changed c.self.inside.blocks.items c.args.self.now c.spots_of-place.result.0.chunk c.spots_of-place.result.0.start c.spots_of-place.result.1.chunk c.spots_of-place.result.1.start c.args.from c.args.to c.spots_of-place.result.2 c.two_of-block.result.0.now c.two_of-block.result.1.now move (is_ok c.change.result) c.change.new.self c.change.new.other c.args.item c.change.ensures.items (if-made c.change.result c.change.new.other (insert c.two_of-block.result.1.now (c.spots_of-place.result.2 - c.spots_of-place.result.1.start) c.args.item) c.two_of-block.result.1.now c.change.ensures.made c.change.ensures.same) c.if-source-target.false)
