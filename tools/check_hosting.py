@@ -40,9 +40,9 @@ import aiohttp  # noqa: E402
 import machine as machines  # noqa: E402
 import release  # noqa: E402
 from browser import Browser, Fault  # noqa: E402
-from canvas_client import Canvas, line_of  # noqa: E402
+from canvas_client import Canvas, connected, line_of  # noqa: E402
 from repository import BUILT, BUILT_KEEPER, TOP  # noqa: E402
-from running import build, build_keeper, difference, tell  # noqa: E402
+from running import build, build_keeper, difference, talk, tell  # noqa: E402
 
 SITE = "https://127.0.0.1"
 RAW = ("127.0.0.1", 7443)
@@ -532,6 +532,15 @@ async def raw_sessions(host):
     yield "HTTP at the raw port", None if b'"code":50' in http and http.count(b"\n") == 1 else http
     with host.session("ours") as canvas:
         yield "none of them has made an edit", difference(canvas.ask(**POINT)[0]["version"], version)
+    with tempfile.TemporaryDirectory() as folder:
+        words = f"OPENSSL:{RAW[0]}:{RAW[1]},snihost=ours.canvas.example,cert={host.keys.file('ann.crt')},key={host.keys.file('ann.key')},cafile={host.keys.file('tls.crt')}"
+        process = subprocess.Popen(["socat", f"UNIX-LISTEN:{folder}/door,fork", words], stderr=subprocess.DEVNULL)
+        await until(Path(folder, "door").exists)
+        with connected(f"unix:{folder}/door", PATIENCE) as sock:
+            got = await asyncio.to_thread(talk, sock, line_of(POINT) * 1000)
+        yield "a program without TLS, by socat, that ends what it sends", difference(got.count(b'"ok":true'), 1000)
+        process.kill()
+        process.wait()
     log = host.machine.path("/var/log/nginx/canvas-sessions.log").read_text()
     told = [it in log for it in ('"CN=ann" "ours.canvas.example" 200', '"CN=ben" "ours.canvas.example" 502', '"-" "ours.canvas.example"', '"CN=ben" "theirs.canvas.example" 502')]
     yield "the log tells who came", difference(told, [True] * 4) and log[-1500:]
