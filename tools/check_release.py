@@ -24,7 +24,7 @@ from pathlib import Path
 
 from canvas_client import Canvas
 from check_program import EXAMPLE, readme_example
-from release import PROGRAMS
+from release import INSTALLED, PROGRAMS
 from repository import BUILT, BUILT_KEEPER, TOP
 from running import build, build_keeper, free_port, port_of
 
@@ -175,6 +175,12 @@ def package(folder):
         yield f"the newest version of the C library that {name} uses", bool(used) and max(used) <= NEWEST_GLIBC, True
         page = gzip.decompress((root / "usr" / "share" / "man" / "man1" / f"{name}.1.gz").read_bytes()).decode()
         yield f"the man page of {name} in the package", words_missing(name, page), []
+    for name, target in INSTALLED.items():
+        yield f"{target} of the package", (root / target).read_bytes() == (TOP / "packaging" / name).read_bytes(), True
+        yield f"the rights of {target}", os.access(root / target, os.X_OK), name == "canvas-admin"
+    control = folder / "control"
+    yield "what is done after it is unpacked", call(["dpkg-deb", "--control", str(file), str(control)]), (b"", b"", 0)
+    yield "that is a script", (call(["sh", "-n", str(control / "postinst")]), os.access(control / "postinst", os.X_OK)), ((b"", b"", 0), True)
     for name in ("bin/canvas-demo", "share/canvas/bin/canvas", "share/canvas/bin/canvasd"):
         yield f"the link {name}", (root / "usr" / name).resolve().is_relative_to(root / "usr") and (root / "usr" / name).exists(), True
     yield from shown(root / "usr" / "bin" / "canvas-demo")

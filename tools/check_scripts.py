@@ -1,5 +1,5 @@
 #!/usr/bin/env python3
-"""Has pyflakes read all scripts in Python, and shellcheck all in bash.
+"""Has pyflakes read all scripts in Python, and shellcheck all of the shell.
 
 usage: tools/check_scripts.py
 
@@ -11,8 +11,9 @@ import sys
 
 from repository import TOP
 
-FOLDERS = ("tools", "bench", "examples", "bin", ".ci")
-READERS = {"python": ["pyflakes3"], "bash": ["shellcheck", "-x", "-P", str(TOP), "-f", "gcc"]}
+FOLDERS = ("tools", "bench", "examples", "bin", "packaging", ".ci")
+SHELLCHECK = ["shellcheck", "-x", "-P", str(TOP), "-f", "gcc"]
+READERS = {"python": ["pyflakes3"], "bash": SHELLCHECK, "/bin/sh": SHELLCHECK}
 ENDINGS = {".py": "python", ".sh": "bash"}
 
 

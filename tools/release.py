@@ -26,8 +26,19 @@ from repository import TOP
 VERSION = (TOP / "VERSION").read_text().strip()
 SHARED = ("README.md", "CHANGELOG.md", "VERSION", "bin/canvas-demo", "docs/*.md", "docs/pictures/*.png", "examples/*.json*", "examples/visit.py",
           "tools/bodies.py", "tools/canvas_client.py", "tools/canvas_client.mjs", "tools/backup.py", "tools/viewer/gateway.py", "tools/viewer/bots.py", "tools/viewer/relay/*.py", "tools/viewer/setup.sh",
-          "tools/viewer/page/*")
+          "tools/viewer/page/*", "packaging/*", "packaging/*/*")
 """The files of the repository that both packages have."""
+INSTALLED = {"canvas-admin": "usr/sbin/canvas-admin", "systemd/canvas@.service": "lib/systemd/system/canvas@.service",
+             "systemd/canvas-gateway.service": "lib/systemd/system/canvas-gateway.service", "systemd/canvas.sysusers": "usr/lib/sysusers.d/canvas.conf"}
+"""Where the Debian package has files of packaging/ once more, for systemd and root to find them."""
+AFTER = """#!/bin/sh
+# Makes the user of the servers, and has systemd know their units; nothing is started.
+set -e
+if [ "$1" = configure ] && command -v systemd-sysusers >/dev/null; then
+    systemd-sysusers canvas.conf
+    [ ! -d /run/systemd/system ] || systemctl daemon-reload
+fi
+"""
 PROGRAMS = ("canvas", "canvasd")
 OF_SCRIPTS = ("bin/canvas", "bin/canvasd", "tools/program.sh", "tools/canvas.help", "tools/canvasd.help", "tools/before_serve.py")
 """What bin/canvas and bin/canvasd are, which the tarball has over the programs."""
@@ -39,6 +50,7 @@ Section: graphics
 Priority: optional
 Depends: libc6 (>= 2.34)
 Recommends: python3, python3-aiohttp, python3-pil
+Suggests: systemd, nginx, libnginx-mod-stream
 Installed-Size: SIZE
 Description: proved server behind a shared drawing tool
  It keeps one design document of frames, groups and shapes, takes edits as
@@ -124,12 +136,16 @@ def fill_package(folder, programs, pages):
     (folder / "usr/bin/canvas-demo").symlink_to("../share/canvas/bin/canvas-demo")
     for name in PROGRAMS:
         (folder / "usr/share/canvas/bin" / name).symlink_to(f"../../../bin/{name}")
+    for name, target in INSTALLED.items():
+        path = TOP / "packaging" / name
+        put(folder, target, path.read_bytes(), os.access(path, os.X_OK))
     put(folder, "usr/share/doc/canvas/copyright", COPYRIGHT.encode())
     put(folder, "usr/share/doc/canvas/changelog.gz", gzip.compress((TOP / "CHANGELOG.md").read_bytes(), mtime=0))
     size = sum((folder / it).stat().st_size for it in all_files(folder))
     sums = "".join(f"{hashlib.md5((folder / it).read_bytes()).hexdigest()}  {it}\n" for it in all_files(folder))
     put(folder, "DEBIAN/control", CONTROL.replace("SIZE", str(-(-size // 1024))).encode())
     put(folder, "DEBIAN/md5sums", sums.encode())
+    put(folder, "DEBIAN/postinst", AFTER.encode(), True)
 
 
 # -- the packages ------------------------------------------------------------------------------------------------------

@@ -1,11 +1,14 @@
 #!/usr/bin/python3
-"""The viewer's gateway: gives browsers the page, and each tab a session of its own with a server.
+"""The viewer's gateway: gives browsers the page, and passes on what their tabs ask of a server. The tabs of a document share a few sessions.
 
 usage: tools/viewer/gateway.py ADDRESS [--feed ADDRESS] [--listen 127.0.0.1:8080] [--name NAME]
+       tools/viewer/gateway.py --documents FOLDER [--listen 127.0.0.1:8080]
 
 The server is at HOST:PORT or unix:PATH; so is the feed of a canvasd (--feed), which tells of each edit at once, and without which the gateway asks.
+With --documents there are many: each folder /FOLDER/NAME has the sockets `door` and `feed` of its canvasd, and its page is at /d/NAME/. The gateway
+listens at HOST:PORT, or at unix:PATH for what stands before it, as nginx, and says who may see what.
 
-A tab opens a WebSocket at /session and sends batches of requests, as docs/PROTOCOL.md has them:
+A tab opens a WebSocket at /session (below /d/NAME/, if there are many documents) and sends batches of requests, as docs/PROTOCOL.md has them:
 
     {"batch": 7, "requests": [{"verb": "tile", "col": 0, "row": 0}, {"verb": "export"}]}
 
@@ -38,15 +41,23 @@ or true. `you` is the tab's own number, told once; with `all` nobody else is the
 """
 
 import argparse
+import errno
+import os
 import socket
 import sys
+from pathlib import Path
 
 try:
     from aiohttp import web
 
     from relay.application import application
+    from relay.documents import Folder, One
 except ModuleNotFoundError as missing:
     sys.exit(f"gateway: there is no {missing.name}; tools/viewer/setup.sh installs what is needed")
+
+
+PATIENCE = 5
+"""Seconds that it waits, when it ends, for what is still being answered."""
 
 
 def parts_of(address):
@@ -58,25 +69,52 @@ def parts_of(address):
 
 
 def door_of(address):
-    """Where a door of a server is: the parts of HOST:PORT, or the path of unix:PATH."""
+    """Where a door is: the parts of HOST:PORT, or the path of unix:PATH."""
     return address[len("unix:"):] if address.startswith("unix:") else parts_of(address)
 
 
-def main():
-    words = argparse.ArgumentParser(description="shows a served document in the browser")
-    words.add_argument("server", type=door_of, metavar="ADDRESS", help="where `canvasd` or `canvas serve` listens: HOST:PORT or unix:PATH")
+def given_words():
+    words = argparse.ArgumentParser(description="shows served documents in the browser")
+    words.add_argument("server", type=door_of, nargs="?", metavar="ADDRESS", help="where `canvasd` or `canvas serve` listens: HOST:PORT or unix:PATH")
     words.add_argument("--feed", type=door_of, metavar="ADDRESS", help="where canvasd tells of its edits")
-    words.add_argument("--listen", type=parts_of, default=("127.0.0.1", 8080), metavar="HOST:PORT", help="where the page is")
+    words.add_argument("--documents", metavar="FOLDER", help="where each document has a folder with the sockets of its server, in the place of ADDRESS")
+    words.add_argument("--listen", type=door_of, default=("127.0.0.1", 8080), metavar="ADDRESS", help="where the page is: HOST:PORT or unix:PATH")
     words.add_argument("--name", default="drawing", help="what the document is called in the title of each tab")
     given = words.parse_args()
-    host, port = given.listen
+    if (given.server is None) == (given.documents is None) or given.documents and given.feed:
+        words.error("either the ADDRESS of a server is wanted, or --documents FOLDER")
+    return given
+
+
+def is_deserted(path):
+    """Whether a socket lies at a path at which nobody listens."""
+    with socket.socket(socket.AF_UNIX) as found:
+        return Path(path).is_socket() and found.connect_ex(path) == errno.ECONNREFUSED
+
+
+def listener_at(door):
+    """A listening socket, and how its address is told. At a path it takes the place of a socket at which nobody listens any more."""
+    if not isinstance(door, str):
+        host, port = door
+        found = socket.create_server((host, port), family=socket.AF_INET6 if ":" in host else socket.AF_INET)
+        return found, f"http://{f'[{host}]' if ':' in host else host}:{found.getsockname()[1]}/"
+    if is_deserted(door):
+        os.unlink(door)
+    found = socket.socket(socket.AF_UNIX)
+    found.bind(door)
+    found.listen(1024)
+    return found, f"unix:{door}"
+
+
+def main():
+    given = given_words()
     try:
-        listener = socket.create_server((host, port), family=socket.AF_INET6 if ":" in host else socket.AF_INET)
+        listener, address = listener_at(given.listen)
     except OSError as fault:
         sys.exit(f"gateway: {fault.strerror}")
-    name = f"[{host}]" if ":" in host else host
-    address = f"http://{name}:{listener.getsockname()[1]}/"
-    web.run_app(application(given.server, given.feed, host, given.name), sock=listener, print=lambda _: print(address, flush=True), access_log=None)
+    documents = One(given.name, given.server, given.feed) if given.server else Folder(given.documents)
+    host = None if isinstance(given.listen, str) else given.listen[0]
+    web.run_app(application(documents, host), sock=listener, print=lambda _: print(address, flush=True), access_log=None, shutdown_timeout=PATIENCE)
 
 
 if __name__ == "__main__":

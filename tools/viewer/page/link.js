@@ -42,7 +42,7 @@ export class Link extends EventTarget {
   open() {
     const scheme = location.protocol === "https:" ? "wss:" : "ws:", { isLive, history, end } = this.#journal;
     const known = isLive ? `?live=${encodeURIComponent(history)}&since=${end}` : "";
-    this.#socket = new WebSocket(`${scheme}//${location.host}/session${known}`);
+    this.#socket = new WebSocket(`${scheme}//${location.host}${location.pathname}session${known}`);
     this.#socket.binaryType = "arraybuffer";
     this.#socket.onmessage = ({ data }) => (typeof data === "string" ? this.#take(JSON.parse(data)) : this.#takePicture(data));
     this.#socket.onclose = () => {

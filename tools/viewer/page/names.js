@@ -1,5 +1,5 @@
 // What shapes are called: by the name that was given to them here, or else by their kind and number. The document has no names. Given ones are
-// kept in this browser, by the number of the shape; one that is of another kind by then, as in another document, does not get it.
+// kept in this browser for each page, by the number of the shape; one that is of another kind by then, as in another document, does not get it.
 
 import { keep, kept } from "./settings.js";
 
@@ -10,7 +10,9 @@ const LONGEST = 80;
 /** What was kept, but for what is no list of names. */
 const readNames = (found) => (Array.isArray(found) ? found.filter((it) => Array.isArray(it) && Array.isArray(it[1])) : []);
 
-const given = new Map(readNames(kept("names", [])));
+/** Each document of a gateway has a page, and its own names. */
+const PLACE = globalThis.location?.pathname ?? "/", NAMES = PLACE === "/" ? "names" : `names.${PLACE}`;
+const given = new Map(readNames(kept(NAMES, [])));
 
 /** The name that was given to a shape, or "". */
 export function givenName({ id, shape }) {
@@ -28,14 +30,14 @@ export const nameOf = (record) => givenName(record) || plainName(record);
 export function giveName({ id, shape }, name) {
   given.delete(id);
   if (name.trim()) given.set(id, [shape.kind, name.trim().slice(0, LONGEST)]);
-  keep("names", [...given].slice(-MOST));
+  keep(NAMES, [...given].slice(-MOST));
 }
 
 /** Gives a shape that was made anew the name that it had. */
 export function carryName(id, next) {
   if (!given.has(id)) return;
   given.set(next, given.get(id));
-  keep("names", [...given].slice(-MOST));
+  keep(NAMES, [...given].slice(-MOST));
 }
 
 /** Whether a shape is meant by what was typed: each word of it is in its name, its kind and number, or its colour. */

@@ -43,18 +43,21 @@ def keep(kept, name, value, most):
 
 
 class Pictures:
-    """The PNG of each picture that was seen lately, by the hash of its P6 file; and of some requests the last P6 file, to know it again."""
+    """The PNG of each picture that was seen lately, by the hash of its P6 file; and of some requests the last P6 file, to know it again. Of one of
+    `share` documents fewer are kept."""
 
-    def __init__(self):
+    def __init__(self, share=1):
+        self._most_pictures, self._most_images = MOST_PICTURES // share, MOST_IMAGES // share
         self._kept = collections.OrderedDict()
         self._last = collections.OrderedDict()
 
     def has(self, name):
         return name in self._kept
 
-    async def png(self, name):
-        """The PNG of a picture that is known."""
-        return await asyncio.shield(self._kept[name])
+    def png(self, name):
+        """What gives the PNG of a picture when it is waited for, however many pictures come meanwhile; None where it is not kept any more."""
+        task = self._kept.get(name)
+        return task and asyncio.shield(task)
 
     def told(self, line, reply, body):
         """The reply to a request's line as a tab is told it: a picture as its hash, a document as it is."""
@@ -72,9 +75,9 @@ class Pictures:
         # (to compare is forty times as fast as to hash)
         if last != image:
             name = hashlib.blake2b(image, digest_size=16).hexdigest()
-        keep(self._last, line, (image, name), MOST_IMAGES)
+        keep(self._last, line, (image, name), self._most_images)
         png = self._kept.get(name) or asyncio.create_task(asyncio.to_thread(png_of, image))
-        keep(self._kept, name, png, MOST_PICTURES)
+        keep(self._kept, name, png, self._most_pictures)
         return name
 
     async def answer(self, request):

@@ -10,6 +10,8 @@ import time
 BUFFER = 1 << 20
 PATIENCE = 20
 """Seconds after which a server that does not answer counts as away."""
+MOST_ASKED = 900_000
+"""After how many requests a session is left for another one: the server ends it after 1,000,000."""
 KEEP_ALIVE = {"TCP_KEEPIDLE": 10, "TCP_KEEPINTVL": 5, "TCP_KEEPCNT": 3}
 """After how many seconds of silence the system asks whether the server's machine is there, how often, and how many times."""
 
@@ -56,17 +58,23 @@ class Presence:
 
 
 class Session:
-    """A session with a server. Batches are sent as they come, and answered in order.
-
-    `seen` is the newest version that its tab was told of.
-    """
+    """A session with a server. Batches are sent as they come, and answered in order."""
 
     def __init__(self, reader, writer):
         self._reader, self._writer = reader, writer
         self._waiting = collections.deque()
         self._replies = asyncio.create_task(self._read())
+        self._asked = 0
         self.presence = Presence()
-        self.seen = 0
+
+    @property
+    def is_spent(self):
+        """Whether it was asked so much that another one is to be taken."""
+        return self._asked >= MOST_ASKED
+
+    @property
+    def is_over(self):
+        return self._replies.done()
 
     @classmethod
     async def open(cls, address):
@@ -77,10 +85,11 @@ class Session:
 
     async def ask(self, lines):
         """Sends the lines of requests in one piece; gives their replies, each with its body."""
-        if self._replies.done():
+        if self.is_over:
             raise Away("the server has ended the session")
         replies = asyncio.get_running_loop().create_future()
         self._waiting.append((len(lines), time.monotonic(), replies))
+        self._asked += len(lines)
         try:
             self._writer.write(b"".join(lines))
             return await asyncio.wait_for(replies, PATIENCE)

@@ -1,28 +1,36 @@
-"""The tabs of browsers, each with a session of its own while the server is there."""
+"""The tabs of browsers, which share sessions while the server is there."""
 
 import asyncio
 import collections
 import contextlib
 import json
-import math
+import sys
 
-from aiohttp import WSMsgType
+from aiohttp import WSCloseCode, WSMsgType
 
 from relay.feed import Feed
 from relay.looks import Looks, is_look
 from relay.past import Past, Unseen, Visit
 from relay.people import People
 from relay.pictures import keep
-from relay.session import Away, Session, line_of
+from relay.seats import Seats
+from relay.session import Away, line_of
 
 MOST_BATCH = 512
 """How many requests a batch may have."""
+MOST_LINE = 65_537
+"""How many bytes the line of a request may have; the server ends a session with a longer one, which other tabs have too."""
+MOST_ON_WAY = 1024
+MOST_TASKS = 64
+"""How many requests of a tab may be on their way, and how many of its messages, before no further message is read."""
 POLL = 0.25
 POLL_LIVE = 2
 """How often a session is asked for a version where there is a feed, only to see that it is there."""
 RETRY = 0.5
 MOST_PICTURES = 512
 """How many of the pictures that a tab was sent last it has still, as the gateway believes: fewer than the page keeps."""
+AWAY_WAIT = 2
+"""How long the gateway waits, when it ends, for a tab to say that it has heard so."""
 FEED_WAIT = 2
 """How long a tab waits for the feed, when the server is there."""
 
@@ -34,6 +42,28 @@ async def until_ended(session, work, seconds=None):
     over.cancel()
     if task is not work:
         task.cancel()
+
+
+class Bad(Exception):
+    """What a tab sent is no message; the text says why."""
+
+
+def message_of(text):
+    """The message of a text; the lines of its requests are among its members. Raises Bad where it is none."""
+    try:
+        message = json.loads(text)
+    except (ValueError, RecursionError):
+        raise Bad("what is no JSON") from None
+    if not isinstance(message, dict):
+        raise Bad("what is no object")
+    if "batch" in message or "at" in message:
+        if "batch" not in message or not isinstance(message.get("requests"), list):
+            raise Bad("a batch without its number or its requests")
+        message["requests"] = message["requests"][:MOST_BATCH]
+        message["lines"] = [line_of(request) for request in message["requests"]]
+        if any(len(line) > MOST_LINE for line in message["lines"]):
+            raise Bad("a request that is too long")
+    return message
 
 
 class News:
@@ -48,25 +78,31 @@ class News:
 
 
 class Room:
-    """What all tabs share: where the server is, its feed if it has one, their looks and news, and who is there."""
+    """What all tabs of a document share: sessions with its server, its feed if it has one, their looks and news, and who is there."""
 
-    def __init__(self, address, feed_address, pictures):
-        self.address = address
+    def __init__(self, address, feed_address, pictures, name="drawing"):
+        self.name, self.seats = name, Seats(address)
         self.feed = Feed(feed_address) if feed_address else None
         self.looks, self.news, self.people, self.past = Looks(pictures), News(), People(), Past(feed_address)
 
+    async def close(self):
+        await self.past.close()
+        self.seats.close()
+
 
 class Tab:
-    """A browser's tab: its WebSocket, and its session while the server is there.
+    """A browser's tab: its WebSocket, and its session while the server is there, which others may have too.
 
-    `history` and `told` are the history and the version up to which the tab knows all edits, where it followed the feed.
+    `history` and `told` are the history and the version up to which the tab knows all edits, where it followed the feed. `seen` is the newest version
+    that it was told of.
     """
 
     def __init__(self, socket, room, history=None, told=0):
         self._socket, self._room, self._history, self._told = socket, room, history, told
-        self._session = None
-        self._is_live = False
-        self._edits = 0
+        self._session = self._seat = None
+        self.seen = 0
+        self._is_live = self._is_gone = False
+        self._edits = self._on_way = 0
         self._tasks = set()
         self._saying = None
         self._has_missed = False
@@ -81,20 +117,30 @@ class Tab:
         try:
             async for message in self._socket:
                 if message.type == WSMsgType.TEXT:
-                    self._take(message.json())
+                    self._take(message_of(message.data))
+                while self._on_way > MOST_ON_WAY or len(self._tasks) > MOST_TASKS:
+                    await asyncio.wait(self._tasks, return_when=asyncio.FIRST_COMPLETED)
+        except Bad as bad:
+            print(f"gateway: {self._room.name}: a tab that sent {bad} was closed", file=sys.stderr, flush=True)
+            await self._socket.close(code=WSCloseCode.POLICY_VIOLATION, message=str(bad).encode())
         finally:
+            self._is_gone = True
             self._room.news.tabs.discard(self)
             self._room.people.leave(self)
             for task in [*self._tasks]:
                 task.cancel()
-            if self._session is not None:
-                self._session.close()
             await self._visit.leave()
+
+    async def send_away(self):
+        """Ends the tab's connection, since the gateway ends."""
+        with contextlib.suppress(asyncio.TimeoutError):
+            await asyncio.wait_for(self._socket.close(code=WSCloseCode.GOING_AWAY), AWAY_WAIT)
 
     def _take(self, message):
         if "at" in message:
             self._start(self._look_back(message))
         elif "batch" in message:
+            self._on_way += len(message["requests"])
             self._start(self._answer(message))
         elif message.get("past") == "left":
             self._start(self._visit.leave())
@@ -126,89 +172,109 @@ class Tab:
 
     async def _watch(self):
         """Keeps a session with the server, and tells the tab of each version that it did not see."""
-        while not self._socket.closed:
+        while not self._is_gone:
             try:
-                session = await Session.open(self._room.address)
+                session = await self._room.seats.take()
                 try:
                     await self._follow(session)
                 finally:
-                    session.close()
+                    self._room.seats.leave(self._seat)
             except Away as away:
                 self._session = None
                 await self._say(say="away", why=str(away))
             await asyncio.sleep(RETRY)
 
     async def _follow(self, session):
-        feed = self._room.feed
-        while not self._socket.closed:
+        self._seat, feed = session, self._room.feed
+        while not self._is_gone:
             if feed is not None:
-                await until_ended(session, feed.is_there(FEED_WAIT))
-            session.seen = await session.version()
+                await until_ended(self._seat, feed.is_there(FEED_WAIT))
+            version = await self._seat.version()
             if feed is not None and feed.history is not None:
-                await self._follow_feed(session, feed)
+                await self._follow_feed(feed, version)
             else:
-                await self._poll(session, feed)
+                await self._poll(feed, version)
 
-    async def _poll(self, session, feed):
+    async def _poll(self, feed, version):
         """Asks for the newest version again and again, while there is no feed."""
-        self._history, self._session = None, session
-        await self._say(say="here", version=session.seen, live=None, since=session.seen)
-        while not self._socket.closed and (feed is None or feed.history is None):
+        self._history, self._session, self.seen = None, self._seat, version
+        await self._say(say="here", version=self.seen, live=None, since=self.seen)
+        while not self._is_gone and (feed is None or feed.history is None):
             await asyncio.sleep(POLL)
-            self._room.news.tell(session, await session.version())
+            newest = await self._newest()
+            self._room.news.tell(self._seat, newest)
 
-    async def _follow_feed(self, session, feed):
+    async def _follow_feed(self, feed, version):
         """Tells the tab of each edit, from the version on that it has, while the feed goes on and the session is there."""
         if self._history != feed.history or not feed.has(self._told):
-            self._history, self._told = feed.history, feed.version
-        self._session, self._is_live = session, True
-        session.seen = max(session.seen, self._told)
-        await self._say(say="here", version=session.seen, live=self._history, since=self._told)
-        telling = asyncio.create_task(self._tell_edits(session, feed))
+            self._history, self._told, self.seen = feed.history, feed.version, 0
+        self._session, self._is_live = self._seat, True
+        self.seen = max(self.seen, version, self._told)
+        await self._say(say="here", version=self.seen, live=self._history, since=self._told)
+        telling = asyncio.create_task(self._tell_edits(feed))
         try:
-            while not telling.done():
-                await until_ended(session, telling, POLL_LIVE)
-                await session.version()  # raises Away where it has ended
+            while not self._is_gone and not telling.done():
+                await until_ended(self._seat, telling, POLL_LIVE)
+                await self._newest()  # raises Away where the session has ended
         finally:
             self._is_live = False
             telling.cancel()
 
-    async def _tell_edits(self, session, feed):
+    async def _tell_edits(self, feed):
         while lines := await feed.beyond(self._told):
             self._told += len(lines)
-            session.seen = max(session.seen, self._told)
+            self.seen = max(self.seen, self._told)
             await self._send(f'{{"say":"edits","edits":[{",".join(lines)}]}}')
+
+    async def _newest(self):
+        """The version that the document has now. A session that is spent is left for another one before, as soon as nothing is on its way."""
+        if self._seat.is_spent and not self._on_way:
+            await self._move()
+        return await self._seat.version()
+
+    async def _move(self):
+        """Takes another session with the same run of the server, where the tab has asked nothing meanwhile."""
+        seats, left = self._room.seats, self._seat
+        session = await seats.take()
+        try:
+            for each in (left, session):
+                await each.version()
+            if not self._on_way and session.presence.is_with(left.presence):
+                self._seat = self._session = session
+        finally:
+            seats.leave(left if self._seat is session else session)
 
     def hear(self, session, version):
         """Tells the tab of a version that a session was told of, where it is news, and of the run of the server that the tab is with. Where the
         tab follows the feed, that tells it."""
         own = self._session
-        if own is not None and not self._is_live and version > own.seen and session.presence.is_with(own.presence):
-            own.seen = version
+        if own is not None and not self._is_live and version > self.seen and session.presence.is_with(own.presence):
+            self.seen = version
             self._start(self._say(say="version", version=version))
 
     # -- requests ------------------------------------------------------------------------------------------------------
 
     async def _answer(self, message):
         """Answers a tab's batch; one that finds no server is answered by no replies."""
-        number, requests, session = message["batch"], message["requests"][:MOST_BATCH], self._session
+        number, requests, session = message["batch"], message["requests"], self._session
         told = "null"
-        if session is not None and requests:
-            try:
-                answers = await self._ask(session, requests)
-                session.seen = max(session.seen, *(answer.version for answer in answers))
-                self._room.news.tell(session, session.seen)
+        try:
+            if session is not None and requests:
+                answers = await self._ask(session, requests, message["lines"])
+                self.seen = max(self.seen, *(answer.version for answer in answers))
+                self._room.news.tell(session, self.seen)
                 told = await self._told_all(answers)
-            except Away:
-                pass  # the watch tells the tab
+        except Away:
+            pass  # the watch tells the tab
+        finally:
+            self._on_way -= len(requests)
         await self._send(f'{{"batch":{json.dumps(number)},"replies":{told}}}')
 
-    async def _ask(self, session, requests):
+    async def _ask(self, session, requests, lines):
         """The answers to a batch. Looks are shared with other tabs, but while an edit of the tab's own is on its way they follow it."""
         looks = self._room.looks
-        lines = [line_of(request) for request in requests]
         if all(is_look(request) for request in requests):
-            return await looks.answers(session, lines, math.inf if self._edits else session.seen)
+            return await looks.answers(session, lines, self.seen, is_alone=self._edits > 0)
         self._edits += 1
         try:
             replies = await session.ask(lines)
@@ -217,21 +283,22 @@ class Tab:
         return [looks.pictures.told(line, *reply) for line, reply in zip(lines, replies)]
 
     async def _told_all(self, answers):
-        """The text of answers. The pictures that they name, and that the tab has not got yet, are sent first."""
-        for name in dict.fromkeys(answer.picture for answer in answers if answer.picture):
-            if name not in self._pictures and not self._socket.closed:
-                png = await self._room.looks.pictures.png(name)
+        """The text of answers. The pictures that they name, and that the tab has not got yet, are sent first; one that is not kept any more the tab
+        misses at its address, and asks for anew."""
+        names = dict.fromkeys(answer.picture for answer in answers if answer.picture and answer.picture not in self._pictures)
+        for name, png in [(name, png) for name in names if (png := self._room.looks.pictures.png(name))]:
+            if not self._socket.closed:
                 with contextlib.suppress(ConnectionError):
-                    await self._socket.send_bytes(bytes.fromhex(name) + png)
+                    await self._socket.send_bytes(bytes.fromhex(name) + await png)
                 keep(self._pictures, name, None, MOST_PICTURES)
         return f"[{','.join(answer.text for answer in answers)}]"
 
     async def _look_back(self, message):
         """Answers a batch of looks at an earlier version; where that can't be shown, by the reason."""
-        number, requests = message["batch"], message["requests"][:MOST_BATCH]
+        number, lines = message["batch"], message["lines"]
         try:
-            replies, edits = await self._visit.look(message["at"], requests, message.get("since"))
-            told = await self._told_all([self._room.looks.pictures.told(line_of(request), *reply) for request, reply in zip(requests, replies)])
+            replies, edits = await self._visit.look(message["at"], message["requests"], message.get("since"))
+            told = await self._told_all([self._room.looks.pictures.told(line, *reply) for line, reply in zip(lines, replies)])
             await self._send(f'{{"batch":{json.dumps(number)},"replies":{told},"edits":[{",".join(it.decode() for it in edits)}]}}')
         except Unseen as unseen:
             await self._say(batch=number, replies=None, why=str(unseen))

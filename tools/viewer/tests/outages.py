@@ -3,7 +3,7 @@
 import asyncio
 
 from running import difference
-from tests.desk import seen
+from tests.desk import Gateway, seen
 
 
 async def away(ann, ben, server):
@@ -33,8 +33,8 @@ async def away(ann, ben, server):
 
 
 async def no_seat(browser, gateway, server):
-    """A tab that finds no seat says so, and is served when one is free."""
-    guests = []
+    """A tab that finds no seat shares what others have. Where there are no others it says so, and is served when a seat is free."""
+    guests, other = [], Gateway(server)
     try:
         while len(guests) < 70:
             guest = server.connect()
@@ -42,7 +42,11 @@ async def no_seat(browser, gateway, server):
             guest.ask(verb="point", x=0, y=0)
     except Exception as fault:  # the first that finds no seat
         yield "all seats are taken", None if "NoSeats" in str(fault) else repr(fault)
-    tab = await browser.open(gateway.page)
+    shared = await browser.open(gateway.page)
+    await shared.until("window.app.picture.isSettled")
+    yield "a tab that shares", difference((await shared.value("document.getElementById('away').hidden"), shared.faults), (True, []))
+    await shared.close()
+    tab = await browser.open(other.page)
     await tab.until("!document.getElementById('away').hidden")
     why = await tab.value("document.getElementById('away-why').textContent")
     yield "a tab without a seat", None if "All seats of the server are taken" in why else why
@@ -53,6 +57,7 @@ async def no_seat(browser, gateway, server):
     yield "a seat for it", difference(await tab.value("document.getElementById('away').hidden"), True)
     yield "its console", difference(tab.faults, [])
     await tab.close()
+    other.close()
 
 
 STAGES = (away, no_seat)

@@ -133,13 +133,13 @@ async def newer(pair):
 
 
 async def not_good(pair):
-    """An answer that turns out to be older than what was seen, or a refusal, is given to the tab that asked alone."""
-    for request, reply, wanted in [(tile(4), {"ok": True, "version": 1}, (1, 1, 1)), (tile(5), NO_MEMORY, "OutOfMemory")]:
+    """An answer that turns out to be older than what was seen is asked again; a refusal is given to the tab that asked alone."""
+    for request, reply, wanted, who in [(tile(4), {"ok": True, "version": 1}, [(1, 1, 2)] * 2, [1, 1]), (tile(5), NO_MEMORY, ["OutOfMemory", (1, 2, 2)], [1, 2])]:
         pair.puppet.next[1] = reply
         first, second = await pair.join(request)
         pair.puppet.let_go(1)
-        yield f"{reply} for one", difference(pair.sources(await first, await second), [wanted, (1, 2, 2)])
-        yield f"{reply}: who asked", difference(pair.puppet.asked_by(request), [1, 2])
+        yield f"{reply}: what they are told", difference(pair.sources(await first, await second), wanted)
+        yield f"{reply}: who asked", difference(pair.puppet.asked_by(request), who)
 
 
 async def not_there(pair, client, page):
@@ -158,8 +158,8 @@ async def not_there(pair, client, page):
     await pair.puppet.until_asked(tile(7))
     waiting = await pair.ben.ask(tile(7))
     await guest.close()
-    pair.puppet.let_go(3)
     yield "a tab that waits for one that is closed", difference(pair.sources(await waiting), [(1, 2, 2)])
+    pair.puppet.let_go(3)
     yield "who asked", difference(pair.puppet.asked_by(tile(7)), [3, 2])
 
 

@@ -9,10 +9,10 @@ from types import SimpleNamespace
 
 import pytest
 
-from gateway import door_of, parts_of
-from relay.application import PAGE, is_own
+from gateway import door_of, listener_at, parts_of
+from relay.application import PAGE, is_own, page_of
 from relay.session import Presence
-from relay.tabs import News, Tab
+from relay.tabs import MOST_BATCH, MOST_LINE, Bad, News, Tab, message_of
 
 
 def request(host, origin=None):
@@ -54,17 +54,60 @@ def test_the_page_is_there():
     assert (PAGE / "index.html").is_file()
 
 
+def test_behind_a_unix_socket_any_name_is_known_but_no_other_site():
+    assert is_own(request("canvas.example", "https://canvas.example"), None)
+    assert not is_own(request("canvas.example", "https://elsewhere.example"), None)
+
+
+def test_the_scripts_of_the_page_lie_at_one_address():
+    assert '"page/main.js"' in page_of("a", "") and "<title>a – canvas" in page_of("a", "")
+    assert '"../../page/main.js"' in page_of("<b>", "/d/{name}") and "<title>&lt;b&gt; – canvas" in page_of("<b>", "/d/{name}")
+
+
+def test_a_socket_at_which_nobody_listens_makes_way(tmp_path):
+    path = str(tmp_path / "door")
+    first, address = listener_at(path)
+    assert address == f"unix:{path}"
+    with pytest.raises(OSError):
+        listener_at(path)
+    first.close()
+    listener_at(path)[0].close()
+    (tmp_path / "file").write_text("kept")
+    with pytest.raises(OSError):
+        listener_at(str(tmp_path / "file"))
+    assert (tmp_path / "file").read_text() == "kept"
+
+
+@pytest.mark.parametrize("words", [[], ["127.0.0.1:1", "--documents", "here"], ["--documents", "here", "--feed", "127.0.0.1:1"]])
+def test_words_that_are_no_command(words):
+    said = subprocess.run([sys.executable, str(PAGE.parent / "gateway.py"), *words], capture_output=True, text=True)
+    assert said.returncode == 2 and "either the ADDRESS of a server is wanted, or --documents FOLDER" in said.stderr
+
+
+@pytest.mark.parametrize("text", ["", "{", "[]", "7", '{"batch":1}', '{"batch":1,"requests":{}}', '{"at":1,"requests":[]}', "[" * 100_000,
+                                  '{"batch":1,"requests":["%s"]}' % ("a" * (MOST_LINE - 2))])
+def test_what_is_no_message(text):
+    with pytest.raises(Bad):
+        message_of(text)
+
+
+def test_a_message_has_the_lines_of_its_requests():
+    assert message_of('{"batch":1,"requests":[{"verb":"export"},"%s"]}' % ("a" * (MOST_LINE - 3)))["lines"][0] == b'{"verb":"export"}\n'
+    assert len(message_of('{"batch":1,"requests":[%s]}' % ",".join("1" * (MOST_BATCH + 1)))["lines"]) == MOST_BATCH
+    assert message_of('{"pointer":null}') == {"pointer": None}
+
+
 class Session:
-    def __init__(self, seen, first, last):
-        self.seen, self.presence = seen, Presence()
+    def __init__(self, first, last):
+        self.presence = Presence()
         self.presence._since, self.presence._until = first, last
 
 
-async def heard(session, own, *versions):
-    """What a tab with a session of its own is told, where another session was told of versions."""
+async def heard(session, own, seen, *versions):
+    """What a tab with a session of its own, which has seen a version, is told where another session was told of versions."""
     said, news = [], News()
     tab = Tab(SimpleNamespace(closed=False, send_str=None), SimpleNamespace(past=None))
-    tab._session = own
+    tab._session, tab.seen = own, seen
 
     async def say(**what):
         said.append(what["version"])
@@ -78,15 +121,15 @@ async def heard(session, own, *versions):
 
 
 def test_a_tab_is_told_of_what_it_has_not_seen():
-    assert asyncio.run(heard(Session(0, 0, 9), Session(3, 0, 9), 2, 3, 4, 4, 6)) == [4, 6]
+    assert asyncio.run(heard(Session(0, 9), Session(0, 9), 3, 2, 3, 4, 4, 6)) == [4, 6]
 
 
 def test_a_tab_is_told_of_its_own_run_alone():
-    assert asyncio.run(heard(Session(0, 0, 9), Session(3, 10, 19), 4)) == []
+    assert asyncio.run(heard(Session(0, 9), Session(10, 19), 3, 4)) == []
 
 
 def test_a_tab_without_a_session_is_told_nothing():
-    assert asyncio.run(heard(Session(0, 0, 9), None, 4)) == []
+    assert asyncio.run(heard(Session(0, 9), None, 0, 4)) == []
 
 
 def test_what_is_missing_is_said_in_words():

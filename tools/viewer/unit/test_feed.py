@@ -185,7 +185,7 @@ class Stub:
     """A session with a server of a version, until it is ended."""
 
     def __init__(self, version):
-        self.newest, self.seen, self.presence = version, 0, Presence()
+        self.newest, self.presence, self.is_spent = version, Presence(), False
         self.over = asyncio.Event()
 
     async def ended(self):

@@ -2,16 +2,18 @@
 
 import asyncio
 
-from relay.looks import Look, Looks, is_look
+import pytest
+
+from relay.looks import MOST_AT_ONCE, Look, Looks, is_look
 from relay.pictures import Answer, Pictures, UNANSWERED
-from relay.session import Presence
+from relay.session import Away, Presence
 
 
 class Stub:
     """A session that answers each line with a version, and notes what it was asked."""
 
-    def __init__(self, version, seen=0):
-        self.version, self.seen, self.asked = version, seen, []
+    def __init__(self, version):
+        self.version, self.asked = version, []
         self.presence = Presence()
         self.presence._since, self.presence._until = 0, 9
 
@@ -27,7 +29,7 @@ def test_only_tiles_and_exports_are_looks():
 
 def test_an_answer_serves_those_who_have_seen_no_newer_version():
     async def served():
-        look = Look(Stub(3))
+        look = Look(Stub(3), 3)
         look.end(Answer(3, "{}"))
         return [look.may_serve(Stub(3), seen) for seen in (2, 3, 4)]
 
@@ -36,7 +38,7 @@ def test_an_answer_serves_those_who_have_seen_no_newer_version():
 
 def test_what_is_on_its_way_serves_those_who_have_seen_as_much():
     async def served():
-        look = Look(Stub(9, seen=3))
+        look = Look(Stub(9), 3)
         return [look.may_serve(Stub(9), seen) for seen in (3, 4)]
 
     assert asyncio.run(served()) == [True, False]
@@ -44,7 +46,7 @@ def test_what_is_on_its_way_serves_those_who_have_seen_as_much():
 
 def test_an_answer_of_another_run_serves_no_one():
     async def served():
-        look, other = Look(Stub(3)), Stub(3)
+        look, other = Look(Stub(3), 3), Stub(3)
         look.end(Answer(3, "{}"))
         other.presence._since, other.presence._until = 10, 20
         return look.may_serve(other, 0)
@@ -54,7 +56,7 @@ def test_an_answer_of_another_run_serves_no_one():
 
 def test_what_has_no_answer_serves_no_one():
     async def served():
-        look = Look(Stub(3))
+        look = Look(Stub(3), 3)
         look.end(UNANSWERED)
         return look.may_serve(Stub(3), 0)
 
@@ -63,7 +65,7 @@ def test_what_has_no_answer_serves_no_one():
 
 def test_the_first_answer_counts():
     async def ended():
-        look = Look(Stub(3))
+        look = Look(Stub(3), 3)
         look.end(Answer(1, "one"))
         look.end(Answer(2, "two"))
         return look.answer.result().text
@@ -114,3 +116,49 @@ def test_where_the_server_goes_those_who_wait_ask_for_themselves():
         return isinstance((await asyncio.gather(first, return_exceptions=True))[0], OSError), ben.asked, found[0].version
 
     assert asyncio.run(answers()) == (True, [b"a"], 5)
+
+
+def test_what_is_older_than_what_was_seen_is_asked_again():
+    class Late(Stub):
+        async def ask(self, lines):
+            self.version += 1
+            return await super().ask(lines)
+
+    async def answers():
+        session = Late(2)
+        found = await Looks(Pictures()).answers(session, [b"a", b"b"], 5)
+        return session.asked, [answer.version for answer in found]
+
+    assert asyncio.run(answers()) == ([b"a", b"b"] * 3, [5, 5])
+
+
+def test_a_server_that_tells_only_what_is_older_counts_as_away():
+    with pytest.raises(Away, match="older"):
+        asyncio.run(Looks(Pictures()).answers(Stub(4), [b"a"], 5))
+
+
+def test_a_tab_that_is_alone_is_given_nothing_of_others():
+    async def answers():
+        looks, ann, ben = Looks(Pictures()), Stub(5), Stub(5)
+        await looks.answers(ann, [b"a"], 0)
+        await looks.answers(ben, [b"a"], 0, is_alone=True)
+        return ben.asked
+
+    assert asyncio.run(answers()) == [b"a"]
+
+
+def test_others_are_answered_between_the_parts_of_many_looks():
+    class Slow(Stub):
+        async def ask(self, lines):
+            await asyncio.sleep(0.01)
+            return await super().ask(lines)
+
+    async def order():
+        looks, session = Looks(Pictures()), Slow(5)
+        many = asyncio.create_task(looks.answers(session, [b"%d" % number for number in range(3 * MOST_AT_ONCE)], 0))
+        await asyncio.sleep(0)
+        await looks.answers(session, [b"a"], 0)
+        await many
+        return session.asked.index(b"a")
+
+    assert asyncio.run(order()) == MOST_AT_ONCE

@@ -77,3 +77,15 @@ def test_a_picture_is_served_once():
 def test_only_the_last_pictures_are_kept(monkeypatch):
     monkeypatch.setattr(module, "MOST_PICTURES", 1)
     assert asyncio.run(asked(("/picture/FIRST.png", {}))) == [(404, "", None)]
+
+
+def test_a_picture_that_is_waited_for_comes_however_many_others_do():
+    async def run():
+        pictures = Pictures(share=module.MOST_PICTURES // 2)
+        first = pictures.told(b"a", {"body": 14, "ok": True, "version": 1}, image_of(1, 2, 3)).picture
+        png = pictures.png(first)
+        for number in range(2):
+            pictures.told(b"%d" % number, {"body": 14, "ok": True, "version": 1}, image_of(9, 9, number))
+        return pictures.has(first), pictures.png(first), Image.open(io.BytesIO(await png)).getpixel((0, 0))
+
+    assert asyncio.run(run()) == (False, None, (1, 2, 3))

@@ -1,0 +1,937 @@
+#!/usr/bin/python3
+"""Hosts many documents on a machine of its own (tools/machine.py): the Debian package, systemd, nginx and the gateway, put together as docs/RUNNING.md says.
+
+usage: tools/check_hosting.py [--long] [PART ..]      the parts are the functions that PARTS names; all of them where none is named
+
+- the units are read by systemd-analyze; the commands of docs/RUNNING.md are run as they stand;
+- `canvas-admin` makes, lists, renames and removes documents, and refuses bad names, those that are there or not there, and documents that are served;
+- pages and raw sessions are there for those who may have them, and for nobody else: passwords, certificates, other documents, HTTP at the raw port;
+- 200 tabs and some editors at one document: nobody is refused, and no tab is told of an older version than before;
+- what floods, is slow or sends what is no message is refused and told in a log, while others are answered;
+- kill -9 of servers, of the gateway and of nginx, while each document is edited: each answered edit is there afterwards, and no other document's sessions end;
+- copies follow, and are restored.
+
+With --long there are more documents and kills, and the times, memory and processor are printed. The programs are those that the environment's CANVAS and
+CANVASD name, or the built ones. Prints each case that fails, and a last line 'N passed, M failed'; the status is 1 where something failed. Where this
+machine allows no other one, it says so, and the units alone are read.
+"""
+
+import argparse
+import asyncio
+import contextlib
+import json
+import os
+import random
+import re
+import shutil
+import ssl
+import subprocess
+import sys
+import tempfile
+import time
+from pathlib import Path
+from urllib.parse import quote
+
+HERE = Path(__file__).resolve().parent
+sys.path[:0] = [str(HERE), str(HERE / "viewer")]
+
+import aiohttp  # noqa: E402
+
+import machine as machines  # noqa: E402
+import release  # noqa: E402
+from browser import Browser, Fault  # noqa: E402
+from canvas_client import Canvas, connected, line_of  # noqa: E402
+from repository import BUILT, BUILT_KEEPER, TOP  # noqa: E402
+from running import build, build_keeper, difference, talk, tell  # noqa: E402
+
+SITE = "https://127.0.0.1"
+RAW = ("127.0.0.1", 7443)
+WATCH = "http://127.0.0.1:9464"
+PATIENCE = 90
+"""Seconds after which what has not come back counts as lost: many more than it takes."""
+FAULTS = (OSError, EOFError, ValueError, KeyError, TypeError, asyncio.TimeoutError, asyncio.IncompleteReadError, aiohttp.ClientError, TimeoutError)
+"""What tells a client that its connection is over."""
+SHAPE = {"verb": "create", "shape": {"kind": "rect", "w": 40, "h": 30, "fill": "2f6fde"}}
+TILES = [{"verb": "tile", "col": col, "row": row} for col in range(4) for row in range(3)]
+POINT = {"verb": "point", "x": 0, "y": 0}
+
+
+async def until(is_so):
+    """Waits until something is so; raises TimeoutError where that takes longer than anything should."""
+    end = time.monotonic() + PATIENCE
+    while not is_so():
+        if time.monotonic() > end:
+            raise TimeoutError(f"not within {PATIENCE} s")
+        await asyncio.sleep(0.05)
+
+
+# -- the machine -------------------------------------------------------------------------------------------------------
+
+def commands_of(begin):
+    """The commands of the block of docs/RUNNING.md that begins so, but for those that fetch packages."""
+    block = re.search(rf"^```\n({re.escape(begin)}.*?)^```", (TOP / "docs" / "RUNNING.md").read_text(), re.M | re.S)
+    return "\n".join(line for line in block[1].splitlines() if not line.startswith(("apt ", "#")))
+
+
+class Keys:
+    """Certificates: one of the site, one that signs those of clients, and clients: ann and ben, and a stranger whom another one signed."""
+
+    def __init__(self, folder):
+        self._folder = Path(folder)
+        self._call("req", "-x509", "-days", "2", "-subj", "/CN=127.0.0.1", "-addext", "subjectAltName=IP:127.0.0.1,DNS:*.canvas.example", *self._new("tls"))
+        for name in ("clients", "others"):
+            self._call("req", "-x509", "-days", "2", "-subj", f"/CN={name}", *self._new(name))
+        for name, signer in (("ann", "clients"), ("ben", "clients"), ("stranger", "others")):
+            self._call("req", "-subj", f"/CN={name}", *self._new(name, ".csr"))
+            self._call("x509", "-req", "-days", "2", "-in", self.file(f"{name}.csr"), "-CA", self.file(f"{signer}.crt"), "-CAkey", self.file(f"{signer}.key"),
+                       "-CAcreateserial", "-out", self.file(f"{name}.crt"))
+
+    def file(self, name):
+        return str(self._folder / name)
+
+    def _new(self, name, ending=".crt"):
+        return ("-newkey", "ec", "-pkeyopt", "ec_paramgen_curve:prime256v1", "-nodes", "-keyout", self.file(f"{name}.key"), "-out", self.file(name + ending))
+
+    def _call(self, *words):
+        subprocess.run(["openssl", *words], check=True, capture_output=True)
+
+    def context(self, name=None):
+        """What a client of this name, or one with no certificate, connects with."""
+        found = ssl.create_default_context(cafile=self.file("tls.crt"))
+        if name:
+            found.load_cert_chain(self.file(f"{name}.crt"), self.file(f"{name}.key"))
+        return found
+
+
+class Host:
+    """The machine with nginx, the gateway, keys, and documents that are served."""
+
+    def __init__(self, folder, is_long):
+        folder = Path(folder)
+        names = release.make({"canvas": BUILT, "canvasd": BUILT_KEEPER}, folder / "dist")
+        self.keys, self.is_long, self.figures = Keys(folder), is_long, []
+        (folder / "machine").mkdir()
+        self.machine = machines.Machine(folder / "machine", folder / "dist" / names[1])
+        etc = self.machine.root / "etc" / "canvas"
+        (etc / "users").mkdir(parents=True)
+        for name in ("tls.crt", "tls.key", "clients.crt"):
+            shutil.copy(self.keys.file(name), etc / name)
+        self.machine.boot()
+        self.machine.must("sh", "-euc", commands_of("# As root, on Debian 12:"))
+
+    def let_in(self, name, user="ann", certificate="ann"):
+        """Lets a user see the page of a document, and a certificate edit it."""
+        word = subprocess.run(["openssl", "passwd", "-apr1", f"{user} of {name}"], check=True, capture_output=True, text=True).stdout
+        etc = self.machine.path("/etc/canvas")
+        with (etc / "users" / name).open("a") as file:
+            file.write(f"{user}:{word}")
+        with (etc / "editors").open("a") as file:
+            file.write(f'"CN={certificate} {name}" 1;\n')
+
+    def admin(self, *words):
+        """What canvas-admin says: its status, and what it writes."""
+        done = self.machine.run("canvas-admin", *words)
+        return done.returncode, (done.stdout + done.stderr).strip()
+
+    async def create(self, names):
+        """Makes documents that ann may see and edit."""
+        for name in names:
+            self.machine.must("canvas-admin", "create", name)
+            self.let_in(name)
+        self.machine.must("systemctl", "reload", "nginx")
+        for _ in range(3):  # (the processes of before the reload take connections for a moment more)
+            await self._reached(names[-1])
+            await asyncio.sleep(0.1)
+
+    async def _reached(self, name):
+        """Waits until a raw session is answered."""
+        end = time.monotonic() + PATIENCE
+        while True:
+            raw = await self.raw(name)
+            try:
+                return await raw.ask(POINT)
+            except FAULTS:
+                if time.monotonic() > end:
+                    raise
+            finally:
+                await raw.close()
+            await asyncio.sleep(0.1)
+
+    def drop(self, names):
+        self.machine.must("systemctl", "disable", "--quiet", "--now", *(f"canvas@{name}" for name in names))
+        for name in names:
+            self.machine.must("canvas-admin", "remove", "--purge", name)
+
+    def session(self, name):
+        """A session at a server's own door."""
+        return Canvas.connect(f"unix:{self.machine.path(f'/run/canvas/{name}/door')}")
+
+    def process(self, name):
+        """The number of a server's process."""
+        inside = self.machine.property(f"canvas@{name}", "MainPID")
+        return self.machine.outside(int(inside))
+
+    def processes(self, unit):
+        """The numbers of all processes of a unit."""
+        path = Path("/proc")
+        return [int(it.name) for it in path.glob("[0-9]*") if f"/{unit}.service" in text_of(it / "cgroup")]
+
+    def metric(self, name, what):
+        """A number that a server tells of itself."""
+        text = subprocess.run(["curl", "-sf", f"{WATCH}/{name}/metrics"], check=True, capture_output=True, text=True).stdout
+        return float(re.search(rf"^{what} (\S+)$", text, re.M)[1])
+
+    def web(self, name="", user="ann", word=None):
+        """A client of the site, with the password of a document."""
+        auth = aiohttp.BasicAuth(user, word or f"{user} of {name}") if name else None
+        return aiohttp.ClientSession(auth=auth, connector=aiohttp.TCPConnector(ssl=self.keys.context(), limit=0))
+
+    async def raw(self, name, certificate="ann"):
+        return await Raw.open(self.keys.context(certificate), f"{name}.canvas.example")
+
+
+def text_of(path):
+    """What is in a file; nothing where it is gone."""
+    try:
+        return path.read_text()
+    except OSError:
+        return ""
+
+
+def page(name):
+    return f"{SITE}/d/{name}/"
+
+
+class Raw:
+    """A raw session, by TLS."""
+
+    @classmethod
+    async def open(cls, context, name):
+        raw = cls()
+        raw.reader, raw.writer = await asyncio.wait_for(asyncio.open_connection(*RAW, ssl=context, server_hostname=name, limit=1 << 20), PATIENCE)
+        return raw
+
+    async def ask(self, request):
+        self.writer.write(line_of(request))
+        line = await asyncio.wait_for(self.reader.readuntil(b"\n"), PATIENCE)
+        reply = json.loads(line)
+        await self.reader.readexactly(reply["body"])
+        return reply
+
+    async def close(self):
+        self.writer.close()
+        with contextlib.suppress(*FAULTS):
+            await asyncio.wait_for(self.writer.wait_closed(), 5)
+
+
+async def answer_to(context, name, data):
+    """What comes back for some bytes at the raw door; "" where the connection is closed without a word, or does not come about."""
+    try:
+        reader, writer = await asyncio.wait_for(asyncio.open_connection(*RAW, ssl=context, server_hostname=name if context else None), PATIENCE)
+    except FAULTS:
+        return b""
+    try:
+        writer.write(data)
+        return await asyncio.wait_for(reader.read(1 << 16), PATIENCE)
+    except FAULTS:
+        return b""
+    finally:
+        writer.close()
+
+
+class Tab:
+    """A tab without a page. `seen` is the newest version that it was told of; `fault` says where it was told of an older one."""
+
+    @classmethod
+    async def open(cls, client, name):
+        tab = cls()
+        tab.number = tab.seen = 0
+        tab.fault = None
+        tab.socket = await asyncio.wait_for(client.ws_connect(f"{page(name)}session", max_msg_size=0), PATIENCE)
+        await tab._until(lambda found: found.get("say") == "here")
+        return tab
+
+    async def ask(self, *requests):
+        """The replies to a batch; EOFError where the server is away."""
+        self.number += 1
+        seen = self.seen
+        await self.socket.send_json({"batch": self.number, "requests": requests})
+        replies = (await self._until(lambda found: found.get("batch") == self.number))["replies"]
+        if replies is None:
+            raise EOFError("the server is away")
+        for reply in replies:
+            if "version" in reply:
+                self._see(reply["version"], seen)
+        return replies
+
+    def _see(self, version, seen):
+        if version < seen:
+            self.fault = f"version {version} was told behind {seen}"
+        self.seen = max(self.seen, version)
+
+    async def _until(self, is_it):
+        """The next message that is wanted."""
+        while True:
+            message = await asyncio.wait_for(self.socket.receive(), PATIENCE)
+            if message.type == aiohttp.WSMsgType.BINARY:
+                continue
+            if message.type != aiohttp.WSMsgType.TEXT:
+                raise EOFError("the gateway is away")
+            found = message.json()
+            if found.get("say") == "edits":
+                versions = [edit["version"] for edit in found["edits"]]
+                if versions != [*range(versions[0], versions[0] + len(versions))]:
+                    self.fault = f"the edits {versions} were told"
+                self.seen = max(self.seen, versions[-1])
+            if is_it(found):
+                return found
+
+    async def close(self):
+        await self.socket.close()
+
+
+class Editor:
+    """Makes shapes in a document until it is stopped, by a raw session or a tab, over all that ends its connections. It knows what was answered."""
+
+    def __init__(self, host, name, is_raw, pause=0.02):
+        self._host, self.name, self._is_raw, self._pause = host, name, is_raw, pause
+        self.made, self.breaks, self.faults, self.times = {}, 0, [], []
+        self._is_over = False
+        self._task = asyncio.create_task(self._run())
+
+    async def _run(self):
+        while not self._is_over:
+            try:
+                await self._visit()
+            except FAULTS:
+                self.breaks += 1
+            await asyncio.sleep(0.1)
+
+    async def _visit(self):
+        if self._is_raw:
+            raw = await self._host.raw(self.name)
+            try:
+                await self._edit(raw.ask)
+            finally:
+                await raw.close()
+            return
+        async with self._host.web(self.name) as client:
+            tab = await Tab.open(client, self.name)
+
+            async def ask(request):
+                return (await tab.ask(request))[0]
+
+            try:
+                await self._edit(ask)
+            finally:
+                self.faults += [tab.fault] if tab.fault else []
+
+    async def _edit(self, ask):
+        found = await ask(POINT)
+        if found["version"] < max(self.made, default=0):
+            self.faults.append(f"version {found['version']} after {max(self.made)}")
+        while not self._is_over:
+            begin = time.monotonic()
+            reply = await ask(SHAPE)
+            if not reply["ok"]:
+                raise EOFError(reply["name"])
+            self.times.append((begin, time.monotonic()))
+            self.made[reply["version"]] = reply["id"]
+            await asyncio.sleep(self._pause)
+
+    async def goes_on(self, seconds=PATIENCE):
+        """Waits until one more edit was begun and answered, and gives after how many seconds; None where that takes too long."""
+        begin = time.monotonic()
+        while not (self.times and self.times[-1][0] > begin):
+            if time.monotonic() - begin > seconds:
+                return None
+            await asyncio.sleep(0.005)
+        return self.times[-1][1] - begin
+
+    async def stop(self):
+        self._is_over = True
+        await asyncio.wait([self._task])
+
+    def lost(self):
+        """What was answered and is not in the document, or None."""
+        with self._host.session(self.name) as canvas:
+            reply, text = canvas.ask(verb="export")
+        ids = {shape["id"] for shape in json.loads(text)["shapes"]}
+        missing = {version for version, number in self.made.items() if number not in ids or version > reply["version"]}
+        return f"{len(missing)} of {len(self.made)} answered edits are lost: {sorted(missing)[:5]}" if missing else None
+
+
+# -- canvas-admin ------------------------------------------------------------------------------------------------------
+
+NO_NAMES = ("", "-", "-a", "A", "a.b", "a/b", "..", "a b", "a" * 64, "ä", "a\n", "$(id)", "*", "a_b")
+POSTER = "/usr/share/canvas/examples/poster.json"
+
+
+async def admin(host):
+    """Documents are made, listed, renamed and removed; nothing else is."""
+    folder, stop = host.machine.path("/var/lib/canvas"), lambda name: host.machine.must("systemctl", "disable", "--quiet", "--now", f"canvas@{name}")
+
+    def there():
+        return sorted(it.name for it in folder.iterdir() if it.name != ".removed") if folder.exists() else []
+
+    def refused(name, words, *said):
+        before, (status, text) = there(), host.admin(*words)
+        return name, difference((status, [it for it in said if it not in text], there()), (1, [], before)) and f"{status}: {text}; {there()}"
+
+    def version(name):
+        with host.session(name) as canvas:
+            return canvas.ask(**POINT)[0]["version"]
+
+    host.machine.must("sh", "-euc", commands_of("canvas-admin create"))
+    yield "the page's own document is gone, and kept", difference([name.partition(".")[0] for name in os.listdir(folder / ".removed")], ["chart"])
+    for words in ([], ["make"], ["create"], ["create", "a", "b", "c"], ["list", "a"], ["move", "a"], ["remove", "--all", "a"], ["--help"]):
+        yield f"the words {words}", difference(host.admin(*words)[0], 2)
+    for name in NO_NAMES:
+        for words in (["create", name], ["remove", name], ["move", name, "b"], ["move", "b", name]):
+            if words[:2] != ["move", "b"]:
+                yield refused(f"{words[0]} {name!r}", words, "name")
+    yield "a new document", difference(host.admin("create", "one"), (0, ""))
+    yield "one of a saved document", difference(host.admin("create", "7-posters", POSTER), (0, ""))
+    with host.session("one") as canvas, host.session("7-posters") as other:
+        canvas.ask(**SHAPE)
+        wanted = host.machine.path(POSTER).read_bytes().strip()
+        yield "it is the saved document", difference(other.ask(verb="export")[1], wanted)
+    yield "a copy of a folder", difference((host.admin("create", "copy", "/var/lib/canvas/one"), version("copy")), ((0, ""), 1))
+    yield refused("a name that is taken", ["create", "one"], "there is a document one already")
+    yield refused("a new name that is none", ["move", "one", "A"], "is served")
+    yield refused("what is no saved document", ["create", "bad", "/etc/hostname"], "does not open")
+    yield refused("a file that is not there", ["create", "bad", "/nowhere"], "does not open")
+    yield refused("a folder that is none of canvasd", ["create", "bad", "/etc"], "does not open")
+    for words in (["move", "none", "other"], ["remove", "none"], ["remove", "--purge", "none"]):
+        yield refused(f"{words}, of no document", words, "there is no document none")
+    for words in (["move", "one", "other"], ["remove", "one"], ["remove", "--purge", "one"]):
+        yield refused(f"{words}, of one that is served", words, "the document one is served")
+    states = {line.split()[0]: line.split()[1] for line in host.admin("list")[1].splitlines()}
+    yield "the list", difference(states, {"one": "active", "7-posters": "active", "copy": "active"})
+    yield "a document that is not there is not made by its unit", difference((host.machine.run("systemctl", "start", "canvas@none").returncode > 0, there()), (True, sorted([*states])))
+    stop("one")
+    yield refused("a new name that is taken", ["move", "one", "copy"], "there is a document copy already")
+    yield refused("a new name that is no name", ["move", "one", "A"], "name")
+    host.let_in("one")
+    yield "a new name", difference((host.admin("move", "one", "other"), version("other"), "one" in there()), ((0, ""), 1, False))
+    yield "its users have moved", difference(sorted(it.name for it in host.machine.path("/etc/canvas/users").iterdir()), ["other"])
+    stop("other")
+    status, said = host.admin("remove", "other")
+    kept = said.rpartition(" ")[2]
+    yield "a document that is removed is kept", difference((status, "other" in there(), host.machine.path(f"{kept}/1/journal.jsonl").exists()), (0, False, True))
+    yield "its users are kept beside it", difference(host.machine.path(f"{kept}.users").exists(), True)
+    yield "it is made again", difference((host.admin("create", "other", kept), version("other")), ((0, ""), 1))
+    host.machine.path("/var/lib/canvas/copy/1/journal.jsonl").write_bytes(b"no edit\n")
+    host.machine.kill("canvas@copy")
+    await until(lambda: host.machine.property("canvas@copy", "ActiveState") == "failed")
+    yield "a journal that somebody has spoiled is tried once", difference(host.machine.property("canvas@copy", "NRestarts"), "1")
+    yield "why it does not start is told", None if "line 1 is no edit" in host.machine.journal("canvas@copy") else host.machine.journal("canvas@copy")
+    host.drop(["other", "7-posters", "copy"])
+    yield "nothing is left", difference((there(), host.admin("list")), ([], (0, "")))
+
+
+# -- who may have what -------------------------------------------------------------------------------------------------
+
+async def status_of(client, address):
+    async with client.get(address, allow_redirects=False) as response:
+        await response.read()
+        return response.status
+
+
+async def doors(host):
+    """Pages and raw sessions, for those who may have them."""
+    await host.create(["ours", "theirs"])
+    for name, client in (("with its password", host.web("ours")), ("with none", host.web()), ("with that of another document", host.web("theirs")),
+                         ("with a wrong one", host.web("ours", word="x")), ("of another user", host.web("ours", user="ben"))):
+        wanted = 200 if name == "with its password" else 401
+        async with client:
+            yield f"the page {name}", difference(await status_of(client, page("ours")), wanted)
+            yield f"a picture {name}", difference(await status_of(client, f"{page('ours')}picture/{'0' * 32}.png"), 404 if wanted == 200 else 401)
+            try:
+                tab = await Tab.open(client, "ours")
+                found = len(await tab.ask(SHAPE, *TILES))
+                await tab.close()
+            except aiohttp.WSServerHandshakeError as fault:
+                found = fault.status
+            yield f"a session {name}", difference(found, len(TILES) + 1 if wanted == 200 else 401)
+    async for case in addresses(host):
+        yield case
+    async for case in pictures(host):
+        yield case
+    async for case in raw_sessions(host):
+        yield case
+    async for case in past(host):
+        yield case
+    with host.session("theirs") as canvas:
+        yield "nothing was changed in the other document", difference(canvas.ask(**POINT)[0]["version"], 0)
+    host.drop(["ours", "theirs"])
+
+
+async def addresses(host):
+    """What the site answers."""
+    async with host.web("ours") as client:
+        for path, wanted in (("/d/ours", 301), ("/page/main.js", 200), ("/page/none.js", 404), ("/page/../gateway.py", 404), ("/page/%2e%2e/gateway.py", 404), ("/", 404),
+                             ("/d/", 404), ("/d/none/", 403), ("/d/OURS/", 404), (f"/d/{'a' * 64}/", 404), ("/d/ours/..%2ftheirs/", 401), ("/d/..%2f..%2fetc/", 400),
+                             ("/session", 404), ("/d/ours/session", 400), ("/d/ours/none", 404)):
+            address = aiohttp.client.URL(f"{SITE}{path}", encoded=True)
+            yield f"the address {path}", difference(await status_of(client, address), wanted)
+        headers = {"Origin": "https://elsewhere.example"}
+        try:
+            await client.ws_connect(f"{page('ours')}session", headers=headers)
+            yield "a page of another site", "it was let in"
+        except aiohttp.WSServerHandshakeError as fault:
+            yield "a page of another site", difference(fault.status, 403)
+
+
+async def pictures(host):
+    """A picture is asked for once, and then nginx has it; but not for those who may not see it."""
+    async with host.web("ours") as client, host.web("theirs") as other:
+        tab = await Tab.open(client, "ours")
+        name = (await tab.ask(TILES[0]))[0]["picture"]
+        address = f"{page('ours')}picture/{name}.png"
+        async with client.get(address) as response:
+            yield "a picture", difference((response.status, (await response.read())[:4]), (200, b"\x89PNG"))
+        host.machine.must("systemctl", "stop", "canvas-gateway")
+        yield "a picture that nginx has", difference(await status_of(client, address), 200)
+        yield "it is nobody else's", difference([await status_of(other, it) for it in (address, address.replace("ours", "theirs"))], [401, 502])
+        host.machine.must("systemctl", "start", "canvas-gateway")
+        await tab.close()
+
+
+async def past(host):
+    """The document as it was: the gateway starts a server of its own for that."""
+    async with host.web("ours") as client:
+        tab = await Tab.open(client, "ours")
+        now, = await tab.ask({"verb": "export"})
+        for at in (0, now["version"]):
+            await tab.socket.send_json({"batch": -1, "at": at, "requests": [{"verb": "export"}]})
+            found = await tab._until(lambda message: message.get("batch") == -1)
+            shapes = found["replies"] and len(found["replies"][0]["document"]["shapes"])
+            yield f"the past at version {at}", difference(shapes, 0 if at == 0 else len(now["document"]["shapes"])) and str(found)[:300]
+        await tab.close()
+
+
+async def raw_sessions(host):
+    """Sessions by TLS, for the certificates that may."""
+    context = host.keys.context
+    edit = line_of(SHAPE)
+    raw = await host.raw("ours")
+    yield "a raw session", difference([(await raw.ask(it))["ok"] for it in (SHAPE, POINT)], [True, True])
+    await raw.close()
+    with host.session("ours") as canvas:
+        version = canvas.ask(**POINT)[0]["version"]
+    for name, certificate, document in (("no certificate", None, "ours"), ("a certificate that another one signed", "stranger", "ours"),
+                                        ("a certificate that may not", "ben", "ours"), ("another document", "ben", "theirs"), ("no document", "ann", "none"),
+                                        ("a name that is none", "ann", "..")):
+        host_name = f"{document}.canvas.example" if document != ".." else "-a.canvas.example"
+        yield f"a raw session with {name}", difference(await answer_to(context(certificate), host_name, edit), b"")
+    yield "one by the site's own name", difference(await answer_to(context("ann"), "127.0.0.1", edit), b"")
+    plain = await answer_to(None, None, b"GET / HTTP/1.1\r\nHost: here\r\n\r\n" + edit)
+    yield "HTTP without TLS at the raw port", None if edit not in plain and b'"ok":true' not in plain else plain
+    http = await answer_to(context("ann"), "ours.canvas.example", b"POST / HTTP/1.1\r\nHost: here\r\n\r\n" + edit)
+    yield "HTTP at the raw port", None if b'"code":50' in http and http.count(b"\n") == 1 else http
+    with host.session("ours") as canvas:
+        yield "none of them has made an edit", difference(canvas.ask(**POINT)[0]["version"], version)
+    with tempfile.TemporaryDirectory() as folder:
+        words = f"OPENSSL:{RAW[0]}:{RAW[1]},snihost=ours.canvas.example,cert={host.keys.file('ann.crt')},key={host.keys.file('ann.key')},cafile={host.keys.file('tls.crt')}"
+        process = subprocess.Popen(["socat", f"UNIX-LISTEN:{folder}/door,fork", words], stderr=subprocess.DEVNULL)
+        await until(Path(folder, "door").exists)
+        with connected(f"unix:{folder}/door", PATIENCE) as sock:
+            got = await asyncio.to_thread(talk, sock, line_of(POINT) * 1000)
+        yield "a program without TLS, by socat, that ends what it sends", difference(got.count(b'"ok":true'), 1000)
+        process.kill()
+        process.wait()
+    log = host.machine.path("/var/log/nginx/canvas-sessions.log").read_text()
+    told = [it in log for it in ('"CN=ann" "ours.canvas.example" 200', '"CN=ben" "ours.canvas.example" 502', '"-" "ours.canvas.example"', '"CN=ben" "theirs.canvas.example" 502')]
+    yield "the log tells who came", difference(told, [True] * 4) and log[-1500:]
+
+
+# -- a browser ---------------------------------------------------------------------------------------------------------
+
+async def browsed(host):
+    """The pages of two documents in a browser, through nginx."""
+    await host.create(["drawn", "other"])
+    async with Browser() as browser:
+        tab = await browser.open("about:blank")
+        await tab.command("Security.setIgnoreCertificateErrors", ignore=True)
+        for name in ("drawn", "other"):
+            await tab.command("Page.navigate", url=page(name).replace("//", f"//ann:{quote(f'ann of {name}')}@"))  # (the browser knows the password from here on)
+            await tab.until(f"location.pathname === '/d/{name}/' && document.readyState === 'complete'")
+            await tab.command("Page.navigate", url=page(name))
+            await tab.until(f"location.pathname === '/d/{name}/' && !!window.app?.picture?.isSettled")
+            tab.faults.clear()
+            yield f"the title of {name}", difference(await tab.value("document.title"), f"{name} – canvas")
+            await tab.value("app.editor.send({verb: 'create', shape: {kind: 'rect', w: 90, h: 60, fill: 'b3261e'}}).then(({version}) => version)")
+            await tab.until("app.picture.isSettled && app.picture.tree.version === 1 && app.picture.tree.records.size === 1")
+            with host.session(name) as canvas:
+                yield f"an edit of {name} in the browser", difference(canvas.ask(**POINT)[0]["version"], 1)
+            yield f"a new shape of {name}", difference(await tab.value("import('../../page/names.js').then(({giveName, nameOf}) => "
+                                                                       f"{{const it = app.picture.tree.record(1), before = nameOf(it); giveName(it, 'of {name}'); return before;}})"), "Rectangle 1")
+            yield f"the console of {name}", difference(tab.faults, [])
+        for name in ("canvas-gateway", "nginx", "canvas@other"):
+            host.machine.kill(name)
+            await tab.until("!document.getElementById('away').hidden", PATIENCE)
+            await tab.until("document.getElementById('away').hidden && app.picture.isSettled", PATIENCE)
+            yield f"the page comes back after {name} was killed", difference(await tab.value("app.picture.tree.version"), 1)
+    host.drop(["drawn", "other"])
+
+
+# -- many tabs ---------------------------------------------------------------------------------------------------------
+
+TABS, EDITORS = 200, 8
+
+
+async def viewers(host):
+    """More tabs than a server has seats, of which some edit, and raw sessions beside."""
+    await host.create(["crowd"])
+    seconds, over = (60 if host.is_long else 10), asyncio.Event()
+    async with host.web("crowd") as client:
+        tabs = await asyncio.gather(*(Tab.open(client, "crowd") for _ in range(TABS)), return_exceptions=True)
+        yield "each tab is served", difference([repr(it) for it in tabs if not isinstance(it, Tab)], [])
+        tabs = [it for it in tabs if isinstance(it, Tab)]
+        editors = [Editor(host, "crowd", is_raw=number < EDITORS // 2, pause=0.1) for number in range(EDITORS)]
+        await asyncio.gather(*(it.goes_on() for it in editors))
+        times = []
+
+        async def look(tab, may_edit):
+            while not over.is_set():
+                begin = time.monotonic()
+                await tab.ask(*TILES)
+                times.append(time.monotonic() - begin)
+                if may_edit:
+                    await tab.ask(SHAPE)
+                await asyncio.sleep(1)
+
+        looking = [asyncio.create_task(look(tab, number % 20 == 0)) for number, tab in enumerate(tabs)]
+        before = busy(host, "crowd")
+        await asyncio.sleep(seconds)
+        sessions, used = host.metric("crowd", "canvas_open_sessions"), busy(host, "crowd") - before
+        memory = host.machine.property("canvas-gateway", "MemoryCurrent")
+        over.set()
+        found = await asyncio.gather(*looking, return_exceptions=True)
+        yield "each tab was answered to the end", difference([repr(it) for it in found if it is not None], [])
+        yield "no tab was told of an older version", difference([tab.fault for tab in tabs if tab.fault], [])
+        newest = max(max(it.made, default=0) for it in editors)
+        yield "each tab was told of the edits", difference([tab.seen for tab in tabs if tab.seen < newest // 2], [])
+        yield "they share few sessions", None if sessions <= 16 + EDITORS // 2 else f"{sessions} sessions"
+        for editor in editors:
+            await editor.stop()
+        yield "no editor lost its connection", difference([it.breaks for it in editors], [0] * EDITORS)
+        yield "each answered edit is there", difference([it for it in map(Editor.lost, editors) if it], [])
+        yield "the editors' versions rise", difference([it.faults for it in editors if it.faults], [])
+        await asyncio.gather(*(tab.close() for tab in tabs))
+        host.figures.append(f"{TABS} tabs, 12 tiles a second each, beside {newest / seconds:.0f} edits a second: {sessions:.0f} sessions, {quantiles(times)}; canvasd "
+                            f"{100 * used / seconds:.0f} % of a processor, gateway {int(memory) / 1e6 if memory.isdigit() else 0:.0f} MB")
+    await gone(host, "crowd")
+    yield "their sessions have ended", difference(host.metric("crowd", "canvas_open_sessions"), 0)
+    host.drop(["crowd"])
+
+
+async def gone(host, name):
+    """Waits until a server has no session."""
+    with contextlib.suppress(TimeoutError):
+        await until(lambda: host.metric(name, "canvas_open_sessions") == 0)
+
+
+def seconds_of(process):
+    """How many seconds of a processor a process has used."""
+    words = Path(f"/proc/{process}/stat").read_text().rpartition(") ")[2].split()
+    return (int(words[11]) + int(words[12])) / os.sysconf("SC_CLK_TCK")
+
+
+def busy(host, name):
+    return seconds_of(host.process(name))
+
+
+def quantiles(times):
+    times = sorted(times) or [0]
+    return f"{1000 * times[len(times) // 2]:.0f} ms in the middle, {1000 * times[len(times) * 99 // 100]:.0f} of 99 in 100, {1000 * times[-1]:.0f} at most"
+
+
+# -- bad input ---------------------------------------------------------------------------------------------------------
+
+NO_MESSAGES = ("", "{", "[]", "7", '{"batch":1}', '{"batch":1,"requests":7}', '{"at":0}', "[" * 60_000, '{"batch":1,"requests":["%s"]}' % ("a" * 70_000), '{"me":7}', '{"batch":{},"requests":[]}')
+
+
+async def bad(host):
+    """What is no message, floods, or is slow, at one document, while it and another one are edited."""
+    await host.create(["attacked", "beside"])
+    others = [Editor(host, name, is_raw) for name in ("attacked", "beside") for is_raw in (False, True)]
+    await asyncio.gather(*(it.goes_on() for it in others))
+    async with host.web("attacked") as client:
+        for text in NO_MESSAGES:
+            tab = await Tab.open(client, "attacked")
+            await tab.socket.send_str(text)
+            wanted = EOFError if text not in NO_MESSAGES[-2:] else list
+            try:
+                found = type(await tab.ask(POINT))
+            except FAULTS as fault:
+                found = type(fault)
+            yield f"a tab that sends {text[:40]}", difference(found.__name__, wanted.__name__)
+            await tab.close()
+        tab = await Tab.open(client, "attacked")
+        await tab.socket.send_bytes(bytes(range(256)))
+        yield "a tab that sends bytes", difference(len(await tab.ask(POINT)), 1)
+        with contextlib.suppress(*FAULTS):
+            await tab.socket.send_str("a" * (5 << 20))
+            await tab._until(lambda _: False)
+        yield "a tab that sends five megabytes is closed", difference(tab.socket.closed, True)
+        log = host.machine.journal("canvas-gateway")
+        yield "the log tells of them", difference([it for it in ("what is no JSON", "what is no object", "a batch without", "a request that is too long") if f"attacked: a tab that sent {it}" not in log], [])
+        async for case in floods(host, client, others):
+            yield case
+    for editor in others:
+        await editor.stop()
+        yield f"an editor of {editor.name} beside", difference((editor.breaks, editor.faults, editor.lost()), (0, [], None))
+    for unit in ("canvas@attacked", "canvas@beside", "canvas-gateway", "nginx"):
+        yield f"{unit} was not started again", difference(host.machine.property(unit, "NRestarts"), "0")
+    told = host.machine.journal("canvas-gateway")
+    yield "the gateway tells of no fault of its own", None if "Traceback" not in told else told[-1500:]
+    host.drop(["attacked", "beside"])
+
+
+async def floods(host, client, others):
+    """Tabs that ask on and read nothing, connections that say nothing or little, and raw sessions of both kinds."""
+    tabs = [await Tab.open(client, "attacked") for _ in range(20)]
+    raws = [await host.raw("attacked") for _ in range(10)]
+    slow = [await asyncio.open_connection("127.0.0.1", 443, ssl=host.keys.context()) for _ in range(20)]
+    flood = json.dumps({"batch": 0, "requests": [{"verb": "tile", "col": col % 20, "row": col // 20} for col in range(512)]})
+
+    over = asyncio.Event()
+
+    async def pour(tab):
+        with contextlib.suppress(*FAULTS):
+            while not over.is_set():
+                async with asyncio.timeout(2):
+                    await tab.socket.send_str(flood)
+
+    async def pour_raw(raw):
+        with contextlib.suppress(*FAULTS):
+            while not over.is_set():
+                raw.writer.write(line_of(TILES[0]) * 500)
+                async with asyncio.timeout(2):
+                    await raw.writer.drain()
+
+    async def drip(writer):
+        with contextlib.suppress(*FAULTS):
+            while not over.is_set():
+                writer.write(b"G")
+                await writer.drain()
+                await asyncio.sleep(0.1)
+
+    for tab in tabs:
+        tab.socket._reader._protocol.pause_reading()  # (aiohttp reads by itself, whether it is asked or not)
+    for raw in raws:
+        raw.writer.transport.pause_reading()
+    work = [asyncio.create_task(it) for it in (*map(pour, tabs), *map(pour_raw, raws), *(drip(writer) for _, writer in slow))]
+    for name in ("at once", "after some seconds"):
+        waits = await asyncio.gather(*(it.goes_on() for it in others))
+        yield f"others are answered {name} while twenty tabs and ten sessions flood", None if None not in waits else f"{waits}"
+        host.figures.append(f"an edit {name} beside 20 tabs and 10 sessions that flood and read nothing: {max(it or 0 for it in waits):.2f} s at most")
+        await asyncio.sleep(5)
+    memory = host.machine.property("canvas-gateway", "MemoryCurrent")
+    if memory.isdigit():
+        yield "the gateway's memory", None if int(memory) < 1 << 30 else f"{int(memory) / 1e6:.0f} MB"
+    over.set()
+    await asyncio.wait(work)
+    for tab in tabs:
+        tab.socket._response.close()
+    for raw in raws:
+        raw.writer.transport.abort()
+    for _, writer in slow:
+        writer.transport.abort()
+
+
+# -- kills -------------------------------------------------------------------------------------------------------------
+
+async def kills(host):
+    """kill -9 of anything, while each document is edited."""
+    count, rounds = (50, 100) if host.is_long else (20, 12)
+    names = [f"doc-{number}" for number in range(count)]
+    await host.create(names)
+    host.figures.append(f"{count} documents that nobody edits: {idle(host, names)}")
+    editors = [Editor(host, name, number % 2 == 0) for number, name in enumerate(names)]
+    yield "each document is edited", difference([it.name for it, wait in zip(editors, await asyncio.gather(*(it.goes_on() for it in editors))) if wait is None], [])
+    if host.is_long:
+        host.figures.append(await work(host, editors))
+    waits = {"server": [], "gateway": [], "nginx": []}
+    generator = random.Random(7)
+    for number in range(rounds):
+        what = ("server", "server", "server", "gateway", "server", "nginx")[number % 6]
+        victim = generator.choice(editors)
+        hit = {"server": [victim], "gateway": [it for it in editors if not it._is_raw], "nginx": editors}[what]
+        unit = {"server": f"canvas@{victim.name}", "gateway": "canvas-gateway", "nginx": "nginx"}[what]
+        breaks = {it: it.breaks for it in editors}
+        await asyncio.sleep(generator.random() / 2)
+        host.machine.kill(unit)
+        found = await asyncio.gather(*(it.goes_on() for it in hit))
+        yield f"{unit} is back", difference([it.name for it, wait in zip(hit, found) if wait is None], [])
+        waits[what] += [it for it in found if it is not None]
+        others = {it.name: it.breaks - breaks[it] for it in editors if it not in hit and it.breaks > breaks[it]}
+        yield f"no other document's sessions ended with {unit}", difference(others, {})
+    breaks = sum(it.breaks for it in editors)
+    host.machine.must("dpkg", "--install", "/package.deb")
+    await asyncio.gather(*(it.goes_on() for it in editors))
+    yield "the package, installed once more, stops nothing", difference(sum(it.breaks for it in editors), breaks)
+    host.machine.must("systemctl", "restart", "canvas@*", "canvas-gateway")
+    found = await asyncio.gather(*(it.goes_on() for it in editors))
+    yield "all are back after a restart", difference([it.name for it, wait in zip(editors, found) if wait is None], [])
+    host.figures.append(f"a restart of all: no answer for at most {max(it or 0 for it in found):.1f} s")
+    for editor in editors:
+        await editor.stop()
+        yield f"what was answered of {editor.name}", editor.lost()
+        yield f"the versions of {editor.name}", difference(editor.faults, [])
+    answered = sum(len(it.made) for it in editors)
+    host.figures.append(f"{rounds} kills beside {count} documents, {answered} answered edits; no answer for " +
+                        "; ".join(f"{what} {min(it):.1f} to {max(it):.1f} s, {sorted(it)[len(it) // 2]:.1f} in the middle" for what, it in waits.items() if it))
+    host.drop(names)
+
+
+async def work(host, editors):
+    """What the edits of all documents at once cost."""
+    groups = {"canvasd": [host.process(it.name) for it in editors], "the gateway": host.processes("canvas-gateway"), "nginx": host.processes("nginx")}
+    made, before = sum(len(it.made) for it in editors), {name: sum(map(seconds_of, it)) for name, it in groups.items()}
+    await asyncio.sleep(10)
+    made = sum(len(it.made) for it in editors) - made
+    used = "; ".join(f"{name} {10 * (sum(map(seconds_of, it)) - before[name]):.0f} %" for name, it in groups.items())
+    times = [end - begin for it in editors for begin, end in it.times[-100:]]
+    return f"{len(editors)} documents with an editor each, {made / 10:.0f} edits a second together, {quantiles(times)}: of a processor {used}"
+
+
+def idle(host, names):
+    """Memory and processor of servers that do nothing."""
+    before = {name: busy(host, name) for name in names}
+    time.sleep(10 if host.is_long else 2)
+    used = [busy(host, name) - before[name] for name in names]
+    sizes = [int(re.search(r"VmRSS:\s+(\d+)", Path(f"/proc/{host.process(name)}/status").read_text())[1]) for name in names]
+    return f"{max(sizes) / 1000:.1f} MB each at most, {100 * sum(used) / len(used) / (10 if host.is_long else 2):.2f} % of a processor"
+
+
+async def disk(host):
+    """A disk that is full, below one of two documents, and that has room again."""
+    await host.create(["full", "roomy"])
+    folder = "/var/lib/canvas/full"
+    host.machine.must("systemctl", "stop", "canvas@full")
+    host.machine.must("sh", "-euc", f"mv {folder} /srv/full; mkdir {folder}; mount -t tmpfs -o size=128k full {folder}; cp -R /srv/full/. {folder}; chown -R canvas:canvas {folder}")
+    host.machine.must("systemctl", "start", "canvas@full")
+    full, roomy = Editor(host, "full", True, pause=0.001), Editor(host, "roomy", False)
+    await until(lambda: full.breaks > 0)
+    yield "a document on a full disk is edited until then", None if len(full.made) > 100 else f"{len(full.made)} edits"
+    yield "the other one goes on", difference(await roomy.goes_on() is None, False)
+    await until(lambda: host.machine.property("canvas@full", "NRestarts") not in ("0", "1"))
+    yield "the log tells why", None if "No space left on device" in host.machine.journal("canvas@full") else host.machine.journal("canvas@full")[-500:]
+    host.machine.must("mount", "-o", "remount,size=64m", folder)
+    yield "when there is room again it is edited again", difference(await full.goes_on() is None, False)
+    for editor in (full, roomy):
+        await editor.stop()
+    yield "what was answered", difference([full.lost(), full.faults, roomy.lost(), roomy.breaks], [None, [], None, 0])
+    host.machine.must("systemctl", "stop", "canvas@full")
+    host.machine.must("umount", folder)
+    host.drop(["full", "roomy"])
+
+
+# -- watching and copies -----------------------------------------------------------------------------------------------
+
+async def watch(host):
+    """What Prometheus is told, and whether all is well."""
+    await host.create(["watched"])
+    with host.session("watched") as canvas:
+        canvas.ask(**SHAPE)
+        yield "health", difference(subprocess.run(["curl", "-s", f"{WATCH}/watched/healthz"], capture_output=True).stdout.strip(), b"ok")
+        await until(lambda: host.metric("watched", "canvas_version") == 1)
+        yield "versions and sessions", difference([host.metric("watched", it) for it in ("canvas_version", "canvas_kept_version", "canvas_open_sessions")], [1, 1, 1])
+    for path in ("/none/metrics", "/watched/none", "/watched/../watched/x", "/"):
+        done = subprocess.run(["curl", "-s", "--path-as-is", "-o", "/dev/null", "-w", "%{http_code}", f"{WATCH}{path}"], capture_output=True, text=True)
+        yield f"the address {path}", None if done.stdout in ("404", "502", "400") else done.stdout
+    host.drop(["watched"])
+    if shutil.which("promtool"):
+        with tempfile.NamedTemporaryFile("w", suffix=".yml") as file:
+            file.write(commands_of("scrape_configs:"))
+            file.flush()
+            done = subprocess.run(["promtool", "check", "config", "--lint-fatal", file.name], capture_output=True, text=True)
+            yield "what Prometheus is to be told", difference(done.returncode, 0) and done.stdout + done.stderr
+
+
+async def copies(host):
+    """A copy that follows, and a document that is restored from it."""
+    await host.create(["first"])
+    copy = [sys.executable, str(TOP / "tools" / "backup.py"), f"unix:{host.machine.path('/run/canvas/first/feed')}", str(host.machine.path("/srv/copy")), "--once"]
+    with host.session("first") as canvas:
+        for _ in range(5):
+            canvas.ask(**SHAPE)
+        _, text = canvas.ask(verb="export")
+    done = subprocess.run(copy, capture_output=True, text=True, timeout=PATIENCE)
+    yield "a copy by the feed", difference(done.returncode, 0) and done.stderr
+    yield "it is made a document", difference(host.admin("create", "second", "/srv/copy"), (0, ""))
+    with host.session("second") as canvas:
+        reply, found = canvas.ask(verb="export")
+        yield "that is the same", difference((reply["version"], found), (5, text))
+    host.drop(["first", "second"])
+
+
+# -- all of it ---------------------------------------------------------------------------------------------------------
+
+PARTS = {it.__name__: it for it in (admin, doors, browsed, viewers, bad, kills, disk, watch, copies)}
+UNITS = ("canvas@poster.service", "canvas-gateway.service")
+
+
+def units(host):
+    """The units as systemd-analyze reads them."""
+    done = host.machine.run("systemd-analyze", "verify", *UNITS)
+    yield "the units", difference((done.returncode, done.stdout + done.stderr), (0, ""))
+    for unit in UNITS:
+        done = host.machine.run("systemd-analyze", "security", "--offline=yes", "--threshold=10", "--no-pager", unit)
+        yield f"what {unit} may do", difference(done.returncode, 0) and done.stdout[-300:]
+
+
+async def cases(host, names):
+    for case in units(host):
+        yield case
+    for name in names or PARTS:
+        begin = time.monotonic()
+        try:
+            async for case in PARTS[name](host):
+                yield case
+        except (*FAULTS, Fault, RuntimeError, subprocess.SubprocessError) as fault:
+            yield name, f"stopped by {fault!r} at line {fault.__traceback__.tb_next and fault.__traceback__.tb_next.tb_lineno}"
+        print(f"{name}: {time.monotonic() - begin:.0f} s", flush=True)
+
+
+async def collected(host, names):
+    asyncio.get_running_loop().set_exception_handler(lambda *_: None)  # (connections that a part breaks off have nobody to tell)
+    return [case async for case in cases(host, names)]
+
+
+def read_alone(why):
+    """The units, as far as they are read where no machine can be made."""
+    print(f"this machine allows no other one ({why}), so the units alone are read")
+    with tempfile.TemporaryDirectory() as folder:
+        for unit in ("canvas@.service", "canvas-gateway.service"):
+            target = Path(folder, unit.replace("@", "@poster"))
+            text = (TOP / "packaging" / "systemd" / unit).read_text()
+            target.write_text(re.sub("^ExecStart=.*", "ExecStart=/bin/true", re.sub("^Documentation=.*", "", text, flags=re.M), flags=re.M))
+            done = subprocess.run(["systemd-analyze", "verify", str(target)], capture_output=True, text=True)
+            yield f"the unit {unit}", difference((done.returncode, done.stderr), (0, ""))
+
+
+def main():
+    words = argparse.ArgumentParser(description="hosts many documents on a machine of its own")
+    words.add_argument("--long", action="store_true", help="more documents and kills, and the times")
+    words.add_argument("parts", nargs="*", metavar="PART", choices=[[], *PARTS], help=", ".join(PARTS))
+    given = words.parse_args()
+    why = machines.is_possible()
+    if why:
+        return tell(read_alone(why))
+    build()
+    build_keeper()
+    machines.enter()
+    with tempfile.TemporaryDirectory(prefix="canvas-hosting-") as folder:
+        host = Host(folder, given.long)
+        with host.machine:
+            found = asyncio.run(collected(host, given.parts))
+        print(*(host.figures if given.long else []), sep="\n", end="\n" if given.long else "")
+    return tell(found)
+
+
+if __name__ == "__main__":
+    sys.exit(main())
