@@ -11,7 +11,7 @@ usage: tools/check_hosting.py [--long] [PART ..]      the parts are the function
 - kill -9 of servers, of the gateway and of nginx, while each document is edited: each answered edit is there afterwards, and no other document's sessions end;
 - copies follow, and are restored.
 
-With --long there are more documents and kills, and the times, memory and processor are printed. The programs are those that the environment's CANVAS and
+It prints the times, memory and processor; with --long there are more documents and kills. The programs are those that the environment's CANVAS and
 CANVASD name, or the built ones. Prints each case that fails, and a last line 'N passed, M failed'; the status is 1 where something failed. Where this
 machine allows no other one, it says so, and the units alone are read.
 """
@@ -922,7 +922,7 @@ def read_alone(why):
 
 def main():
     words = argparse.ArgumentParser(description="hosts many documents on a machine of its own")
-    words.add_argument("--long", action="store_true", help="more documents and kills, and the times")
+    words.add_argument("--long", action="store_true", help="more documents and kills")
     words.add_argument("parts", nargs="*", metavar="PART", choices=[[], *PARTS], help=", ".join(PARTS))
     given = words.parse_args()
     why = machines.is_possible()
@@ -935,7 +935,7 @@ def main():
         host = Host(folder, given.long)
         with host.machine:
             found = asyncio.run(collected(host, given.parts))
-        print(*(host.figures if given.long else []), sep="\n", end="\n" if given.long else "")
+        print(*host.figures, sep="\n")
     return tell(found)
 
 
