@@ -20,9 +20,9 @@ MOST_BATCH = 512
 """How many requests a batch may have."""
 MOST_LINE = 65_537
 """How many bytes the line of a request may have; the server ends a session with a longer one, which other tabs have too."""
-MOST_ON_WAY = 1024
+MOST_ON_WAY = 512
 MOST_TASKS = 64
-"""How many requests of a tab may be on their way, and how many of its messages, before no further message is read."""
+"""While so many requests of a tab are on their way, or so many of its messages, no further message is read."""
 POLL = 0.25
 POLL_LIVE = 2
 """How often a session is asked for a version where there is a feed, only to see that it is there."""
@@ -118,7 +118,7 @@ class Tab:
             async for message in self._socket:
                 if message.type == WSMsgType.TEXT:
                     self._take(message_of(message.data))
-                while self._on_way > MOST_ON_WAY or len(self._tasks) > MOST_TASKS:
+                while self._on_way >= MOST_ON_WAY or len(self._tasks) > MOST_TASKS:
                     await asyncio.wait(self._tasks, return_when=asyncio.FIRST_COMPLETED)
         except Bad as bad:
             print(f"gateway: {self._room.name}: a tab that sent {bad} was closed", file=sys.stderr, flush=True)

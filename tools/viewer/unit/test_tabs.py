@@ -8,7 +8,6 @@ from types import SimpleNamespace
 import pytest
 from aiohttp import WSMsgType
 
-from relay import tabs as module
 from relay.pictures import Pictures
 from relay.session import Presence
 from relay.tabs import Room, Tab
@@ -143,7 +142,7 @@ def test_no_more_is_read_of_a_tab_that_has_too_much_on_its_way():
         async def work(tab):
             await until(lambda: tab._session is session)
             socket.texts += [json.dumps({"batch": number, "requests": [{"verb": "pose"}] * 400}) for number in range(9)]
-            await until(lambda: socket.read == 3)
+            await until(lambda: socket.read == 2)
             await asyncio.sleep(0.1)
             before = socket.read, len(session.asked)
             session.gate.set()
@@ -152,11 +151,7 @@ def test_no_more_is_read_of_a_tab_that_has_too_much_on_its_way():
 
         return await served(socket, session, work)
 
-    assert asyncio.run(run()) == (3, 1200)
-
-
-def test_the_numbers_of_what_may_be_on_its_way():
-    assert module.MOST_BATCH < module.MOST_ON_WAY
+    assert asyncio.run(run()) == (2, 800)
 
 
 def test_a_tab_that_is_sent_away():
