@@ -621,7 +621,7 @@ async def viewers(host):
         yield "each answered edit is there", difference([it for it in map(Editor.lost, editors) if it], [])
         yield "the editors' versions rise", difference([it.faults for it in editors if it.faults], [])
         await asyncio.gather(*(tab.close() for tab in tabs))
-        host.figures.append(f"{TABS} tabs, 12 tiles a second each, beside {newest / seconds:.0f} edits a second: {sessions:.0f} sessions, {quantiles(times)}; canvasd "
+        host.figures.append(f"{TABS} tabs that ask for 12 tiles a second after each answer, beside {newest / seconds:.0f} edits a second: {sessions:.0f} sessions, {quantiles(times)}; canvasd "
                             f"{100 * used / seconds:.0f} % of a processor, gateway {int(memory) / 1e6 if memory.isdigit() else 0:.0f} MB")
     await gone(host, "crowd")
     yield "their sessions have ended", difference(host.metric("crowd", "canvas_open_sessions"), 0)
