@@ -777,7 +777,7 @@ async def kills(host):
     host.machine.must("dpkg", "--install", "/package.deb")
     await asyncio.gather(*(it.goes_on() for it in editors))
     yield "the package, installed once more, stops nothing", difference(sum(it.breaks for it in editors), breaks)
-    host.machine.must("systemctl", "restart", "canvas@*", "canvas-gateway")
+    host.machine.must("systemctl", "try-restart", "canvas@*", "canvas-gateway")
     found = await asyncio.gather(*(it.goes_on() for it in editors))
     yield "all are back after a restart", difference([it.name for it, wait in zip(editors, found) if wait is None], [])
     host.figures.append(f"a restart of all: no answer for at most {max(it or 0 for it in found):.1f} s")

@@ -116,6 +116,7 @@ def differing(got, wanted):
 def counts():
     """Two sessions, whose requests are counted."""
     with watched() as server:
+        wait_for(lambda: server.samples()["canvas_generation"])  # the first of four looks a second
         before = server.samples()
         yield "all counts begin with 0", differing(before, {
             'canvas_build_info{version="%s"}' % VERSION: 1, "canvas_generation": 1, "canvas_version": 0, "canvas_kept_version": 0, "canvas_seats": 62,
