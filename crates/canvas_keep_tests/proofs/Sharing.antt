@@ -41,4 +41,6 @@ module _ (D B : RattleType) (d : device.Ghosts D.Denot) (l : lines.Ghosts B.Deno
   keep-sync =
       let held = slot-send in
       view_sync (keep_inside.the_row D B d l) _ _ _ _ (declared_sync (keep_inside.the_type D B d l) (
-        herald.the_sync B l, (reach.the_sync, (search (sendable, crosses, held) depth 40, (search (sendable, crosses), (glimpse.the_sync, (heap.the_sync, tt)))))))
+        herald.the_sync B l,
+        (reach.the_sync, (search (sendable, crosses, held) depth 40, (search (sendable, crosses), (glimpse.the_sync, (heap.the_sync, tt))))),
+      ))
