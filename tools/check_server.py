@@ -11,6 +11,7 @@ the document after exactly the version that its reply names. Everything is bound
 Prints each case that fails, and a last line 'N passed, M failed'; the status is 1 where something failed.
 """
 
+import contextlib
 import hashlib
 import itertools
 import multiprocessing
@@ -51,6 +52,7 @@ from running import (
     wait_for,
 )
 
+MEMORY = "/dev/shm"
 MOST_BYTES = 134_217_728
 LONG_LINE = b'{"body":0,"code":70,"name":"LineTooLong","ok":false}\n'
 WHITE_POINT = b'{"body":0,"colour":"ffffff","ok":true,"version":0}\n'
@@ -580,12 +582,21 @@ def come_and_go(server, chance):
             pass  # closed by the server, as it may
 
 
+def fill(server):
+    """Has each seat keep a picture."""
+    with contextlib.ExitStack() as held:
+        for viewer in [held.enter_context(server.connect()) for _ in range(SEATS)]:
+            viewer.ask(verb="tile", col=0, row=0)
+
+
 def comings_and_goings(folder, seed):
-    """A thousand connections; all seats are there afterwards, and nothing has grown."""
+    """A thousand connections; all seats are there afterwards, and nothing has grown but the document."""
     with Server(folder) as server:
         chance = random.Random(seed)
         for _ in range(100):
             come_and_go(server, chance)
+        wait_for(server.is_still)
+        fill(server)
         wait_for(server.is_still)
         files, memory = server.files(), server.number("VmRSS")
         crowd = [threading.Thread(target=lambda: [come_and_go(server, random.Random(chance.random())) for _ in range(125)]) for _ in range(8)]
@@ -651,9 +662,11 @@ def latency(viewer, seconds):
     return statistics.median(times)
 
 
-def bad_neighbours(folder, rounds=3):
-    """A viewer beside a client that floods and one that crawls: its tiles take no more than three times as long."""
-    with Server(folder) as server, server.connect() as viewer:
+def bad_neighbours(rounds=3):
+    """A viewer beside a client that floods and one that crawls: its tiles take no more than three times as long. A kept document lies in
+    memory, since a tile that shows an edit waits until that is on the disk, however slow the disk is."""
+    room = tempfile.TemporaryDirectory(dir=MEMORY if Path(MEMORY).is_dir() else None)
+    with room as folder, Server(Path(folder)) as server, server.connect() as viewer:
         viewer.ask(**rectangle(0, "ff0000"))
         ratios = []
         for _ in range(rounds):
@@ -695,7 +708,7 @@ def main():
             history(folder, 8, seconds, seed, 24_000),
             history(folder, 60, seconds, seed, 24_000),
             kept_pictures(folder, min(seconds, 10), seed),
-            bad_neighbours(folder),
+            bad_neighbours(),
         ]
         sys.exit(tell(itertools.chain(*stages)))
 
