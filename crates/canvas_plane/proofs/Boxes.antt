@@ -36,22 +36,22 @@ side-meet a b c d x = grind (arith, ints)
 side-grows : (a b c d x : ℤ) → c ≤ℤ a → b ≤ℤ d → side a b x ≡ true → side c d x ≡ true
 side-grows a b c d x h k s = grind (arith, ints)
 
-min-first : (a b : ℤ) → int_min a b ≤ℤ a
+pub min-first : (a b : ℤ) → int_min a b ≤ℤ a
 min-first a b = grind (arith, ints)
 
-min-second : (a b : ℤ) → int_min a b ≤ℤ b
+pub min-second : (a b : ℤ) → int_min a b ≤ℤ b
 min-second a b = grind (arith, ints)
 
-max-first : (a b : ℤ) → a ≤ℤ int_max a b
+pub max-first : (a b : ℤ) → a ≤ℤ int_max a b
 max-first a b = grind (arith, ints)
 
-max-second : (a b : ℤ) → b ≤ℤ int_max a b
+pub max-second : (a b : ℤ) → b ≤ℤ int_max a b
 max-second a b = grind (arith, ints)
 
-min-above : (o a b : ℤ) → o ≤ℤ a → o ≤ℤ b → o ≤ℤ int_min a b
+pub min-above : (o a b : ℤ) → o ≤ℤ a → o ≤ℤ b → o ≤ℤ int_min a b
 min-above o a b h k = grind (arith, ints)
 
-max-below : (o a b : ℤ) → a ≤ℤ o → b ≤ℤ o → int_max a b ≤ℤ o
+pub max-below : (o a b : ℤ) → a ≤ℤ o → b ≤ℤ o → int_max a b ≤ℤ o
 max-below o a b h k = grind (arith, ints)
 
 first-of : (p q : Bool) → (p && q) ≡ true → p ≡ true

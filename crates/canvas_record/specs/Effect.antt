@@ -56,14 +56,6 @@ indexes p rs = map (λ r. r.place.index) (filter (is_child p) rs)
 abbrev pub rank_among : List (List ℕ) → List ℕ → ℕ
 rank_among keys key = count_by (λ k. is_before k key) keys
 
--- the rank of a child of p among keys, and none of another record
-abbrev pub child_rank : Parent → List (List ℕ) → Record → Option ℕ
-child_rank p keys r = cond (is_child p r) (Some (rank_among keys r.place.index)) None
-
--- r with the index that stands for its rank among keys, if it is a child of p
-abbrev pub respaced_among : Parent → List (List ℕ) → Record → Record
-respaced_among p keys r = cond (is_child p r) (record r { place = record { parent = p; index = fresh_key (rank_among keys r.place.index) } }) r
-
 -- a record after a change of one shape's place, pose, kind or mark
 abbrev pub changed_by : Change → Record → Record
 changed_by (Create id kind pose hidden place) r = r

@@ -5,6 +5,7 @@ use Rattle.std.specs.Prelude.{int_le, int_lt, unsigned_abs}
 use Rattle.std.specs.Int.{int_max, int_min}
 use Rattle.std.proofs.lemmas.Int.{by_lt_z, ints}
 use lib.IntN.{neg_ℤ}
+use Rattle.canvas_plane.proofs.Boxes.{min-first, min-second, max-first, max-second, min-above, max-below}
 use Rattle.canvas_doc.specs.Edges.{AreEdges, AreNear, AreNearEnds, AreWidest}
 
 -- x is from the lesser of the two up to the greater
@@ -143,24 +144,6 @@ numbers : (l t r b : ℤ) → AreEdges l t r b → AreNumbers l t r b
 numbers l t r b e = by_lt_z (neg_ℤ (pos (2 ^ 31))) l
     (λ h. let n : AreNear l t r b = e.near h in record { left = omega (arith, ints); top = omega (arith, ints); right = omega (arith, ints); bottom = omega (arith, ints) })
     (λ h. let w : AreWidest l t r b = e.widest h in record { left = omega (arith, ints); top = omega (arith, ints); right = omega (arith, ints); bottom = omega (arith, ints) })
-
-min-first : (a b : ℤ) → int_min a b ≤ℤ a
-min-first a b = grind (arith, ints)
-
-min-second : (a b : ℤ) → int_min a b ≤ℤ b
-min-second a b = grind (arith, ints)
-
-max-first : (a b : ℤ) → a ≤ℤ int_max a b
-max-first a b = grind (arith, ints)
-
-max-second : (a b : ℤ) → b ≤ℤ int_max a b
-max-second a b = grind (arith, ints)
-
-min-above : (o a b : ℤ) → o ≤ℤ a → o ≤ℤ b → o ≤ℤ int_min a b
-min-above o a b h k = grind (arith, ints)
-
-max-below : (o a b : ℤ) → a ≤ℤ o → b ≤ℤ o → int_max a b ≤ℤ o
-max-below o a b h k = grind (arith, ints)
 
 le-trans : (a b c : ℤ) → a ≤ℤ b → b ≤ℤ c → a ≤ℤ c
 le-trans a b c h k = omega (arith, ints)
