@@ -13,6 +13,7 @@ mod sending;
 pub use fault::FeedFault;
 pub use first_line::{LINE_ROOM, read_line};
 pub use index::FeedIndex;
+pub use line::push_line;
 pub use refusal::Refusal;
 pub use request::{FeedRequest, Unread, read_request};
 pub use scribe::Scribe;

@@ -63,7 +63,7 @@ fn push_id(text: &mut Vec<u8>, id: Option<u32>) -> Result<(), AllocError>
 
 /// Appends the line of a change: its damage, the text of its edit, the id that it gave, and the version that it made.
 #[tactic(auto, unfolding(crate::specs::Feed::line_text))]
-pub(crate) fn push_line(
+pub fn push_line(
     text: &mut Vec<u8>,
     damage: &PageBox,
     edit: &[u8],

@@ -11,10 +11,11 @@ use crate::house::serve_until;
 use crate::server_fault::ServerFault;
 use crate::serving::boards_of;
 use crate::workers::Workers;
+use canvas_board::Board;
 use canvas_line::{Lines, Seat};
 use std::alloc::Global;
 use std::net::Net;
-use std::sync::Wait;
+use std::sync::{Mutex, Wait};
 use std::thread::Threads;
 use std::time::Clock;
 
@@ -78,20 +79,48 @@ pub fn serve_doors<
 {
     let count = seats.len();
     settings.check(doors.len(), count)?;
-    let DoorSettings {
-        keep,
-        workers,
-        idle,
-    } = *settings;
     let ending = Ending::new(alloc, count)?;
+    let keep = settings.keep;
     let boards = boards_of(alloc, seats, keep, events)?;
-    let workers = Workers::new(workers);
-    let call = serve_until(
-        rt, alloc, doors, &boards, count, workers, gate, events, idle, &ending,
-    );
+    let ended = serve_boards_at(rt, alloc, doors, &boards, gate, settings, events, &ending);
     for board in boards {
         board.into_inner().close(rt);
     }
+    ended
+}
+
+/// The same over boards of one line, 1 to 64, which their maker closes; of the settings `keep` is their maker's. The end has a place for each board, and
+/// others may begin it too.
+pub fn serve_boards_at<
+    B: Board + Send,
+    G: Settles + Sync,
+    E: Events + Sync,
+    H: Threads + Wait + Clock + Net + Sync,
+>(
+    rt: &H,
+    alloc: Global,
+    doors: &[Door],
+    boards: &[Mutex<B>],
+    gate: &G,
+    settings: &DoorSettings,
+    events: &E,
+    ending: &Ending,
+) -> Result<Ended, ServerFault>
+    ensures { EndsAtDoors (length doors.now) (length boards.now) settings.now result }
+{
+    settings.check(doors.len(), boards.len())?;
+    let call = serve_until(
+        rt,
+        alloc,
+        doors,
+        boards,
+        boards.len(),
+        Workers::new(settings.workers),
+        gate,
+        events,
+        settings.idle,
+        ending,
+    );
     match call {
         Call::Asked => Ok(Ended::Asked),
         Call::Unsettled => Ok(Ended::Unsettled),

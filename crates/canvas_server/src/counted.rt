@@ -1,5 +1,7 @@
 //! The board of a seat that tells how its pictures were answered.
 
+ghost use Rattle.std.specs.Prelude.{◌≡◌, false, IfSome};
+
 use crate::event::Events;
 use canvas_board::{Board, BoardFault, Dot, LastExport, Picture, Saved, Shared};
 use canvas_doc::Edit;
@@ -25,7 +27,9 @@ impl<'a, L: Lines, E: Events> Counted<'a, L, E> {
         keep: u32,
         last_export: LastExport<L>,
         events: &'a E,
-    ) -> Option<Counted<'a, L, E>> {
+    ) -> Option<Counted<'a, L, E>>
+        ensures { IfSome result (λ counted. counted.board.alone ≡ false) }
+    {
         match Shared::beside(alloc, seat, keep, last_export) {
             Ok(board) => Some(Counted { board, events }),
             Err(_) => None,

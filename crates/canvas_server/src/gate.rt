@@ -19,6 +19,11 @@ pub trait Settles {
 
     /// Whether the server is to end: no more can be kept, or there is no more to come. It is asked after each `settle`.
     fn has_ended<R: Wait>(&self, rt: &R) -> bool;
+
+    /// Whether the session of a seat is to end as if its connection were gone: nothing of it is sent any more. It is asked after each `settle`.
+    fn is_lost(&self, _seat: usize) -> bool {
+        false
+    }
 }
 
 /// For a server that keeps nothing: all is settled at once, and the server does not end.

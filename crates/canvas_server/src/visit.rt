@@ -21,6 +21,7 @@ use std::time::Duration;
 struct Watch<'a, G: Settles> {
     gate: &'a G,
     ending: &'a Ending,
+    seat: usize,
 }
 
 impl<G: Settles> Settles for Watch<'_, G> {
@@ -32,6 +33,9 @@ impl<G: Settles> Settles for Watch<'_, G> {
             self.ending.begin(rt, Call::Unsettled);
         } else if self.gate.has_ended(rt) {
             self.ending.begin(rt, Call::Asked);
+        }
+        if self.gate.is_lost(self.seat) {
+            return Err(io::Error::other("the session is lost"));
         }
         settled
     }
@@ -114,7 +118,7 @@ pub fn answer_visit<H: Threads + Wait + Sync, B: Board, G: Settles, E: Events>(
     }
     set_up(stream, house.idle);
     house.events.began(seat);
-    let parting = answer_stream(rt, house, board, stream);
+    let parting = answer_stream(rt, house, board, seat, stream);
     house.events.ended(seat, &parting);
     house.ending.leave(rt, seat);
     house.ending.has_begun()
@@ -140,12 +144,14 @@ fn answer_stream<H: Threads + Wait + Sync, B: Board, G: Settles, E: Events>(
     rt: &H,
     house: &House<B, G, E>,
     board: &mut B,
+    seat: usize,
     stream: &Stream,
 ) -> Parting {
     let is_idle = Cell::new(false);
     let gate = Watch {
         gate: house.gate,
         ending: house.ending,
+        seat,
     };
     let input = Input {
         stream,
