@@ -58,7 +58,7 @@ from running import (
 VERSION = (TOP / "VERSION").read_text().strip()
 POSTER = TOP / "examples" / "poster.json"
 OLD_POSTER = TOP / "examples" / "poster-format-1.json"
-OPTIONS = ("--listen", "--feed", "--status", "--open", "--seats", "--workers", "--keep", "--idle", "--limit", "--log", "--help", "--version")
+OPTIONS = ("--listen", "--feed", "--status", "--open", "--store", "--seats", "--workers", "--keep", "--idle", "--limit", "--log", "--help", "--version")
 GROUP = {"verb": "create", "shape": {"kind": "group"}}
 BAD_JSON = b'{"body":0,"code":50,"name":"BadJson","ok":false}\n'
 MOST_STEPS = 60

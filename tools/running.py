@@ -28,9 +28,9 @@ SEATS = 62 if IS_KEPT else 63
 """How many sessions a server has at once. One more seat of a kept document is the journal's."""
 STILL_THREADS = 2 if IS_KEPT else 1
 """How many threads a server with one door has while it has no session."""
-BAD_WORDS, BAD_DOCUMENT, BAD_PLACE, NO_MEMORY, LOST_JOURNAL = range(2, 7)
+BAD_WORDS, BAD_DOCUMENT, BAD_PLACE, NO_MEMORY, LOST_JOURNAL, ELSEWHERE = range(2, 8)
 """How canvasd ends, by its status: words that are no command, a document or a journal that is none, a file, a folder or an address that can't be used,
-memory that was refused at the start, and a journal that can't be kept any longer."""
+memory that was refused at the start, a journal that can't be kept any longer, and a store that has given the document to another."""
 EMPTY = b'{"format":2,"next":1,"shapes":[]}'
 NO_SEATS = b'{"body":0,"code":19,"name":"NoSeats","ok":false}\n'
 POINT = b'{"verb":"point","x":0,"y":0}\n'

@@ -15,6 +15,9 @@ pub const JOURNAL: &str = "journal.jsonl";
 /// The file by whose lock one process alone serves the folder.
 pub const LOCK: &str = "lock";
 
+/// The file that names the store that keeps the document.
+pub const STORE: &str = "store";
+
 /// The generation that a name stands for: a decimal number from 1 on, without a leading zero. Any other name is none.
 pub fn number_of(name: &str) -> Option<u32>
     ensures named { IfSome result (λ number. (name.now ≡ decimal number) × (0 < number)) }

@@ -47,4 +47,4 @@ module _ (D B : RattleType) (d : device.Ghosts D.Denot) (l : lines.Ghosts B.Deno
       ))
 
   pub gate-sync : IsSync (gate.the_row D B d l)
-  gate-sync = declared_sync (gate.the_type D B d l) (keep-sync, (search sendable, (search (sendable, crosses), tt)))
+  gate-sync = declared_sync (gate.the_type D B d l) (keep-sync, (search sendable, (search (sendable, crosses), (search (sendable, crosses), tt))))

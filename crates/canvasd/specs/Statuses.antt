@@ -4,6 +4,8 @@ use Rattle.canvas_keep.specs.declared.fault.ReplayWhy.{ReplayWhy}
 use Rattle.canvas_keep.specs.declared.fault.ReplayWhy.TheVariants as replay
 use Rattle.canvas_server.specs.Faults.{server_fault_code}
 use Rattle.canvas_server.specs.Statuses.{status_of}
+use Rattle.canvas_store.specs.declared.fault.StoreFault.{StoreFault}
+use Rattle.canvas_store.specs.declared.fault.StoreFault.TheVariants as store
 use Rattle.canvasd.specs.declared.fault.Fault.{Fault}
 use Rattle.canvasd.specs.declared.fault.Fault.TheVariants as fault
 
@@ -12,6 +14,16 @@ line_status replay.OutOfMemory = 5
 line_status replay.NoEdit = 3
 line_status (replay.Refused f) = 3
 line_status replay.Busy = 4
+
+-- 7 where another holds the document
+abbrev pub unheld_status : StoreFault → ℕ
+unheld_status (store.Busy words) = 7
+unheld_status store.Memory = 5
+unheld_status (store.Io error) = 4
+unheld_status store.Ended = 4
+unheld_status (store.Refused words) = 4
+unheld_status (store.Lost words) = 4
+unheld_status store.Strange = 4
 
 abbrev pub status_at : Fault → ℕ
 status_at (fault.Io place deed error) = 4
@@ -26,4 +38,7 @@ status_at fault.Busy = 4
 status_at fault.NoNumber = 4
 status_at (fault.Server f) = status_of (server_fault_code f)
 status_at (fault.Lost number why system) = 6
+status_at (fault.Misfit why) = 4
+status_at (fault.Store f) = unheld_status f
+status_at (fault.StoreLost f) = 6
 status_at fault.Memory = 5

@@ -1,9 +1,10 @@
 //! Why the program ends other than as it was asked to.
 ghost use Rattle.std.specs.Prelude.{◌≡◌};
-ghost use Rattle.canvasd.specs.Statuses.{line_status, status_at};
+ghost use Rattle.canvasd.specs.Statuses.{line_status, status_at, unheld_status};
 
 use canvas_keep::{KeepFault, ReplayWhy};
 use canvas_server::{ServerFault, exit_status};
+use canvas_store::StoreFault;
 use std::alloc::{AllocError, AllocFailed};
 use std::io;
 
@@ -32,6 +33,8 @@ pub enum Place {
     Address(usize),
     /// One of the addresses of those who ask for the status, by its place among them.
     StatusAddress(usize),
+    /// The file that names the store of the document.
+    Mark,
     /// Standard output.
     Output,
 }
@@ -48,6 +51,23 @@ pub enum Deed {
     Name,
     Lock,
     Use,
+}
+
+/// Why a folder is not served with a store, or without one.
+#[derive(Clone, Copy, Debug, Drop, PartialEq, Eq)]
+pub enum Misfit {
+    /// The address of the store is no unix socket.
+    NoSocket,
+    /// The last part of the folder's path is no name at a store.
+    NoName,
+    /// The folder has a document that no store keeps.
+    Foreign,
+    /// The folder is that of a store, and none is named.
+    OfStore,
+    /// The folder is that of another store, or of another name there.
+    OtherStore,
+    /// The folder is that of the store, which does not have the document.
+    Unknown,
 }
 
 /// Why the program ends other than as it was asked to.
@@ -95,6 +115,12 @@ pub enum Fault {
         fault: KeepFault,
         system: i32,
     },
+    /// The folder is not served with a store, or without one.
+    Misfit(Misfit),
+    /// The document is not held at its store.
+    Store(StoreFault),
+    /// The store keeps no more of the document.
+    StoreLost(StoreFault),
     /// Memory could not be had.
     Memory,
 }
@@ -117,8 +143,26 @@ impl Fault {
             Fault::NoNumber => 4,
             Fault::Server(fault) => exit_status(fault.code()),
             Fault::Lost { .. } => 6,
+            Fault::Misfit(_) => 4,
+            Fault::Store(fault) => unheld_status(fault),
+            Fault::StoreLost(_) => 6,
             Fault::Memory => 5,
         }
+    }
+}
+
+// The status where a document is not held at its store.
+fn unheld_status(fault: &StoreFault) -> u8
+    ensures { result ≡ unheld_status fault.now }
+{
+    match fault {
+        StoreFault::Busy(_) => 7,
+        StoreFault::Memory => 5,
+        StoreFault::Io(_) => 4,
+        StoreFault::Ended => 4,
+        StoreFault::Refused(_) => 4,
+        StoreFault::Lost(_) => 4,
+        StoreFault::Strange => 4,
     }
 }
 

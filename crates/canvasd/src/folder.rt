@@ -1,7 +1,7 @@
 //! The folder of a document, on the disk.
 
 use crate::fault::{Deed, Fault, Place, refused};
-use canvas_folder::{Generation, JOURNAL, LOCK, OPENING, TEMPORARY, number_of};
+use canvas_folder::{Generation, JOURNAL, LOCK, OPENING, STORE, TEMPORARY, number_of};
 use std::alloc::{AllocError, Global};
 use std::fs::{File, OpenOptions, TryLockError};
 use std::io::ErrorKind;
@@ -13,6 +13,8 @@ use std::{fs, io};
 #[derive(Drop)]
 pub struct Found {
     pub generations: Vec<Generation>,
+    /// Whether a file is there that names a store.
+    pub is_stored: bool,
     /// Names that are none of ours.
     pub others: Vec<String>,
 }
@@ -86,6 +88,7 @@ pub fn look<H: Files + Alloc + Clone + Drop>(
     };
     let mut found = Found {
         generations: Vec::new(alloc),
+        is_stored: false,
         others: Vec::new(alloc),
     };
     for entry in entries {
@@ -118,6 +121,7 @@ fn note<H: Files>(
             .generations
             .push(generation_at(rt, alloc, folder, number)?)?,
         None if name == LOCK => {}
+        None if name == STORE => found.is_stored = true,
         None => found.others.push(String::from_str(alloc, name)?)?,
     }
     Ok(())

@@ -2,6 +2,8 @@
 ghost use Rattle.std.specs.Prelude.{◌≡◌, ◌<◌, IfSome};
 
 use crate::feeding::{Fed, serve_fed};
+use crate::guard::{Loses, start_guard};
+use crate::store::Link;
 use crate::watch::{Standing, Watch, Watched, start_watch};
 use canvas_feed::Scribe;
 use canvas_journal::Device;
@@ -26,6 +28,8 @@ pub struct Gate<D: Device, B: Lines> {
     limit: u64,
     // Whether so many are kept, or the journal is lost. Each reply asks for it.
     is_over: AtomicBool,
+    // Whether the store is lost. Nobody is answered then.
+    is_lost: AtomicBool,
 }
 
 impl<D: Device + Drop, B: Lines> Gate<D, B> {
@@ -44,6 +48,7 @@ impl<D: Device + Drop, B: Lines> Gate<D, B> {
             keep: Keep::new(rt, alloc, keeper, watch)?,
             limit,
             is_over,
+            is_lost: AtomicBool::new(false),
         })
     }
 }
@@ -52,6 +57,9 @@ impl<D: Device + Drop, B: Lines> Settles for Gate<D, B> {
     ghost settled = { λ _ _. Unit {0} };
 
     fn settle<R: Wait>(&self, rt: &R, _put_in: u64) -> io::Result<()> {
+        if self.is_lost.load(Ordering::SeqCst) {
+            return Err(io::Error::other("the store is lost"));
+        }
         match self.keep.settle(rt) {
             Ok(kept) if kept < self.limit => Ok(()),
             Ok(_) => {
@@ -67,6 +75,13 @@ impl<D: Device + Drop, B: Lines> Settles for Gate<D, B> {
 
     fn has_ended<R: Wait>(&self, _rt: &R) -> bool {
         self.is_over.load(Ordering::SeqCst)
+    }
+}
+
+impl<D: Device + Drop, B: Lines> Loses for Gate<D, B> {
+    fn lose(&self) {
+        self.is_lost.store(true, Ordering::SeqCst);
+        self.is_over.store(true, Ordering::SeqCst);
     }
 }
 
@@ -124,6 +139,24 @@ pub fn watch_gate<
     counts: &'e Counts,
 ) {
     start_watch(rt, scope, watch, gate, number, counts)
+}
+
+/// Starts the guard of a gate whose document a store keeps, in a thread of its own.
+pub fn guard_gate<
+    's,
+    'e: 's,
+    D: Device + Drop + Send,
+    L: Lines + Send + Sync,
+    H: Threads + Wait + Clock + Sync,
+>(
+    rt: &'e H,
+    scope: &'s Scope<'s, &'e ()>,
+    watch: &'e Watch,
+    gate: &'e Gate<D, L>,
+    link: &'e Link,
+    doors: &'e [Door],
+) {
+    start_guard(rt, scope, watch, gate, link, doors)
 }
 
 /// Serves the line of a gate at doors.

@@ -5,6 +5,7 @@ ghost use Rattle.canvas_journal_file.specs.Calls.{may_leave, seen_of};
 
 use crate::fault::{Deed, Fault, Place, refused};
 use crate::folder::path_in;
+use crate::store::Link;
 use canvas_folder::JOURNAL;
 use canvas_journal_file::{Asked, Backing};
 use canvas_status::Counts;
@@ -14,8 +15,8 @@ use std::io;
 use std::io::Read;
 use std::os::unix::fs::FileExt;
 use std::rt::Files;
-use std::sync::Arc;
 use std::sync::atomic::{AtomicI32, Ordering};
+use std::sync::{Arc, Wait};
 use std::time::{Clock, Instant};
 
 /// The number of the system's last error at a journal; 0 where there was none.
@@ -56,27 +57,43 @@ impl Reason {
     }
 }
 
-/// An open file, which keeps the reason of a call that failed, and counts how often and how long it is put on the disk.
+/// An open file, which keeps the reason of a call that failed, and counts how often and how long it is put on the disk. With a store all is kept
+/// there in place of the disk, and the file has the same for those who read it.
 #[derive(Drop)]
 pub struct JournalFile<'a, H: Clock> {
     file: File,
     reason: Reason,
     rt: &'a H,
     counts: &'a Counts,
+    link: Option<&'a Link>,
 }
 
-impl<H: Clock> Backing for JournalFile<'_, H> {
+impl<H: Clock + Wait> Backing for JournalFile<'_, H> {
     fn write(&mut self, at: usize, bytes: &[u8]) -> bool {
-        bytes.is_empty() || self.reason.note(self.file.write_all_at(bytes, at as u64))
+        if bytes.is_empty() {
+            return true;
+        }
+        let is_done = self.reason.note(self.file.write_all_at(bytes, at as u64));
+        match self.link {
+            Some(link) => is_done && link.write(self.rt, at, bytes),
+            None => is_done,
+        }
     }
 
     fn cut(&mut self, len: usize) -> bool {
-        self.reason.note(self.file.set_len(len as u64))
+        let is_done = self.reason.note(self.file.set_len(len as u64));
+        match self.link {
+            Some(link) => is_done && link.cut(self.rt, len),
+            None => is_done,
+        }
     }
 
     fn sync(&mut self) -> bool {
         let begun = Instant::now(self.rt);
-        let is_done = self.reason.note(self.file.sync_data());
+        let is_done = match self.link {
+            Some(link) => link.sync(self.rt),
+            None => self.reason.note(self.file.sync_data()),
+        };
         if is_done {
             self.counts.sync(micros_since(self.rt, begun));
         }
@@ -93,13 +110,14 @@ fn micros_since<H: Clock>(rt: &H, begun: io::Result<Instant>) -> u64 {
 }
 
 /// The journal of a generation, with all that it holds put on the disk, and how many LFs are in it.
-pub fn open_journal<'a, H: Files<File = File> + Clock>(
+pub fn open_journal<'a, H: Files<File = File> + Clock + Wait>(
     rt: &'a H,
     alloc: Global,
     folder: &str,
     number: u32,
     reason: &Reason,
     counts: &'a Counts,
+    link: Option<&'a Link>,
 ) -> Result<(Asked<JournalFile<'a, H>>, u64), Fault>
     ensures { IfOk result (λ r. Only (seen_of r.0) (may_leave r.0)) }
 {
@@ -124,6 +142,7 @@ pub fn open_journal<'a, H: Files<File = File> + Clock>(
         reason,
         rt,
         counts,
+        link,
     };
     Ok((Asked::new(file, bytes), lines))
 }

@@ -14,6 +14,7 @@ mod feeding;
 mod folder;
 mod following;
 mod gate;
+mod guard;
 mod history;
 mod journal;
 mod maker;
@@ -23,6 +24,9 @@ mod scribing;
 mod seats;
 mod serving;
 mod status_doors;
+mod store;
+mod store_words;
+mod stored;
 mod watch;
 mod words;
 

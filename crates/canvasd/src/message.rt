@@ -1,9 +1,10 @@
 //! What the program says of a fault.
 
 use crate::fault::{Deed, Fault, Place};
+use crate::store_words::{write_lost, write_misfit, write_unheld};
 use crate::words::Order;
 use canvas_code::{Coded, name_of};
-use canvas_folder::{JOURNAL, LOCK, OPENING, TEMPORARY};
+use canvas_folder::{JOURNAL, LOCK, OPENING, STORE, TEMPORARY};
 use canvas_journal::DeviceError;
 use canvas_keep::{KeepFault, ReplayWhy};
 use std::fmt::{Display, Formatter, Write};
@@ -19,6 +20,7 @@ pub fn tell<H: Eprint>(rt: &H, order: &Order<'_>, fault: &Fault) -> io::Result<(
                 given: service.opening.unwrap_or(""),
                 addresses: service.addresses.as_slice(),
                 status: service.status.as_slice(),
+                store: service.store.unwrap_or(""),
                 fault: *fault,
             }
         ),
@@ -34,6 +36,7 @@ pub struct Told<'a> {
     given: &'a str,
     addresses: &'a [&'a str],
     status: &'a [&'a str],
+    store: &'a str,
     fault: Fault,
 }
 
@@ -45,6 +48,7 @@ impl<'a> Told<'a> {
             given: "",
             addresses: &[],
             status: &[],
+            store: "",
             fault,
         }
     }
@@ -64,6 +68,7 @@ impl<'a> Told<'a> {
             Place::Given => f.write_str(self.given),
             Place::Address(index) => write_address(self.addresses, index, f),
             Place::StatusAddress(index) => write_address(self.status, index, f),
+            Place::Mark => write!(f, "{folder}/{STORE}"),
             Place::Output => f.write_str("standard output"),
         }
     }
@@ -170,6 +175,9 @@ impl Display for Told<'_> {
                 fault,
                 system,
             } => self.write_lost(number, fault, system, f),
+            Fault::Misfit(why) => write_misfit(folder, self.store, why, f),
+            Fault::Store(fault) => write_unheld(self.store, &fault, f),
+            Fault::StoreLost(fault) => write_lost(self.store, &fault, f),
             Fault::Memory => f.write_str("out of memory"),
         }
     }

@@ -6,17 +6,19 @@ ghost use Rattle.canvas_journal_file.specs.Calls.{may_leave, seen_of};
 
 use crate::doors::{bind_all, tell_doors, tell_status_doors};
 use crate::events::DoorLog;
-use crate::fault::{Deed, Fault, Place, refused};
+use crate::fault::{Deed, Fault, Misfit, Place, refused};
 use crate::feed::Feed;
 use crate::feeding::Fed;
 use crate::folder::{hold, look, path_in};
-use crate::gate::{Gate, serve_behind, serve_behind_fed, watch_gate};
+use crate::gate::{Gate, guard_gate, serve_behind, serve_behind_fed, watch_gate};
 use crate::journal::{JournalFile, Reason, open_journal};
 use crate::maker::begin;
 use crate::opening::{read_document, saved};
 use crate::scribing::open_to_read;
 use crate::seats::{line_fault, take_seat};
 use crate::status_doors::{Desk, close_status, open_status};
+use crate::store::Link;
+use crate::stored::first_held;
 use crate::watch::Watch;
 use crate::words::{Service, VERSION};
 use canvas_doc::Document;
@@ -56,7 +58,8 @@ pub fn serve<
 >(rt: &H, log: &K, alloc: Global, service: &Service<'_>) -> Result<(), Fault> {
     info!(*log; "canvasd {VERSION} begins: {}", service.folder);
     let _held = hold(rt, alloc, service.folder)?;
-    let first = first_number(rt, alloc, service)?;
+    let link = link_of(rt, service)?;
+    let first = first_of(rt, log, alloc, service, &link)?;
     let doors = bind_all(rt, alloc, &service.addresses, Place::Address)?;
     let status_doors = bind_all(rt, alloc, &service.status, Place::StatusAddress)?;
     let counts = Counts::new();
@@ -72,6 +75,7 @@ pub fn serve<
         doors: &doors,
         status_doors: &status_doors,
         counts: &counts,
+        link: link.as_ref(),
     };
     serve_told(rt, log, alloc, &house, &desk, first)
 }
@@ -119,6 +123,7 @@ struct House<'a> {
     doors: &'a [Door],
     status_doors: &'a [Door],
     counts: &'a Counts,
+    link: Option<&'a Link>,
 }
 
 // Serves generation after generation.
@@ -139,9 +144,34 @@ fn serve_generations<
     for number in first..u32::MAX {
         let next = serve_generation(rt, log, alloc, house, number, number == first)?;
         info!(*log; "generation {number} has all its {} edits, and generation {} begins", service.limit, number + 1);
+        if let Some(link) = house.link {
+            link.begin(rt, number + 1, &next)?;
+        }
         begin(rt, alloc, service.folder, number + 1, &next)?;
     }
     Err(Fault::NoNumber)
+}
+
+// The connection to the store, if one is named.
+fn link_of<H: Net>(rt: &H, service: &Service<'_>) -> Result<Option<Link>, Fault> {
+    match service.store {
+        Some(address) => Ok(Some(Link::connect(rt, address)?)),
+        None => Ok(None),
+    }
+}
+
+// The generation that is served first, of a document that a store keeps or of the folder.
+fn first_of<H: Files<File = File> + Alloc + Wait + Clone + Drop, K: Log>(
+    rt: &H,
+    log: &K,
+    alloc: Global,
+    service: &Service<'_>,
+    link: &Option<Link>,
+) -> Result<u32, Fault> {
+    match (service.store, link) {
+        (Some(address), Some(link)) => first_held(rt, log, alloc, service, address, link),
+        _ => first_number(rt, alloc, service),
+    }
 }
 
 // The generation that is served first. Where there is none, it is made.
@@ -151,6 +181,9 @@ fn first_number<H: Files<File = File> + Alloc + Clone + Drop>(
     service: &Service<'_>,
 ) -> Result<u32, Fault> {
     let found = look(rt, alloc, service.folder)?;
+    if found.is_stored {
+        return Err(Fault::Misfit(Misfit::OfStore));
+    }
     match state_of(&found.generations) {
         State::Strange(number) => Err(Fault::Strange(number)),
         State::Serves(_) if service.opening.is_some() => Err(Fault::Begun),
@@ -163,8 +196,8 @@ fn first_number<H: Files<File = File> + Alloc + Clone + Drop>(
     }
 }
 
-// The document with which a new folder begins.
-fn first_document<H: Files<File = File>>(
+/// The document with which a new folder begins.
+pub fn first_document<H: Files<File = File>>(
     rt: &H,
     alloc: Global,
     service: &Service<'_>,
@@ -245,6 +278,7 @@ fn serve_generation<
         number,
         &run.reason,
         house.counts,
+        house.link,
     )?;
     // A journal that was written under a higher limit is read all the same.
     let limit = service.limit.max(lines).min(MOST_EDITS);
@@ -295,7 +329,7 @@ fn serve_line<
     };
     let keeper = match open(rt, alloc, device, keeper) {
         Ok(keeper) => keeper,
-        Err(fault) => return Err(open_fault(&fault, run)),
+        Err(fault) => return Err(open_fault(rt, &fault, run)),
     };
     tell_recovery(rt, log, keeper.kept(), run);
     let gate = match Gate::new(rt, alloc, keeper, watch, run.house.service.limit) {
@@ -307,7 +341,7 @@ fn serve_line<
     let Gate { keep, .. } = gate;
     match keep.close(rt) {
         Ok(_) => Ok(next),
-        Err(fault) => Err(run.lost(fault)),
+        Err(fault) => Err(run.lost(rt, fault)),
     }
 }
 
@@ -345,6 +379,7 @@ fn serve_gate<
         service,
         doors,
         status_doors,
+        link,
         ..
     } = *run.house;
     if run.is_first {
@@ -357,7 +392,69 @@ fn serve_gate<
         }
         return Ok(());
     }
-    if status_doors.is_empty() {
+    match link {
+        Some(link) => serve_guarded(rt, log, alloc, seats, gate, run, link),
+        None => serve_with_status(rt, log, alloc, seats, gate, run),
+    }
+}
+
+// Serves the line until it has all its edits, or until the store is lost that keeps them.
+fn serve_guarded<
+    L: Lines + Send + Sync,
+    H: Files<File = File>
+        + Print
+        + Threads
+        + Wait
+        + Clock
+        + Sync
+        + Net<Listener = TcpListener, Stream = TcpStream>,
+    K: Log + Sync,
+>(
+    rt: &H,
+    log: &K,
+    alloc: Global,
+    seats: Vec<Seat<L>>,
+    gate: &Gate<Asked<JournalFile<'_, H>>, L>,
+    run: &Run<'_>,
+    link: &Link,
+) -> Result<(), Fault> {
+    let doors = run.house.doors;
+    let watch = Watch::new();
+    let watch = &watch;
+    thread::scope(
+        thread::scope_env(),
+        rt,
+        |scope|
+            requires { IsSync H.row × IsSend L.row × IsSync L.row × IsSync K.row }
+        {
+            guard_gate(rt, scope, watch, gate, link, doors);
+            let ended = serve_with_status(rt, log, alloc, seats, gate, run);
+            watch.end(rt);
+            ended
+        },
+    )
+}
+
+// Serves the line until it has all its edits, and tells those of it who ask for the status.
+fn serve_with_status<
+    L: Lines + Send + Sync,
+    H: Files<File = File>
+        + Print
+        + Threads
+        + Wait
+        + Clock
+        + Sync
+        + Net<Listener = TcpListener, Stream = TcpStream>,
+    K: Log + Sync,
+>(
+    rt: &H,
+    log: &K,
+    alloc: Global,
+    seats: Vec<Seat<L>>,
+    gate: &Gate<Asked<JournalFile<'_, H>>, L>,
+    run: &Run<'_>,
+) -> Result<(), Fault> {
+    if run.house.status_doors.is_empty() {
         return serve_at_doors(rt, log, alloc, seats, gate, run);
     }
     serve_watched(rt, log, alloc, seats, gate, run)
@@ -433,7 +530,7 @@ fn serve_at_doors<
     let (doors, feeds) = doors.split_at(service.sessions.min(doors.len()));
     if feeds.is_empty() {
         let end = serve_behind(rt, alloc, doors, seats, gate, &settings, &events);
-        return ended(end, gate.keep.fault(rt), run);
+        return ended(rt, end, gate.keep.fault(rt), run);
     }
     let document = opening_document(rt, alloc, service.folder, run.number)?;
     let scribe = match Scribe::new(alloc, run.number, document) {
@@ -450,11 +547,12 @@ fn serve_at_doors<
     let end = serve_behind_fed(
         rt, log, alloc, doors, seats, gate, &settings, &events, scribe, &fed,
     );
-    ended(end, gate.keep.fault(rt), run)
+    ended(rt, end, gate.keep.fault(rt), run)
 }
 
 // How a generation ended at its doors. Where a session could not settle, the journal is lost, or the newest version could not be seen.
-fn ended(
+fn ended<H: Wait>(
+    rt: &H,
     end: Result<Ended, ServerFault>,
     fault: Option<KeepFault>,
     run: &Run<'_>,
@@ -462,8 +560,13 @@ fn ended(
     match end {
         Ok(Ended::Asked) => Ok(()),
         Ok(Ended::Unsettled) => {
-            Err(run.lost(fault.unwrap_or(KeepFault::Line(LineFault::NoView))))
+            Err(run.lost(rt, fault.unwrap_or(KeepFault::Line(LineFault::NoView))))
         }
+        // The guard shuts the doors.
+        Err(ServerFault::AcceptFault) => match run.house.link.and_then(|link| link.fault(rt)) {
+            Some(fault) => Err(Fault::StoreLost(fault)),
+            None => Err(Fault::Server(ServerFault::AcceptFault)),
+        },
         Err(fault) => Err(Fault::Server(fault)),
     }
 }
@@ -476,17 +579,22 @@ fn newest_text<L: Lines, H: Wait + Clock>(
     run: &Run<'_>,
 ) -> Result<Vec<u8>, Fault> {
     if let Some(fault) = gate.keep.fault(rt) {
-        return Err(run.lost(fault));
+        return Err(run.lost(rt, fault));
     }
     match gate.keep.newest(rt) {
         Ok(version) => saved(alloc, &version.document),
-        Err(fault) => Err(run.lost(fault)),
+        Err(fault) => Err(run.lost(rt, fault)),
     }
 }
 
 impl Run<'_> {
-    // The journal is lost.
-    fn lost(&self, fault: KeepFault) -> Fault {
+    // The journal is lost, or the store that keeps it.
+    fn lost<H: Wait>(&self, rt: &H, fault: KeepFault) -> Fault {
+        if let Some(link) = self.house.link
+            && let Some(fault) = link.fault(rt)
+        {
+            return Fault::StoreLost(fault);
+        }
         Fault::Lost {
             number: self.number,
             fault,
@@ -496,10 +604,10 @@ impl Run<'_> {
 }
 
 // Why a journal could not be opened.
-fn open_fault(fault: &OpenFault, run: &Run<'_>) -> Fault {
+fn open_fault<H: Wait>(rt: &H, fault: &OpenFault, run: &Run<'_>) -> Fault {
     match fault {
         OpenFault::Device(DeviceError::Memory) => Fault::Memory,
-        OpenFault::Device(error) => run.lost(KeepFault::Device(*error)),
+        OpenFault::Device(error) => run.lost(rt, KeepFault::Device(*error)),
         OpenFault::Replay(fault) => Fault::Line {
             number: run.number,
             line: fault.line,

@@ -39,6 +39,18 @@ impl Watch {
         }
     }
 
+    /// Waits for a tick, or less where the watch is ended, and says whether it is.
+    pub fn wait_tick<H: Wait + Clock>(&self, rt: &H) -> bool {
+        let has_ended = self.has_ended.lock(rt);
+        if *has_ended {
+            return true;
+        }
+        let (has_ended, _) = self
+            .word
+            .wait_timeout(rt, has_ended, Duration::from_millis(TICK));
+        *has_ended
+    }
+
     /// Ends the watch.
     pub fn end<H: Wait>(&self, rt: &H) {
         *self.has_ended.lock(rt) = true;

@@ -38,6 +38,8 @@ pub struct Service<'a> {
     pub status: Vec<&'a str>,
     /// The saved document with which a new folder begins.
     pub opening: Option<&'a str>,
+    /// Where the document is kept in place of this machine's disk.
+    pub store: Option<&'a str>,
     /// How many sessions may be at once.
     pub seats: u32,
     /// How many edits a generation takes.
@@ -85,6 +87,7 @@ fn service_of<'a>(alloc: Global, matches: &ArgMatches<'a>) -> Result<Service<'a>
         sessions,
         status: addresses_of(alloc, matches, "status")?,
         opening: matches.get_str("open"),
+        store: matches.get_str("store"),
         seats: matches.get_one::<u32>("seats").unwrap_or(62),
         limit: matches.get_one::<u64>("limit").unwrap_or(1_000_000),
         keep: matches.get_one::<u32>("keep").unwrap_or(8),
@@ -139,7 +142,8 @@ const AFTER_HELP: &str =
     "Whoever can reach an address may edit: there are no passwords and no encryption.
 
 Exit status: 0 done; 2 the words are no command; 3 a document or a journal can't be read as one; 4 a file, a folder or an address can't
-be used, or another process serves the folder; 5 memory was refused at the start; 6 the journal can't be written any more.";
+be used, or another process serves the folder; 5 memory was refused at the start; 6 the journal can't be written any more; 7 the store
+has given the document to another.";
 
 fn folder_word<'a>(alloc: Global) -> Arg<'a> {
     Arg::new(alloc, "folder")
@@ -175,13 +179,17 @@ fn with_options<'a>(alloc: Global, command: Command<'a>) -> Result<Command<'a>, 
     let open = Arg::new(alloc, "open").long("open").value_name("FILE").help(
         "A saved document with which a new folder begins; else it begins empty",
     );
+    let store = Arg::new(alloc, "store")
+        .long("store")
+        .value_name("ADDRESS")
+        .help("unix:PATH of a store, which keeps the document in place of this machine's disk");
     let log = Arg::new(alloc, "log")
         .long("log")
         .value_name("LEVEL")
         .value_parser(LEVELS.as_slice())
         .help("Which lines go to standard error [default: info]");
     let command = command.arg(listen)?.arg(feed)?.arg(status)?;
-    with_numbers(alloc, command.arg(open)?.arg(log)?)
+    with_numbers(alloc, command.arg(open)?.arg(store)?.arg(log)?)
 }
 
 static LEVELS: [&str; 6] = ["off", "error", "warn", "info", "debug", "trace"];
