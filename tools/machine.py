@@ -2,13 +2,16 @@
 
 The check calls `enter` first, which begins it anew in namespaces of its own: its mounts, processes and network are nobody else's, and end with it. What
 the container writes lies in memory, over this machine's files, which stay as they are. The check and the container share the network, in which there is
-nobody else. It takes root, Debian's systemd-container, and a kernel that lets it.
+nobody else; or there are several containers, each a host of a network that the check makes (`network`). It takes root, Debian's systemd-container, and a
+kernel that lets it.
 """
 
 import fcntl
 import os
 import re
+import resource
 import shutil
+import signal
 import socket
 import struct
 import subprocess
@@ -46,15 +49,36 @@ def enter():
         fcntl.ioctl(it, 0x8914, struct.pack("16sh22x", b"lo", 0x1 | 0x40))  # (SIOCSIFFLAGS, IFF_UP and IFF_RUNNING)
 
 
+def ip(*words):
+    subprocess.run(["ip", *words], check=True)
+
+
+def network(names):
+    """A network of the check, 10.77.0.254, and hosts of these names, from 10.77.0.1 on."""
+    os.makedirs("/run/netns", exist_ok=True)
+    mount("tmpfs", "canvas-check", "/run/netns", "size=1m")
+    ip("link", "add", "hosts", "type", "bridge")
+    ip("address", "add", "10.77.0.254/24", "dev", "hosts")
+    ip("link", "set", "hosts", "up")
+    for number, name in enumerate(names, 1):
+        ip("netns", "add", name)
+        ip("link", "add", name, "type", "veth", "peer", "name", "eth0", "netns", name)
+        ip("link", "set", name, "master", "hosts", "up")
+        ip("-n", name, "address", "add", f"10.77.0.{number}/24", "dev", "eth0")
+        for device in ("lo", "eth0"):
+            ip("-n", name, "link", "set", device, "up")
+
+
 def mount(kind, name, target, options):
     subprocess.run(["mount", "-t", kind, "-o", options, name, str(target)], check=True)
 
 
 class Machine:
-    """A container of systemd over an empty folder, which is filled with memory until it is closed."""
+    """A container of systemd over an empty folder, which is filled with memory until it is closed. One with a name is the host of that name in the
+    check's network. This machine's services that are `idle` are there and not started."""
 
-    def __init__(self, folder, package):
-        self._folder = Path(folder)
+    def __init__(self, folder, package, name=None, idle=()):
+        self._folder, self.name, self._idle, self._process = Path(folder), name, idle, None
         self.root = self._folder / "root"
         mount("tmpfs", "canvas-check", self._folder, "size=4g")
         for name in ("upper", "work", "root"):
@@ -68,7 +92,9 @@ class Machine:
         units = self.root / "etc" / "systemd" / "system"
         for folder in (units, self.root / "lib" / "systemd" / "system"):
             for wants in folder.glob("*.target.wants/*"):
-                if wants.name not in KEPT and not (units / wants.name).exists():
+                if wants.name in self._idle:
+                    wants.unlink()
+                elif wants.name not in KEPT and not (units / wants.name).exists():
                     (units / wants.name).symlink_to("/dev/null")
 
     def _install(self, package):
@@ -78,8 +104,10 @@ class Machine:
 
     def boot(self):
         """Starts systemd, and waits until it takes commands."""
-        self.log = (self._folder / "boot.log").open("wb")
-        words = ["systemd-nspawn", "--quiet", "--register=no", "--keep-unit", "--machine=canvas-check", f"--directory={self.root}", "--link-journal=no", "--boot"]
+        self.log = (self._folder / "boot.log").open("ab")
+        words = ["systemd-nspawn", "--quiet", "--register=no", "--keep-unit", f"--machine={self.name or 'canvas-check'}", f"--directory={self.root}"]
+        words += ["--link-journal=no", f"--rlimit=NOFILE={resource.getrlimit(resource.RLIMIT_NOFILE)[1]}"]
+        words += [*([f"--network-namespace-path=/run/netns/{self.name}"] if self.name else []), "--boot"]
         self._process = subprocess.Popen(words, stdin=subprocess.DEVNULL, stdout=self.log, stderr=self.log)
         end = time.monotonic() + SECONDS
         while not (self._leader() and self.run("systemctl", "is-active", "--quiet", "basic.target").returncode == 0):
@@ -87,11 +115,20 @@ class Machine:
                 raise RuntimeError(f"systemd did not start: {(self._folder / 'boot.log').read_text()[-2000:]}")
             time.sleep(0.1)
 
-    def close(self):
-        """Ends it, and takes its files away."""
+    def is_up(self):
+        return self._process is not None and self._process.poll() is None and self._leader() is not None
+
+    def halt(self):
+        """Ends it as a failure of power does. It can be started again."""
+        if self.is_up():
+            os.kill(self._leader(), signal.SIGKILL)
         self._process.kill()
         self._process.wait()
         self.log.close()
+
+    def close(self):
+        """Ends it, and takes its files away."""
+        self.halt()
         for folder in (self.root, self._folder):
             subprocess.run(["umount", "--lazy", str(folder)], check=True)
 
@@ -112,7 +149,8 @@ class Machine:
 
     def run(self, *words, **how):
         """Runs a command in the container; gives what subprocess.run does, with texts."""
-        inside = ["nsenter", f"--target={self._leader()}", "--mount", "--uts", "--ipc", "--pid", "--root", "--wd", "--", "env", "-i", "-C", "/", f"PATH={PATH}", "LANG=C.UTF-8"]
+        inside = ["nsenter", f"--target={self._leader()}", "--mount", "--uts", "--ipc", "--pid", *(["--net"] if self.name else [])]
+        inside += ["--root", "--wd", "--", "env", "-i", "-C", "/", f"PATH={PATH}", "LANG=C.UTF-8"]
         return subprocess.run([*inside, *map(str, words)], **{"capture_output": True, "text": True, "stdin": subprocess.DEVNULL, "timeout": SECONDS, **how})
 
     def must(self, *words):

@@ -29,7 +29,9 @@ SHARED = ("README.md", "CHANGELOG.md", "VERSION", "bin/canvas-demo", "docs/*.md"
           "tools/viewer/page/*", "packaging/*", "packaging/*/*")
 """The files of the repository that both packages have."""
 INSTALLED = {"canvas-admin": "usr/sbin/canvas-admin", "systemd/canvas@.service": "lib/systemd/system/canvas@.service",
-             "systemd/canvas-gateway.service": "lib/systemd/system/canvas-gateway.service", "systemd/canvas.sysusers": "usr/lib/sysusers.d/canvas.conf"}
+             "systemd/canvas.sysusers": "usr/lib/sysusers.d/canvas.conf",
+             **{f"systemd/{it}": f"lib/systemd/system/{it}" for it in ("canvas-gateway.service", "canvas-store.service", "canvas-door@.socket",
+                                                                      "canvas-door@.service", "canvas-documents.service", "canvas-documents.timer")}}
 """Where the Debian package has files of packaging/ once more, for systemd and root to find them."""
 AFTER = """#!/bin/sh
 # Makes the user of the servers, and has systemd know their units; nothing is started.
@@ -50,7 +52,7 @@ Section: graphics
 Priority: optional
 Depends: libc6 (>= 2.34)
 Recommends: python3, python3-aiohttp, python3-pil
-Suggests: systemd, nginx, libnginx-mod-stream
+Suggests: systemd, nginx, libnginx-mod-stream, haproxy, python3-psycopg, patroni, etcd-server, postgresql
 Installed-Size: SIZE
 Description: proved server behind a shared drawing tool
  It keeps one design document of frames, groups and shapes, takes edits as
@@ -134,6 +136,8 @@ def fill_package(folder, programs, pages):
         put(folder, f"usr/bin/{name}", programs[name], True)
         put(folder, f"usr/share/man/man1/{name}.1.gz", gzip.compress(pages[name], mtime=0))
     (folder / "usr/bin/canvas-demo").symlink_to("../share/canvas/bin/canvas-demo")
+    (folder / "usr/sbin/canvas-store").parent.mkdir(parents=True, exist_ok=True)
+    (folder / "usr/sbin/canvas-store").symlink_to("../share/canvas/packaging/store/canvas-store")
     for name in PROGRAMS:
         (folder / "usr/share/canvas/bin" / name).symlink_to(f"../../../bin/{name}")
     for name, target in INSTALLED.items():

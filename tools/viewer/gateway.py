@@ -2,11 +2,12 @@
 """The viewer's gateway: gives browsers the page, and passes on what their tabs ask of a server. The tabs of a document share a few sessions.
 
 usage: tools/viewer/gateway.py ADDRESS [--feed ADDRESS] [--listen 127.0.0.1:8080] [--name NAME]
-       tools/viewer/gateway.py --documents FOLDER [--listen 127.0.0.1:8080]
+       tools/viewer/gateway.py --documents FOLDER [--moves] [--listen 127.0.0.1:8080]
 
 The server is at HOST:PORT or unix:PATH; so is the feed of a canvasd (--feed), which tells of each edit at once, and without which the gateway asks.
 With --documents there are many: each folder /FOLDER/NAME has the sockets `door` and `feed` of its canvasd, and its page is at /d/NAME/. The gateway
-listens at HOST:PORT, or at unix:PATH for what stands before it, as nginx, and says who may see what.
+listens at HOST:PORT, or at unix:PATH for what stands before it, as nginx, and says who may see what. With --moves documents move between hosts, and a
+tab whose server is away is sent away, so that it comes back by the host that has the document.
 
 A tab opens a WebSocket at /session (below /d/NAME/, if there are many documents) and sends batches of requests, as docs/PROTOCOL.md has them:
 
@@ -78,10 +79,11 @@ def given_words():
     words.add_argument("server", type=door_of, nargs="?", metavar="ADDRESS", help="where `canvasd` or `canvas serve` listens: HOST:PORT or unix:PATH")
     words.add_argument("--feed", type=door_of, metavar="ADDRESS", help="where canvasd tells of its edits")
     words.add_argument("--documents", metavar="FOLDER", help="where each document has a folder with the sockets of its server, in the place of ADDRESS")
+    words.add_argument("--moves", action="store_true", help="a document whose server is away may be at another host")
     words.add_argument("--listen", type=door_of, default=("127.0.0.1", 8080), metavar="ADDRESS", help="where the page is: HOST:PORT or unix:PATH")
     words.add_argument("--name", default="drawing", help="what the document is called in the title of each tab")
     given = words.parse_args()
-    if (given.server is None) == (given.documents is None) or given.documents and given.feed:
+    if (given.server is None) == (given.documents is None) or given.documents and given.feed or given.server and given.moves:
         words.error("either the ADDRESS of a server is wanted, or --documents FOLDER")
     return given
 
@@ -112,7 +114,7 @@ def main():
         listener, address = listener_at(given.listen)
     except OSError as fault:
         sys.exit(f"gateway: {fault.strerror}")
-    documents = One(given.name, given.server, given.feed) if given.server else Folder(given.documents)
+    documents = One(given.name, given.server, given.feed) if given.server else Folder(given.documents, given.moves)
     host = None if isinstance(given.listen, str) else given.listen[0]
     web.run_app(application(documents, host), sock=listener, print=lambda _: print(address, flush=True), access_log=None, shutdown_timeout=PATIENCE)
 

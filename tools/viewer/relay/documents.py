@@ -19,8 +19,8 @@ LINGER = 60
 class Document:
     """A document that is shown: its room, and how many look at it. The feed is followed until it is closed."""
 
-    def __init__(self, name, address, feed, share=1):
-        self.room = Room(address, feed, Pictures(share), name)
+    def __init__(self, name, address, feed, share=1, moves=False):
+        self.room = Room(address, feed, Pictures(share), name, moves)
         self.guests, self.left = 0, time.monotonic()
         self._following = asyncio.create_task(self.room.feed.follow()) if feed else None
 
@@ -72,12 +72,12 @@ class One:
 
 
 class Folder:
-    """The documents of a folder: each has a folder there, of its name, with the sockets `door` and `feed` of its server."""
+    """The documents of a folder: each has a folder there, of its name, with the sockets `door` and `feed` of its server. They may move between hosts."""
 
     root = "/d/{name}"
 
-    def __init__(self, folder):
-        self._folder = Path(folder)
+    def __init__(self, folder, moves=False):
+        self._folder, self._moves = Path(folder), moves
         self._shown = {}
 
     def has(self, name):
@@ -88,7 +88,7 @@ class Folder:
 
     def document(self, name):
         if name not in self._shown:
-            self._shown[name] = Document(name, *(str(self._folder / name / door) for door in ("door", "feed")), SHARE)
+            self._shown[name] = Document(name, *(str(self._folder / name / door) for door in ("door", "feed")), SHARE, self._moves)
         return self._shown[name]
 
     def shown(self):

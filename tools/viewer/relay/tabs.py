@@ -78,10 +78,11 @@ class News:
 
 
 class Room:
-    """What all tabs of a document share: sessions with its server, its feed if it has one, their looks and news, and who is there."""
+    """What all tabs of a document share: sessions with its server, its feed if it has one, their looks and news, and who is there. A document `moves`
+    that another host may have when its server is away."""
 
-    def __init__(self, address, feed_address, pictures, name="drawing"):
-        self.name, self.seats = name, Seats(address)
+    def __init__(self, address, feed_address, pictures, name="drawing", moves=False):
+        self.name, self.seats, self.moves = name, Seats(address), moves
         self.feed = Feed(feed_address) if feed_address else None
         self.looks, self.news, self.people, self.past = Looks(pictures), News(), People(), Past(feed_address)
 
@@ -132,7 +133,7 @@ class Tab:
             await self._visit.leave()
 
     async def send_away(self):
-        """Ends the tab's connection, since the gateway ends."""
+        """Ends the tab's connection, since the gateway ends, or the document may be elsewhere."""
         with contextlib.suppress(asyncio.TimeoutError):
             await asyncio.wait_for(self._socket.close(code=WSCloseCode.GOING_AWAY), AWAY_WAIT)
 
@@ -182,6 +183,8 @@ class Tab:
             except Away as away:
                 self._session = None
                 await self._say(say="away", why=str(away))
+                if self._room.moves:
+                    return await self.send_away()
             await asyncio.sleep(RETRY)
 
     async def _follow(self, session):

@@ -9,7 +9,7 @@ import pytest
 from aiohttp import WSMsgType
 
 from relay.pictures import Pictures
-from relay.session import Presence
+from relay.session import Away, Presence
 from relay.tabs import Room, Tab
 
 
@@ -69,6 +69,24 @@ def seats_of(*sessions):
         return found.pop(0)
 
     return SimpleNamespace(take=take, leave=left.append, close=lambda: None, left=left)
+
+
+@pytest.mark.parametrize("moves, code", ((False, None), (True, 1001)))
+def test_server_is_away(moves, code):
+    """A tab waits for its server, or is sent away where the document may have moved."""
+    async def work():
+        async def take():
+            raise Away("it is gone")
+
+        room = Room(("127.0.0.1", 1), None, Pictures(), moves=moves)
+        room.seats = SimpleNamespace(take=take, close=lambda: None)
+        tab = Tab(Socket(is_open=True), room)
+        watching = asyncio.create_task(tab._watch())
+        await asyncio.sleep(0.1)
+        watching.cancel()
+        return tab._socket.said, tab._socket.code
+
+    assert asyncio.run(work()) == ([{"say": "away", "why": "it is gone"}], code)
 
 
 def moved(on_way, run):

@@ -1,0 +1,478 @@
+#!/usr/bin/python3
+"""Serves documents by three hosts, each a machine of its own (tools/machine.py) in a network of the check: haproxy, nginx, systemd, canvasd,
+canvas-store, and PostgreSQL by Patroni and etcd, put together by the commands of docs/RUNNING.md.
+
+usage: tools/check_hosts.py [--long] [PART ..]      the parts are the functions that PARTS names, or SHORT; with --long all of them
+
+- documents are made at the store, and each host has doors for them;
+- they are edited by TLS through all three hosts, while one host is killed, one is cut off and comes back, the database is killed, and the host of its
+  leader is killed: each answered edit is there afterwards, under its version;
+- what is none of a host's business is refused: HTTP at the raw port, no certificate, one that may not, a name that is none.
+
+It prints for how many seconds edits were not answered. With --long there are more documents. The programs are those that the environment's CANVAS and
+CANVASD name, or the built ones. Prints each case that fails, and a last line 'N passed, M failed'; the status is 1 where something failed. Where this
+machine allows no other ones, it says so, and the configuration alone is read.
+"""
+
+import argparse
+import asyncio
+import bisect
+import contextlib
+import json
+import os
+import re
+import shutil
+import subprocess
+import sys
+import tempfile
+import time
+from concurrent.futures import ThreadPoolExecutor
+from pathlib import Path
+
+HERE = Path(__file__).resolve().parent
+sys.path[:0] = [str(HERE), str(HERE / "viewer")]
+
+import machine as machines  # noqa: E402
+import release  # noqa: E402
+from canvas_client import line_of  # noqa: E402
+from check_hosting import FAULTS, PATIENCE, POINT, SHAPE, Keys, commands_of, until  # noqa: E402
+from repository import BUILT, BUILT_KEEPER, TOP  # noqa: E402
+from running import EMPTY, build, build_keeper, difference, tell  # noqa: E402
+from store_client import Gated, Store  # noqa: E402
+
+NAMES = ("h1", "h2", "h3")
+SERVICES = ("haproxy.service", "etcd.service", "patroni.service", "postgresql.service")
+UNITS = ("canvas@poster.service", "canvas-store.service", "canvas-door@poster.socket", "canvas-door@poster.service", "canvas-documents.service",
+         "canvas-documents.timer", "canvas-gateway.service")
+ANSWER = 5
+"""Seconds after which a client that is not answered tries another host."""
+
+
+class Hosts:
+    """Three hosts over one database, and the documents that they serve."""
+
+    def __init__(self, folder):
+        folder, self.begun = Path(folder), time.monotonic()
+        package = folder / "dist" / release.make({"canvas": BUILT, "canvasd": BUILT_KEEPER}, folder / "dist")[1]
+        self.keys, self.figures, self.editors, self.machines = Keys(folder), [], [], {}
+        machines.network(NAMES)
+        for name in NAMES:
+            (folder / name).mkdir()
+            self.machines[name] = it = machines.Machine(folder / name, package, name, SERVICES)
+            self._fill(it)
+        for it in self.machines.values():
+            it.boot()
+            it.must("sh", "-euc", commands_of("# As root, on each of h1, h2 and h3"))
+
+    def _fill(self, machine):
+        """What a host has of its own: its name, those of the others, and keys."""
+        etc = machine.root / "etc"
+        (etc / "hostname").write_text(f"{machine.name}\n")
+        (etc / "hosts").write_text("127.0.0.1 localhost\n" + "".join(f"10.77.0.{number} {name}\n" for number, name in enumerate(NAMES, 1)))
+        (etc / "canvas" / "users").mkdir(parents=True)
+        for name in ("tls.crt", "tls.key", "clients.crt"):
+            shutil.copy(self.keys.file(name), etc / "canvas" / name)
+        (etc / "canvas" / "secret").write_text("a secret of the check\n".replace(" ", "-"))
+        (etc / "canvas" / "editors").write_text('"~^CN=ann " 1;\n')
+
+    def close(self):
+        for it in self.machines.values():
+            it.close()
+
+    # -- the database --------------------------------------------------------------------------------------------------
+
+    def members(self):
+        """What each member of the database is, as Patroni says."""
+        for it in filter(machines.Machine.is_up, self.machines.values()):
+            done = it.run("patronictl", "-c", "/etc/patroni/config.yml", "list", "--format", "json")
+            if done.returncode == 0 and done.stdout.strip():
+                return {row["Member"]: (row["Role"], row["State"]) for row in json.loads(done.stdout)}
+        return {}
+
+    def leader(self):
+        return next((name for name, (role, state) in self.members().items() if role == "Leader" and state == "running"), None)
+
+    def has_standby(self):
+        return any(role == "Sync Standby" for role, _ in self.members().values())
+
+    async def make_database(self):
+        await until(lambda: self.leader() and self.has_standby())
+        self.machines["h1"].must("sh", "-euc", commands_of("# As root, on one of them, when patronictl"))
+        await until(lambda: all(it.run("systemctl", "is-active", "--quiet", "canvas-store").returncode == 0 for it in self.machines.values()))
+        await asyncio.sleep(3)  # (as long as each haproxy needs to see that)
+
+    # -- documents and hosts -------------------------------------------------------------------------------------------
+
+    async def create(self, names):
+        """Makes documents that ann may see and edit, and waits for their doors on each host."""
+        for name in names:
+            self.machines["h1"].must("canvas-store", "create", name)
+        word = subprocess.run(["openssl", "passwd", "-apr1", "secret"], check=True, capture_output=True, text=True).stdout
+        for it in self.machines.values():
+            for name in names:
+                it.path(f"/etc/canvas/users/{name}").write_text(f"ann:{word}")
+        await until(lambda: all(it.path(f"/run/canvas/{name}/door").exists() for it in self.machines.values() for name in names))
+
+    def holders(self):
+        """Which host serves each document; None where none does."""
+        done = next(it for it in self.machines.values() if it.is_up()).must("canvas-store", "list")
+        return {words[0]: words[3] if words[3] != "-" else None for words in map(str.split, done.splitlines())}
+
+    def cut(self, name):
+        machines.ip("link", "set", name, "down")
+
+    def join(self, name):
+        machines.ip("link", "set", name, "up")
+
+    def kill(self, name):
+        """A host dies: nobody is told, since its network goes first."""
+        self.cut(name)
+        self.machines[name].halt()
+
+    def start(self, name):
+        self.join(name)
+        self.machines[name].boot()
+
+
+class Editor:
+    """Makes shapes in a document until it is stopped, by any host that answers, over all that ends its connections. It knows what was answered."""
+
+    def __init__(self, hosts, name, number):
+        self._context, self.name, self.front = hosts.keys.context("ann"), name, number % len(NAMES)
+        self.made, self.faults, self.times, self.breaks = {}, [], [], 0
+        self._is_over = False
+        self._task = asyncio.create_task(self._run())
+        hosts.editors.append(self)
+
+    async def _run(self):
+        while not self._is_over:
+            try:
+                async with session(self._context, self.name, self.front) as ask:
+                    await self._edit(ask)
+            except FAULTS:
+                self.breaks += 1
+                self.front = (self.front + 1) % len(NAMES)
+            await asyncio.sleep(0.1)
+
+    async def _edit(self, ask):
+        found = await ask(POINT)
+        if found["version"] < max(self.made, default=0):
+            self.faults.append(f"version {found['version']} after {max(self.made)}")
+        while not self._is_over:
+            reply = await ask(SHAPE)
+            if not reply["ok"]:
+                raise EOFError(reply["name"])
+            if reply["version"] in self.made:
+                self.faults.append(f"version {reply['version']} twice")
+            self.made[reply["version"]] = reply["id"]
+            self.times.append(time.monotonic())
+            await asyncio.sleep(0.2)
+
+    async def goes_on(self, since):
+        """Waits until edits are answered that are asked for from now on; gives the longest time without an answer since a moment."""
+        begin = time.monotonic()
+        while len(self.times) < 2 or self.times[-2] < begin:
+            if time.monotonic() - begin > PATIENCE:
+                return None
+            await asyncio.sleep(0.05)
+        times = self.times[max(0, bisect.bisect(self.times, since) - 1):]
+        return max(after - before for before, after in zip(times, times[1:]))
+
+    async def stop(self):
+        self._is_over = True
+        await asyncio.wait([self._task])
+
+    async def lost(self):
+        """What was answered and is not in the document, or None."""
+        async with session(self._context, self.name, self.front, PATIENCE) as ask:  # (it may have to move to another host first)
+            reply = await ask({"verb": "export"})
+        ids = {shape["id"] for shape in json.loads(reply["text"])["shapes"]}
+        missing = {version for version, number in self.made.items() if number not in ids or version > reply["version"]}
+        return f"{len(missing)} of {len(self.made)} answered edits are lost: {sorted(missing)[:5]}" if missing else None
+
+
+@contextlib.asynccontextmanager
+async def session(context, name, front, patience=ANSWER):
+    """A raw session with a document by a host: what asks there."""
+    opening = asyncio.open_connection(f"10.77.0.{front + 1}", 7443, ssl=context, server_hostname=f"{name}.canvas.example", limit=1 << 24)
+    reader, writer = await asyncio.wait_for(opening, 3)
+
+    async def ask(request):
+        writer.write(line_of(request))
+        reply = json.loads(await asyncio.wait_for(reader.readuntil(b"\n"), patience))
+        return {**reply, "text": await reader.readexactly(reply["body"])}
+
+    try:
+        yield ask
+    finally:
+        writer.transport.abort()
+
+
+# -- who may have what -------------------------------------------------------------------------------------------------
+
+async def answer_to(front, context, name, data):
+    """What comes back for some bytes at a host's raw door."""
+    try:
+        reader, writer = await asyncio.wait_for(asyncio.open_connection(f"10.77.0.{front + 1}", 7443, ssl=context, server_hostname=name), 5)
+        writer.write(data)
+        found = await asyncio.wait_for(reader.read(1 << 16), 20)
+        writer.close()
+        return found
+    except FAULTS:
+        return b""
+
+
+def page_status(hosts, front, name, user="ann:secret"):
+    """What a host's haproxy answers for the page of a document."""
+    words = ["curl", "-s", "--cacert", hosts.keys.file("tls.crt"), "-o", "/dev/null", "-w", "%{http_code}", *(["-u", user] if user else []),
+             "--resolve", f"site.canvas.example:443:10.77.0.{front + 1}", f"https://site.canvas.example/d/{name}/"]
+    return subprocess.run(words, capture_output=True, text=True).stdout
+
+
+def shown_by(hosts, name):
+    """The hosts whose nginx gave the page of a document."""
+    return [host for host, it in hosts.machines.items() if f"/d/{name}/ " in it.path("/var/log/nginx/canvas.log").read_text()]
+
+
+async def doors(hosts):
+    """Each document by each host, for those who may."""
+    context, edit = hosts.keys.context, line_of(SHAPE)
+    done = await asyncio.to_thread(hosts.machines["h1"].run, "systemd-analyze", "verify", *UNITS)
+    yield "the units", difference((done.returncode, done.stdout + done.stderr), (0, ""))
+    for front, host in enumerate(NAMES):
+        begun = time.monotonic()
+        async with session(context("ann"), "doc-0", front, PATIENCE) as ask:
+            yield f"a session by {host}", difference((await ask(POINT))["ok"], True)
+        hosts.figures.append(f"a session by {host}: {time.monotonic() - begun:.2f} s")
+        for what, certificate, name in (("no certificate", None, "doc-0"), ("one that another signed", "stranger", "doc-0"),
+                                        ("one that may not", "ben", "doc-0"), ("no document", "ann", "none"), ("a name that is none", "ann", "-a")):
+            yield f"{what}, by {host}", difference(await answer_to(front, context(certificate), f"{name}.canvas.example", edit), b"")
+        plain = await answer_to(front, None, None, b"GET / HTTP/1.1\r\nHost: here\r\n\r\n" + edit)
+        yield f"HTTP without TLS at the raw port of {host}", difference(plain, b"")
+        for user, wanted in (("ann:secret", 200), ("ann:wrong", 401), ("", 401)):
+            yield f"the page by {host}, of {user!r}", difference(await asyncio.to_thread(page_status, hosts, front, "doc-0", user), str(wanted))
+    holders = await asyncio.to_thread(hosts.holders)
+    for number, name in enumerate([*holders][:6]):
+        await asyncio.to_thread(page_status, hosts, number % len(NAMES), name)
+        yield f"the page of {name} is at the host of its sessions", difference(shown_by(hosts, name), [holders[name]])
+    hosts.machines["h1"].must("canvas-store", "create", "gone")
+    doors_of = [it.path("/run/canvas/gone/door") for it in hosts.machines.values()]
+    yield "a new document has its doors", difference(await patient(lambda: all(it.exists() for it in doors_of)), True)
+    hosts.machines["h2"].must("canvas-store", "remove", "gone")
+    yield "one that is removed has none", difference(await patient(lambda: not any(it.exists() for it in doors_of)), True)
+    served = [*(await asyncio.to_thread(hosts.holders)).values()]
+    yield "each host serves some of them", difference(sorted({*served}, key=str), [*NAMES])
+
+
+# -- what fails --------------------------------------------------------------------------------------------------------
+
+async def patient(is_so):
+    """Whether something is so in the end. (It is asked in a thread, since the clients go on meanwhile.)"""
+    end = time.monotonic() + PATIENCE
+    while not (found := await asyncio.to_thread(is_so)) and time.monotonic() < end:
+        await asyncio.sleep(0.2)
+    return bool(found)
+
+
+async def disaster(hosts, what, act, seconds=4):
+    """Does something bad, and waits until all documents are edited again; tells for how long they were not."""
+    where = await asyncio.to_thread(hosts.holders)
+    begun = time.monotonic()
+    hit = await asyncio.to_thread(act)
+    await asyncio.sleep(seconds)
+    waits = await asyncio.gather(*(it.goes_on(begun) for it in hosts.editors))
+    yield f"{what}: each document is edited again", difference([it.name for it, wait in zip(hosts.editors, waits) if wait is None], [])
+    found = {it.name: wait for it, wait in zip(hosts.editors, waits) if wait is not None}
+    its = sorted(wait for name, wait in found.items() if where[name] == hit)
+    others = sorted(wait for name, wait in found.items() if where[name] != hit)
+    told = [f"{len(times)} documents {text} for {times[len(times) // 2]:.1f} s in the middle, {times[-1]:.1f} at most"
+            for text, times in (("of that host", its), ("of other hosts", others)) if times]
+    hosts.figures.append(f"{what}: without an answer {'; '.join(told)}")
+
+
+async def one_of(hosts, is_leader):
+    """A host that serves documents, and that has the database's leader, or not."""
+    leader, found = await asyncio.to_thread(hosts.leader), list((await asyncio.to_thread(hosts.holders)).values())
+    return max((it for it in NAMES if (it == leader) == is_leader), key=found.count)
+
+
+async def killed(hosts):
+    """A host dies that does not have the database's leader, and is started again."""
+    host = await one_of(hosts, False)
+    async for case in disaster(hosts, "a host is killed", lambda: hosts.kill(host) or host):
+        yield case
+    async for case in back(hosts, host, lambda: hosts.start(host) or host):
+        yield case
+
+
+async def back(hosts, host, act):
+    """A host comes back, and its documents with it when their clients come anew."""
+    async for case in disaster(hosts, "a host is started again", act, 15):
+        yield case
+    yield f"{host} is a member of the database again", difference(await patient(lambda: hosts.members().get(host, (0, 0))[1] == "running"), True)
+    yield "the database has a synchronous standby again", difference(await patient(hosts.has_standby), True)
+
+
+async def cut_off(hosts):
+    """A host is cut off while its servers run on, and is there again."""
+    host = await one_of(hosts, False)
+    async for case in disaster(hosts, "a host is cut off", lambda: hosts.cut(host) or host, 12):
+        yield case
+    async for case in disaster(hosts, "it is there again", lambda: hosts.join(host) or host, 12):
+        yield case
+    said = hosts.machines[host].journal("canvas-store")
+    yield "its agent tells that it lost documents", None if "the lease of" in said and "lost" in said else said[-800:]
+    yield "the database has a synchronous standby again", difference(await patient(hosts.has_standby), True)
+
+
+async def agent(hosts):
+    """The agent of a host is killed."""
+    host = await one_of(hosts, False)
+    words = "pkill", "-KILL", "-f", "canvas-store serve"
+    async for case in disaster(hosts, "an agent is killed", lambda: hosts.machines[host].must(*words) or host, 6):
+        yield case
+
+
+async def apart(hosts):
+    """A host does not reach the database, and others do: its documents go to them."""
+    host, leader = await one_of(hosts, False), await asyncio.to_thread(hosts.leader)
+    address = f"10.77.0.{NAMES.index(leader) + 1}"
+
+    def route(word):
+        hosts.machines[host].must("ip", "route", word, "blackhole", address)
+        return host
+
+    async for case in disaster(hosts, "a host loses its way to the database", lambda: route("add"), 12):
+        yield case
+    yield "it has no documents any more", difference([*(await asyncio.to_thread(hosts.holders)).values()].count(host), 0)
+    async for case in disaster(hosts, "it has it again", lambda: route("del"), 8):
+        yield case
+    yield "the database has a synchronous standby", difference(await patient(hosts.has_standby), True)
+
+
+async def database(hosts):
+    """The database's leader is killed, and Patroni starts it again."""
+    host = await asyncio.to_thread(hosts.leader)
+
+    def act():
+        hosts.machines[host].must("pkill", "-KILL", "-u", "postgres", "-f", "bin/postgres -D")
+
+    async for case in disaster(hosts, "the database's leader is killed, on a host that lives", act):
+        yield case
+    yield "the database has a synchronous standby again", difference(await patient(lambda: hosts.leader() and hosts.has_standby()), True)
+
+
+async def leader(hosts):
+    """The host of the database's leader dies."""
+    host = await one_of(hosts, True)
+    async for case in disaster(hosts, "the host of the database's leader is killed", lambda: hosts.kill(host) or host):
+        yield case
+    yield "another one leads", difference(await patient(lambda: hosts.leader() in {*NAMES} - {host}), True)
+    async for case in back(hosts, host, lambda: hosts.start(host) or host):
+        yield case
+
+
+def written(door, name, seconds):
+    """How long each turn took of a document that a plain client writes by an agent."""
+    found, begun = [], time.monotonic()
+    with Store.hold(door, name) as store:
+        store.begin(1, EMPTY)
+        journal = Gated(store)
+        while (now := time.monotonic()) < begun + seconds:
+            journal.turn([b"a line of a hundred bytes, as an edit of a rectangle is, with its id, its place and colour, and no mo"])
+            found.append(time.monotonic() - now)
+    return found
+
+
+async def load(hosts):
+    """How much one database keeps, with a copy, by the agents of all hosts. (Nothing else is edited.)"""
+    names, seconds = [f"load-{number}" for number in range(20)], 10
+    for editor in hosts.editors:
+        await editor.stop()
+    doors_of = {name: it.path("/run/canvas-store/door") for name, it in hosts.machines.items()}
+    with ThreadPoolExecutor(len(names) * len(doors_of)) as threads:
+        work = [threads.submit(written, door, f"{name}-{host}", seconds) for name in names for host, door in doors_of.items()]
+        turns = sorted([took for it in work for took in await asyncio.wrap_future(it)])
+    middle, late = (1000 * turns[len(turns) * share // 100] for share in (50, 99))
+    hosts.figures.append(f"{len(work)} documents with a plain writer each, by three agents: {len(turns) / seconds:.0f} turns a second, {middle:.0f} ms in the "
+                         f"middle, {late:.0f} of 99 in 100")
+    yield "there were some", difference(len(turns) > len(work), True)
+
+
+async def kept(hosts):
+    """Nothing that was answered is lost by all of this."""
+    for editor in hosts.editors:
+        await editor.stop()
+        yield f"what was answered of {editor.name}", await editor.lost()
+        yield f"the versions of {editor.name}", difference(editor.faults, [])
+    hosts.figures.append(f"{sum(len(it.made) for it in hosts.editors)} answered edits of {len(hosts.editors)} documents, "
+                         f"{sum(it.breaks for it in hosts.editors)} connections that ended")
+
+
+PARTS = {it.__name__: it for it in (doors, killed, cut_off, agent, apart, database, leader, load)}
+SHORT = ("doors", "killed", "leader")
+
+
+async def cases(hosts, given):
+    await hosts.make_database()
+    hosts.figures.append(f"three hosts from nothing: {time.monotonic() - hosts.begun:.0f} s")
+    names = [f"doc-{number}" for number in range(30 if given.long else 12)]
+    await hosts.create(names)
+    for number, name in enumerate(names):
+        Editor(hosts, name, number)
+    begun = await asyncio.gather(*(it.goes_on(time.monotonic()) for it in hosts.editors))
+    yield "each document is edited", difference([it.name for it, wait in zip(hosts.editors, begun) if wait is None], [])
+    for part in [*[PARTS[it] for it in given.parts or ([*PARTS] if given.long else SHORT)], kept]:
+        begun = time.monotonic()
+        try:
+            async for case in part(hosts):
+                yield case
+        except (*FAULTS, RuntimeError, subprocess.SubprocessError) as fault:
+            yield part.__name__, f"stopped by {fault!r} at line {fault.__traceback__.tb_next and fault.__traceback__.tb_next.tb_lineno}"
+        print(f"{part.__name__}: {time.monotonic() - begun:.0f} s", flush=True)
+
+
+async def collected(hosts, given):
+    asyncio.get_running_loop().set_exception_handler(lambda *_: None)  # (connections that break off have nobody to tell)
+    return [case async for case in cases(hosts, given)]
+
+
+def main():
+    words = argparse.ArgumentParser(description="serves documents by three hosts")
+    words.add_argument("--long", action="store_true", help="all parts, and more documents")
+    words.add_argument("parts", nargs="*", metavar="PART", choices=[[], *PARTS], help=", ".join(PARTS))
+    given = words.parse_args()
+    why = machines.is_possible()
+    if why:
+        return tell(read_alone(why))
+    build()
+    build_keeper()
+    machines.enter()
+    with tempfile.TemporaryDirectory(prefix="canvas-hosts-") as folder:
+        hosts = Hosts(folder)
+        try:
+            found = asyncio.run(collected(hosts, given))
+            if os.environ.get("STAY"):
+                print(*found, sep="\n")
+                print({n: it._leader() for n, it in hosts.machines.items()}, flush=True)
+                time.sleep(float(os.environ["STAY"]))
+        finally:
+            hosts.close()
+        hosts.figures.append(f"all of it: {time.monotonic() - hosts.begun:.0f} s")
+        print(*hosts.figures, sep="\n")
+    return tell(found)
+
+
+def read_alone(why):
+    """The configuration, as far as it is read where no machine can be made."""
+    print(f"this machine allows no other ones ({why}), so the configuration alone is read")
+    text = (TOP / "packaging" / "hosts" / "haproxy.cfg").read_text()
+    with tempfile.NamedTemporaryFile("w", suffix=".cfg") as file:
+        file.write(re.sub(r"ssl crt \S+|h(?=[123]:)", lambda found: "127.0.0." if found[0] == "h" else "", text))
+        file.flush()
+        done = subprocess.run(["haproxy", "-c", "-f", file.name], capture_output=True, text=True)
+        yield "haproxy.cfg", difference(done.returncode, 0) and done.stderr
+
+
+if __name__ == "__main__":
+    sys.exit(main())
