@@ -1,11 +1,12 @@
 #!/usr/bin/env python3
-"""Has pyflakes read all scripts in Python, and shellcheck all of the shell.
+"""Has pyflakes read all scripts in Python, and shellcheck all of the shell. What begins with `#!` may be run.
 
 usage: tools/check_scripts.py
 
 Prints what they say, and a last line 'N passed, M failed', of scripts; the status is 1 if something failed.
 """
 
+import os
 import subprocess
 import sys
 
@@ -35,6 +36,11 @@ def scripts():
     return found
 
 
+def may_be_run(path):
+    """Whether a script is a module, or a command that may be run."""
+    return not (TOP / path).read_bytes().startswith(b"#!") or os.access(TOP / path, os.X_OK)
+
+
 def main():
     if sys.argv[1:]:
         sys.exit("usage: tools/check_scripts.py")
@@ -43,6 +49,9 @@ def main():
         done = subprocess.run([*READERS[language], *paths], cwd=TOP, stdout=subprocess.PIPE, stderr=subprocess.STDOUT, text=True)
         print(done.stdout, end="")
         total += len(paths)
+        locked = [it for it in paths if not may_be_run(it)]
+        print(*[f"{it}: it begins with #!, and may not be run" for it in locked], sep="\n", end="\n" * bool(locked))
+        failed.update(locked)
         failed |= {line.split(":", 1)[0] for line in done.stdout.splitlines() if ":" in line}
     print(f"{total - len(failed)} passed, {len(failed)} failed")
     sys.exit(1 if failed else 0)
