@@ -43,12 +43,11 @@ from browser import Browser, Fault  # noqa: E402
 from canvas_client import Canvas, connected, line_of  # noqa: E402
 from repository import BUILT, BUILT_KEEPER, TOP  # noqa: E402
 from running import build, build_keeper, difference, talk, tell  # noqa: E402
+from tab import PATIENCE, Tab  # noqa: E402
 
 SITE = "https://127.0.0.1"
 RAW = ("127.0.0.1", 7443)
 WATCH = "http://127.0.0.1:9464"
-PATIENCE = 90
-"""Seconds after which what has not come back counts as lost: many more than it takes."""
 FAULTS = (OSError, EOFError, ValueError, KeyError, TypeError, asyncio.TimeoutError, asyncio.IncompleteReadError, aiohttp.ClientError, TimeoutError)
 """What tells a client that its connection is over."""
 SHAPE = {"verb": "create", "shape": {"kind": "rect", "w": 40, "h": 30, "fill": "2f6fde"}}
@@ -239,57 +238,6 @@ async def answer_to(context, name, data):
         writer.close()
 
 
-class Tab:
-    """A tab without a page. `seen` is the newest version that it was told of; `fault` says where it was told of an older one."""
-
-    @classmethod
-    async def open(cls, client, name):
-        tab = cls()
-        tab.number = tab.seen = 0
-        tab.fault = None
-        tab.socket = await asyncio.wait_for(client.ws_connect(f"{page(name)}session", max_msg_size=0), PATIENCE)
-        await tab._until(lambda found: found.get("say") == "here")
-        return tab
-
-    async def ask(self, *requests):
-        """The replies to a batch; EOFError where the server is away."""
-        self.number += 1
-        seen = self.seen
-        await self.socket.send_json({"batch": self.number, "requests": requests})
-        replies = (await self._until(lambda found: found.get("batch") == self.number))["replies"]
-        if replies is None:
-            raise EOFError("the server is away")
-        for reply in replies:
-            if "version" in reply:
-                self._see(reply["version"], seen)
-        return replies
-
-    def _see(self, version, seen):
-        if version < seen:
-            self.fault = f"version {version} was told behind {seen}"
-        self.seen = max(self.seen, version)
-
-    async def _until(self, is_it):
-        """The next message that is wanted."""
-        while True:
-            message = await asyncio.wait_for(self.socket.receive(), PATIENCE)
-            if message.type == aiohttp.WSMsgType.BINARY:
-                continue
-            if message.type != aiohttp.WSMsgType.TEXT:
-                raise EOFError("the gateway is away")
-            found = message.json()
-            if found.get("say") == "edits":
-                versions = [edit["version"] for edit in found["edits"]]
-                if versions != [*range(versions[0], versions[0] + len(versions))]:
-                    self.fault = f"the edits {versions} were told"
-                self.seen = max(self.seen, versions[-1])
-            if is_it(found):
-                return found
-
-    async def close(self):
-        await self.socket.close()
-
-
 class Editor:
     """Makes shapes in a document until it is stopped, by a raw session or a tab, over all that ends its connections. It knows what was answered."""
 
@@ -317,7 +265,7 @@ class Editor:
                 await raw.close()
             return
         async with self._host.web(self.name) as client:
-            tab = await Tab.open(client, self.name)
+            tab = await Tab.open(client, page(self.name))
 
             async def ask(request):
                 return (await tab.ask(request))[0]
@@ -449,7 +397,7 @@ async def doors(host):
             yield f"the page {name}", difference(await status_of(client, page("ours")), wanted)
             yield f"a picture {name}", difference(await status_of(client, f"{page('ours')}picture/{'0' * 32}.png"), 404 if wanted == 200 else 401)
             try:
-                tab = await Tab.open(client, "ours")
+                tab = await Tab.open(client, page("ours"))
                 found = len(await tab.ask(SHAPE, *TILES))
                 await tab.close()
             except aiohttp.WSServerHandshakeError as fault:
@@ -487,7 +435,7 @@ async def addresses(host):
 async def pictures(host):
     """A picture is asked for once, and then nginx has it; but not for those who may not see it."""
     async with host.web("ours") as client, host.web("theirs") as other:
-        tab = await Tab.open(client, "ours")
+        tab = await Tab.open(client, page("ours"))
         name = (await tab.ask(TILES[0]))[0]["picture"]
         address = f"{page('ours')}picture/{name}.png"
         async with client.get(address) as response:
@@ -502,7 +450,7 @@ async def pictures(host):
 async def past(host):
     """The document as it was: the gateway starts a server of its own for that."""
     async with host.web("ours") as client:
-        tab = await Tab.open(client, "ours")
+        tab = await Tab.open(client, page("ours"))
         now, = await tab.ask({"verb": "export"})
         for at in (0, now["version"]):
             await tab.socket.send_json({"batch": -1, "at": at, "requests": [{"verb": "export"}]})
@@ -587,7 +535,7 @@ async def viewers(host):
     await host.create(["crowd"])
     seconds, over = (60 if host.is_long else 10), asyncio.Event()
     async with host.web("crowd") as client:
-        tabs = await asyncio.gather(*(Tab.open(client, "crowd") for _ in range(TABS)), return_exceptions=True)
+        tabs = await asyncio.gather(*(Tab.open(client, page("crowd")) for _ in range(TABS)), return_exceptions=True)
         yield "each tab is served", difference([repr(it) for it in tabs if not isinstance(it, Tab)], [])
         tabs = [it for it in tabs if isinstance(it, Tab)]
         editors = [Editor(host, "crowd", is_raw=number < EDITORS // 2, pause=0.1) for number in range(EDITORS)]
@@ -663,7 +611,7 @@ async def bad(host):
     await asyncio.gather(*(it.goes_on() for it in others))
     async with host.web("attacked") as client:
         for text in NO_MESSAGES:
-            tab = await Tab.open(client, "attacked")
+            tab = await Tab.open(client, page("attacked"))
             await tab.socket.send_str(text)
             wanted = EOFError if text not in NO_MESSAGES[-2:] else list
             try:
@@ -672,7 +620,7 @@ async def bad(host):
                 found = type(fault)
             yield f"a tab that sends {text[:40]}", difference(found.__name__, wanted.__name__)
             await tab.close()
-        tab = await Tab.open(client, "attacked")
+        tab = await Tab.open(client, page("attacked"))
         await tab.socket.send_bytes(bytes(range(256)))
         yield "a tab that sends bytes", difference(len(await tab.ask(POINT)), 1)
         with contextlib.suppress(*FAULTS):
@@ -696,7 +644,7 @@ async def bad(host):
 
 async def floods(host, client, others):
     """Tabs that ask on and read nothing, connections that say nothing or little, and raw sessions of both kinds."""
-    tabs = [await Tab.open(client, "attacked") for _ in range(20)]
+    tabs = [await Tab.open(client, page("attacked")) for _ in range(20)]
     raws = [await host.raw("attacked") for _ in range(10)]
     slow = [await asyncio.open_connection("127.0.0.1", 443, ssl=host.keys.context()) for _ in range(20)]
     flood = json.dumps({"batch": 0, "requests": [{"verb": "tile", "col": col % 20, "row": col // 20} for col in range(512)]})

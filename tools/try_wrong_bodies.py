@@ -3,7 +3,7 @@
 
 usage: tools/try_wrong_bodies.py NAME [EDIT..] [--all] [--jobs N] [--together N]
        tools/try_wrong_bodies.py --record [--dry-run] [NAME..] [--jobs N] [--together N]
-       tools/try_wrong_bodies.py --check [--known] [--built] [--minutes N] [--jobs N] [--together N]
+       tools/try_wrong_bodies.py --check [--built] [--minutes N] [--jobs N] [--together N]
 
 A wrong body is an edit of crates/NAME/wrong-bodies/ (with --all or by its name also of must-fail/): a line 'file: src/..', and
 pairs of lines 'old: TEXT' and 'new: TEXT', where TEXT stands once in the file. Each is applied to a copy of the crate and
@@ -19,9 +19,8 @@ a record of these sources says that they are refused, so it can be stopped and b
 
 --check compares the records with the sources. Where a record is of others, it tries the crate's bodies, lowest first, and begins no check after
 so many minutes (60); the crates that are then left have failed. Before that it tries again 24 of the recorded bodies, of at most three crates, which the commit chooses
-(or, where there is no git, the sources). It writes nothing. Its last line is 'N passed, M failed'. With --known it only names
-the crates that no whole record covers, and tries none of their other bodies. With --built it takes the libraries that stand in out/ for
-those of the sources, as they are just after `rt ci`; else those with no stamp are built anew.
+(or, where there is no git, the sources). It writes nothing. Its last line is 'N passed, M failed'. With --built it takes the libraries that
+stand in out/ for those of the sources, as they are just after `rt ci`; else those with no stamp are built anew.
 """
 
 import argparse
@@ -338,11 +337,7 @@ def check_records(given, room):
     passed = sum(map(all_refused, current.values()))
     again = verdicts.sample(verdicts.seed(), current, {it: below(it) for it in names})
     work = [(f"{name}: {len(words)} recorded bodies again", name, chosen(name, words, False), None) for name, words in again.items()]
-    left = {name: left_to_try(name) for name in names if name not in current}
-    if given.known:
-        print(*(f"{name}: no record of these sources has {len(edits)} of its bodies" for name, edits in left.items()), sep="\n")
-    else:
-        work += [(f"{name}: no whole record of these sources", name, edits, deadline) for name, edits in left.items()]
+    work += [(f"{name}: no whole record of these sources", name, left_to_try(name), deadline) for name in names if name not in current]
     for why, name, edits, until in work:
         print(f"== {why}", flush=True)
         refused, wrong = check_crate(name, edits, given, room, until)
@@ -373,7 +368,6 @@ def main():
     asked.add_argument("--record", action="store_true", help="write the records of these crates, or of all")
     asked.add_argument("--dry-run", action="store_true", help="with --record: say only what would be tried")
     asked.add_argument("--check", action="store_true", help="check the records of all crates")
-    asked.add_argument("--known", action="store_true", help="with --check: only name the crates that no whole record of these sources covers")
     asked.add_argument("--built", action="store_true", help="with --check: the libraries in out/ are of these sources, though they have no stamp")
     asked.add_argument("--minutes", type=int, default=60, metavar="N", help="with --check: begin no check of a crate with no record after so many minutes (60)")
     asked.add_argument("--jobs", type=int, metavar="N", help="checks that run side by side (1, with --check one for each processor)")

@@ -2,6 +2,7 @@
 use denote.RattleType.{RattleType}
 use denote.Param.Send.{IsSend, IsSync, sendable, owning_send, view_send, view_sync}
 use denote.Param.SendFields.{as_row_send, declared_send, declared_sync}
+use denote.Ref.{NamedLft}
 use denote.Struct.Field.{row_field}
 use Rattle.std.proofs.Crossing.{crosses}
 use Rattle.std.proofs.alloc.Global.TheSendSync as heap
@@ -22,7 +23,12 @@ use Rattle.canvas_keep.specs.contracts.keeper.Keeper.TheInside as keeper_inside
 use Rattle.canvas_keep.specs.contracts.slot.Slot as slot
 use Rattle.canvas_keep.specs.contracts.settling.Keep as keep
 use Rattle.canvas_keep.specs.contracts.settling.Keep.TheInside as keep_inside
+use Rattle.canvas_follow.proofs.turns.Turns.TheSendSync as turns
+use Rattle.canvas_server.proofs.ending.Ending.TheSendSync as ending
 use Rattle.canvasd.specs.contracts.gate.Gate as gate
+use Rattle.canvasd.specs.contracts.follow_gate.FollowGate as follow_gate
+use Rattle.canvasd.specs.contracts.yard.Yard as yard
+use Rattle.canvasd.proofs.fault.Fault.TheSendSync as why
 
 -- it owns nothing
 noted-send : IsSend noted.the_row
@@ -48,3 +54,27 @@ module _ (D B : RattleType) (d : device.Ghosts D.Denot) (l : lines.Ghosts B.Deno
 
   pub gate-sync : IsSync (gate.the_row D B d l)
   gate-sync = declared_sync (gate.the_type D B d l) (keep-sync, (search sendable, (search (sendable, crosses), (search (sendable, crosses), tt))))
+
+  pub follow_gate-sync : (a : NamedLft) → IsSync (follow_gate.the_row a D B d l)
+  follow_gate-sync a = let held = gate-sync in declared_sync (follow_gate.the_type a D B d l) (search (sendable, held) depth 40, (search (sendable, crosses) depth 40, (search (sendable, crosses), tt)))
+
+  pub yard-sync : (a : NamedLft) (K : RattleType) → IsSync K → IsSync (yard.the_row a D B K d l)
+  yard-sync a K k =
+      let held = follow_gate-sync in
+      let taken = turns.the_sync B l in
+      declared_sync (yard.the_type a D B K d l) (
+        heap.the_sync,
+        (
+          search (sendable, k) depth 40,
+          (
+            search sendable,
+            (
+              search sendable,
+              (
+                search (sendable, crosses) depth 40,
+                (search (sendable, taken) depth 40, (search (sendable, held) depth 40, (search (sendable, crosses, ending.the_sync) depth 40, (search (sendable, crosses, why.the_send) depth 40, tt)))),
+              ),
+            ),
+          ),
+        ),
+      )

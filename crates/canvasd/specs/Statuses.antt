@@ -1,5 +1,7 @@
 -- The statuses with which the program ends.
 use Rattle.std.specs.Prelude.{ℕ, Some}
+use Rattle.canvas_follow.specs.declared.fault.CourseFault.{CourseFault}
+use Rattle.canvas_follow.specs.declared.fault.CourseFault.TheVariants as course
 use Rattle.canvas_keep.specs.declared.fault.ReplayWhy.{ReplayWhy}
 use Rattle.canvas_keep.specs.declared.fault.ReplayWhy.TheVariants as replay
 use Rattle.canvas_server.specs.Faults.{server_fault_code}
@@ -25,6 +27,14 @@ unheld_status (store.Refused words) = 4
 unheld_status (store.Lost words) = 4
 unheld_status store.Strange = 4
 
+abbrev pub course_status : CourseFault → ℕ
+course_status course.OutOfMemory = 5
+course_status course.NoEdit = 3
+course_status (course.Refused code) = 3
+course_status course.Otherwise = 3
+course_status course.Busy = 4
+course_status course.NoView = 4
+
 abbrev pub status_at : Fault → ℕ
 status_at (fault.Io place deed error) = 4
 status_at (fault.Document place code) = status_of (Some code)
@@ -41,4 +51,6 @@ status_at (fault.Lost number why system) = 6
 status_at (fault.Misfit why) = 4
 status_at (fault.Store f) = unheld_status f
 status_at (fault.StoreLost f) = 6
+status_at (fault.Stranger why) = 4
+status_at (fault.Followed version why) = course_status why
 status_at fault.Memory = 5

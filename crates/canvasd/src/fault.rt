@@ -1,7 +1,8 @@
 //! Why the program ends other than as it was asked to.
 ghost use Rattle.std.specs.Prelude.{◌≡◌};
-ghost use Rattle.canvasd.specs.Statuses.{line_status, status_at, unheld_status};
+ghost use Rattle.canvasd.specs.Statuses.{course_status, line_status, status_at, unheld_status};
 
+use canvas_follow::CourseFault;
 use canvas_keep::{KeepFault, ReplayWhy};
 use canvas_server::{ServerFault, exit_status};
 use canvas_store::StoreFault;
@@ -70,6 +71,25 @@ pub enum Misfit {
     Unknown,
 }
 
+/// What a leader has that is not what its follower has.
+#[derive(Clone, Copy, Debug, Drop, PartialEq, Eq)]
+pub enum Strange {
+    /// What it is named by is no address of a feed.
+    NoAddress,
+    /// What it is named by is no address of sessions.
+    NoDoor,
+    /// It sends no feed.
+    NoFeed,
+    /// Its generation of this number began otherwise.
+    Opening(u32),
+    /// Its edit of this version is another one.
+    Edit(u64),
+    /// It has only so many edits.
+    Fewer(u64),
+    /// It has not begun the generation of this number.
+    Early(u32),
+}
+
 /// Why the program ends other than as it was asked to.
 #[derive(Clone, Copy, Debug)]
 pub enum Fault {
@@ -121,6 +141,13 @@ pub enum Fault {
     Store(StoreFault),
     /// The store keeps no more of the document.
     StoreLost(StoreFault),
+    /// The leader has another document, or this one before it was set back.
+    Stranger(Strange),
+    /// The leader's feed tells as this version what its edit does not make here.
+    Followed {
+        version: u64,
+        why: CourseFault,
+    },
     /// Memory could not be had.
     Memory,
 }
@@ -146,6 +173,8 @@ impl Fault {
             Fault::Misfit(_) => 4,
             Fault::Store(fault) => unheld_status(fault),
             Fault::StoreLost(_) => 6,
+            Fault::Stranger(_) => 4,
+            Fault::Followed { why, .. } => course_status(*why),
             Fault::Memory => 5,
         }
     }
@@ -175,6 +204,20 @@ fn line_status(why: ReplayWhy) -> u8
         ReplayWhy::NoEdit => 3,
         ReplayWhy::Refused(_) => 3,
         ReplayWhy::Busy => 4,
+    }
+}
+
+// The status where a line of a leader's feed was not taken.
+fn course_status(why: CourseFault) -> u8
+    ensures { result ≡ course_status why }
+{
+    match why {
+        CourseFault::OutOfMemory => 5,
+        CourseFault::NoEdit => 3,
+        CourseFault::Refused(_) => 3,
+        CourseFault::Otherwise => 3,
+        CourseFault::Busy => 4,
+        CourseFault::NoView => 4,
     }
 }
 

@@ -6,11 +6,11 @@ use crate::feed::Feed;
 use crate::following::{Parted, Progress, follow, refuse};
 use crate::gate::Kept;
 use crate::scribing::keep_feed;
+use canvas_board::Board;
 use canvas_feed::{Refusal, Scribe};
-use canvas_line::{Lines, Seat};
 use canvas_server::{
     Call, Door, DoorSettings, Ended, Ending, Events, NoEntry, ServerFault, Settles, Settling,
-    Stream, close_doors, next_stream, serve_doors, settle_counted,
+    Stream, close_doors, next_stream, serve_boards_at, settle_counted,
 };
 use canvas_status::{Counts, MOST_FOLLOWERS};
 use log::{Log, debug, error};
@@ -36,6 +36,19 @@ pub struct Fed<'a> {
     pub counts: &'a Counts,
 }
 
+impl Fed<'_> {
+    /// The same once more.
+    pub fn again(&self) -> Fed<'_> {
+        Fed {
+            feed: self.feed,
+            journal: self.journal,
+            number: self.number,
+            doors: self.doors,
+            counts: self.counts,
+        }
+    }
+}
+
 /// What the threads of a feed share.
 #[derive(Drop)]
 struct Hall<'a, G: Kept, K: Log> {
@@ -50,11 +63,11 @@ struct Hall<'a, G: Kept, K: Log> {
     settling: &'a Mutex<Settling>,
 }
 
-/// Serves the line of a gate at its doors, and what is kept of it to followers. When the doors have ended, followers are sent all that is kept, for
+/// Serves the boards of a gate's line at its doors, and what is kept of it to followers. When the doors have ended, followers are sent all that is kept, for
 /// five seconds at most.
 pub fn serve_fed<
     'a,
-    L: Lines + Send + Sync,
+    B: Board + Send,
     G: Settles + Kept + Sync,
     E: Events + Sync,
     K: Log + Sync,
@@ -64,10 +77,11 @@ pub fn serve_fed<
     log: &'a K,
     alloc: Global,
     doors: &[Door],
-    seats: Vec<Seat<L>>,
+    boards: &[Mutex<B>],
     gate: &'a G,
     settings: &DoorSettings,
     events: &E,
+    sessions: &Ending,
     scribe: Scribe,
     fed: &Fed<'a>,
 ) -> Result<Ended, ServerFault> {
@@ -85,19 +99,20 @@ pub fn serve_fed<
         settling: &settling,
     };
     let hall = &hall;
-    let ending = &ending;
     thread::scope(
         thread::scope_env(),
         rt,
         |scope|
-            requires { IsSync H.row × IsSend L.row × IsSync L.row × IsSync G.row × IsSync E.row × IsSync K.row }
+            requires { IsSync H.row × IsSend B.row × IsSync G.row × IsSync E.row × IsSync K.row }
         {
             start_scribe(rt, scope, hall, fed.journal, scribe);
             open_feeds(rt, scope, hall, fed.doors);
-            let ended = serve_doors(rt, alloc, doors, seats, gate, settings, events);
-            gate.end_waits(rt);
-            ending.begin(rt, Call::Asked);
-            close_doors(rt, fed.doors, ending);
+            let ended = serve_boards_at(
+                rt, hall.alloc, doors, boards, hall.gate, settings, events, sessions,
+            );
+            hall.gate.end_waits(rt);
+            hall.ending.begin(rt, Call::Asked);
+            close_doors(rt, fed.doors, hall.ending);
             ended
         },
     )

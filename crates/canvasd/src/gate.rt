@@ -9,7 +9,9 @@ use canvas_feed::Scribe;
 use canvas_journal::Device;
 use canvas_keep::{Keep, Keeper};
 use canvas_line::{LineFault, Lines, Seat};
-use canvas_server::{Door, DoorSettings, Ended, Events, ServerFault, Settles, serve_doors};
+use canvas_server::{
+    Door, DoorSettings, Ended, Ending, Events, ServerFault, Settles, boards_of, serve_doors,
+};
 use canvas_status::Counts;
 use log::Log;
 use std::alloc::Global;
@@ -196,7 +198,14 @@ pub fn serve_behind_fed<
     scribe: Scribe,
     fed: &Fed<'_>,
 ) -> Result<Ended, ServerFault> {
-    serve_fed(
-        rt, log, alloc, doors, seats, gate, settings, events, scribe, fed,
-    )
+    let ending = Ending::new(alloc, seats.len())?;
+    settings.check(doors.len(), seats.len())?;
+    let boards = boards_of(alloc, seats, settings.keep, events)?;
+    let ended = serve_fed(
+        rt, log, alloc, doors, &boards, gate, settings, events, &ending, scribe, fed,
+    );
+    for board in boards {
+        board.into_inner().close(rt);
+    }
+    ended
 }

@@ -1,25 +1,32 @@
 //! The program `canvasd`: one design document in a folder, where nothing that was answered is lost.
 //!
 //! `canvasd FOLDER` serves the document of a folder. `canvasd check FOLDER` tells what is in it, and `canvasd history FOLDER [VERSION]` writes
-//! the document as it was.
+//! the document as it was. `canvasd follow FEED FOLDER` serves it as another server's feed tells it.
 #![tactic(auto)]
 
 mod addresses;
 mod checking;
+mod course;
 mod doors;
 mod events;
 mod fault;
 mod feed;
 mod feeding;
 mod folder;
+mod follow_begin;
+mod follow_gate;
+mod follower;
 mod following;
 mod gate;
 mod guard;
 mod history;
 mod journal;
+mod lanes;
+mod leader;
 mod maker;
 mod message;
 mod opening;
+mod recent;
 mod scribing;
 mod seats;
 mod serving;
@@ -29,6 +36,7 @@ mod store_words;
 mod stored;
 mod watch;
 mod words;
+mod yard;
 
 use clap::error::ErrorKind;
 use fault::Fault;

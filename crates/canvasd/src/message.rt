@@ -1,6 +1,6 @@
 //! What the program says of a fault.
 
-use crate::fault::{Deed, Fault, Place};
+use crate::fault::{Deed, Fault, Place, Strange};
 use crate::store_words::{write_lost, write_misfit, write_unheld};
 use crate::words::Order;
 use canvas_code::{Coded, name_of};
@@ -18,6 +18,11 @@ pub fn tell<H: Eprint>(rt: &H, order: &Order<'_>, fault: &Fault) -> io::Result<(
             Told {
                 folder: service.folder,
                 given: service.opening.unwrap_or(""),
+                feed: service.following.map_or("", |following| following.feed),
+                leader: service
+                    .following
+                    .and_then(|following| following.leader)
+                    .unwrap_or(""),
                 addresses: service.addresses.as_slice(),
                 status: service.status.as_slice(),
                 store: service.store.unwrap_or(""),
@@ -34,6 +39,8 @@ pub fn tell<H: Eprint>(rt: &H, order: &Order<'_>, fault: &Fault) -> io::Result<(
 pub struct Told<'a> {
     folder: &'a str,
     given: &'a str,
+    feed: &'a str,
+    leader: &'a str,
     addresses: &'a [&'a str],
     status: &'a [&'a str],
     store: &'a str,
@@ -46,6 +53,8 @@ impl<'a> Told<'a> {
         Told {
             folder,
             given: "",
+            feed: "",
+            leader: "",
             addresses: &[],
             status: &[],
             store: "",
@@ -106,6 +115,29 @@ impl<'a> Told<'a> {
             ReplayWhy::OutOfMemory => f.write_str("is not read: out of memory"),
             ReplayWhy::Busy => f.write_str("is not read: somebody edits the document meanwhile"),
         }
+    }
+
+    // Writes how a leader's document is not that of the folder.
+    fn write_strange<W: Write>(&self, strange: Strange, f: &mut Formatter<W>) -> fmt::Result {
+        let (feed, folder) = (self.feed, self.folder);
+        match strange {
+            Strange::NoAddress => return write!(f, "{feed} is no address: HOST:PORT or unix:PATH"),
+            Strange::NoDoor => {
+                return write!(f, "{} is no address: HOST:PORT or unix:PATH", self.leader);
+            }
+            Strange::NoFeed => return write!(f, "{feed} is no feed door"),
+            Strange::Opening(number) => write!(
+                f,
+                "{feed}: generation {number} began otherwise there"
+            )?,
+            Strange::Edit(version) => write!(f, "{feed}: edit {version} is another one there")?,
+            Strange::Fewer(kept) => write!(f, "{feed}: it has only {kept} edits")?,
+            Strange::Early(number) => write!(f, "{feed}: it has no generation {number}")?,
+        }
+        write!(
+            f,
+            ": {folder} follows another document, or the leader was set back"
+        )
     }
 
     // Writes why a journal is lost.
@@ -178,6 +210,14 @@ impl Display for Told<'_> {
             Fault::Misfit(why) => write_misfit(folder, self.store, why, f),
             Fault::Store(fault) => write_unheld(self.store, &fault, f),
             Fault::StoreLost(fault) => write_lost(self.store, &fault, f),
+            Fault::Stranger(strange) => self.write_strange(strange, f),
+            Fault::Followed { version, why } => {
+                write!(
+                    f,
+                    "{}: the line of version {version} is not taken: {why}",
+                    self.feed
+                )
+            }
             Fault::Memory => f.write_str("out of memory"),
         }
     }

@@ -10,10 +10,13 @@ use crate::fault::{Deed, Fault, Misfit, Place, refused};
 use crate::feed::Feed;
 use crate::feeding::Fed;
 use crate::folder::{hold, look, path_in};
-use crate::gate::{Gate, guard_gate, serve_behind, serve_behind_fed, watch_gate};
+use crate::follow_begin::{first_followed, judge_addresses, next_followed};
+use crate::follower::{Follows, serve_followed};
+use crate::gate::{Gate, Kept, guard_gate, serve_behind, serve_behind_fed, watch_gate};
 use crate::journal::{JournalFile, Reason, open_journal};
 use crate::maker::begin;
 use crate::opening::{read_document, saved};
+use crate::recent::Own;
 use crate::scribing::open_to_read;
 use crate::seats::{line_fault, take_seat};
 use crate::status_doors::{Desk, close_status, open_status};
@@ -28,7 +31,7 @@ use canvas_journal::DeviceError;
 use canvas_journal_file::Asked;
 use canvas_keep::{KeepFault, OpenFault, open};
 use canvas_line::{Line, LineFault, Lines, Opened, Seat};
-use canvas_server::{Door, DoorSettings, Ended, ServerFault, Settles};
+use canvas_server::{Door, DoorSettings, Ended, Events, ServerFault, Settles};
 use canvas_status::Counts;
 use log::{Log, info};
 use std::alloc::Global;
@@ -57,9 +60,15 @@ pub fn serve<
     K: Log + Sync,
 >(rt: &H, log: &K, alloc: Global, service: &Service<'_>) -> Result<(), Fault> {
     info!(*log; "canvasd {VERSION} begins: {}", service.folder);
+    if let Some(following) = &service.following {
+        judge_addresses(following)?;
+    }
     let _held = hold(rt, alloc, service.folder)?;
     let link = link_of(rt, service)?;
-    let first = first_of(rt, log, alloc, service, &link)?;
+    let first = match &service.following {
+        None => first_of(rt, log, alloc, service, &link)?,
+        Some(following) => first_followed(rt, log, alloc, service, following)?,
+    };
     let doors = bind_all(rt, alloc, &service.addresses, Place::Address)?;
     let status_doors = bind_all(rt, alloc, &service.status, Place::StatusAddress)?;
     let counts = Counts::new();
@@ -141,13 +150,16 @@ fn serve_generations<
     K: Log + Sync,
 >(rt: &H, log: &K, alloc: Global, house: &House<'_>, first: u32) -> Result<(), Fault> {
     let service = house.service;
-    for number in first..u32::MAX {
+    let mut number = first;
+    for _ in first..u32::MAX {
+        let Some(later) = number.checked_add(1) else {
+            break;
+        };
         let next = serve_generation(rt, log, alloc, house, number, number == first)?;
-        info!(*log; "generation {number} has all its {} edits, and generation {} begins", service.limit, number + 1);
-        if let Some(link) = house.link {
-            link.begin(rt, number + 1, &next)?;
-        }
-        begin(rt, alloc, service.folder, number + 1, &next)?;
+        number = match &service.following {
+            None => begin_next(rt, log, alloc, house, number, later, &next)?,
+            Some(following) => next_followed(rt, log, alloc, service, following, number)?,
+        };
     }
     Err(Fault::NoNumber)
 }
@@ -172,6 +184,25 @@ fn first_of<H: Files<File = File> + Alloc + Wait + Clone + Drop, K: Log>(
         (Some(address), Some(link)) => first_held(rt, log, alloc, service, address, link),
         _ => first_number(rt, alloc, service),
     }
+}
+
+// Begins the generation after one that has all its edits, first at the store.
+fn begin_next<H: Files<File = File> + Wait, K: Log>(
+    rt: &H,
+    log: &K,
+    alloc: Global,
+    house: &House<'_>,
+    whole: u32,
+    next: u32,
+    opening: &[u8],
+) -> Result<u32, Fault> {
+    let service = house.service;
+    info!(*log; "generation {whole} has all its {} edits, and generation {next} begins", service.limit);
+    if let Some(link) = house.link {
+        link.begin(rt, next, opening)?;
+    }
+    begin(rt, alloc, service.folder, next, opening)?;
+    Ok(next)
 }
 
 // The generation that is served first. Where there is none, it is made.
@@ -316,7 +347,13 @@ fn serve_line<
     requires line { L.line 1 ≡ record { book = opened.head.word.book; opening = document; limit = limit } }
     requires durable { Only (seen_of device) (may_leave device) }
 {
-    let count = run.house.service.seats.saturating_add(2);
+    // One for the keeper, one that looks, and one by which a follower makes what it is told.
+    let own = if run.house.service.following.is_some() {
+        3
+    } else {
+        2
+    };
+    let count = run.house.service.seats.saturating_add(own);
     let mut seats = match Line::open::<L, H>(rt, alloc, opened, NAME, document, count, limit) {
         Ok(seats) => seats,
         Err(fault) => return Err(line_fault(&fault)),
@@ -529,7 +566,9 @@ fn serve_at_doors<
     let events = DoorLog::new(rt, log, counts, run.begun);
     let (doors, feeds) = doors.split_at(service.sessions.min(doors.len()));
     if feeds.is_empty() {
-        let end = serve_behind(rt, alloc, doors, seats, gate, &settings, &events);
+        let end = serve_sessions(
+            rt, log, alloc, doors, seats, gate, &settings, &events, run, None,
+        )?;
         return ended(rt, end, gate.keep.fault(rt), run);
     }
     let document = opening_document(rt, alloc, service.folder, run.number)?;
@@ -544,10 +583,63 @@ fn serve_at_doors<
         doors: feeds,
         counts,
     };
-    let end = serve_behind_fed(
-        rt, log, alloc, doors, seats, gate, &settings, &events, scribe, &fed,
-    );
+    let end = serve_sessions(
+        rt,
+        log,
+        alloc,
+        doors,
+        seats,
+        gate,
+        &settings,
+        &events,
+        run,
+        Some((scribe, &fed)),
+    )?;
     ended(rt, end, gate.keep.fault(rt), run)
+}
+
+// Serves the line at the doors of sessions: its own edits, or those that a leader tells.
+fn serve_sessions<
+    L: Lines + Send + Sync,
+    E: Events + Sync,
+    H: Files<File = File>
+        + Print
+        + Threads
+        + Wait
+        + Clock
+        + Sync
+        + Net<Listener = TcpListener, Stream = TcpStream>,
+    K: Log + Sync,
+>(
+    rt: &H,
+    log: &K,
+    alloc: Global,
+    doors: &[Door],
+    seats: Vec<Seat<L>>,
+    gate: &Gate<Asked<JournalFile<'_, H>>, L>,
+    settings: &DoorSettings,
+    events: &E,
+    run: &Run<'_>,
+    told: Option<(Scribe, &Fed<'_>)>,
+) -> Result<Result<Ended, ServerFault>, Fault> {
+    let service = run.house.service;
+    if let Some(following) = &service.following {
+        let follows = Follows {
+            feed: following.feed,
+            leader: following.leader,
+            number: run.number,
+            doors,
+            settings,
+        };
+        let own = Own::read(rt, alloc, service.folder, run.number, gate.kept(rt))?;
+        return serve_followed(rt, log, alloc, seats, gate, events, follows, own, told);
+    }
+    match told {
+        None => Ok(serve_behind(rt, alloc, doors, seats, gate, settings, events)),
+        Some((scribe, fed)) => Ok(serve_behind_fed(
+            rt, log, alloc, doors, seats, gate, settings, events, scribe, fed,
+        )),
+    }
 }
 
 // How a generation ended at its doors. Where a session could not settle, the journal is lost, or the newest version could not be seen.

@@ -26,6 +26,15 @@ pub enum Order<'a> {
     },
 }
 
+/// Whom a follower follows.
+#[derive(Clone, Copy, Debug, Drop)]
+pub struct Following<'a> {
+    /// The door of the leader's feed.
+    pub feed: &'a str,
+    /// The door of the leader's sessions, where edits are handed on. Without it they are refused.
+    pub leader: Option<&'a str>,
+}
+
 /// How a document is served.
 #[derive(Drop)]
 pub struct Service<'a> {
@@ -40,6 +49,8 @@ pub struct Service<'a> {
     pub opening: Option<&'a str>,
     /// Where the document is kept in place of this machine's disk.
     pub store: Option<&'a str>,
+    /// Whom it follows, if it follows anybody.
+    pub following: Option<Following<'a>>,
     /// How many sessions may be at once.
     pub seats: u32,
     /// How many edits a generation takes.
@@ -62,6 +73,7 @@ pub fn read_order<'a>(alloc: Global, words: &'a [&'a str]) -> Result<Order<'a>, 
         let folder = inner.get_str("folder").unwrap_or("");
         return match verb {
             "check" => Ok(Order::Check { folder }),
+            "follow" => Ok(Order::Serve(follower_of(alloc, inner)?)),
             _ => Ok(Order::History {
                 folder,
                 version: inner.get_one::<u64>("version"),
@@ -88,6 +100,7 @@ fn service_of<'a>(alloc: Global, matches: &ArgMatches<'a>) -> Result<Service<'a>
         status: addresses_of(alloc, matches, "status")?,
         opening: matches.get_str("open"),
         store: matches.get_str("store"),
+        following: None,
         seats: matches.get_one::<u32>("seats").unwrap_or(62),
         limit: matches.get_one::<u64>("limit").unwrap_or(1_000_000),
         keep: matches.get_one::<u32>("keep").unwrap_or(8),
@@ -97,6 +110,17 @@ fn service_of<'a>(alloc: Global, matches: &ArgMatches<'a>) -> Result<Service<'a>
             .get_one::<LevelFilter>("log")
             .unwrap_or(LevelFilter::Info),
     })
+}
+
+// How a follower serves.
+fn follower_of<'a>(alloc: Global, matches: &ArgMatches<'a>) -> Result<Service<'a>, AllocError> {
+    let mut service = service_of(alloc, matches)?;
+    service.following = Some(Following {
+        feed: matches.get_str("source").unwrap_or(""),
+        leader: matches.get_str("leader"),
+    });
+    service.seats = matches.get_one::<u32>("seats").unwrap_or(61);
+    Ok(service)
 }
 
 // The addresses that an option names.
@@ -121,6 +145,14 @@ fn whole_command<'a>(alloc: Global) -> Result<Command<'a>, AllocError> {
         .about("Writes the document as of a version of the newest generation to standard output")
         .arg(folder_word(alloc))?
         .arg(version_word(alloc))?;
+    let follow = Command::new(alloc, "follow")
+        .about("Serves a document as another server's feed tells it, and keeps it in a folder")
+        .arg(source_word(alloc))?
+        .arg(folder_word(alloc))?
+        .arg(leader_word(alloc))?
+        .arg(number_word(alloc, "seats", "Sessions at once, 1 to 61 [default: 61]").value_parser(
+            value_parser!(u32).range(1..=61),
+        ))?;
     let command = Command::new(alloc, "canvasd")
         .version(VERSION)
         .about("Serves the design document of a folder; nothing that was answered is lost")
@@ -131,19 +163,26 @@ fn whole_command<'a>(alloc: Global) -> Result<Command<'a>, AllocError> {
         .disable_help_subcommand(true)
         .arg(folder_word(alloc))?
         .subcommand(check)?
-        .subcommand(history)?;
+        .subcommand(history)?
+        .subcommand(with_options(alloc, follow)?)?
+        .arg(opening_word(alloc))?
+        .arg(store_word(alloc))?
+        .arg(limit_word(alloc))?
+        .arg(seats_word(alloc))?;
     with_options(alloc, command)
 }
 
-const USAGE: &str =
-    "canvasd FOLDER [OPTIONS]\n       canvasd check FOLDER\n       canvasd history FOLDER [VERSION]";
+const USAGE: &str = "canvasd FOLDER [OPTIONS]
+       canvasd follow FEED FOLDER [--leader ADDRESS] [OPTIONS]
+       canvasd check FOLDER
+       canvasd history FOLDER [VERSION]";
 
 const AFTER_HELP: &str =
     "Whoever can reach an address may edit: there are no passwords and no encryption.
 
 Exit status: 0 done; 2 the words are no command; 3 a document or a journal can't be read as one; 4 a file, a folder or an address can't
-be used, or another process serves the folder; 5 memory was refused at the start; 6 the journal can't be written any more; 7 the store
-has given the document to another.";
+be used, another process serves the folder, or a leader has another document; 5 memory was refused at the start; 6 the journal can't be
+written any more; 7 the store has given the document to another.";
 
 fn folder_word<'a>(alloc: Global) -> Arg<'a> {
     Arg::new(alloc, "folder")
@@ -157,6 +196,50 @@ fn version_word<'a>(alloc: Global) -> Arg<'a> {
         .value_name("VERSION")
         .value_parser(value_parser!(u64))
         .help("A version; the newest that is kept, where it is left out")
+}
+
+fn source_word<'a>(alloc: Global) -> Arg<'a> {
+    Arg::new(alloc, "source")
+        .value_name("FEED")
+        .required(true)
+        .help("The feed of the leader: HOST:PORT or unix:PATH, as its --feed")
+}
+
+fn leader_word<'a>(alloc: Global) -> Arg<'a> {
+    Arg::new(alloc, "leader")
+        .long("leader")
+        .value_name("ADDRESS")
+        .help(
+            "The sessions of the leader, where edits are handed on, as its --listen; without it they are refused",
+        )
+}
+
+fn opening_word<'a>(alloc: Global) -> Arg<'a> {
+    Arg::new(alloc, "open").long("open").value_name("FILE").help(
+        "A saved document with which a new folder begins; else it begins empty",
+    )
+}
+
+fn store_word<'a>(alloc: Global) -> Arg<'a> {
+    Arg::new(alloc, "store")
+        .long("store")
+        .value_name("ADDRESS")
+        .help("unix:PATH of a store, which keeps the document in place of this machine's disk")
+}
+
+fn limit_word<'a>(alloc: Global) -> Arg<'a> {
+    number_word(
+        alloc,
+        "limit",
+        "Edits of a generation, 1 to 1000000 [default: 1000000]",
+    )
+    .value_parser(value_parser!(u64).range(1..=1_000_000))
+}
+
+fn seats_word<'a>(alloc: Global) -> Arg<'a> {
+    number_word(alloc, "seats", "Sessions at once, 1 to 62 [default: 62]").value_parser(
+        value_parser!(u32).range(1..=62),
+    )
 }
 
 // The options of a server.
@@ -176,29 +259,19 @@ fn with_options<'a>(alloc: Global, command: Command<'a>) -> Result<Command<'a>, 
         .value_name("ADDRESS")
         .action(ArgAction::Append)
         .help("HOST:PORT or unix:PATH, once for each: where /healthz and /metrics answer");
-    let open = Arg::new(alloc, "open").long("open").value_name("FILE").help(
-        "A saved document with which a new folder begins; else it begins empty",
-    );
-    let store = Arg::new(alloc, "store")
-        .long("store")
-        .value_name("ADDRESS")
-        .help("unix:PATH of a store, which keeps the document in place of this machine's disk");
     let log = Arg::new(alloc, "log")
         .long("log")
         .value_name("LEVEL")
         .value_parser(LEVELS.as_slice())
         .help("Which lines go to standard error [default: info]");
     let command = command.arg(listen)?.arg(feed)?.arg(status)?;
-    with_numbers(alloc, command.arg(open)?.arg(store)?.arg(log)?)
+    with_numbers(alloc, command.arg(log)?)
 }
 
 static LEVELS: [&str; 6] = ["off", "error", "warn", "info", "debug", "trace"];
 
 // The options that are numbers.
 fn with_numbers<'a>(alloc: Global, command: Command<'a>) -> Result<Command<'a>, AllocError> {
-    let seats = number_word(alloc, "seats", "Sessions at once, 1 to 62 [default: 62]").value_parser(
-        value_parser!(u32).range(1..=62),
-    );
     let workers = number_word(
         alloc,
         "workers",
@@ -217,18 +290,7 @@ fn with_numbers<'a>(alloc: Global, command: Command<'a>) -> Result<Command<'a>, 
         "Seconds after which an idle session ends; 0 is never [default: 600]",
     )
     .value_parser(value_parser!(u64).range(0..=1_000_000_000));
-    let limit = number_word(
-        alloc,
-        "limit",
-        "Edits of a generation, 1 to 1000000 [default: 1000000]",
-    )
-    .value_parser(value_parser!(u64).range(1..=1_000_000));
-    command
-        .arg(seats)?
-        .arg(workers)?
-        .arg(keep)?
-        .arg(idle)?
-        .arg(limit)
+    command.arg(workers)?.arg(keep)?.arg(idle)
 }
 
 fn number_word<'a>(alloc: Global, name: &'a str, help: &'a str) -> Arg<'a> {
