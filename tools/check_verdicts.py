@@ -10,7 +10,7 @@ import sys
 
 import verdicts
 from body_lists import place_in
-from functions import refused_function, without_bodies
+from functions import refused_function, without_bodies, without_layout
 from try_wrong_bodies import judged, told
 
 NOT_PROVED = "logic=not-proved"
@@ -82,6 +82,18 @@ def faults_of_contracts():
     yield None if "    side\n" in without_bodies(constant) else "the body of a const fn is gone"
 
 
+def faults_of_layout():
+    """As faults_of_parsing."""
+    clause = 'ensures { a "b  // c" \'"\' } // d'
+    for what, text, is_same in (
+        ("a broken line and a comment", 'ensures {\n    // e\n    a "b  // c" \'"\'\n}\n', True),
+        ("a word", clause.replace("a ", "e ", 1), False),
+        ("space in a text", clause.replace("b  //", "b //"), False),
+        ("space that is gone", clause.replace("ensures {", "ensures{"), False),
+    ):
+        yield None if (without_layout(text) == without_layout(clause)) == is_same else f"{what}: without layout it reads {without_layout(text)!r}"
+
+
 def faults_of_places():
     """As faults_of_parsing."""
     source = f"const LIMIT: u32 = 1;\n\n{SOURCE}"
@@ -123,7 +135,7 @@ def faults_of_samples():
 
 
 def main():
-    found = [*faults_of_parsing(), *faults_of_contracts(), *faults_of_places(), *faults_of_records(), *faults_of_samples()]
+    found = [*faults_of_parsing(), *faults_of_contracts(), *faults_of_layout(), *faults_of_places(), *faults_of_records(), *faults_of_samples()]
     failures = [it for it in found if it]
     print(*failures, sep="\n", end="\n" if failures else "")
     print(f"{len(found) - len(failures)} passed, {len(failures)} failed")

@@ -7,6 +7,8 @@ from dataclasses import dataclass
 HEAD = re.compile(r"( *)(?:pub(?:\([a-z]+\))? )?(?:const )?fn (\w+)")
 # A goal of the prover's own, by its place in the source.
 GOAL = re.compile(r"(?:note: )?(?:\./)?(src/\S+\.rt):(\d+):\d+: (?:error: |it is not proved)")
+# A text or a character, which stay as they are; or what lays a source out: space and comments.
+LAYOUT = re.compile(r"""("(?:\\.|[^"\\])*"|'(?:\\.|[^'\\\n])')|(?:\s|//[^\n]*)+""")
 # An answer of a proof file, which stands in a folder with the function's name.
 ANSWER = re.compile(r"(?:note: )?(?:\./)?proofs/(?:\S+/)?(\w+)/\w+\.antt:\d+:\d+: error")
 
@@ -57,6 +59,11 @@ def without_bodies(text):
         if not re.search(r"\bconst fn ", lines[it.begins - 1]):
             del lines[it.opens:it.ends - 1]
     return "\n".join(it for it in lines if not it.lstrip().startswith("//"))
+
+
+def without_layout(text):
+    """A source without its comments and with one space wherever there is space: how it is laid out changes no goal of the prover."""
+    return LAYOUT.sub(lambda it: it[1] or " ", text).strip()
 
 
 def changed_functions(old, new):

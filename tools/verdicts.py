@@ -7,7 +7,7 @@ import hashlib
 import subprocess
 from functools import cache
 
-from functions import without_bodies
+from functions import without_bodies, without_layout
 from repository import SOURCES, TOP, below, lines
 
 REFUSED = "refused"
@@ -49,12 +49,13 @@ def all_of(crate):
 
 
 def checksum(name):
-    """The checksum of what the verdicts of a crate's wrong bodies rest on: all of its sources, the edits, and what it sees of the crates below."""
+    """The checksum of what the verdicts of a crate's wrong bodies rest on: all of its sources, the edits, and what it sees of the crates below.
+    How a source is laid out is left out: a clause may be broken at another place."""
     known, under = lines(), below(name)
     found = hashlib.sha256(repr([logic(), [known[it] for it in [*under, name]], (TOP / "HANDLES").read_text()]).encode())
     texts = [*((it, it.read_text()) for it in edits_of(name)), *all_of(name), *(pair for it in under for pair in seen_from_above(it))]
     for path, text in texts:
-        found.update(repr((str(path.relative_to(TOP)), text)).encode())
+        found.update(repr((str(path.relative_to(TOP)), without_layout(text) if path.suffix == ".rt" else text)).encode())
     return found.hexdigest()
 
 
