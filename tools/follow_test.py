@@ -57,6 +57,10 @@ MOST_GROWTH = 24 * 1024
 """By how many KiB more than in the first turn slow followers may hold in the last one, when there is more that they don't read."""
 SLOW_ONES = 20
 TURN = 0.7
+ESTABLISHED = "01"
+"""How /proc/net/tcp says that a connection stands."""
+LONG = 50_000
+"""How many edits a long history has: more than fit between a server and a follower that does not read."""
 LATE = 3.0
 """How many seconds after an edit's reply its line may come at most, in 99 of 100."""
 WAIT = 60
@@ -407,14 +411,19 @@ def quiet(room, given):
 
 # -- a long history ----------------------------------------------------------------------------------------------------
 
-def long_history(room, given):
-    """A server that begins with many edits: followers that have all, some or none of them come as soon as it listens."""
-    folder, count = Path(room, "long"), 50_000
+def write_long_history(folder):
+    """Writes a journal of LONG edits: a shape, and poses of it."""
     with start(folder) as server, server.connect() as canvas:
         canvas.ask(verb="create", shape={"kind": "rect", "w": 9, "h": 9, "fill": "ff0000"})
-    poses = ({"dx": k % 90, "dy": 0, "flip": False, "quarter": 0} for k in range(1, count))
+    poses = ({"dx": k % 90, "dy": 0, "flip": False, "quarter": 0} for k in range(1, LONG))
     lines = [line + b"\n" for line in kept_lines(folder)] + [line_of({"id": 1, "pose": pose, "verb": "pose"}) for pose in poses]
     (folder / "1" / JOURNAL).write_bytes(b"".join(b" " + line for line in lines))
+
+
+def long_history(room, given):
+    """A server that begins with many edits: followers that have all, some or none of them come as soon as it listens."""
+    folder, count = Path(room, "long"), LONG
+    write_long_history(folder)
     with start(folder) as server, Feed.connect(server.feeds[0], count, seconds=WAIT) as all_known:
         feeds = [Feed.connect(server.feeds[0], since, opening=True, generation=1, seconds=WAIT) for since in (count - 1, count - 1023, 1024, 1023, 1, 0)]
         with server.connect() as canvas:
@@ -520,14 +529,30 @@ def read_slowly(socks, seconds):
         time.sleep(min(1, left))
 
 
+def waiting(address):
+    """How many bytes the system holds that were sent from an address and not taken: the fifth field of a line of /proc/net/tcp has them, in front."""
+    port = f":{int(address.rsplit(':', 1)[1]):04X}"
+    rows = [row.split() for row in Path("/proc/net/tcp").read_text().splitlines()[1:]]
+    return sum(int(row[4].split(":")[0], 16) for row in rows if row[1].endswith(port) and row[3] == ESTABLISHED)
+
+
+def fill(address):
+    """Waits until slow followers have what fits between them and the server: for a while nothing more is on its way to them."""
+    end, before, now = time.monotonic() + WAIT, None, waiting(address)
+    while before != now:
+        if time.monotonic() > end:
+            raise Fault("slow followers get more and more")
+        time.sleep(TURN / 2)
+        before, now = now, waiting(address)
+
+
 def turns(server, count):
-    """Times with slow followers and without, in turn: the begin and the end of each, and the server's memory after it. Before each there is time for the
-    followers to get what fits between them and the server."""
+    """Times with slow followers and without, in turn: the begin and the end of each, and the server's memory after it."""
     found = []
     for _ in range(count):
         for is_slow in (False, True):
             socks = [asking(server.feeds[0]) for _ in range(2 * SLOW_ONES)] if is_slow else []
-            time.sleep(TURN / 2)
+            fill(server.feeds[0])
             begin = time.monotonic()
             read_slowly(socks[:SLOW_ONES], TURN)
             found.append((is_slow, begin, time.monotonic(), server.number("VmRSS")))
@@ -537,7 +562,9 @@ def turns(server, count):
 
 
 def slow(room, given):
-    with start(Path(room, "slow")) as server:
+    folder = Path(room, "slow")
+    write_long_history(folder)
+    with start(folder) as server:
         editors = desks(server.address, 12, f"{given.seed} slow")
         time.sleep(1)
         found = turns(server, given.turns)
