@@ -4,12 +4,11 @@
 usage: bench/serve.py [seconds for each server and line, 3 where it is left out]
 
 Clients in C (bench/serve_client.c) each send a request when they have the last reply: points, small edits (poses) and tiles over a
-hundred records, by 1, 8 and 60 clients. The tiles are windows of a tile's size that are each asked once in 2,048, so that they are
-painted anew. Beside the program an echo server has a thread for each connection and answers as many bytes; it is the limit of the
+hundred records, by 1, 8 and 60 clients. The tiles are windows of a tile's size, 2,048 for each client, so that they are painted
+anew. Beside the program an echo server has a thread for each connection and answers as many bytes; it is the limit of the
 loopback. The two are asked in three turns, which share the seconds, so that both see the machine as fast as it is then. Printed are the
 mean of the rates and the medians of the turns' p50 and p99, and the greatest memory of the program. Then 8 and 60 clients ask for the
-same 64 tiles again and again, eight for each client, in turn with tiles that are painted anew. Last 60 viewers ask for 20 tiles a
-second each.
+same 64 tiles again and again, each for all, in turn with tiles that are painted anew. Last 60 viewers ask for 20 tiles a second each.
 """
 
 import re
@@ -53,9 +52,15 @@ def running(words):
         server.wait()
 
 
-def asked(client, port, what, clients, seconds, pace=()):
+def asked_and_counted(client, port, what, clients, seconds, pace=()):
+    """The rate, the two times, and how many requests were answered."""
     words = [client, "ask", str(port), what, str(clients), str(seconds), *map(str, pace)]
     return [float(word) for word in subprocess.run(words, stdout=subprocess.PIPE, check=True).stdout.split()]
+
+
+def asked(client, port, what, clients, seconds, pace=()):
+    """The rate and the two times."""
+    return asked_and_counted(client, port, what, clients, seconds, pace)[:3]
 
 
 def memory_of(server):
@@ -115,12 +120,12 @@ def measure(client, file, seconds):
 
 
 def measure_kept(client, server, port, seconds):
-    """The same 64 tiles, which a seat may keep, beside tiles that are painted anew."""
+    """The same 64 tiles, which the server may keep, beside tiles that are painted anew."""
     with echoed(client, TILE) as echo_port:
         for clients in (8, 60):
             anew, anew_half, anew_most = asked(client, port, "tiles", clients, seconds)
-            rate, half, most = asked(client, port, "same", clients, seconds)
-            fixed, _, _ = asked(client, echo_port, "same", clients, seconds)
+            rate, half, most = asked(client, port, "shared", clients, seconds)
+            fixed, _, _ = asked(client, echo_port, "shared", clients, seconds)
             print(f"the same 64 tiles, {clients} clients: {rate:,.0f} requests/s, p50 {half:.0f}, p99 {most:.0f} microseconds; "
                   f"painted anew {anew:,.0f} requests/s, {anew_half:.0f}, {anew_most:.0f}; ratio {rate / anew:.2f}; "
                   f"share of fixed bytes {rate / fixed:.2f}, anew {anew / fixed:.2f}; memory {memory_of(server)} KiB", flush=True)

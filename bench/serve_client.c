@@ -4,11 +4,12 @@
 //                                                          with A_SECOND each sends so many a second
 //   serve_client echo PORT BYTES                           a thread for each connection: answers each line with BYTES bytes
 //
-// WHAT is points, edits (poses), tiles, ahead, same or beside. Pictures are as large as a tile: `tiles` are 2,048 windows about the page's origin in
-// turn, and so are those of `ahead`, whose clients each have eight more requests on their way; of `same` there are 64 in all, of which each client asks
-// for eight in turn; `beside` is the same away from the page's first tiles.
+// WHAT is points, edits (poses), or windows as large as a tile. Of `tiles` each client has 2,048 of its own about the page's origin, and asks for one
+// after the other, so that they are painted anew; of `ahead` too, with eight more requests on their way; of `common` all clients have the same 2,048.
+// Of `same` there are 64 in all, of which each client asks for eight in turn; `shared` are these 64, each client asks for all; `beside` is as `same`,
+// away from the page's first tiles.
 //
-// `ask` prints a line: requests a second, and the times that half and 99 of 100 requests do not exceed, in microseconds.
+// `ask` prints a line: requests a second, the times that half and 99 of 100 requests do not exceed, in microseconds, and how many were answered.
 #define _GNU_SOURCE
 #include <arpa/inet.h>
 #include <netinet/tcp.h>
@@ -87,10 +88,20 @@ static int window_at(char *line, long x, long y) {
     return sprintf(line, "{\"verb\":\"patch\",\"x\":%ld,\"y\":%ld,\"w\":256,\"h\":256}\n", x, y);
 }
 
+// The n-th of a client's 2,048 windows.
+static int one_of_many(char *line, long n, long client) {
+    return window_at(line, n % 2 * 256 - n / 2 % 32 - client % 8 * 32, -(n / 64 % 32) - client / 8 * 32);
+}
+
 static int request_of(const Client *client, size_t n, char *line) {
     if (strcmp(client->what, "points") == 0) return sprintf(line, "{\"verb\":\"point\",\"x\":%zu,\"y\":%zu}\n", n % 211, n % 199);
-    if (strcmp(client->what, "tiles") == 0 || strcmp(client->what, "ahead") == 0) return window_at(line, n % 2 * 256 - n / 2 % 32, -(n / 64 % 32));
+    if (strcmp(client->what, "tiles") == 0 || strcmp(client->what, "ahead") == 0) return one_of_many(line, n, client->number);
+    if (strcmp(client->what, "common") == 0) return one_of_many(line, n, 0);
     if (strcmp(client->what, "same") == 0) return window_at(line, n % 2 * 256 - n / 2 % 4, -(client->number % 8));
+    if (strcmp(client->what, "shared") == 0) {
+        long place = (n + client->number * 7) % 64;
+        return window_at(line, place % 2 * 256 - place / 2 % 4, -(place / 8));
+    }
     if (strcmp(client->what, "beside") == 0) return window_at(line, 256 + n % 8 * 256, 256 + client->number % 8 * 256);
     return sprintf(line, "{\"verb\":\"pose\",\"id\":%d,\"pose\":{\"dx\":%zu}}\n", 1 + client->number % 10, n % 200);
 }
@@ -142,7 +153,7 @@ static void ask(int port, const char *what, int clients, double seconds, double 
     ended = now();
     if (count == 0) stop("no reply");
     qsort(times, count, sizeof *times, rising);
-    printf("%.0f %.1f %.1f\n", count / (ended - begin), times[count / 2] / 1e3, times[count - 1 - count / 100] / 1e3);
+    printf("%.0f %.1f %.1f %zu\n", count / (ended - begin), times[count / 2] / 1e3, times[count - 1 - count / 100] / 1e3, count);
 }
 
 typedef struct {
@@ -189,6 +200,6 @@ int main(int count, char **words) {
         echo(atoi(words[2]), strtoul(words[3], NULL, 10));
         return 1;
     }
-    fputs("usage: serve_client ask PORT points|edits|tiles|ahead|same|beside CLIENTS SECONDS [A_SECOND] | echo PORT BYTES\n", stderr);
+    fputs("usage: serve_client ask PORT points|edits|tiles|ahead|common|same|shared|beside CLIENTS SECONDS [A_SECOND] | echo PORT BYTES\n", stderr);
     return 2;
 }

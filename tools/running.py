@@ -200,8 +200,9 @@ class Running:
 
 
 def default_signals():
-    """A shell has Ctrl-C ignored by what it starts in the background."""
-    signal.signal(signal.SIGINT, signal.SIG_DFL)
+    """A shell has Ctrl-C ignored by what it starts in the background, and nohup the end of a terminal."""
+    for number in (signal.SIGINT, signal.SIGHUP):
+        signal.signal(number, signal.SIG_DFL)
 
 
 def kept_words(folder, *more):

@@ -11,7 +11,8 @@ use std::alloc::Global;
 /// What a document is made of.
 #[derive(Clone, Copy)]
 pub enum Part {
-    /// A rectangle with sides up to so many pixels, spread over the page's first tile and beyond it on all sides.
+    /// A rectangle with sides up to so many pixels, spread over the page's first tile and beyond it
+    /// on all sides.
     Rectangle(u32),
     /// An ellipse like that.
     Ellipse(u32),
@@ -23,8 +24,8 @@ pub enum Part {
     Square(u32),
     /// A rectangle with sides of 20 to 300 on the page, which lies below 600 in both directions.
     Large,
-    /// A frame on the page, which lies below a size in both directions, in it a frame and a group, and in each of these eleven
-    /// shapes.
+    /// A frame on the page, which lies below a size in both directions, in it a frame and a group,
+    /// and in each of these eleven shapes.
     Nest(u32),
     /// A star of 256 vertices, 200 across, on the page.
     Star,

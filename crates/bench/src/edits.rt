@@ -25,8 +25,8 @@ const RESTORED: usize = 21;
 /// How many records a document has of which each layout is timed.
 const MANY: u32 = 4_096;
 
-/// The documents: what their layout is called, the layout, and how many records they have. Those that are made shape by
-/// shape have other numbers too, by which the growth of costs is seen.
+/// The documents: what their layout is called, the layout, and how many records they have. Those
+/// that are made shape by shape have other numbers too, by which the growth of costs is seen.
 const DOCUMENTS: [(&str, Layout, u32); 9] = [
     ("grouped", Layout::Grouped, MANY),
     ("triangles", Layout::Triangles, MANY),
@@ -177,7 +177,8 @@ fn time_call<R: Clock>(
     Ok((decided, made))
 }
 
-/// The mean time in which an edit is decided and made, and the document dropped that it made, some times in turn.
+/// The mean time in which an edit is decided and made, and the document dropped that it made, some
+/// times in turn.
 fn time_in_turn<R: Clock>(
     rt: &R,
     alloc: Global,

@@ -1,5 +1,5 @@
-//! Times parts of the product: `bench SUBJECT`, with the word for one of them. Without a word it prints how it is
-//! called and ends.
+//! Times parts of the product: `bench SUBJECT`, with the word for one of them. Without a word it
+//! prints how it is called and ends.
 #![tactic(auto)]
 
 mod drawings;

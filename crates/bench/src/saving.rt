@@ -1,4 +1,5 @@
-//! Times opening and saving: standard input holds a saved document, and the least times of some rounds are printed.
+//! Times opening and saving: standard input holds a saved document, and the least times of some
+//! rounds are printed.
 
 use crate::fault::Fault;
 use crate::times::{now, since};

@@ -8,8 +8,8 @@ use crate::times::warm_up;
 use canvas_doc::Document;
 use tiles::{Cost, Memory, mean};
 
-/// The documents: what each is called; its seed, its parts and how many they are; how far from the origin its tiles lie at
-/// most, and how many they are.
+/// The documents: what each is called; its seed, its parts and how many they are; how far from the
+/// origin its tiles lie at most, and how many they are.
 const DOCUMENTS: [(&str, (u64, Part, u32), u32, u32); 5] = [
     ("10 rectangles", (1, Part::Large, 10), 500, 400),
     (

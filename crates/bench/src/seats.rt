@@ -27,8 +27,8 @@ enum Work {
     AtOnce(usize),
 }
 
-/// What is timed at lines of 100 records, with how many seats: looks in turn, looks at once, looks beside an editor, and
-/// edits at once.
+/// What is timed at lines of 100 records, with how many seats: looks in turn, looks at once, looks
+/// beside an editor, and edits at once.
 const WORKS: [(u32, Work); 12] = [
     (1, Work::LooksInTurn),
     (4, Work::LooksInTurn),
@@ -101,7 +101,8 @@ fn time_at<B: Lines + Send + Sync, R: Clock + Print + Threads + Wait + Sync>(
     seats: u32,
     work: Work,
 ) -> Result<(), Fault>
-    requires { B.line 1 ≡ record { book = opened.head.word.book; opening = document; limit = 1000000 } }
+    requires { B.line 1
+        ≡ record { book = opened.head.word.book; opening = document; limit = 1000000 } }
 {
     let records = document.count();
     let seats = Line::open::<B, R>(rt, alloc, opened, 1, document, seats, 1_000_000)?;

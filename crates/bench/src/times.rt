@@ -3,7 +3,8 @@
 use crate::fault::Fault;
 use std::time::Clock;
 
-/// How many nanoseconds the processor is kept busy before anything is timed, for it comes to its speed only then.
+/// How many nanoseconds the processor is kept busy before anything is timed, for it comes to its
+/// speed only then.
 const WARM_UP: u64 = 300_000_000;
 
 /// Ends well where the clock can be read, as `now` reads it.

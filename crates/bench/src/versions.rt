@@ -1,4 +1,5 @@
-//! Measures the memory of a version that differs from the one before by a pose: what the system says that the program has.
+//! Measures the memory of a version that differs from the one before by a pose: what the system
+//! says that the program has.
 
 use crate::edits::layouts::{self, Layout};
 use crate::fault::Fault;
@@ -17,7 +18,8 @@ const SIZES: [u32; 5] = [10, 100, 1_000, 4_096, 16_384];
 /// How many bytes a page of memory has.
 const PAGE: u64 = 4_096;
 
-/// Keeps versions of documents of several sizes, all records on the page, and prints the memory that each takes more.
+/// Keeps versions of documents of several sizes, all records on the page, and prints the memory
+/// that each takes more.
 pub fn measure_all(rt: &HostRuntime) -> Result<(), Fault> {
     // None goes before the last is measured: memory that was given back would serve the next ones.
     let mut versions = Vec::with_capacity(rt.alloc(), SIZES.len() * (VERSIONS as usize + 1))?;

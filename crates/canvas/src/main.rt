@@ -1,7 +1,8 @@
 //! The program `canvas`: one design document, edited and looked at by lines of JSON.
 //!
-//! `canvas script [workers]` serves standard input to standard output, beginning with an empty document.
-//! `canvas serve <address> <file> [workers]` serves a saved document to the connections that come to an address.
+//! `canvas script [workers]` serves standard input to standard output, beginning with an empty
+//! document. `canvas serve <address> <file> [workers]` serves a saved document to the connections
+//! that come to an address.
 #![tactic(auto)]
 
 ghost use Rattle.std.specs.Prelude.{◌≡◌, [], IfOk, Ok};
@@ -42,7 +43,7 @@ const LIMIT: u64 = 1_000_000;
 /// How many sessions a server has at once.
 const SEATS: u32 = 63;
 
-/// How many pictures each seat keeps.
+/// How many pictures are kept for each seat; all seats share them.
 const KEEP: u32 = 8;
 
 /// Why the program ends other than by the end of its input.
@@ -202,7 +203,8 @@ fn serve_empty<H: Threads + Wait + Sync, R: Read, W: Write>(
 
 /// The board of one caller over an empty document.
 fn empty_board(alloc: Global) -> Result<Alone, Fault>
-    ensures { IfOk result (λ board. board ≡ alone_board (record { records = []; next = 1 }) 1000000 []) }
+    ensures { IfOk result
+        (λ board. board ≡ alone_board (record { records = []; next = 1 }) 1000000 []) }
 {
     Ok(Alone::new(alloc, Document::empty(alloc), LIMIT)?)
 }

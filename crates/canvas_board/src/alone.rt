@@ -42,9 +42,14 @@ impl Model for Alone {
 
     ghost Value = { Seen };
 
-    ghost view = { λ a. record { opening = a.opening.value; limit = a.limit; front = a.history; alone = true } };
+    ghost view = { λ a.
+        record { opening = a.opening.value; limit = a.limit; front = a.history; alone = true } };
 
-    ghost invariant = { λ a. (a.document ≡ replay_of a.opening.value a.history) × (a.number ≡ length a.history) × (a.number ≤ a.limit) × (a.limit ≤ 1000000) × AllFit a.opening.value a.history };
+    ghost invariant = { λ a. (a.document ≡ replay_of a.opening.value a.history)
+        × (a.number ≡ length a.history)
+        × (a.number ≤ a.limit)
+        × (a.limit ≤ 1000000)
+        × AllFit a.opening.value a.history };
 }
 
 impl Alone {

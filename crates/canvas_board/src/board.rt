@@ -14,8 +14,9 @@ use std::thread::Threads;
 
 /// A document that is edited and looked at, by one caller alone or beside others.
 ///
-/// A board is seen as the document that it was opened with, the limit of accepted changes, the accepted changes that it
-/// has told of (its front), and whether it is alone. Calls change the front alone, and a front only grows.
+/// A board is seen as the document that it was opened with, the limit of accepted changes, the
+/// accepted changes that it has told of (its front), and whether it is alone. Calls change the
+/// front alone, and a front only grows.
 pub trait Board {
     ghost seen: { Self → Seen };
 

@@ -29,7 +29,9 @@ impl<B: Lines> Model for Exported<B> {
 
     ghost view = { λ e. e.at };
 
-    ghost invariant = { λ e. ((arc_value e.text).items ≡ saved_text_of (replay_of e.at.opening e.at.front)) × (vec_len (arc_value e.text) ≤ 2 ^ 40) };
+    ghost invariant = { λ e.
+        ((arc_value e.text).items ≡ saved_text_of (replay_of e.at.opening e.at.front))
+        × (vec_len (arc_value e.text) ≤ 2 ^ 40) };
 }
 
 impl<B: Lines> Exported<B> {
@@ -42,9 +44,11 @@ impl<B: Lines> Exported<B> {
         Exported { at, text }
     }
 
-    /// The text, if it is that of the document at this mark. `None` too where it could not be shared once more.
+    /// The text, if it is that of the document at this mark. `None` too where it could not be
+    /// shared once more.
     pub(crate) fn text_at(&self, at: &Mark<B>) -> Option<Arc<Vec<u8>, Global>>
-        ensures saved { IfSome result (λ text. (arc_value text).items ≡ saved_text_of (replay_of at.now.opening at.now.front)) }
+        ensures saved { IfSome result (λ text. (arc_value text).items
+            ≡ saved_text_of (replay_of at.now.opening at.now.front)) }
         ensures small { IfSome result (λ text. vec_len (arc_value text) ≤ 2 ^ 40) }
     {
         if self.at.is_at(at) {

@@ -47,7 +47,8 @@ impl Coded for BoardFault {
     }
 }
 
-/// What a board answers where its seat is refused. A line without a free seat is a document that can't be entered.
+/// What a board answers where its seat is refused. A line without a free seat is a document that
+/// can't be entered.
 impl From<LineFault> for BoardFault {
     ghost use Rattle.std.specs.Prelude.{◌≡◌};
     ghost use Rattle.canvas_board.specs.Fault.{board_fault_of};

@@ -15,8 +15,8 @@ use std::alloc::Global;
 use std::mem::replace;
 use std::sync::{Arc, Mutex};
 
-/// The text of the last export, which the boards of a line share. One text is kept at most. Nobody waits for it: where another
-/// board has it in hand, a text is made anew.
+/// The text of the last export, which the boards of a line share. One text is kept at most. Nobody
+/// waits for it: where another board has it in hand, a text is made anew.
 #[derive(Drop)]
 pub struct LastExport<B: Lines> {
     // There unless memory for it could not be had.
@@ -40,7 +40,8 @@ impl<B: Lines> LastExport<B> {
         LastExport { place }
     }
 
-    /// The saved text of the document at a mark: the one that is kept, where it is of this version; else it is made, and kept.
+    /// The saved text of the document at a mark: the one that is kept, where it is of this version;
+    /// else it is made, and kept.
     pub(crate) fn text_at(
         &self,
         alloc: Global,
@@ -63,7 +64,8 @@ impl<B: Lines> LastExport<B> {
 
     // The kept text, if it is that of the document at this mark, and no other board has it in hand.
     fn kept_at(&self, at: &Mark<B>) -> Option<Arc<Vec<u8>, Global>>
-        ensures saved { IfSome result (λ text. (arc_value text).items ≡ saved_text_of (replay_of at.now.opening at.now.front)) }
+        ensures saved { IfSome result (λ text. (arc_value text).items
+            ≡ saved_text_of (replay_of at.now.opening at.now.front)) }
         ensures small { IfSome result (λ text. vec_len (arc_value text) ≤ 2 ^ 40) }
     {
         let guard = self.place.as_ref()?.try_lock()?;

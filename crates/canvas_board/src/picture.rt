@@ -15,7 +15,8 @@ use std::alloc::Global;
 use std::sync::Arc;
 use std::thread::Threads;
 
-/// The P6 file of a window of a document, painted by 1 to 16 workers, ready to be shared. The arena holds the scene until its next reset.
+/// The P6 file of a window of a document, painted by 1 to 16 workers, ready to be shared. The arena
+/// holds the scene until its next reset.
 #[tactic(auto, unfolding(crate::specs::Raster::file_of))]
 pub fn file_of<R: Threads + Sync>(
     rt: &R,
@@ -26,7 +27,8 @@ pub fn file_of<R: Threads + Sync>(
     workers: u32,
 ) -> Result<Arc<Vec<u8>, Global>, OutOfMemory>
     requires { are_workers workers ≡ true }
-    ensures file { IfOk result (λ bytes. (arc_value bytes).items ≡ file_of document.now window.now) }
+    ensures file { IfOk result
+        (λ bytes. (arc_value bytes).items ≡ file_of document.now window.now) }
     ensures small { IfOk result (λ bytes. vec_len (arc_value bytes) ≤ 2 ^ 40) }
 {
     let mut bytes = canvas_ppm::start(alloc, window.w(), window.h())?;

@@ -6,8 +6,8 @@ use crate::corners::{are_near, ends, greater, left_top, lesser, overlaps, right_
 use canvas_plane::{PageBox, Point, Pose};
 use canvas_shape::{Kind, bounds};
 
-/// A box of the plane of a shape's parent, outside of which nothing of the shape and of what lies below it shows.
-/// The one whose left edge is `i32::MIN` is the whole plane.
+/// A box of the plane of a shape's parent, outside of which nothing of the shape and of what lies
+/// below it shows. The one whose left edge is `i32::MIN` is the whole plane.
 #[derive(Clone, Copy, Debug, PartialEq, Eq)]
 pub struct Bounds {
     left: i32,
@@ -49,7 +49,8 @@ impl Bounds {
         }
     }
 
-    /// The box in which a shape of its own shows, where the pose carries it to its parent's plane. A group shows nothing of its own.
+    /// The box in which a shape of its own shows, where the pose carries it to its parent's plane.
+    /// A group shows nothing of its own.
     pub fn of_shape(kind: &Kind, pose: &Pose) -> Bounds
         requires kind { IsSound kind.now }
         requires quarter { pose.now.quarter ≤ 3 }
@@ -59,8 +60,8 @@ impl Bounds {
         Bounds::of_kind(kind).carried(pose)
     }
 
-    /// What the pose of a shape carries the box to: from the shape's own plane to its parent's. It is the whole plane where an
-    /// edge would lie too far from the origin.
+    /// What the pose of a shape carries the box to: from the shape's own plane to its parent's. It
+    /// is the whole plane where an edge would lie too far from the origin.
     pub fn carried(&self, pose: &Pose) -> Bounds
         requires quarter { pose.now.quarter ≤ 3 }
         requires reach { reach_of pose.now ≤ 2 ^ 20 }
@@ -107,8 +108,8 @@ impl Bounds {
         is_across & is_down
     }
 
-    /// The part of a plane that a box of the page shows, where `out` carries the plane to the page. It is the whole plane where
-    /// an edge would lie too far from the origin.
+    /// The part of a plane that a box of the page shows, where `out` carries the plane to the page.
+    /// It is the whole plane where an edge would lie too far from the origin.
     pub fn of_clip(out: &Pose, clip: &PageBox) -> Bounds
         requires quarter { out.now.quarter ≤ 3 }
         requires reach { reach_of out.now ≤ 2 ^ 26 }

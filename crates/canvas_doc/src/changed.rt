@@ -13,7 +13,8 @@ use canvas_record::{Change, Place, Record, Standing};
 use canvas_shape::Kind;
 use std::alloc::Global;
 
-// A record after a change, with its first owner. It is made in the call that gives it that, so that it need not be moved.
+// A record after a change, with its first owner. It is made in the call that gives it that, so that
+// it need not be moved.
 pub(crate) fn changed_by(
     alloc: Global,
     shape: &Record,
@@ -125,7 +126,8 @@ fn unchanged(alloc: Global, shape: &Record) -> Result<ListedRecord, OutOfMemory>
 // The only record that a change replaces, and its position, if there is one.
 pub(crate) fn changed_record<'a>(records: &'a Records, change: &Change) -> Option<Standing<'a>>
     requires { AreRising records.now }
-    ensures { MatchOption result (map (changed_by change.now) records.now ≡ records.now) (λ found. Replaces change.now records.now found.at found.shape.now) }
+    ensures { MatchOption result (map (changed_by change.now) records.now ≡ records.now)
+        (λ found. Replaces change.now records.now found.at found.shape.now) }
 {
     match changed_id(change) {
         Some(id) => locate(records, id),
@@ -135,7 +137,8 @@ pub(crate) fn changed_record<'a>(records: &'a Records, change: &Change) -> Optio
 
 // The id of the only record that a change replaces, if there is one.
 fn changed_id(change: &Change) -> Option<u32>
-    ensures { MatchOption result ((r : Record) → changed_by change.now r ≡ r) (λ id. (r : Record) → (r.id == id) ≡ false → changed_by change.now r ≡ r) }
+    ensures { MatchOption result ((r : Record) → changed_by change.now r ≡ r)
+        (λ id. (r : Record) → (r.id == id) ≡ false → changed_by change.now r ≡ r) }
 {
     match change {
         Change::Move { id, .. } => Some(*id),

@@ -47,7 +47,8 @@ struct Pixel {
 impl Pixel {
     // The box of this pixel alone.
     fn sides(self) -> PageBox
-        ensures { result ≡ record { left = self.x; top = self.y; right = self.x +ℤ pos 1; bottom = self.y +ℤ pos 1 } }
+        ensures { result
+            ≡ record { left = self.x; top = self.y; right = self.x +ℤ pos 1; bottom = self.y +ℤ pos 1 } }
     {
         let x = i64::from(self.x);
         let y = i64::from(self.y);

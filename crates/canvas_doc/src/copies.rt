@@ -12,7 +12,8 @@ use std::alloc::Global;
 impl Document {
     /// All records, in rising id.
     pub fn records_in_order(&self, alloc: Global) -> Result<Vec<&Record>, OutOfMemory>
-        ensures records { IfOk result (λ all. map (λ shape. shape.now) all.items ≡ self.now.records) }
+        ensures records { IfOk result
+            (λ all. map (λ shape. shape.now) all.items ≡ self.now.records) }
         ensures rising { AreRising self.now.records }
         ensures well_formed { IsWellFormed self.now }
     {

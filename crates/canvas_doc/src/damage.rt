@@ -28,13 +28,15 @@ use canvas_shape::{Carried, Kind};
 use std::ops::Range;
 
 impl Document {
-    /// The box of the page outside of which a change that fits leaves every colour as it was: the least one round the carried
-    /// boxes of all leaves and frames of the changed subtree, before and after the change, hidden ones too. It is 0, 0, 0, 0
-    /// where there are none, and for `Respace`.
+    /// The box of the page outside of which a change that fits leaves every colour as it was: the
+    /// least one round the carried boxes of all leaves and frames of the changed subtree, before
+    /// and after the change, hidden ones too. It is 0, 0, 0, 0 where there are none, and for
+    /// `Respace`.
     pub fn damage(&self, change: &Change) -> PageBox
         requires { Fits change.now self.now }
         ensures value { result ≡ damage_of change.now self.now }
-        ensures outside { (x y : ℤ) → is_in result x y ≡ false → colour (effect_of change.now self.now).records x y ≡ colour self.now.records x y }
+        ensures outside { (x y : ℤ) → is_in result x y ≡ false
+            → colour (effect_of change.now self.now).records x y ≡ colour self.now.records x y }
     {
         let records = &self.records;
         match change {
@@ -69,7 +71,9 @@ fn extent_at(document: &Document, id: u32) -> PageBox
 
 // The extents of a shape as it stands and in another place, the same under the same parent.
 fn moved_extents(document: &Document, id: u32, place: &Place) -> PageBox
-    ensures { (r : Record) → record_of id document.now.records ≡ Some r → result ≡ hull_of (extent_at id document.now.records) (extent_on_page document.now.records (Some (record r { place = place.now }))) }
+    ensures { (r : Record) → record_of id document.now.records ≡ Some r
+        → result ≡ hull_of (extent_at id document.now.records)
+        (extent_on_page document.now.records (Some (record r { place = place.now }))) }
 {
     match find(&document.records, id) {
         Some(shape) => {
@@ -90,7 +94,9 @@ fn moved_extents(document: &Document, id: u32, place: &Place) -> PageBox
 fn posed_extents(document: &Document, id: u32, pose: &Pose) -> PageBox
     requires quarter { pose.now.quarter ≤ 3 }
     requires reach { reach_of pose.now ≤ 2 ^ 20 }
-    ensures { (r : Record) → record_of id document.now.records ≡ Some r → result ≡ hull_of (extent_at id document.now.records) (extent_on_page document.now.records (Some (record r { pose = pose.now }))) }
+    ensures { (r : Record) → record_of id document.now.records ≡ Some r
+        → result ≡ hull_of (extent_at id document.now.records)
+        (extent_on_page document.now.records (Some (record r { pose = pose.now }))) }
 {
     match find(&document.records, id) {
         Some(shape) => {
@@ -106,7 +112,9 @@ fn posed_extents(document: &Document, id: u32, pose: &Pose) -> PageBox
 // The extents of a shape as it stands and with another kind.
 fn reshaped_extents(document: &Document, id: u32, kind: &Kind) -> PageBox
     requires { IsSound kind.now }
-    ensures { (r : Record) → record_of id document.now.records ≡ Some r → result ≡ hull_of (extent_at id document.now.records) (extent_on_page document.now.records (Some (record r { kind = kind.now }))) }
+    ensures { (r : Record) → record_of id document.now.records ≡ Some r
+        → result ≡ hull_of (extent_at id document.now.records)
+        (extent_on_page document.now.records (Some (record r { kind = kind.now }))) }
 {
     match find(&document.records, id) {
         Some(shape) => {
@@ -126,7 +134,8 @@ fn extent_alone(records: &Records, kind: &Kind, pose: &Pose, parent: Parent) -> 
     requires sound { IsSound kind.now }
     requires quarter { pose.now.quarter ≤ 3 }
     requires reach { reach_of pose.now ≤ 2 ^ 20 }
-    ensures { result ≡ hull_of (own_extent kind.now (λ q. to_page 31 records.now parent (carry pose.now q))) empty_box }
+    ensures { result ≡ hull_of
+        (own_extent kind.now (λ q. to_page 31 records.now parent (carry pose.now q))) empty_box }
 {
     let page = pose.then(&page_pose(records, STEPS, parent));
     own_extent(kind, &page).hull(&PageBox::EMPTY)
@@ -189,11 +198,13 @@ fn extent_of(
     pose: &Pose,
     out: &Pose,
 ) -> PageBox
-    requires leaf { is_container shape.now.kind ≡ false → All (λ r. is_child (Shape shape.now.id) r ≡ false) document.now.records }
+    requires leaf { is_container shape.now.kind ≡ false
+        → All (λ r. is_child (Shape shape.now.id) r ≡ false) document.now.records }
     requires limits { IsInLimits (record shape.now { kind = kind.now; pose = pose.now }) }
     requires quarter { out.now.quarter ≤ 3 }
     requires reach { reach_of out.now + (levels + 1) * 2 ^ 20 ≤ 2 ^ 26 }
-    ensures { result ≡ extent_of levels document.now.records (carry out.now) (record shape.now { kind = kind.now; pose = pose.now }) }
+    ensures { result ≡ extent_of levels document.now.records (carry out.now)
+        (record shape.now { kind = kind.now; pose = pose.now }) }
 {
     let page = pose.then(out);
     let own = own_extent(kind, &page);

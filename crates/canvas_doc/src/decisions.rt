@@ -71,8 +71,10 @@ fn decide_create(
     parent: Parent,
     spot: &Spot,
 ) -> Result<Change, Refusal>
-    ensures value { IsAnswer result (decision_of (Create kind.now pose.now hidden parent spot.now) document.now) }
-    ensures exact { takes_memory kind.now ≡ false → result ≡ decision_of (Create kind.now pose.now hidden parent spot.now) document.now }
+    ensures value { IsAnswer result
+        (decision_of (Create kind.now pose.now hidden parent spot.now) document.now) }
+    ensures exact { takes_memory kind.now ≡ false
+        → result ≡ decision_of (Create kind.now pose.now hidden parent spot.now) document.now }
     ensures key { IfOk result HasKey }
 {
     let index = create_index(document, kind, pose, parent, spot)?;
@@ -179,7 +181,8 @@ fn decide_pose(records: &Records, id: u32, pose: Pose) -> Result<Change, Refusal
 fn decide_reshape(alloc: Global, records: &Records, id: u32, kind: &Kind) -> Result<Change, Refusal>
     requires { AreRising records.now }
     ensures value { IsAnswer result (reshape_decision id kind.now records.now) }
-    ensures exact { takes_memory kind.now ≡ false → result ≡ reshape_decision id kind.now records.now }
+    ensures exact { takes_memory kind.now ≡ false
+        → result ≡ reshape_decision id kind.now records.now }
     ensures key { IfOk result HasKey }
 {
     judge_reshape(records, id, kind)?;

@@ -38,8 +38,11 @@ pub(crate) fn without_below(
 ) -> Result<Lists, OutOfMemory>
     requires rising { IsStrictlySortedBy comes_first whole.now.shapes }
     requires lists { AreLists lists.records lists.order.shapes lists.order.bounds }
-    ensures lists { IfOk result (λ after. AreLists after.records after.order.shapes after.order.bounds) }
-    ensures records { IfOk result (λ after. after.records ≡ filter (λ r. not (is_held (holders_below levels whole.now.shapes level.now) r)) lists.records) }
+    ensures lists { IfOk result
+        (λ after. AreLists after.records after.order.shapes after.order.bounds) }
+    ensures records { IfOk result (λ after. after.records
+        ≡ filter (λ r. not (is_held (holders_below levels whole.now.shapes level.now) r))
+        lists.records) }
 {
     if levels == 0 {
         return Ok(lists);
@@ -72,7 +75,8 @@ fn with_containers(
     ids: Vec<u32>,
 ) -> Result<Vec<u32>, OutOfMemory>
     requires { IsStrictlySortedBy comes_first order.now.shapes }
-    ensures { IfOk result (λ all. all.items ≡ ids.items ++ container_ids (filter (is_child (Shape holder)) order.now.shapes)) }
+    ensures { IfOk result (λ all. all.items
+        ≡ ids.items ++ container_ids (filter (is_child (Shape holder)) order.now.shapes)) }
 {
     let Range { start, end } = children_range(order, Parent::Shape(holder));
     let mut all = ids;
@@ -88,8 +92,10 @@ fn with_containers(
 // The lists without the children of some shapes.
 fn without_held(alloc: Global, holders: &[u32], lists: Lists) -> Result<Lists, OutOfMemory>
     requires { AreLists lists.records lists.order.shapes lists.order.bounds }
-    ensures lists { IfOk result (λ after. AreLists after.records after.order.shapes after.order.bounds) }
-    ensures records { IfOk result (λ after. after.records ≡ filter (λ r. not (is_held holders.now r)) lists.records) }
+    ensures lists { IfOk result
+        (λ after. AreLists after.records after.order.shapes after.order.bounds) }
+    ensures records { IfOk result
+        (λ after. after.records ≡ filter (λ r. not (is_held holders.now r)) lists.records) }
 {
     let mut left = lists;
     for holder in holders {
@@ -101,8 +107,10 @@ fn without_held(alloc: Global, holders: &[u32], lists: Lists) -> Result<Lists, O
 // The lists without the children of a shape.
 fn without_children(alloc: Global, holder: u32, lists: Lists) -> Result<Lists, OutOfMemory>
     requires { AreLists lists.records lists.order.shapes lists.order.bounds }
-    ensures lists { IfOk result (λ after. AreLists after.records after.order.shapes after.order.bounds) }
-    ensures records { IfOk result (λ after. after.records ≡ filter (λ r. not (is_child (Shape holder) r)) lists.records) }
+    ensures lists { IfOk result
+        (λ after. AreLists after.records after.order.shapes after.order.bounds) }
+    ensures records { IfOk result
+        (λ after. after.records ≡ filter (λ r. not (is_child (Shape holder) r)) lists.records) }
 {
     let Range { start, end } = children_range(&lists.order, Parent::Shape(holder));
     let records = without_range(alloc, lists.records, &lists.order, start, end)?;
@@ -123,7 +131,8 @@ fn without_range(
     requires rising { AreRising records }
     requires from { start ≤ end }
     requires within { end ≤ length order.now.shapes }
-    ensures { IfOk result (λ left. left ≡ filter (λ r. not (has_id_of (take (end - start) (drop start order.now.shapes)) r)) records) }
+    ensures { IfOk result (λ left. left ≡ filter
+        (λ r. not (has_id_of (take (end - start) (drop start order.now.shapes)) r)) records) }
 {
     let mut left = records;
     for at in start..end {
@@ -148,8 +157,10 @@ fn without_id(alloc: Global, records: Records, id: u32) -> Result<Records, OutOf
 // The lists without the record of an id.
 pub(crate) fn without_shape(alloc: Global, id: u32, lists: Lists) -> Result<Lists, OutOfMemory>
     requires { AreLists lists.records lists.order.shapes lists.order.bounds }
-    ensures lists { IfOk result (λ after. AreLists after.records after.order.shapes after.order.bounds) }
-    ensures records { IfOk result (λ after. after.records ≡ filter (λ r. not (r.id == id)) lists.records) }
+    ensures lists { IfOk result
+        (λ after. AreLists after.records after.order.shapes after.order.bounds) }
+    ensures records { IfOk result
+        (λ after. after.records ≡ filter (λ r. not (r.id == id)) lists.records) }
 {
     match position_of(&lists.records, id) {
         Some(at) => without_at(alloc, at, lists),
@@ -161,7 +172,8 @@ pub(crate) fn without_shape(alloc: Global, id: u32, lists: Lists) -> Result<List
 fn without_at(alloc: Global, at: usize, lists: Lists) -> Result<Lists, OutOfMemory>
     requires lists { AreLists lists.records lists.order.shapes lists.order.bounds }
     requires at { at < length lists.records }
-    ensures lists { IfOk result (λ after. AreLists after.records after.order.shapes after.order.bounds) }
+    ensures lists { IfOk result
+        (λ after. AreLists after.records after.order.shapes after.order.bounds) }
     ensures records { IfOk result (λ after. after.records ≡ remove lists.records at) }
 {
     let Lists {

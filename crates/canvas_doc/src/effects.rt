@@ -32,7 +32,8 @@ impl Document {
     pub fn with(&self, alloc: Global, change: &Change) -> Result<Document, OutOfMemory>
         requires { Fits change.now self.now }
         ensures effect { IfOk result (λ after. after ≡ effect_of change.now self.now) }
-        ensures colours { IfOk result (λ after. SpacesOnly change.now → (x y : ℤ) → colour after.records x y ≡ colour self.now.records x y) }
+        ensures colours { IfOk result (λ after. SpacesOnly change.now → (x y : ℤ)
+            → colour after.records x y ≡ colour self.now.records x y) }
     {
         let mut after = self.try_clone(alloc)?;
         after.apply(alloc, change)?;
@@ -77,8 +78,11 @@ impl Document {
 
     // Adds a record.
     fn add(&mut self, alloc: Global, shape: Record) -> Result<(), OutOfMemory>
-        requires { IsWellFormed (record { records = self.old.records ++ shape ∷ []; next = self.old.next + 1 }) }
-        ensures { self.new ≡ cond (is_ok result) (record { records = self.old.records ++ shape ∷ []; next = self.old.next + 1 }) self.old }
+        requires { IsWellFormed
+            (record { records = self.old.records ++ shape ∷ []; next = self.old.next + 1 }) }
+        ensures { self.new ≡ cond (is_ok result)
+            (record { records = self.old.records ++ shape ∷ []; next = self.old.next + 1 })
+            self.old }
     {
         let at = position_in(&self.order, &shape.place);
         let last = self.records.len();
@@ -151,8 +155,10 @@ impl Document {
     // Takes the record at a position away, below which nothing lies.
     fn remove_at(&mut self, alloc: Global, at: usize) -> Result<(), OutOfMemory>
         requires there { at < length self.old.records }
-        requires well_formed { IsWellFormed (record { records = remove self.old.records at; next = self.old.next }) }
-        ensures { self.new ≡ cond (is_ok result) (record { records = remove self.old.records at; next = self.old.next }) self.old }
+        requires well_formed { IsWellFormed
+            (record { records = remove self.old.records at; next = self.old.next }) }
+        ensures { self.new ≡ cond (is_ok result)
+            (record { records = remove self.old.records at; next = self.old.next }) self.old }
     {
         let from = position_in(&self.order, &self.records.at(at).value().place);
         self.order.change_both(
@@ -168,7 +174,8 @@ impl Document {
     // The position of a shape, if there is such a one and nothing lies below it.
     fn childless_position(&self, id: u32) -> Option<usize>
         ensures there { IfSome result (λ at. at < length self.now.records) }
-        ensures alone { IfSome result (λ at. effect_of (Delete id) self.now ≡ record { records = remove self.now.records at; next = self.now.next }) }
+        ensures alone { IfSome result (λ at. effect_of (Delete id) self.now
+            ≡ record { records = remove self.now.records at; next = self.now.next }) }
     {
         let found = locate(&self.records, id)?;
         if is_container(&found.shape.kind) {

@@ -32,7 +32,10 @@ fn bounds_for(order: &PlacedShapes, shape: &Record) -> Bounds
     requires rising { IsStrictlySortedBy comes_first order.now.shapes }
     requires limits { IsInLimits shape.now }
     ensures own { shape.now.hidden ≡ false → HoldsOwn shape.now.kind shape.now.pose result }
-    ensures below { (j : ℕ) (s : Record) (c : Bounds) → slice_get order.now.shapes j ≡ Some s → slice_get order.now.bounds j ≡ Some c → is_child (Shape shape.now.id) s ≡ true → shape.now.hidden ≡ false → shape.now.kind ≡ Group → IsCarriedWithin shape.now.pose c result }
+    ensures below { (j : ℕ) (s : Record) (c : Bounds) → slice_get order.now.shapes j ≡ Some s
+        → slice_get order.now.bounds j ≡ Some c → is_child (Shape shape.now.id) s ≡ true
+        → shape.now.hidden ≡ false → shape.now.kind ≡ Group
+        → IsCarriedWithin shape.now.pose c result }
 {
     if is_group(&shape.kind) && !shape.hidden {
         children_hull(order, shape.id).carried(&shape.pose)
@@ -44,7 +47,9 @@ fn bounds_for(order: &PlacedShapes, shape: &Record) -> Bounds
 // A box that holds what the bounds of a shape's children do.
 fn children_hull(order: &PlacedShapes, id: u32) -> Bounds
     requires { IsStrictlySortedBy comes_first order.now.shapes }
-    ensures { (j : ℕ) (s : Record) (c : Bounds) → slice_get order.now.shapes j ≡ Some s → slice_get order.now.bounds j ≡ Some c → is_child (Shape id) s ≡ true → IsWithinBounds c result }
+    ensures { (j : ℕ) (s : Record) (c : Bounds) → slice_get order.now.shapes j ≡ Some s
+        → slice_get order.now.bounds j ≡ Some c → is_child (Shape id) s ≡ true
+        → IsWithinBounds c result }
 {
     let Range { start, end } = children_range(order, Parent::Shape(id));
     order
@@ -53,8 +58,8 @@ fn children_hull(order: &PlacedShapes, id: u32) -> Bounds
         .summed_with(&Bounds::nowhere())
 }
 
-/// The bounds of a shape that has its place in the order, or is to have one there. Those of the groups above are made wider first where they
-/// do not hold them.
+/// The bounds of a shape that has its place in the order, or is to have one there. Those of the
+/// groups above are made wider first where they do not hold them.
 pub(crate) fn held_bounds_for(
     alloc: Global,
     records: &Records,
@@ -69,8 +74,12 @@ pub(crate) fn held_bounds_for(
     requires shape { IsInLimits shape.now }
     ensures shapes { order.new.shapes ≡ order.old.shapes }
     ensures bounds { AreBounds order.new.shapes order.new.bounds }
-    ensures own { IfOk result (λ b. shape.now.hidden ≡ false → HoldsOwn shape.now.kind shape.now.pose b) }
-    ensures below { IfOk result (λ b. (j : ℕ) (s : Record) (c : Bounds) → slice_get order.new.shapes j ≡ Some s → slice_get order.new.bounds j ≡ Some c → is_child (Shape shape.now.id) s ≡ true → shape.now.hidden ≡ false → shape.now.kind ≡ Group → IsCarriedWithin shape.now.pose c b) }
+    ensures own { IfOk result
+        (λ b. shape.now.hidden ≡ false → HoldsOwn shape.now.kind shape.now.pose b) }
+    ensures below { IfOk result (λ b. (j : ℕ) (s : Record) (c : Bounds)
+        → slice_get order.new.shapes j ≡ Some s → slice_get order.new.bounds j ≡ Some c
+        → is_child (Shape shape.now.id) s ≡ true → shape.now.hidden ≡ false → shape.now.kind ≡ Group
+        → IsCarriedWithin shape.now.pose c b) }
     ensures held { IfOk result (λ b. IsHeldAbove order.new.shapes order.new.bounds shape.now b) }
 {
     let bounds = bounds_for(order, shape);
@@ -87,8 +96,8 @@ pub(crate) fn held_bounds_for(
     }
 }
 
-/// The bounds at a position of the order, which a shape is to have. Those of the groups above the shape are made wider first where they do
-/// not hold them.
+/// The bounds at a position of the order, which a shape is to have. Those of the groups above the
+/// shape are made wider first where they do not hold them.
 pub(crate) fn held_bounds_at(
     alloc: Global,
     records: &Records,
@@ -136,8 +145,8 @@ fn is_held_above(records: &Records, order: &PlacedShapes, shape: &Record, bounds
     order.bounds_at(up).contains(&bounds.carried(&group.pose))
 }
 
-// Makes the bounds of the groups above wider to hold those of a shape that hangs in a parent or is to: the outermost group's first, so that
-// all hold what lies below them throughout.
+// Makes the bounds of the groups above wider to hold those of a shape that hangs in a parent or is
+// to: the outermost group's first, so that all hold what lies below them throughout.
 fn widen_above(
     alloc: Global,
     records: &Records,
@@ -291,9 +300,11 @@ fn raise(
     requires rising { AreRising records.now }
     requires limits { All IsInLimits records.now }
     requires at { at < length order.now }
-    requires above { (r : Record) → slice_get order.now at ≡ Some r → IsGroupPosition r.place.parent records.now order.now above }
+    requires above { (r : Record) → slice_get order.now at ≡ Some r
+        → IsGroupPosition r.place.parent records.now order.now above }
     requires but { HoldChildrenBut at order.now bounds.old }
-    requires reaches { (r : Record) → slice_get order.now at ≡ Some r → reaches_page steps records.now r.place.parent ≡ true }
+    requires reaches { (r : Record) → slice_get order.now at ≡ Some r
+        → reaches_page steps records.now r.place.parent ≡ true }
     ensures children { HoldChildren order.now bounds.new }
     ensures wider { AreWithin bounds.old bounds.new }
 {
@@ -317,7 +328,8 @@ fn raise(
 // The group that a parent is, where it is shown.
 fn shown_group(records: &Records, parent: Parent) -> Option<&Record>
     requires { AreRising records.now }
-    ensures { MatchOption (option_copied result) ((g : Record) → ¬ IsGroupAt parent records.now g) (IsGroupAt parent records.now) }
+    ensures { MatchOption (option_copied result) ((g : Record) → ¬ IsGroupAt parent records.now g)
+        (IsGroupAt parent records.now) }
 {
     let Parent::Shape(id) = parent else {
         return None;

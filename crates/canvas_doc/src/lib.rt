@@ -53,7 +53,8 @@ impl Model for Document {
 
     ghost view = { λ d. record { records = d.records; next = d.next } };
 
-    ghost invariant = { λ d. IsKeptInOrder (record { records = d.records; next = d.next }) d.order.shapes d.order.bounds };
+    ghost invariant = { λ d. IsKeptInOrder (record { records = d.records; next = d.next })
+        d.order.shapes d.order.bounds };
 }
 
 impl Document {

@@ -10,7 +10,8 @@ use canvas_record::{Record, Standing};
 // The record of an id, and its position.
 pub(crate) fn locate(records: &Records, id: u32) -> Option<Standing<'_>>
     requires { AreRising records.now }
-    ensures { MatchOption result (record_of id records.now ≡ None) (λ found. IsStanding records.now id found.at found.shape.now) }
+    ensures { MatchOption result (record_of id records.now ≡ None)
+        (λ found. IsStanding records.now id found.at found.shape.now) }
 {
     let found = records.found_near(hint_of_id(id), |shape| shape.id() < id);
     match found.item {
@@ -33,7 +34,8 @@ pub(crate) fn find(records: &Records, id: u32) -> Option<&Record>
 // The position of an id.
 pub(crate) fn position_of(records: &Records, id: u32) -> Option<usize>
     requires { AreRising records.now }
-    ensures { MatchOption result (record_of id records.now ≡ None) (λ at. StandsAt records.now id at) }
+    ensures { MatchOption result (record_of id records.now ≡ None)
+        (λ at. StandsAt records.now id at) }
 {
     Some(locate(records, id)?.at)
 }

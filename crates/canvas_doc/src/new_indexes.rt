@@ -58,8 +58,10 @@ fn respaced_children(
     requires rising { IsStrictlySortedBy comes_first order.now.shapes }
     requires children { AreChildrenWithin parent order.now.shapes start end }
     requires few { end ≤ start + most_records }
-    ensures shapes { IfOk result (λ children. (placements_of children.items).shapes ≡ map (respaced parent order.now.shapes) (filter (is_child parent) order.now.shapes)) }
-    ensures bounds { IfOk result (λ children. (placements_of children.items).bounds ≡ take (end - start) (drop start order.now.bounds)) }
+    ensures shapes { IfOk result (λ children. (placements_of children.items).shapes
+        ≡ map (respaced parent order.now.shapes) (filter (is_child parent) order.now.shapes)) }
+    ensures bounds { IfOk result (λ children. (placements_of children.items).bounds
+        ≡ take (end - start) (drop start order.now.bounds)) }
 {
     let mut all = order.reader();
     let mut children = Vec::with_capacity(alloc, end - start)?;
@@ -76,7 +78,8 @@ fn respaced_children(
 // A record with the index that stands for a rank, with its first owner.
 fn respaced(alloc: Global, shape: &Record, rank: u32) -> Result<Shared<Record>, OutOfMemory>
     requires { rank < most_records }
-    ensures { IfOk result (λ after. after ≡ record shape.now { place = record shape.now.place { index = fresh_key rank } }) }
+    ensures { IfOk result (λ after. after
+        ≡ record shape.now { place = record shape.now.place { index = fresh_key rank } }) }
 {
     Shared::new(
         alloc,
@@ -93,8 +96,9 @@ fn respaced(alloc: Global, shape: &Record, rank: u32) -> Result<Shared<Record>, 
     )
 }
 
-// Where no more than a few records change, or one in so many, each is replaced on its own, which copies a chunk and two tables
-// at most. Else a whole list is made, which counts up the owners of all.
+// Where no more than a few records change, or one in so many, each is replaced on its own, which
+// copies a chunk and two tables at most. Else a whole list is made, which counts up the owners of
+// all.
 const FEW_REPLACED: usize = 4;
 
 const RECORDS_FOR_EACH_REPLACED: usize = 64;
@@ -108,7 +112,8 @@ fn with_each(
     requires few { length records.now ≤ most_records }
     requires rising { AreRising records.now }
     requires once { HaveIds (placements_of others.now).shapes }
-    ensures { IfOk result (λ all. all ≡ map (λ r. unwrap_or (record_of r.id (placements_of others.now).shapes) r) records.now) }
+    ensures { IfOk result (λ all. all
+        ≡ map (λ r. unwrap_or (record_of r.id (placements_of others.now).shapes) r) records.now) }
 {
     if others.len() <= FEW_REPLACED.max(records.len() / RECORDS_FOR_EACH_REPLACED) {
         with_few(alloc, records, others)
@@ -125,7 +130,8 @@ fn with_few(
 ) -> Result<Records, OutOfMemory>
     requires rising { AreRising records.now }
     requires once { HaveIds (placements_of others.now).shapes }
-    ensures { IfOk result (λ all. all ≡ map (λ r. unwrap_or (record_of r.id (placements_of others.now).shapes) r) records.now) }
+    ensures { IfOk result (λ all. all
+        ≡ map (λ r. unwrap_or (record_of r.id (placements_of others.now).shapes) r) records.now) }
 {
     let mut all = records.try_clone(alloc)?;
     for other in others {
@@ -146,7 +152,8 @@ fn with_many(
     requires few { length records.now ≤ most_records }
     requires rising { AreRising records.now }
     requires once { HaveIds (placements_of others.now).shapes }
-    ensures { IfOk result (λ all. all ≡ map (λ r. unwrap_or (record_of r.id (placements_of others.now).shapes) r) records.now) }
+    ensures { IfOk result (λ all. all
+        ≡ map (λ r. unwrap_or (record_of r.id (placements_of others.now).shapes) r) records.now) }
 {
     let mut all = listed(alloc, records)?;
     for other in others {

@@ -29,7 +29,8 @@ impl Document {
         alloc: A,
         parent: Parent,
     ) -> Result<Vec<&Record, A>, OutOfMemory>
-        ensures children { IfOk result (λ list. map (λ shape. shape.now) list.items ≡ children parent self.now.records) }
+        ensures children { IfOk result
+            (λ list. map (λ shape. shape.now) list.items ≡ children parent self.now.records) }
         ensures limits { IfOk result (λ list. All (λ shape. IsInLimits shape.now) list.items) }
     {
         children(alloc, &self.order, parent)
@@ -47,8 +48,13 @@ impl Document {
     ) -> Result<Vec<&Record, A>, OutOfMemory>
         requires quarter { out.now.quarter ≤ 3 }
         requires reach { reach_of out.now ≤ 2 ^ 26 }
-        ensures part { IfOk result (λ list. IsPartOf (map (λ shape. shape.now) list.items) (children parent self.now.records)) }
-        ensures answers { IfOk result (λ list. (levels : ℕ) (x y : ℤ) → is_in clip.now x y ≡ true → first_answer (answer_of levels self.now.records (carry out.now) x y) (map (λ shape. shape.now) list.items) ≡ first_answer (answer_of levels self.now.records (carry out.now) x y) (children parent self.now.records)) }
+        ensures part { IfOk result (λ list. IsPartOf (map (λ shape. shape.now) list.items)
+            (children parent self.now.records)) }
+        ensures answers { IfOk result (λ list. (levels : ℕ) (x y : ℤ) → is_in clip.now x y ≡ true
+            → first_answer (answer_of levels self.now.records (carry out.now) x y)
+            (map (λ shape. shape.now) list.items)
+            ≡ first_answer (answer_of levels self.now.records (carry out.now) x y)
+            (children parent self.now.records)) }
         ensures limits { IfOk result (λ list. All (λ shape. IsInLimits shape.now) list.items) }
     {
         let FoundRange {
@@ -77,7 +83,8 @@ fn children<'a, A: Allocator>(
     parent: Parent,
 ) -> Result<Vec<&'a Record, A>, OutOfMemory>
     requires { IsStrictlySortedBy comes_first order.now.shapes }
-    ensures { IfOk result (λ list. map (λ shape. shape.now) list.items ≡ filter (is_child parent) order.now.shapes) }
+    ensures { IfOk result
+        (λ list. map (λ shape. shape.now) list.items ≡ filter (is_child parent) order.now.shapes) }
 {
     let FoundRange {
         start,

@@ -45,8 +45,8 @@ fn shares(alloc: Global, records: &Records) -> Result<Vec<Shared<Record>>, OutOf
     Ok(all)
 }
 
-// Where the children of a parent stand in the order, from front to back, and a reader of the order that most likely
-// gives them without another search.
+// Where the children of a parent stand in the order, from front to back, and a reader of the order
+// that most likely gives them without another search.
 pub(crate) fn children_of(order: &PlacedShapes, parent: Parent) -> FoundRange<'_, PlacedShape>
     requires { IsStrictlySortedBy comes_first order.now.shapes }
     ensures children { AreChildrenWithin parent order.now.shapes result.start result.end }
@@ -131,8 +131,8 @@ fn by_parent(parent: Parent, other: Parent) -> Ordering
     holder_of(parent).cmp(&holder_of(other))
 }
 
-/// Where a record stands in the order by place: by the parent, and then by the first bytes of its index, where
-/// the greater comes first.
+/// Where a record stands in the order by place: by the parent, and then by the first bytes of its
+/// index, where the greater comes first.
 pub(crate) fn hint_of_place(place: &Place) -> Hint {
     hint_under(place.parent, !first_bytes(place.index.bytes()))
 }

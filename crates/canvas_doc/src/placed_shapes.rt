@@ -17,8 +17,9 @@ use canvas_record::Record;
 use std::alloc::Global;
 use std::marker::Model;
 
-/// A record, and bounds of what it and all below it may show. The beginning of the hint of its place stands beside
-/// it, so that a search among the items of a chunk reads few records. All take 32 bytes: a walk goes over many.
+/// A record, and bounds of what it and all below it may show. The beginning of the hint of its
+/// place stands beside it, so that a search among the items of a chunk reads few records. All take
+/// 32 bytes: a walk goes over many.
 #[derive(Drop)]
 pub(crate) struct PlacedShape {
     pub(crate) shape: Shared<Record>,
@@ -42,7 +43,8 @@ impl PlacedShape {
     }
 }
 
-// A summary of some shapes is a box that holds all that their bounds hold. A walk seeks those whose bounds meet a box.
+// A summary of some shapes is a box that holds all that their bounds hold. A walk seeks those whose
+// bounds meet a box.
 impl Share for PlacedShape {
     ghost use Rattle.canvas_doc.specs.Bounds.{IsWithinBounds, LieApart};
 
@@ -193,16 +195,18 @@ impl PlacedShapes {
     ) -> Result<(), OutOfMemory>
         requires place { IsPositionOf (shape_change change) at self.old.shapes }
         requires other { IsPositionOf other_change other_at records.old }
-        ensures shapes { self.new.shapes ≡ changed_if (is_ok result) (shape_change change) at self.old.shapes }
-        ensures bounds { self.new.bounds ≡ changed_if (is_ok result) (bounds_change change) at self.old.bounds }
+        ensures shapes { self.new.shapes
+            ≡ changed_if (is_ok result) (shape_change change) at self.old.shapes }
+        ensures bounds { self.new.bounds
+            ≡ changed_if (is_ok result) (bounds_change change) at self.old.bounds }
         ensures other { records.new ≡ changed_if (is_ok result) other_change other_at records.old }
     {
         let also = ListChange::At(other_at, other_change);
         self.list.change_both(alloc, at, change, records, also)
     }
 
-    /// Puts a record and its bounds in the place of those at a position here, and the record in that of one of other
-    /// records: both, or neither.
+    /// Puts a record and its bounds in the place of those at a position here, and the record in
+    /// that of one of other records: both, or neither.
     pub(crate) fn replace_both(
         &mut self,
         alloc: Global,
@@ -214,8 +218,10 @@ impl PlacedShapes {
     ) -> Result<(), OutOfMemory>
         requires at { at < length self.old.shapes }
         requires other { other_at < length records.old }
-        ensures shapes { self.new.shapes ≡ changed_if (is_ok result) (Replace new) at self.old.shapes }
-        ensures bounds { self.new.bounds ≡ changed_if (is_ok result) (Replace bounds) at self.old.bounds }
+        ensures shapes { self.new.shapes
+            ≡ changed_if (is_ok result) (Replace new) at self.old.shapes }
+        ensures bounds { self.new.bounds
+            ≡ changed_if (is_ok result) (Replace bounds) at self.old.bounds }
         ensures other { records.new ≡ changed_if (is_ok result) (Replace new) other_at records.old }
     {
         let placed = PlacedShape::new(new.shared()?, bounds);
@@ -230,8 +236,9 @@ impl PlacedShapes {
         )
     }
 
-    /// Takes the record at `from` away with its bounds, and puts another with its own in front of what then stands at
-    /// `to`, or at the end, and in the place of one of other records: both, or neither.
+    /// Takes the record at `from` away with its bounds, and puts another with its own in front of
+    /// what then stands at `to`, or at the end, and in the place of one of other records: both, or
+    /// neither.
     pub(crate) fn move_both(
         &mut self,
         alloc: Global,
@@ -245,8 +252,10 @@ impl PlacedShapes {
         requires from { from < length self.old.shapes }
         requires to { to < length self.old.shapes }
         requires other { other_at < length records.old }
-        ensures shapes { self.new.shapes ≡ cond (is_ok result) (insert (remove self.old.shapes from) to new) self.old.shapes }
-        ensures bounds { self.new.bounds ≡ cond (is_ok result) (insert (remove self.old.bounds from) to bounds) self.old.bounds }
+        ensures shapes { self.new.shapes
+            ≡ cond (is_ok result) (insert (remove self.old.shapes from) to new) self.old.shapes }
+        ensures bounds { self.new.bounds
+            ≡ cond (is_ok result) (insert (remove self.old.bounds from) to bounds) self.old.bounds }
         ensures other { records.new ≡ changed_if (is_ok result) (Replace new) other_at records.old }
     {
         let placed = PlacedShape::new(new.shared()?, bounds);
@@ -264,7 +273,8 @@ impl PlacedShapes {
     ) -> Result<(), OutOfMemory>
         requires { at < length self.old.shapes }
         ensures shapes { self.new.shapes ≡ self.old.shapes }
-        ensures bounds { self.new.bounds ≡ cond (is_ok result) (slice_set self.old.bounds at bounds) self.old.bounds }
+        ensures bounds { self.new.bounds
+            ≡ cond (is_ok result) (slice_set self.old.bounds at bounds) self.old.bounds }
     {
         let placed = PlacedShape::new(self.at(at).try_clone()?, bounds);
         self.list.change(alloc, at, ItemChange::Replace(placed))
@@ -290,8 +300,12 @@ impl PlacedShapes {
         requires order { first ≤ end }
         requires within { end ≤ length self.now.shapes }
         requires few { length self.now.shapes + length placed.items < 2 ^ 32 }
-        ensures shapes { IfOk result (λ all. all.shapes ≡ take first self.now.shapes ++ (placements_of placed.items).shapes ++ drop end self.now.shapes) }
-        ensures bounds { IfOk result (λ all. all.bounds ≡ take first self.now.bounds ++ (placements_of placed.items).bounds ++ drop end self.now.bounds) }
+        ensures shapes { IfOk result (λ all. all.shapes
+            ≡ take first self.now.shapes ++ (placements_of placed.items).shapes
+            ++ drop end self.now.shapes) }
+        ensures bounds { IfOk result (λ all. all.bounds
+            ≡ take first self.now.bounds ++ (placements_of placed.items).bounds
+            ++ drop end self.now.bounds) }
     {
         Ok(PlacedShapes {
             list: self.list.with_spliced(alloc, first, end, placed)?,

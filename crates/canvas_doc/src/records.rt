@@ -13,8 +13,8 @@ use std::marker::Model;
 /// after a change hold the very records that the change left as they were.
 pub(crate) type Records = SharedList<ListedRecord>;
 
-/// A record in a list of records, seen as the record. Its id stands beside the pointer to it, so that a search by id
-/// reads no record but the one that it finds.
+/// A record in a list of records, seen as the record. Its id stands beside the pointer to it, so
+/// that a search by id reads no record but the one that it finds.
 #[derive(Drop)]
 pub(crate) struct ListedRecord {
     shape: Shared<Record>,

@@ -24,16 +24,25 @@ use std::collections::{BTreeMap, BTreeSet};
 impl Document {
     /// The document of these records, which may stand in any order, with `next` as its next id.
     ///
-    /// `BadRecord` names the least position whose record has an id outside 1 to `next - 1`, or a pose or a kind outside its limits; it is judged first and takes no memory.
-    /// `BadTree`, judged after that, names the least position whose record has the id of an earlier one, a parent that is neither the page nor a group or frame of the list, no path to the page within 32 steps, or the parent and index of an earlier one.
-    /// Where an id stands twice, the first record with it counts as the parent.
+    /// `BadRecord` names the least position whose record has an id outside 1 to `next - 1`, or a
+    /// pose or a kind outside its limits; it is judged first and takes no memory. `BadTree`, judged
+    /// after that, names the least position whose record has the id of an earlier one, a parent
+    /// that is neither the page nor a group or frame of the list, no path to the page within 32
+    /// steps, or the parent and index of an earlier one. Where an id stands twice, the first record
+    /// with it counts as the parent.
     pub fn restore(alloc: Global, records: Vec<Record>, next: u32) -> Result<Document, TreeFault>
         requires next { 1 ≤ next }
         requires few { length records.items ≤ most_records }
-        ensures restoration { MatchResult result (λ document. restoration_of records.items next ≡ Ok document) (λ fault. (fault ≡ TreeFault.OutOfMemory) ⊎ (restoration_of records.items next ≡ Err fault)) }
+        ensures restoration { MatchResult result
+            (λ document. restoration_of records.items next ≡ Ok document)
+            (λ fault. (fault ≡ TreeFault.OutOfMemory)
+            ⊎ (restoration_of records.items next ≡ Err fault)) }
         // A record's own fault is named also where there is no memory.
-        ensures limits { (position : ℕ) → record_fault next records.items ≡ Some position → IsErrOf result (TreeFault.BadRecord position) }
-        ensures again { IsWellFormed (record { records = records.items; next = next }) → restoration_of records.items next ≡ Ok (record { records = records.items; next = next }) }
+        ensures limits { (position : ℕ) → record_fault next records.items ≡ Some position
+            → IsErrOf result (TreeFault.BadRecord position) }
+        ensures again { IsWellFormed (record { records = records.items; next = next })
+            → restoration_of records.items next
+            ≡ Ok (record { records = records.items; next = next }) }
     {
         if let Some(position) = record_fault(&records, next) {
             return Err(TreeFault::BadRecord { position });
@@ -91,7 +100,8 @@ fn shared(alloc: Global, records: Vec<Record>) -> Result<Records, OutOfMemory>
 // The least position of a record that does not belong to a page tree.
 fn tree_fault(alloc: Global, records: &[Record]) -> Result<Option<usize>, OutOfMemory>
     ensures value { IfOk result (λ fault. fault ≡ tree_fault records.now) }
-    ensures keys { IfOk result (λ fault. fault ≡ None → All (λ shape. IsKey shape.place.index) records.now) }
+    ensures keys { IfOk result
+        (λ fault. fault ≡ None → All (λ shape. IsKey shape.place.index) records.now) }
 {
     let firsts = first_positions(alloc, records)?;
     let mut places = BTreeSet::new(alloc);
@@ -138,7 +148,8 @@ fn takes_place<'a>(
 ) -> Result<bool, OutOfMemory>
     ensures key { IsKey shape.now.place.index }
     ensures free { IfOk result (λ free. free ≡ not (has_place places.old shape.now)) }
-    ensures after { OnOk result ((r : Record) → has_place places.new r ≡ (same_place r shape.now || has_place places.old r)) }
+    ensures after { OnOk result ((r : Record)
+        → has_place places.new r ≡ (same_place r shape.now || has_place places.old r)) }
 {
     let free = places.insert(place_of(shape))?;
     Ok(free)
@@ -171,7 +182,8 @@ fn record_of<'a>(
 // Whether the parent can hold children and leads to the page.
 fn hangs_in(records: &[Record], firsts: &BTreeMap<u32, usize>, parent: Parent) -> bool
     requires { GivesFirsts firsts.now records.now }
-    ensures { result ≡ (can_have_children records.now parent && leads_to_page 31 records.now parent) }
+    ensures { result
+        ≡ (can_have_children records.now parent && leads_to_page 31 records.now parent) }
 {
     can_have_children(records, firsts, parent) && leads_to_page(records, firsts, STEPS, parent)
 }

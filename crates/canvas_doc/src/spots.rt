@@ -62,7 +62,8 @@ fn index_over(document: &Document, own: u32, parent: Parent, id: u32) -> Result<
 // The key between two ends, made where it lies.
 fn key_between(low: Option<&Key>, high: Option<&Key>) -> Result<Key, Refusal>
     requires { AreApart (option_copied low) (option_copied high) }
-    ensures value { result ≡ with_room (key_between (option_copied low.entry) (option_copied high.entry)) }
+    ensures value { result
+        ≡ with_room (key_between (option_copied low.entry) (option_copied high.entry)) }
     ensures key { IfOk result IsKey }
 {
     let mut key = first_fresh();
@@ -90,7 +91,8 @@ fn greatest_index(document: &Document, own: u32, parent: Parent) -> Option<&Key>
 fn first_index(order: &PlacedShapes, own: u32, start: usize, end: usize) -> Option<&Key>
     requires from { start ≤ end }
     requires bound { end ≤ length order.now.shapes }
-    ensures { option_copied result ≡ first_index own (take (end - start) (drop start order.now.shapes)) }
+    ensures { option_copied result
+        ≡ first_index own (take (end - start) (drop start order.now.shapes)) }
 {
     for at in start..end {
         let shape = order.at(at).value();
@@ -112,7 +114,9 @@ fn least_index(document: &Document, own: u32, parent: Parent) -> Option<&Key>
 // The least index above that of a record, among the siblings of a shape beside it.
 fn next_above<'a>(document: &'a Document, own: u32, shape: &Record) -> Option<&'a Key>
     requires { Contains document.now.records shape.now }
-    ensures value { option_copied result ≡ least_above (Some shape.now.place.index) (siblings own shape.now.place.parent document.now.records) }
+    ensures value { option_copied result
+        ≡ least_above (Some shape.now.place.index)
+        (siblings own shape.now.place.parent document.now.records) }
     ensures apart { AreApart (Some shape.now.place.index) (option_copied result) }
 {
     let start = children_range(&document.order, shape.place.parent).start;
@@ -124,7 +128,8 @@ fn next_above<'a>(document: &'a Document, own: u32, shape: &Record) -> Option<&'
 fn last_index(order: &PlacedShapes, own: u32, start: usize, end: usize) -> Option<&Key>
     requires from { start ≤ end }
     requires bound { end ≤ length order.now.shapes }
-    ensures { option_copied result ≡ last_index own (take (end - start) (drop start order.now.shapes)) }
+    ensures { option_copied result
+        ≡ last_index own (take (end - start) (drop start order.now.shapes)) }
 {
     for at in (start..end).rev() {
         let shape = order.at(at).value();
@@ -151,7 +156,8 @@ pub(crate) fn is_taken(document: &Document, own: u32, parent: Parent, key: &Key)
 }
 
 fn is_sibling_at(own: u32, place: &Place, shape: &Record) -> bool
-    ensures { result ≡ (is_sibling own place.now.parent shape.now && is_same shape.now.place.index place.now.index) }
+    ensures { result ≡ (is_sibling own place.now.parent shape.now
+        && is_same shape.now.place.index place.now.index) }
 {
     is_sibling(own, place.parent, shape) && shape.place.index.bytes() == place.index.bytes()
 }

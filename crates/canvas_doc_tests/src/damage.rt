@@ -70,8 +70,8 @@ fn triangle(rt: &impl Abort, alloc: Global) -> Kind {
     polygon(alloc, &[(0, 0), (4, 0), (0, 6)]).expect(rt, "memory")
 }
 
-// A frame 1 with a rectangle 2 that it clips and a hidden ellipse 3 beside it; a turned and flipped group 4 with a
-// triangle 5; an empty group 6; a hidden rectangle 7.
+// A frame 1 with a rectangle 2 that it clips and a hidden ellipse 3 beside it; a turned and flipped
+// group 4 with a triangle 5; an empty group 6; a hidden rectangle 7.
 fn drawing(rt: &impl Abort, alloc: Global) -> Document {
     let mut document = Document::empty(alloc);
     for id in 1..8u32 {

@@ -108,7 +108,8 @@ fn finds_all(document: &Document, wanted: &[Record]) -> bool {
     document.count() == wanted.len()
 }
 
-/// Asserts that a document has the records that are there after so many edits, as it lists them and as it finds them.
+/// Asserts that a document has the records that are there after so many edits, as it lists them and
+/// as it finds them.
 pub(crate) fn check_records(rt: &impl Abort, alloc: Global, document: &Document, made: u32) {
     let wanted = records_after(rt, alloc, made);
     holds(rt, "found after", &made, finds_all(document, &wanted));

@@ -15,8 +15,8 @@ fn sizes_agree(rt: &impl Abort, alloc: Global, form: Form, edits: u32) {
     }
 }
 
-// How many pixels are looked at after each edit: none of more than 100 records, since the plain model asks each record for
-// its way to the page, and looks at all records for each step.
+// How many pixels are looked at after each edit: none of more than 100 records, since the plain
+// model asks each record for its way to the page, and looks at all records for each step.
 fn looks(count: u32) -> u32 {
     if count <= 100 { 6 } else { 0 }
 }

@@ -1,5 +1,6 @@
-//! Tests of documents: worked examples, every refusal of every edit, lists of records, long histories and want of memory; random edits beside a slow,
-//! plain model, what walks leave out, and the damage of changes; saved documents, by their texts.
+//! Tests of documents: worked examples, every refusal of every edit, lists of records, long
+//! histories and want of memory; random edits beside a slow, plain model, what walks leave out, and
+//! the damage of changes; saved documents, by their texts.
 #![tactic(auto)]
 
 #[cfg(test)]

@@ -86,7 +86,8 @@ fn are_same(document: &Document, other: &Document) -> bool {
     true
 }
 
-// Whether of two answers to an edit the second is right, and the first says no more than want of memory or the same.
+// Whether of two answers to an edit the second is right, and the first says no more than want of
+// memory or the same.
 fn are_right(
     first: &Result<Document, Refusal>,
     again: &Result<Document, Refusal>,
@@ -177,8 +178,8 @@ struct Step<'a> {
     after: &'a Document,
 }
 
-// Whether only want of memory kept an edit from being made in place, which left the document as it was, and the edit
-// is made afterwards.
+// Whether only want of memory kept an edit from being made in place, which left the document as it
+// was, and the edit is made afterwards.
 fn is_made_in_place_once_there_is_memory(
     alloc: Global,
     document: &mut Document,
@@ -309,8 +310,8 @@ fn restored_pair(alloc: Global) -> Result<Document, TreeFault> {
     restored(alloc, records, 3)
 }
 
-// Whether of two answers to a list of records the second is right, and the first says no more than want of memory or
-// the same.
+// Whether of two answers to a list of records the second is right, and the first says no more than
+// want of memory or the same.
 fn restores_are_right(
     first: &Result<Document, TreeFault>,
     again: &Result<Document, TreeFault>,

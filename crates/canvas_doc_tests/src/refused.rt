@@ -198,7 +198,8 @@ const FAR: Pose = Pose {
 
 const POSES: [(Pose, Option<Refusal>); 2] = [(Pose::STILL, None), (FAR, Some(Refusal::BadPose))];
 
-// New shapes with a flaw and a pose at every kind of spot under a parent, which are refused so before the spot is looked at.
+// New shapes with a flaw and a pose at every kind of spot under a parent, which are refused so
+// before the spot is looked at.
 fn check_new_shapes_at_spots(
     rt: &impl Abort,
     alloc: Global,

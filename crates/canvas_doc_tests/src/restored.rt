@@ -13,7 +13,8 @@ use std::alloc::Global;
 use std::fmt::Debug;
 use std::process::Abort;
 
-// An id, the id of a parent (0: the page), how many siblings' keys come before its index, and whether it is a leaf.
+// An id, the id of a parent (0: the page), how many siblings' keys come before its index, and
+// whether it is a leaf.
 type Row = (u32, u32, u32, bool);
 
 const GROUP: bool = false;

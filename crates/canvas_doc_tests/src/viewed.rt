@@ -137,8 +137,8 @@ fn from_on(path: &[u32], from: usize) -> &[u32] {
     path.get(from..).unwrap_or(&[])
 }
 
-// Whether the first shape of a path is not hidden, and holds the pixel unless it is a group. One that is not there hides
-// nothing.
+// Whether the first shape of a path is not hidden, and holds the pixel unless it is a group. One
+// that is not there hides nothing.
 fn is_first_seen(plain: &Plain, path: &[u32], at: Pixel) -> bool {
     let Some(id) = path.first() else {
         return true;

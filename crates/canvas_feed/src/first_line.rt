@@ -8,13 +8,15 @@ use std::io::Read;
 /// Room for a line of 4,096 bytes and its LF.
 pub const LINE_ROOM: usize = 4_097;
 
-/// Reads the line with which a connection begins, and says how many bytes it has without its LF. `None` where it has more than 4,096, or
-/// where the input ends or a read fails before its LF. What came behind the LF is passed over.
+/// Reads the line with which a connection begins, and says how many bytes it has without its LF.
+/// `None` where it has more than 4,096, or where the input ends or a read fails before its LF. What
+/// came behind the LF is passed over.
 pub fn read_line<R: Read>(reader: &mut R, line: &mut [u8; LINE_ROOM]) -> Option<usize>
     ensures within { IfSome result (λ n. n < 4097) }
     ensures line { IfSome result (λ n. IsLine (take n line.new)) }
     ensures read { IfSome result (λ n. (behind : List ℕ)
-        × Consumes (R.remaining reader.old) (R.remaining reader.new) (take n line.new ++ 10 ∷ behind)) }
+        × Consumes (R.remaining reader.old) (R.remaining reader.new)
+        (take n line.new ++ 10 ∷ behind)) }
 {
     let mut count = 0;
     while count < LINE_ROOM {
@@ -36,7 +38,8 @@ fn read_more<R: Read>(reader: &mut R, line: &mut [u8; LINE_ROOM], count: usize) 
     requires { count < 4097 }
     ensures within { count + result ≤ 4097 }
     ensures front { take count line.new ≡ take count line.old }
-    ensures read { Consumes (R.remaining reader.old) (R.remaining reader.new) (take result (drop count line.new)) }
+    ensures read { Consumes (R.remaining reader.old) (R.remaining reader.new)
+        (take result (drop count line.new)) }
 {
     match reader.read(&mut line[count..]) {
         Ok(more) => more,

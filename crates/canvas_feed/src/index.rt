@@ -6,7 +6,8 @@ ghost use Rattle.canvas_feed.specs.Feed.{place_behind, whole_ends};
 use std::alloc::{AllocError, Global};
 use std::marker::Model;
 
-/// Where each line of a feed ends, in bytes: that of the opening document, and then that of each version. It has eight bytes for each.
+/// Where each line of a feed ends, in bytes: that of the opening document, and then that of each
+/// version. It has eight bytes for each.
 #[derive(Drop)]
 pub struct FeedIndex {
     ends: Vec<u64>,
@@ -40,8 +41,9 @@ impl FeedIndex {
     /// Where the lines of the versions above this one begin, if it was told.
     pub fn place_behind(&self, version: u64) -> Option<u64>
         ensures value { result ≡ slice_get self.now version }
-        ensures lines { (generation : ℕ) (d : Contents) (lines : List (List ℕ)) → self.now ≡ whole_ends generation d lines
-            → version ≤ length lines → result ≡ Some (place_behind generation d lines version) }
+        ensures lines { (generation : ℕ) (d : Contents) (lines : List (List ℕ))
+            → self.now ≡ whole_ends generation d lines → version ≤ length lines
+            → result ≡ Some (place_behind generation d lines version) }
     {
         end_of(&self.ends, version)
     }
@@ -49,7 +51,9 @@ impl FeedIndex {
     /// The newest version that was told; 0 where none was.
     pub fn version(&self) -> u64
         ensures value { result ≡ length self.now - 1 }
-        ensures lines { (generation : ℕ) (d : Contents) (lines : List (List ℕ)) → self.now ≡ whole_ends generation d lines → result ≡ length lines }
+        ensures lines { (generation : ℕ) (d : Contents) (lines : List (List ℕ))
+            → self.now ≡ whole_ends generation d lines
+            → result ≡ length lines }
     {
         (self.ends.len() as u64).saturating_sub(1)
     }

@@ -22,7 +22,8 @@ fn push_signed(text: &mut Vec<u8>, number: i64) -> Result<(), AllocError>
 // Appends the left and the top edge.
 #[tactic(auto, unfolding(crate::specs::Feed::edges_text))]
 fn push_first_edges(text: &mut Vec<u8>, damage: &PageBox) -> Result<(), AllocError>
-    ensures { OnOk result (text.new.items ≡ text.old.items ++ edges_text damage.now.left damage.now.top) }
+    ensures { OnOk result
+        (text.new.items ≡ text.old.items ++ edges_text damage.now.left damage.now.top) }
 {
     push_signed(text, damage.left)?;
     text.extend_from_slice(b",")?;
@@ -32,7 +33,8 @@ fn push_first_edges(text: &mut Vec<u8>, damage: &PageBox) -> Result<(), AllocErr
 // Appends the right and the bottom edge.
 #[tactic(auto, unfolding(crate::specs::Feed::edges_text))]
 fn push_last_edges(text: &mut Vec<u8>, damage: &PageBox) -> Result<(), AllocError>
-    ensures { OnOk result (text.new.items ≡ text.old.items ++ edges_text damage.now.right damage.now.bottom) }
+    ensures { OnOk result
+        (text.new.items ≡ text.old.items ++ edges_text damage.now.right damage.now.bottom) }
 {
     push_signed(text, damage.right)?;
     text.extend_from_slice(b",")?;
@@ -61,7 +63,8 @@ fn push_id(text: &mut Vec<u8>, id: Option<u32>) -> Result<(), AllocError>
     }
 }
 
-/// Appends the line of a change: its damage, the text of its edit, the id that it gave, and the version that it made.
+/// Appends the line of a change: its damage, the text of its edit, the id that it gave, and the
+/// version that it made.
 #[tactic(auto, unfolding(crate::specs::Feed::line_text))]
 pub fn push_line(
     text: &mut Vec<u8>,
@@ -70,7 +73,8 @@ pub fn push_line(
     id: Option<u32>,
     version: u64,
 ) -> Result<(), AllocError>
-    ensures { OnOk result (text.new.items ≡ text.old.items ++ line_text damage.now edit.now id version) }
+    ensures { OnOk result
+        (text.new.items ≡ text.old.items ++ line_text damage.now edit.now id version) }
 {
     text.extend_from_slice(b"{\"damage\":")?;
     push_box(text, damage)?;

@@ -22,7 +22,8 @@ pub enum Refusal {
 }
 
 impl FeedRequest {
-    /// Whether the request is taken where this generation is served and so many versions are kept: the generation is judged first.
+    /// Whether the request is taken where this generation is served and so many versions are kept:
+    /// the generation is judged first.
     pub fn judge(&self, served: u32, kept: u64) -> Result<(), Refusal>
         ensures { result ≡ judged self.now served kept }
     {
@@ -88,8 +89,10 @@ fn push_words(line: &mut Vec<u8>, refusal: &Refusal) -> Result<(), AllocError>
 }
 
 fn push_beyond(line: &mut Vec<u8>, since: u64, kept: u64) -> Result<(), AllocError>
-    ensures { OnOk result (line.new.items ≡ line.old.items
-        ++ (codes "since " ++ decimal since ++ codes " is beyond the history: " ++ decimal kept ++ codes " edits are kept")) }
+    ensures { OnOk result (line.new.items
+        ≡ line.old.items
+        ++ (codes "since " ++ decimal since ++ codes " is beyond the history: " ++ decimal kept
+        ++ codes " edits are kept")) }
 {
     line.extend_from_slice(b"since ")?;
     push_number(line, since)?;
@@ -106,7 +109,8 @@ fn push_generations(
     between: &[u8],
     served: u64,
 ) -> Result<(), AllocError>
-    ensures { OnOk result (line.new.items ≡ line.old.items ++ generations_text asked between.now served) }
+    ensures { OnOk result
+        (line.new.items ≡ line.old.items ++ generations_text asked between.now served) }
 {
     line.extend_from_slice(b"generation ")?;
     push_number(line, asked)?;
@@ -116,7 +120,8 @@ fn push_generations(
 
 // Appends which generation is served.
 fn push_served(line: &mut Vec<u8>, served: u64) -> Result<(), AllocError>
-    ensures { OnOk result (line.new.items ≡ line.old.items ++ (decimal served ++ codes " is served")) }
+    ensures { OnOk result
+        (line.new.items ≡ line.old.items ++ (decimal served ++ codes " is served")) }
 {
     push_number(line, served)?;
     line.extend_from_slice(b" is served")

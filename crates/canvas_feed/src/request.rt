@@ -31,8 +31,8 @@ pub enum Unread {
     OutOfMemory,
 }
 
-/// The request of a line, which stands without its LF: one JSON object with the member `since`, and with no others than `opening` and
-/// `generation`. Of members of one name the last counts.
+/// The request of a line, which stands without its LF: one JSON object with the member `since`, and
+/// with no others than `opening` and `generation`. Of members of one name the last counts.
 #[tactic(auto, unfolding(crate::specs::Request::request_of))]
 pub fn read_request(alloc: Global, line: &[u8]) -> Result<FeedRequest, Unread>
     ensures { Gives result (request_of line.now) }

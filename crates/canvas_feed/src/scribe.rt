@@ -33,7 +33,8 @@ impl Model for Scribe {
 
     ghost Value = { Scribing };
 
-    ghost view = { λ s. record { document = s.document; version = s.version; end = s.end; text = s.text.items; ends = s.ends.items } };
+    ghost view = { λ s.
+        record { document = s.document; version = s.version; end = s.end; text = s.text.items; ends = s.ends.items } };
 }
 
 impl Scribe {
@@ -88,11 +89,12 @@ impl Scribe {
         self.ends.clear();
     }
 
-    /// Tells the whole lines with which these bytes of a journal begin, so many at most, and says how many bytes they take there.
-    /// After a fault the scribe is told nothing more.
+    /// Tells the whole lines with which these bytes of a journal begin, so many at most, and says
+    /// how many bytes they take there. After a fault the scribe is told nothing more.
     pub fn tell(&mut self, alloc: Global, bytes: &[u8], most: u64) -> Result<usize, FeedFault>
         ensures told { OnOk result (Tells (take most (recovered bytes.now)) self.old self.new) }
-        ensures len { IfOk result (λ len. len ≡ length (text_of (take most (recovered bytes.now)))) }
+        ensures len { IfOk result
+            (λ len. len ≡ length (text_of (take most (recovered bytes.now)))) }
     {
         let mut rest = bytes;
         let mut left = most;

@@ -18,7 +18,8 @@ pub trait Shelf {
     /// Reads a piece from a place on, and says how many bytes came.
     fn read_at(&self, at: u64, piece: &mut [u8]) -> io::Result<usize>
         ensures bound { ReadsAtMost result piece.new }
-        ensures bytes { (file : List ℕ) → bytes self.now ≡ Some file → ReadsThere file at result piece.new };
+        ensures bytes { (file : List ℕ) → bytes self.now ≡ Some file
+            → ReadsThere file at result piece.new };
 }
 
 /// Sends the bytes of a file from one place to another, in pieces as long as this one.
@@ -32,11 +33,13 @@ pub fn send<F: Shelf, W: Write>(
     requires { from ≤ to }
     ensures sent { (bytes : List ℕ) → F.bytes file.now ≡ Some bytes
         → Sends (W.contents writer.old) (W.contents writer.new) result (between from to bytes) }
-    // Of a feed, from the place behind one version to that behind another, these are the lines of the versions between, in order.
+    // Of a feed, from the place behind one version to that behind another, these are the lines of
+    // the versions between, in order.
     ensures lines { (generation : ℕ) (d : Contents) (lines : List (List ℕ)) (n m : ℕ)
         → F.bytes file.now ≡ Some (whole_feed generation d lines) → n ≤ m → m ≤ length lines
         → from ≡ place_behind generation d lines n → to ≡ place_behind generation d lines m
-        → Sends (W.contents writer.old) (W.contents writer.new) result (feed_text (document_after d (take n lines)) n (drop n (take m lines))) }
+        → Sends (W.contents writer.old) (W.contents writer.new) result
+        (feed_text (document_after d (take n lines)) n (drop n (take m lines))) }
 {
     let mut at = from;
     while at < to {
@@ -78,7 +81,8 @@ fn read_within<F: Shelf>(file: &F, at: u64, to: u64, piece: &mut [u8]) -> io::Re
     ensures some { IfOk result (λ n. 0 < n) }
     ensures within { IfOk result (λ n. at + n ≤ to) }
     ensures bound { IfOk result (λ n. n ≤ length piece.new) }
-    ensures bytes { (bytes : List ℕ) → F.bytes file.now ≡ Some bytes → ReadsThere bytes at result piece.new }
+    ensures bytes { (bytes : List ℕ) → F.bytes file.now ≡ Some bytes
+        → ReadsThere bytes at result piece.new }
 {
     let room = piece
         .len()

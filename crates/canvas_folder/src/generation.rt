@@ -48,7 +48,8 @@ fn later(highest: Option<u32>, generation: Generation) -> Option<u32>
     }
 }
 
-/// The number of the generation that comes behind the one that is served; 1 is the first. `None` where there is no further number.
+/// The number of the generation that comes behind the one that is served; 1 is the first. `None`
+/// where there is no further number.
 pub fn next_number(served: Option<u32>) -> Option<u32>
     ensures next { IfSome result (λ number. number ≡ unwrap_or served 0 + 1) }
     ensures last { IfNone result (unwrap_or served 0 + 1 ≡ 2 ^ 32) }

@@ -1,4 +1,5 @@
-//! The folder of a document that is kept: which generation of it is served, and how one is made, whatever moment a crash comes.
+//! The folder of a document that is kept: which generation of it is served, and how one is made,
+//! whatever moment a crash comes.
 #![tactic(auto)]
 
 mod generation;

@@ -18,10 +18,12 @@ pub trait Maker {
     /// Does a step. One that failed may have been done, in part or not at all.
     fn run(&mut self, step: Step) -> Result<(), Self::Error>
         ensures done { OnOk result (asked self.new ≡ asked self.old ++ step ∷ []) }
-        ensures failed { OnErr result ((asked self.new ≡ asked self.old) ⊎ (asked self.new ≡ asked self.old ++ step ∷ [])) };
+        ensures failed { OnErr result
+            ((asked self.new ≡ asked self.old) ⊎ (asked self.new ≡ asked self.old ++ step ∷ [])) };
 }
 
-/// In this order: the opening has its name when it is on the disk, and the journal comes when the name of the opening is.
+/// In this order: the opening has its name when it is on the disk, and the journal comes when the
+/// name of the opening is.
 const STEPS: [Step; 9] = [
     Step::MakeFolder,
     Step::KeepFolder,
@@ -34,10 +36,12 @@ const STEPS: [Step; 9] = [
     Step::KeepNames,
 ];
 
-/// Makes a generation with an empty journal, of which no journal is there. What a crash left of an opening is written anew.
+/// Makes a generation with an empty journal, of which no journal is there. What a crash left of an
+/// opening is written anew.
 pub fn make<M: Maker>(maker: &mut M) -> Result<(), M::Error>
     requires { M.asked maker.old ≡ [] }
-    // A crash at any moment leaves no half of an opening under its name, and a journal only beside the new opening.
+    // A crash at any moment leaves no half of an opening under its name, and a journal only beside
+    // the new opening.
     ensures any_moment { LeavesSound (M.asked maker.new) }
     // So the folder serves what it served before, or the new generation with the whole opening.
     ensures serves { LeavesServed (M.asked maker.new) }

@@ -18,10 +18,12 @@ pub const LOCK: &str = "lock";
 /// The file that names the store that keeps the document.
 pub const STORE: &str = "store";
 
-/// The generation that a name stands for: a decimal number from 1 on, without a leading zero. Any other name is none.
+/// The generation that a name stands for: a decimal number from 1 on, without a leading zero. Any
+/// other name is none.
 pub fn number_of(name: &str) -> Option<u32>
     ensures named { IfSome result (λ number. (name.now ≡ decimal number) × (0 < number)) }
-    ensures each { (number : ℕ) → 0 < number → number < 2 ^ 32 → name.now ≡ decimal number → result ≡ Some number }
+    ensures each { (number : ℕ) → 0 < number → number < 2 ^ 32 → name.now ≡ decimal number
+        → result ≡ Some number }
 {
     let Ok(number) = name.parse::<u32>() else {
         return None;

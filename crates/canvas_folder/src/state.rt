@@ -8,13 +8,13 @@ use crate::generation::{Generation, served};
 /// What the state of a folder calls for.
 #[derive(Clone, Copy, Debug, PartialEq, Eq)]
 pub enum State {
-    /// The document of this generation is served. What is there of the next one is what a crash left, and is begun anew when
-    /// its turn comes.
+    /// The document of this generation is served. What is there of the next one is what a crash
+    /// left, and is begun anew when its turn comes.
     Serves(u32),
     /// Generation 1 is begun, anew where a crash left a part of it.
     Begins,
-    /// This generation is not what a crash leaves: it has a journal without an opening, or it does not follow the one that
-    /// is served. Nothing is served, since it might be the wrong document.
+    /// This generation is not what a crash leaves: it has a journal without an opening, or it does
+    /// not follow the one that is served. Nothing is served, since it might be the wrong document.
     Strange(u32),
 }
 

@@ -60,11 +60,12 @@ impl<B: Lines> Course<B> {
         self.seat.number()
     }
 
-    /// The edit that a line of a feed, with its LF, tells as the next one. A line that is not the very one which this document's feed has for
-    /// that edit there is refused.
+    /// The edit that a line of a feed, with its LF, tells as the next one. A line that is not the
+    /// very one which this document's feed has for that edit there is refused.
     pub fn judge(&mut self, line: &[u8]) -> Result<Edit, CourseFault>
         ensures same { IfOk result (λ edit. self.new ≡ self.old) }
-        ensures told { IfOk result (λ edit. TellsNext (document_at self.old) (length self.old.front) line.now edit) }
+        ensures told { IfOk result
+            (λ edit. TellsNext (document_at self.old) (length self.old.front) line.now edit) }
     {
         let before = self.seat.number();
         let version = match self.seat.look() {

@@ -17,7 +17,8 @@ pub enum CourseFault {
     /// The document does not accept the edit there, with the number of the refusal.
     #[error("its edit is refused here: {0}")]
     Refused(u16),
-    /// The line is another one than the feed of this document has for that edit there: by its damage, its id or its version.
+    /// The line is another one than the feed of this document has for that edit there: by its
+    /// damage, its id or its version.
     #[error("it tells another damage, id or version than its edit makes here")]
     Otherwise,
     /// Another seat edited the line meanwhile. It can't be.

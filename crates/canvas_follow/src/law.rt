@@ -4,8 +4,10 @@ ghost use Rattle.std.specs.List.{flat_map};
 ghost use Rattle.canvas_line.specs.Lines.{Sight};
 ghost use Rattle.canvas_follow.specs.Course.{FollowsAll, IsFedBy};
 
-/// A line that goes on by lines of a feed has replayed lines of edits whose feed they are: what it has is the history that they tell, each edit
-/// accepted where it stands, in order, and none left out.
+/// A line that goes on by lines of a feed has replayed lines of edits whose feed they are: what it
+/// has is the history that they tell, each edit accepted where it stands, in order, and none left
+/// out.
 pub fn lines_are_the_feed()
-    ensures { (s t : Sight) (lines : List (List ℕ)) → FollowsAll s lines t → IsFedBy s (flat_map (λ line. line) lines) t }
+    ensures { (s t : Sight) (lines : List (List ℕ)) → FollowsAll s lines t
+        → IsFedBy s (flat_map (λ line. line) lines) t }
 {}

@@ -1,4 +1,5 @@
-//! A follower of a document: the line of its own that goes on as a feed tells, and the board of a session there, which hands edits on.
+//! A follower of a document: the line of its own that goes on as a feed tells, and the board of a
+//! session there, which hands edits on.
 #![tactic(auto)]
 
 mod course;

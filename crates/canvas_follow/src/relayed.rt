@@ -18,9 +18,11 @@ use std::thread::Threads;
 /// The most bytes of a line that a session reads.
 const MOST_BYTES: usize = 65_536;
 
-/// A board of a line that follows: looks are answered by it, and an edit is handed to the leader, and made here as the version that it made there.
+/// A board of a line that follows: looks are answered by it, and an edit is handed to the leader,
+/// and made here as the version that it made there.
 ///
-/// Where it is not known what became of an edit, the session is lost: nothing that it has not sent yet is sent any more.
+/// Where it is not known what became of an edit, the session is lost: nothing that it has not sent
+/// yet is sent any more.
 #[derive(Drop)]
 pub struct Relayed<'a, C: Board, B: Lines, L: Leader> {
     alloc: Global,
@@ -62,7 +64,8 @@ impl<'a, C: Board, B: Lines, L: Leader> Relayed<'a, C, B, L> {
 
     // What is answered to an edit: nothing where it was not made, or where that is not known.
     fn relay<H: Wait>(&mut self, rt: &H, edit: &Edit) -> Option<Result<Edited, BoardFault>>
-        ensures answered { IfSome result (λ answer. Edits (C.seen self.old.board) edit.now answer (C.seen self.new.board)) }
+        ensures answered { IfSome result
+            (λ answer. Edits (C.seen self.old.board) edit.now answer (C.seen self.new.board)) }
         ensures same { IfNone result (C.seen self.new.board ≡ C.seen self.old.board) }
     {
         let leader = self.leader?;

@@ -1,4 +1,5 @@
-//! Whose turn it is: the edits of a feed are made in their order, those that sessions here have asked for by these sessions.
+//! Whose turn it is: the edits of a feed are made in their order, those that sessions here have
+//! asked for by these sessions.
 ghost use Rattle.std.specs.Prelude.{◌≡◌, IfNone, IfSome};
 ghost use Rattle.canvas_board.specs.Steps.{Edits};
 
@@ -87,7 +88,8 @@ impl<B: Lines> State<B> {
         }
     }
 
-    // What a session does next whose edit has made a version, where it does not wait longer than until some tick.
+    // What a session does next whose edit has made a version, where it does not wait longer than
+    // until some tick.
     fn next_of(&mut self, ticket: u64, version: u64, until: u64) -> Next {
         let number = self.course.number();
         if version <= number || self.is_over || self.fault.is_some() {
@@ -172,8 +174,9 @@ impl<B: Lines> Turns<B> {
         self.word.notify_all();
     }
 
-    /// Has the edit made that the next line of the feed tells, which stands with its LF: by the session that asked for it, where one may have, else by
-    /// the line's own seat. After an `Err` nothing more is made.
+    /// Has the edit made that the next line of the feed tells, which stands with its LF: by the
+    /// session that asked for it, where one may have, else by the line's own seat. After an `Err`
+    /// nothing more is made.
     pub fn take_line<R: Wait>(&self, rt: &R, line: &[u8]) -> Result<(), CourseFault> {
         let mut state = self.state.lock(rt);
         let before = state.course.number();
@@ -217,8 +220,9 @@ impl<B: Lines> Turns<B> {
         self.word.notify_all();
     }
 
-    /// Makes an edit at a board as the version that it made at the leader, once it is the next that the feed tells. `None` where that can't be: the
-    /// feed has told another edit as that version, or does not go on.
+    /// Makes an edit at a board as the version that it made at the leader, once it is the next that
+    /// the feed tells. `None` where that can't be: the feed has told another edit as that version,
+    /// or does not go on.
     pub fn make_own<C: Board, R: Wait>(
         &self,
         rt: &R,
@@ -227,7 +231,8 @@ impl<B: Lines> Turns<B> {
         edit: &Edit,
         board: &mut C,
     ) -> Option<Result<Edited, BoardFault>>
-        ensures made { IfSome result (λ answer. Edits (C.seen board.old) edit.now answer (C.seen board.new)) }
+        ensures made { IfSome result
+            (λ answer. Edits (C.seen board.old) edit.now answer (C.seen board.new)) }
         ensures same { IfNone result (C.seen board.new ≡ C.seen board.old) }
     {
         let mut state = self.turn_at(rt, ticket, version)?;
@@ -262,7 +267,8 @@ impl<B: Lines> Turns<B> {
         unreachable!()
     }
 
-    /// Answers an edit that the leader refused by this number, once a version here refuses it by that too. `None` where none does in a while.
+    /// Answers an edit that the leader refused by this number, once a version here refuses it by
+    /// that too. `None` where none does in a while.
     pub fn refuse_own<C: Board, R: Wait>(
         &self,
         rt: &R,
@@ -271,7 +277,8 @@ impl<B: Lines> Turns<B> {
         edit: &Edit,
         board: &mut C,
     ) -> Option<Result<Edited, BoardFault>>
-        ensures refused { IfSome result (λ answer. Edits (C.seen board.old) edit.now answer (C.seen board.new)) }
+        ensures refused { IfSome result
+            (λ answer. Edits (C.seen board.old) edit.now answer (C.seen board.new)) }
         ensures same { IfNone result (C.seen board.new ≡ C.seen board.old) }
     {
         // Nobody edits while the lock is held, so the board refuses it as the version did that was looked at.

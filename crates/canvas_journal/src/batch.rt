@@ -88,7 +88,8 @@ impl Batch {
 // Puts a line in the place of the closed gate, and a closed gate behind it.
 fn append(bytes: &mut Vec<u8>, line: &[u8]) -> Result<(), AllocError>
     requires { 0 < length bytes.old.items }
-    ensures added { OnOk result (bytes.new.items ≡ take (length bytes.old.items - 1) bytes.old.items ++ 32 ∷ line.now ++ 10 ∷ 10 ∷ []) }
+    ensures added { OnOk result (bytes.new.items
+        ≡ take (length bytes.old.items - 1) bytes.old.items ++ 32 ∷ line.now ++ 10 ∷ 10 ∷ []) }
     ensures same { OnErr result (bytes.new.items ≡ bytes.old.items) }
 {
     let len = bytes.len();

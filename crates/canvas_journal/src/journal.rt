@@ -1,8 +1,10 @@
-//! A file of lines, each behind a blank. A line counts if its blank is there, if it is whole, and if the line before it counts.
+//! A file of lines, each behind a blank. A line counts if its blank is there, if it is whole, and
+//! if the line before it counts.
 //!
-//! A batch is written with an LF in the place of its first blank: the gate is closed. Once the batch is on the disk the blank is
-//! written, which opens the gate. Behind a closed gate nothing counts, whatever a crash left there. So no checksum is trusted, and
-//! one sync serves two batches: it keeps the blank of the one before and the bytes of the new one.
+//! A batch is written with an LF in the place of its first blank: the gate is closed. Once the
+//! batch is on the disk the blank is written, which opens the gate. Behind a closed gate nothing
+//! counts, whatever a crash left there. So no checksum is trusted, and one sync serves two batches:
+//! it keeps the blank of the one before and the bytes of the new one.
 
 ghost use Rattle.std.specs.Prelude.{◌≡◌, ◌⊎◌, ◌*◌, ◌+◌, ◌<◌, ◌≤◌, ◌^◌, ◌++◌, [], ◌∷◌, List, ℕ, length, map, IfOk, OnOk, IsErrOf};
 ghost use Rattle.canvas_journal.specs.Device.{Only, LeavesOnly};
@@ -32,16 +34,20 @@ pub struct Journal<D: Device> {
 }
 
 impl<D: Device + Drop> Journal<D> {
-    /// Opens a journal over a file that a crash may have left, with the lines that count in it. They are acknowledged: each later
-    /// crash leaves them.
+    /// Opens a journal over a file that a crash may have left, with the lines that count in it.
+    /// They are acknowledged: each later crash leaves them.
     pub fn open(alloc: Global, mut device: D) -> Result<(Journal<D>, Lines), DeviceError>
         requires { Only (D.seen device) (D.may_leave device) }
 
-        ensures lines { IfOk result (λ r. map (λ v. v.items) r.1.lines.items ≡ recovered (D.seen device)) }
+        ensures lines { IfOk result
+            (λ r. map (λ v. v.items) r.1.lines.items ≡ recovered (D.seen device)) }
         ensures settled { IfOk result (λ r. IsSettled D.seen D.may_leave r.0) }
-        ensures done { IfOk result (λ r. (done_of D.seen r.0 ≡ recovered (D.seen device)) × (r.0.staged ≡ [])) }
-        // A run begins or goes on: what was known of the lines is known of those that each later crash leaves.
-        ensures keeps { IfOk result (λ r. (known : List (List ℕ)) → IsPrefix known (recovered (D.seen device))
+        ensures done { IfOk result
+            (λ r. (done_of D.seen r.0 ≡ recovered (D.seen device)) × (r.0.staged ≡ [])) }
+        // A run begins or goes on: what was known of the lines is known of those that each later
+        // crash leaves.
+        ensures keeps { IfOk result
+            (λ r. (known : List (List ℕ)) → IsPrefix known (recovered (D.seen device))
             → HasKept D.seen D.moment D.left_since r.0 (D.moment device) known) }
     {
         let lines = recover(alloc, &mut device)?;
@@ -58,30 +64,38 @@ impl<D: Device + Drop> Journal<D> {
 impl<D: Device> Journal<D> {
     /// Opens the gate of the staged batch, and stages another behind it, by one sync.
     ///
-    /// At `Ok` what was staged is acknowledged: from then on each crash leaves a file that has it. It comes back, so that its
-    /// memory can be used again. `Failed` comes only where the disk failed, `Full` where the journal has more than 2^60 bytes. At any
-    /// error the journal is not used again: open the file anew.
+    /// At `Ok` what was staged is acknowledged: from then on each crash leaves a file that has it.
+    /// It comes back, so that its memory can be used again. `Failed` comes only where the disk
+    /// failed, `Full` where the journal has more than 2^60 bytes. At any error the journal is not
+    /// used again: open the file anew.
     pub fn turn(&mut self, batch: Batch) -> Result<Batch, DeviceError>
         requires { IsSettled D.seen D.may_leave self.old }
 
         ensures settled { OnOk result (IsSettled D.seen D.may_leave self.new) }
-        ensures acknowledged { OnOk result (done_of D.seen self.new ≡ done_of D.seen self.old ++ self.old.staged) }
+        ensures acknowledged { OnOk result
+            (done_of D.seen self.new ≡ done_of D.seen self.old ++ self.old.staged) }
         ensures staged { IfOk result (λ b. (self.new.staged ≡ batch) × (b ≡ self.old.staged)) }
 
         // A crash at any moment of the call leaves the lines from before it, with the staged ones or without.
         ensures any_moment { LeavesOnly D.moment D.left_since self.old.device self.new.device
             (IsWithOrWithout (done_of D.seen self.old) self.old.staged) }
 
-        // Over a whole run: whatever was acknowledged at some moment, each crash since then leaves it, and nothing that was not handed over.
-        ensures lasts { (since : ℕ) (known : List (List ℕ)) → HasKept D.seen D.moment D.left_since self.old since known
+        // Over a whole run: whatever was acknowledged at some moment, each crash since then leaves
+        // it, and nothing that was not handed over.
+        ensures lasts { (since : ℕ) (known : List (List ℕ))
+            → HasKept D.seen D.moment D.left_since self.old since known
             → Lasts D.left_since self.new.device since known (handed_of D.seen self.old) }
-        ensures keeps { OnOk result ((since : ℕ) (known : List (List ℕ)) → HasKept D.seen D.moment D.left_since self.old since known
+        ensures keeps { OnOk result ((since : ℕ) (known : List (List ℕ))
+            → HasKept D.seen D.moment D.left_since self.old since known
             → HasKept D.seen D.moment D.left_since self.new since known) }
         // From now on all that was handed over before this call is acknowledged.
-        ensures acknowledges { OnOk result (HasKept D.seen D.moment D.left_since self.new (D.moment self.new.device) (handed_of D.seen self.old)) }
+        ensures acknowledges { OnOk result
+            (HasKept D.seen D.moment D.left_since self.new (D.moment self.new.device)
+            (handed_of D.seen self.old)) }
 
         // It does not give up by itself.
-        ensures failed { IsErrOf result DeviceError.Failed → D.faults self.old.device < D.faults self.new.device }
+        ensures failed { IsErrOf result DeviceError.Failed
+            → D.faults self.old.device < D.faults self.new.device }
         ensures full { IsErrOf result DeviceError.Full → 2 ^ 60 < self.old.end }
     {
         if self.end > MOST_BYTES {
@@ -96,13 +110,14 @@ impl<D: Device> Journal<D> {
     }
 }
 
-/// Reads the lines that count in a file that a crash may have left, and repairs its end. It may itself crash at any moment, and
-/// be begun again.
+/// Reads the lines that count in a file that a crash may have left, and repairs its end. It may
+/// itself crash at any moment, and be begun again.
 pub fn recover<D: Device>(alloc: Global, device: &mut D) -> Result<Lines, DeviceError>
     // After a restart, what is read is what is on the disk.
     requires { Only (D.seen device.old) (D.may_leave device.old) }
 
-    ensures lines { IfOk result (λ r. map (λ v. v.items) r.lines.items ≡ recovered (D.seen device.old)) }
+    ensures lines { IfOk result
+        (λ r. map (λ v. v.items) r.lines.items ≡ recovered (D.seen device.old)) }
     ensures end { IfOk result (λ r. r.end ≡ length (text (recovered (D.seen device.old)))) }
     ensures at_rest { OnOk result (D.seen device.new ≡ at_rest (recovered (D.seen device.old)) []) }
     ensures same { OnOk result (recovered (D.seen device.new) ≡ recovered (D.seen device.old)) }
@@ -112,9 +127,12 @@ pub fn recover<D: Device>(alloc: Global, device: &mut D) -> Result<Lines, Device
     ensures any_moment { LeavesOnly D.moment D.left_since device.old device.new
         (λ c. recovered c ≡ recovered (D.seen device.old)) }
 
-    // A run goes on: what was known of the lines that a crash left, is known of those that each later crash leaves.
-    ensures lasts { (known : List (List ℕ)) (handed : List (List ℕ)) → IsPrefix known (recovered (D.seen device.old))
-        → IsPrefix (recovered (D.seen device.old)) handed → Lasts D.left_since device.new (D.moment device.old) known handed }
+    // A run goes on: what was known of the lines that a crash left, is known of those that each
+    // later crash leaves.
+    ensures lasts { (known : List (List ℕ)) (handed : List (List ℕ))
+        → IsPrefix known (recovered (D.seen device.old))
+        → IsPrefix (recovered (D.seen device.old)) handed
+        → Lasts D.left_since device.new (D.moment device.old) known handed }
 
     ensures failed { IsErrOf result DeviceError.Failed → D.faults device.old < D.faults device.new }
     ensures full { IsErrOf result DeviceError.Full → ⊥ }

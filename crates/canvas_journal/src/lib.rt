@@ -1,4 +1,5 @@
-//! A journal of lines over a device that may crash at any moment: what was acknowledged is never lost, and no line is read that was not written.
+//! A journal of lines over a device that may crash at any moment: what was acknowledged is never
+//! lost, and no line is read that was not written.
 #![tactic(auto)]
 
 mod batch;

@@ -15,7 +15,8 @@ pub struct Lines {
 
 /// The first line and what stands behind it, if the bytes begin with a whole line.
 pub fn first_line(bytes: &[u8]) -> Option<(&[u8], &[u8])>
-    ensures line { IfSome result (λ r. (bytes.now ≡ 32 ∷ r.0.now ++ 10 ∷ r.1.now) × IsLine r.0.now) }
+    ensures line { IfSome result
+        (λ r. (bytes.now ≡ 32 ∷ r.0.now ++ 10 ∷ r.1.now) × IsLine r.0.now) }
     ensures none { IfNone result (recovered bytes.now ≡ []) }
 {
     let [b' ', after @ ..] = bytes else {

@@ -78,7 +78,8 @@ impl<F: Backing> Device for Asked<F> {
 
     ghost only_now = { λ f c left. only f c left };
 
-    /// What the file held at first. It can be read once, before it is changed; any later read is refused as `Failed`.
+    /// What the file held at first. It can be read once, before it is changed; any later read is
+    /// refused as `Failed`.
     fn read(&mut self, _alloc: Global) -> Result<Vec<u8>, DeviceError> {
         match self.first.take() {
             Some(first) => Ok(first),

@@ -21,7 +21,8 @@ fn is_among(names: &[&str], name: &str) -> bool
 // Whether one of the members has none of these names.
 fn any_outside(names: &[&str], members: Members<'_, '_>) -> bool
     ensures { (given : json.Members) → InMembers members.entry given
-        → result ≡ list_any (λ name. not (list_any (λ other. bytes_eq other.now name) names.now)) (given_names given) }
+        → result ≡ list_any (λ name. not (list_any (λ other. bytes_eq other.now name) names.now))
+        (given_names given) }
 {
     let mut left = members;
     while let Some((name, _)) = left.next() {

@@ -71,8 +71,8 @@ fn tape_of_text<'a>(
     }
 }
 
-/// The tape of a text, if serde_json takes the text. `scratch` keeps its memory from text to text. An empty text and
-/// bytes that are no UTF-8 take no memory.
+/// The tape of a text, if serde_json takes the text. `scratch` keeps its memory from text to text.
+/// An empty text and bytes that are no UTF-8 take no memory.
 pub fn tape_of<'a>(
     alloc: Global,
     scratch: &'a mut Scratch,

@@ -14,7 +14,8 @@ use std::alloc::AllocError;
 
 // Six hexadecimal digits, in lower case.
 fn push_colour(out: &mut Vec<u8>, colour: &Colour) -> Result<(), AllocError>
-    ensures text { OnOk result (out.new.items ≡ out.old.items ++ in_quotes (colour_text colour.now)) }
+    ensures text { OnOk result
+        (out.new.items ≡ out.old.items ++ in_quotes (colour_text colour.now)) }
     ensures fits { IsRead colour.now }
 {
     push_quoted(out, &colour.text())
@@ -47,7 +48,8 @@ pub fn push_parent(out: &mut Vec<u8>, parent: Parent) -> Result<(), AllocError>
 // The members of a pose that say how far it moves.
 fn push_shift(out: &mut Vec<u8>, pose: &Pose) -> Result<(), AllocError>
     ensures { OnOk result (out.new.items
-        ≡ out.old.items ++ codes "{\"dx\":" ++ signed_decimal pose.now.dx ++ codes ",\"dy\":" ++ signed_decimal pose.now.dy) }
+        ≡ out.old.items ++ codes "{\"dx\":" ++ signed_decimal pose.now.dx ++ codes ",\"dy\":"
+        ++ signed_decimal pose.now.dy) }
 {
     push_text(out, "{\"dx\":")?;
     push_integer(out, pose.dx)?;
@@ -57,7 +59,8 @@ fn push_shift(out: &mut Vec<u8>, pose: &Pose) -> Result<(), AllocError>
 
 // The last member of a pose.
 fn push_quarter(out: &mut Vec<u8>, quarter: u8) -> Result<(), AllocError>
-    ensures text { OnOk result (out.new.items ≡ out.old.items ++ codes ",\"quarter\":" ++ decimal quarter ++ codes "}") }
+    ensures text { OnOk result
+        (out.new.items ≡ out.old.items ++ codes ",\"quarter\":" ++ decimal quarter ++ codes "}") }
     ensures fits { quarter < 2 ^ 8 }
 {
     push_text(out, ",\"quarter\":")?;
@@ -125,7 +128,8 @@ fn push_filled(
     fill: &Colour,
 ) -> Result<(), AllocError>
     ensures text { OnOk result (out.new.items
-        ≡ out.old.items ++ codes "{\"fill\":" ++ in_quotes (colour_text fill.now) ++ sides_text kind.now w h) }
+        ≡ out.old.items ++ codes "{\"fill\":" ++ in_quotes (colour_text fill.now)
+        ++ sides_text kind.now w h) }
     ensures fits { OnOk result (FitsSides w h × IsRead fill.now) }
 {
     push_text(out, "{\"fill\":")?;
@@ -144,8 +148,10 @@ fn push_frame(out: &mut Vec<u8>, w: u32, h: u32, fill: &Option<Colour>) -> Resul
 }
 
 fn push_polygon(out: &mut Vec<u8>, points: &[Point], fill: &Colour) -> Result<(), AllocError>
-    ensures text { OnOk result (out.new.items ≡ out.old.items ++ codes "{\"fill\":" ++ in_quotes (colour_text fill.now)
-        ++ codes ",\"kind\":\"polygon\",\"points\":[" ++ list_text point_text false points.now ++ codes "}") }
+    ensures text { OnOk result (out.new.items
+        ≡ out.old.items ++ codes "{\"fill\":" ++ in_quotes (colour_text fill.now)
+        ++ codes ",\"kind\":\"polygon\",\"points\":[" ++ list_text point_text false points.now
+        ++ codes "}") }
     ensures fits { OnOk result (IsRead fill.now) }
 {
     push_text(out, "{\"fill\":")?;

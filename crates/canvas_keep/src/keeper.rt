@@ -17,8 +17,9 @@ use std::marker::Model;
 use std::snapshot::Snapshot;
 use std::sync::Wait;
 
-/// The open journal of a line, and the seat by which it takes what the line recorded. Contracts see it as the seat, how many versions are
-/// kept, the journal, and the device as it was when the journal was opened.
+/// The open journal of a line, and the seat by which it takes what the line recorded. Contracts see
+/// it as the seat, how many versions are kept, the journal, and the device as it was when the
+/// journal was opened.
 #[derive(Drop)]
 pub struct Keeper<D: Device, B: Lines> {
     journal: Journal<D>,
@@ -34,9 +35,11 @@ impl<D: Device, B: Lines> Model for Keeper<D, B> {
 
     ghost Value = { Keeping D };
 
-    ghost view = { λ k. record { line = k.seat; kept = k.kept; journal = k.journal; opened = k.opened.value } };
+    ghost view = { λ k.
+        record { line = k.seat; kept = k.kept; journal = k.journal; opened = k.opened.value } };
 
-    ghost invariant = { λ k. StandsFor D.seen D.may_leave D.moment D.left_since k.journal k.seat k.kept k.opened.value };
+    ghost invariant = { λ k. StandsFor D.seen D.may_leave D.moment D.left_since k.journal k.seat
+        k.kept k.opened.value };
 }
 
 impl<D: Device + Drop, B: Lines> Keeper<D, B> {
@@ -47,8 +50,10 @@ impl<D: Device + Drop, B: Lines> Keeper<D, B> {
         kept: u64,
         opened: Snapshot<D>,
     ) -> Keeper<D, B>
-        requires { StandsFor D.seen D.may_leave D.moment D.left_since journal seat kept opened.value }
-        ensures { result ≡ record { line = seat; kept = kept; journal = journal; opened = opened.value } }
+        requires { StandsFor D.seen D.may_leave D.moment D.left_since journal seat kept
+            opened.value }
+        ensures { result
+            ≡ record { line = seat; kept = kept; journal = journal; opened = opened.value } }
     {
         Keeper {
             journal,
@@ -58,13 +63,16 @@ impl<D: Device + Drop, B: Lines> Keeper<D, B> {
         }
     }
 
-    /// How many versions are kept: whatever moment a crash comes from now on, the journal has the edits that made them.
+    /// How many versions are kept: whatever moment a crash comes from now on, the journal has the
+    /// edits that made them.
     pub fn kept(&self) -> u64
         ensures kept { result ≡ self.now.kept }
         ensures within { result ≤ length self.now.line.front }
-        ensures tells { Tells self.now.line.opening (done_of D.seen self.now.journal) (take result self.now.line.front) }
+        ensures tells { Tells self.now.line.opening (done_of D.seen self.now.journal)
+            (take result self.now.line.front) }
         // Each crash since the journal was opened leaves the lines of a beginning of the history.
-        ensures crash { (c : List ℕ) → D.left_since self.now.journal.device (D.moment self.now.opened) c
+        ensures crash { (c : List ℕ)
+            → D.left_since self.now.journal.device (D.moment self.now.opened) c
             → TellsBeginning self.now.line.opening c self.now.line.front }
     {
         self.kept
@@ -80,7 +88,8 @@ impl<D: Device + Drop, B: Lines> Keeper<D, B> {
     /// Whether all that a seat of this line has seen is kept.
     pub fn has(&self, seat: &Seat<B>) -> bool
         requires { seat.now.name ≡ self.now.line.name }
-        ensures yes { OnTrue result (IsPrefix seat.now.front (take self.now.kept self.now.line.front)) }
+        ensures yes { OnTrue result
+            (IsPrefix seat.now.front (take self.now.kept self.now.line.front)) }
         ensures no { OnFalse result (self.now.kept < length seat.now.front) }
     {
         // Of two seats of one line one front begins the other, so numbers decide.
@@ -88,16 +97,21 @@ impl<D: Device + Drop, B: Lines> Keeper<D, B> {
         seat.number() <= self.kept
     }
 
-    /// Keeps all versions that the seat has seen, and writes what the line recorded since. After a fault open the journal anew.
+    /// Keeps all versions that the seat has seen, and writes what the line recorded since. After a
+    /// fault open the journal anew.
     pub fn turn<R: Wait>(self, rt: &R, alloc: Global) -> Result<Keeper<D, B>, KeepFault>
         ensures kept { IfOk result (λ k. k.kept ≡ length self.line.front) }
         ensures goes_on { IfOk result (λ k. GoesOn self.line k.line) }
         ensures opened { IfOk result (λ k. k.opened ≡ self.opened) }
-        ensures acknowledged { IfOk result (λ k. done_of D.seen k.journal ≡ handed_of D.seen self.journal) }
-        // What was known of each crash since some moment goes on to be so, and from now on each leaves all that is kept.
-        ensures keeps { IfOk result (λ k. (since : ℕ) (known : List (List ℕ)) → HasKept D.seen D.moment D.left_since self.journal since known
+        ensures acknowledged { IfOk result
+            (λ k. done_of D.seen k.journal ≡ handed_of D.seen self.journal) }
+        // What was known of each crash since some moment goes on to be so, and from now on each
+        // leaves all that is kept.
+        ensures keeps { IfOk result (λ k. (since : ℕ) (known : List (List ℕ))
+            → HasKept D.seen D.moment D.left_since self.journal since known
             → HasKept D.seen D.moment D.left_since k.journal since known) }
-        ensures keeps_all { IfOk result (λ k. HasKept D.seen D.moment D.left_since k.journal (D.moment k.journal.device) (done_of D.seen k.journal)) }
+        ensures keeps_all { IfOk result (λ k. HasKept D.seen D.moment D.left_since k.journal
+            (D.moment k.journal.device) (done_of D.seen k.journal)) }
     {
         let Keeper {
             mut journal,

@@ -1,4 +1,5 @@
-//! A document that is kept: a line whose edits stand in a journal before anything is answered that rests on them.
+//! A document that is kept: a line whose edits stand in a journal before anything is answered that
+//! rests on them.
 #![tactic(auto)]
 
 mod fault;

@@ -18,8 +18,9 @@ use std::alloc::Global;
 use std::snapshot::Snapshot;
 use std::sync::Wait;
 
-/// Opens a journal over a line at its beginning: makes the edits of the lines that count, through the seat, and then has the line
-/// record. No other seat of the line edits it meanwhile. Where a line can't be replayed, the journal is left as it is.
+/// Opens a journal over a line at its beginning: makes the edits of the lines that count, through
+/// the seat, and then has the line record. No other seat of the line edits it meanwhile. Where a
+/// line can't be replayed, the journal is left as it is.
 pub fn open<D: Device + Drop, B: Lines, R: Wait>(
     rt: &R,
     alloc: Global,
@@ -36,7 +37,8 @@ pub fn open<D: Device + Drop, B: Lines, R: Wait>(
     ensures kept { IfOk result (λ k. k.kept ≡ length k.line.front) }
     ensures opened { IfOk result (λ k. k.opened ≡ device) }
     // A run begins or goes on: what was known of the lines is known of those that each later crash leaves.
-    ensures keeps { IfOk result (λ k. (known : List (List ℕ)) → IsPrefix known (recovered (D.seen device))
+    ensures keeps { IfOk result
+        (λ k. (known : List (List ℕ)) → IsPrefix known (recovered (D.seen device))
         → HasKept D.seen D.moment D.left_since k.journal (D.moment device) known) }
     ensures refused { IfErr result (λ f. OpenRefused seat (recovered (D.seen device)) f) }
 {

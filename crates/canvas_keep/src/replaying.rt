@@ -11,8 +11,9 @@ use canvas_wire::{Request, RequestReader, WireFault};
 use std::alloc::Global;
 use std::sync::Wait;
 
-/// Makes the edits of lines through a seat, one after another. It stops at the first line that is no edit, or one that is refused
-/// where it stands, and tells which line it is; the edits of the lines before it are made.
+/// Makes the edits of lines through a seat, one after another. It stops at the first line that is
+/// no edit, or one that is refused where it stands, and tells which line it is; the edits of the
+/// lines before it are made.
 pub fn replay<B: Lines, R: Wait>(
     rt: &R,
     alloc: Global,
@@ -20,7 +21,8 @@ pub fn replay<B: Lines, R: Wait>(
     lines: &[Vec<u8>],
 ) -> Result<(), ReplayFault>
     ensures replayed { OnOk result (Replays seat.old (map (λ v. v.items) lines.now) seat.new) }
-    ensures stopped { MatchResult result (λ _. Unit {0}) (λ f. Stops seat.old (map (λ v. v.items) lines.now) f seat.new) }
+    ensures stopped { MatchResult result (λ _. Unit {0})
+        (λ f. Stops seat.old (map (λ v. v.items) lines.now) f seat.new) }
 {
     let mut reader = RequestReader::new(alloc);
     let mut number = 0;
@@ -42,7 +44,8 @@ fn replay_line<B: Lines, R: Wait>(
     line: &[u8],
 ) -> Result<(), ReplayWhy>
     ensures replayed { OnOk result (Replays seat.old (line.now ∷ []) seat.new) }
-    ensures stopped { MatchResult result (λ _. Unit {0}) (λ why. StopsAt seat.old line.now why seat.new) }
+    ensures stopped { MatchResult result (λ _. Unit {0})
+        (λ why. StopsAt seat.old line.now why seat.new) }
 {
     let edit = match read_edit(alloc, reader, line) {
         Ok(edit) => edit,
@@ -59,7 +62,8 @@ fn replay_line<B: Lines, R: Wait>(
 
 // The edit that a line asks for.
 fn read_edit(alloc: Global, reader: &mut RequestReader, line: &[u8]) -> Result<Edit, ReplayWhy>
-    ensures { MatchResult result (λ e. request_of line.now ≡ Ok (requests.Edit e)) (λ why. IsUnread line.now why) }
+    ensures { MatchResult result (λ e. request_of line.now ≡ Ok (requests.Edit e))
+        (λ why. IsUnread line.now why) }
 {
     match reader.read(alloc, line) {
         Ok(Request::Edit(edit)) => Ok(edit),

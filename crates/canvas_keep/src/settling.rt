@@ -1,4 +1,5 @@
-//! What all threads share: they wait until what they tell of is kept, and one of them at a time makes a turn for all.
+//! What all threads share: they wait until what they tell of is kept, and one of them at a time
+//! makes a turn for all.
 ghost use Rattle.std.specs.Prelude.{◌≡◌, ◌<◌, ◌≤◌, IfOk, IfSome, length};
 
 use crate::fault::KeepFault;
@@ -58,13 +59,15 @@ impl<D: Device + Drop, B: Lines> Keep<D, B> {
         })
     }
 
-    /// Waits until all versions are kept that were published when this is called, and says how many are kept then. It takes no lock where they are.
-    /// Else one thread at a time takes the journal out of its lock and turns for all. Once the journal is lost, all are told its fault.
+    /// Waits until all versions are kept that were published when this is called, and says how many
+    /// are kept then. It takes no lock where they are. Else one thread at a time takes the journal
+    /// out of its lock and turns for all. Once the journal is lost, all are told its fault.
     pub fn settle<R: Wait>(&self, rt: &R) -> Result<u64, KeepFault> {
         self.settle_seen(rt, &self.begun)
     }
 
-    /// What `settle` does. Whatever any seat of the line has seen is kept then: a glimpse has no bytes, so it makes no difference whose it is.
+    /// What `settle` does. Whatever any seat of the line has seen is kept then: a glimpse has no
+    /// bytes, so it makes no difference whose it is.
     pub fn settle_seen<R: Wait>(&self, rt: &R, seen: &Glimpse) -> Result<u64, KeepFault>
         requires { seen.now.book ≡ (B.line self.now).book }
         ensures { IfOk result (λ kept. length seen.now.changes ≤ kept) }
@@ -76,7 +79,8 @@ impl<D: Device + Drop, B: Lines> Keep<D, B> {
         }
     }
 
-    // Waits until so many versions are kept. The line has accepted so many changes, and takes the lock of its desk until they are published.
+    // Waits until so many versions are kept. The line has accepted so many changes, and takes the
+    // lock of its desk until they are published.
     fn wait_for<'a, R: Wait>(
         &'a self,
         rt: &R,
@@ -95,7 +99,8 @@ impl<D: Device + Drop, B: Lines> Keep<D, B> {
                 Some(keeper) => {
                     drop(guard);
                     let turned = keeper.turn(rt, self.alloc);
-                    // The turn found all that is published. A version that is not among it by now never will be. It can't be.
+                    // The turn found all that is published. A version that is not among it by now
+                    // never will be. It can't be.
                     let is_missing = turned.as_ref().is_ok_and(|keeper| keeper.seen() < target);
                     guard = self.slot.lock(rt);
                     guard.put_back(turned);
@@ -110,8 +115,9 @@ impl<D: Device + Drop, B: Lines> Keep<D, B> {
         unreachable!()
     }
 
-    /// Waits until more versions are kept than so many, and says how many are kept then. It makes no turn: it is told of those that others make. `None`
-    /// where no more are kept, once the journal is lost or `end_waits` was called.
+    /// Waits until more versions are kept than so many, and says how many are kept then. It makes
+    /// no turn: it is told of those that others make. `None` where no more are kept, once the
+    /// journal is lost or `end_waits` was called.
     pub fn wait_beyond<R: Wait>(&self, rt: &R, has: u64) -> Option<u64>
         ensures { IfSome result (λ kept. has < kept) }
     {
@@ -146,7 +152,8 @@ impl<D: Device + Drop, B: Lines> Keep<D, B> {
         self.slot.lock(rt).fault
     }
 
-    /// Keeps all that was published, and gives the memory up. It is called when no session is left. The answer is how many versions are kept.
+    /// Keeps all that was published, and gives the memory up. It is called when no session is left.
+    /// The answer is how many versions are kept.
     pub fn close<R: Wait>(self, rt: &R) -> Result<u64, KeepFault> {
         let Keep { slot, alloc, .. } = self;
         let Slot {

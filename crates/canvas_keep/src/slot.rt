@@ -11,7 +11,8 @@ use canvas_line::{Lines, Seat, Version};
 use std::alloc::Global;
 use std::sync::Arc;
 
-/// The value of the lock: the keeper, while no thread has it out for a turn, and what is known of the journal meanwhile.
+/// The value of the lock: the keeper, while no thread has it out for a turn, and what is known of
+/// the journal meanwhile.
 #[derive(Drop)]
 pub(crate) struct Slot<D: Device, B: Lines> {
     pub(crate) keeper: Option<Keeper<D, B>>,
@@ -62,8 +63,8 @@ impl<D: Device + Drop, B: Lines> Slot<D, B> {
         Some(Ok(self.kept))
     }
 
-    /// What a thread is told that waits for more versions than it has: how many are kept, or `None` where no more are told; nothing as long as it
-    /// has to wait.
+    /// What a thread is told that waits for more versions than it has: how many are kept, or `None`
+    /// where no more are told; nothing as long as it has to wait.
     pub(crate) fn more_than(&self, has: u64) -> Option<Option<u64>>
         ensures { AnswersMore self.now.fault self.now.waits_ended self.now.kept has result }
     {
@@ -78,7 +79,10 @@ impl<D: Device + Drop, B: Lines> Slot<D, B> {
 
     /// Takes what became of a turn: the keeper comes back, or the journal is lost.
     pub(crate) fn put_back(&mut self, turned: Result<Keeper<D, B>, KeepFault>)
-        ensures { MatchResult turned (λ k. (self.new.keeper ≡ Some k) × (self.new.kept ≡ k.kept) × (self.new.fault ≡ self.old.fault))
+        ensures { MatchResult turned
+            (λ k. (self.new.keeper ≡ Some k)
+            × (self.new.kept ≡ k.kept)
+            × (self.new.fault ≡ self.old.fault))
             (λ f. (self.new.fault ≡ Some f) × (self.new.kept ≡ self.old.kept)) }
     {
         match turned {

@@ -15,7 +15,8 @@ use std::alloc::Global;
 /// A line for each edit: its text. The lines tell whatever history the edits make.
 pub(crate) fn texts_of(alloc: Global, edits: &[Edit]) -> Result<Batch, OutOfMemory>
     ensures texts { IfOk result (λ batch. batch ≡ map edit_text edits.now) }
-    ensures told { IfOk result (λ batch. (d : Contents) (cs : List AChange) → Makes d edits.now cs → Tells d batch cs) }
+    ensures told { IfOk result
+        (λ batch. (d : Contents) (cs : List AChange) → Makes d edits.now cs → Tells d batch cs) }
 {
     let mut batch = Batch::new(alloc)?;
     for edit in edits {

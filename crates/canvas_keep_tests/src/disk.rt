@@ -93,7 +93,8 @@ impl Disk {
         }
     }
 
-    /// What a crash after so many calls leaves in one of the ways, from 0. None where there is no memory for it.
+    /// What a crash after so many calls leaves in one of the ways, from 0. None where there is no
+    /// memory for it.
     pub(crate) fn left(&self, moment: usize, way: usize) -> Option<Vec<u8>> {
         let calls = self.calls.try_lock()?;
         left(calls.alloc, &calls.first, &calls.done, moment, way).ok()
@@ -131,7 +132,8 @@ impl Backing for Disk {
     }
 }
 
-// In how many ways a call is left that was not synced: not at all, whole, its first half, its second half, blanks and LFs.
+// In how many ways a call is left that was not synced: not at all, whole, its first half, its
+// second half, blanks and LFs.
 const WAYS: usize = 6;
 
 // How many of the first calls are on the disk: those before the last sync.

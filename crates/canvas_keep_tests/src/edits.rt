@@ -95,7 +95,8 @@ pub(crate) fn saved_at_the_end() -> &'static [u8] {
     br#"{"format":2,"next":5,"shapes":[{"hidden":false,"id":1,"place":{"index":"a1","parent":2},"pose":{"dx":100,"dy":0,"flip":false,"quarter":0},"shape":{"fill":"ff0000","h":10,"kind":"rect","w":10}},{"hidden":true,"id":2,"place":{"index":"a1","parent":null},"pose":{"dx":0,"dy":0,"flip":false,"quarter":0},"shape":{"kind":"group"}},{"hidden":false,"id":4,"place":{"index":"a0","parent":null},"pose":{"dx":0,"dy":0,"flip":false,"quarter":0},"shape":{"fill":"ff0000","h":40,"kind":"rect","w":40}}]}"#
 }
 
-/// Makes the edit of a version, by one seat or the other, and asserts its answer. Behind some of them another one is refused.
+/// Makes the edit of a version, by one seat or the other, and asserts its answer. Behind some of
+/// them another one is refused.
 pub(crate) fn make<B: Lines, H: Wait + Abort>(rt: &H, two: &mut Two<B>, version: u64) {
     let seat = if version % 3 == 0 {
         &mut two.second

@@ -1,5 +1,5 @@
-//! A disk of which each call fails in turn: the fault is told to all who wait, nobody is answered after it, and what is opened then has
-//! all that was acknowledged.
+//! A disk of which each call fails in turn: the fault is told to all who wait, nobody is answered
+//! after it, and what is opened then has all that was acknowledged.
 ghost use Rattle.std.specs.Prelude.{◌≡◌};
 
 use crate::asserts::{equal, holds, holds_at};
@@ -58,7 +58,8 @@ fn settled_at<B: Lines, H: Wait + Abort>(
     document: Document,
     disk: &Disk,
 ) -> Told
-    requires { B.line 1 ≡ record { book = opened.head.word.book; opening = document; limit = 1000 } }
+    requires { B.line 1
+        ≡ record { book = opened.head.word.book; opening = document; limit = 1000 } }
 {
     match kept_line::<B, H>(rt, alloc, opened, document, disk) {
         Ok(kept) => settled_until(rt, alloc, kept, disk),

@@ -1,5 +1,6 @@
-//! A kept line for which memory may be refused: run with each allocation refused in turn, an edit that is refused leaves the history as it
-//! was, and a journal that is lost is opened again with all that was acknowledged.
+//! A kept line for which memory may be refused: run with each allocation refused in turn, an edit
+//! that is refused leaves the history as it was, and a journal that is lost is opened again with
+//! all that was acknowledged.
 ghost use Rattle.std.specs.Prelude.{◌≡◌};
 
 use crate::asserts::{equal, holds};
@@ -52,7 +53,8 @@ fn history_at<B: Lines, H: Wait + Abort>(
     disk: &Disk,
     told: u64,
 ) -> Part
-    requires { B.line 1 ≡ record { book = opened.head.word.book; opening = document; limit = 1000 } }
+    requires { B.line 1
+        ≡ record { book = opened.head.word.book; opening = document; limit = 1000 } }
 {
     match kept_line::<B, H>(rt, alloc, opened, document, disk) {
         Ok(line) => {

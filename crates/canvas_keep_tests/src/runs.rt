@@ -72,7 +72,8 @@ fn run_at<B: Lines, H: Wait + Abort>(
     document: Document,
     disk: Disk,
 ) -> Run
-    requires { B.line 1 ≡ record { book = opened.head.word.book; opening = document; limit = 1000 } }
+    requires { B.line 1
+        ≡ record { book = opened.head.word.book; opening = document; limit = 1000 } }
 {
     let kept = kept_line::<B, H>(rt, alloc, opened, document, &disk).expect(rt, "a line");
     let Kept {
@@ -114,8 +115,8 @@ fn turned<B: Lines, H: Wait + Abort>(
     keeper
 }
 
-/// Opens what a crash has left of a run, and tells how many versions are kept. Their document is the run's, and what is edited then
-/// goes on as the run did.
+/// Opens what a crash has left of a run, and tells how many versions are kept. Their document is
+/// the run's, and what is edited then goes on as the run did.
 pub(crate) fn reopened<H: Wait + Abort>(rt: &H, alloc: Global, run: &Run, disk: &Disk) -> u64 {
     goes_on::<Brand, H>(rt, alloc, Opened::new(), Document::empty(alloc), run, disk)
 }
@@ -128,7 +129,8 @@ fn goes_on<B: Lines, H: Wait + Abort>(
     run: &Run,
     disk: &Disk,
 ) -> u64
-    requires { B.line 1 ≡ record { book = opened.head.word.book; opening = document; limit = 1000 } }
+    requires { B.line 1
+        ≡ record { book = opened.head.word.book; opening = document; limit = 1000 } }
 {
     let kept = kept_line::<B, H>(rt, alloc, opened, document, disk).expect(rt, "a line");
     let Kept {

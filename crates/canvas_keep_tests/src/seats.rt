@@ -33,7 +33,8 @@ pub(crate) fn kept_line<B: Lines, H: Wait>(
     document: Document,
     disk: &Disk,
 ) -> Result<Kept<B>, OpenFault>
-    requires { B.line 1 ≡ record { book = opened.head.word.book; opening = document; limit = 1000 } }
+    requires { B.line 1
+        ≡ record { book = opened.head.word.book; opening = document; limit = 1000 } }
     ensures { IfOk result (λ kept. kept.watch.name ≡ kept.keeper.line.name) }
 {
     let mut seats = Line::open::<B, H>(rt, alloc, opened, 1, document, 4, 1000)?;

@@ -1,4 +1,5 @@
-//! Threads that edit and wait while a call of the disk fails: each of them is told, and what was acknowledged is there.
+//! Threads that edit and wait while a call of the disk fails: each of them is told, and what was
+//! acknowledged is there.
 ghost use Rattle.std.specs.Prelude.{◌≡◌};
 
 use crate::asserts::{equal, holds};
@@ -66,7 +67,8 @@ fn crowd_at<B: Lines + Send + Sync, H: Threads + Wait + Abort + Sync>(
     document: Document,
     disk: &Disk,
 ) -> u64
-    requires { B.line 1 ≡ record { book = opened.head.word.book; opening = document; limit = 1000 } }
+    requires { B.line 1
+        ≡ record { book = opened.head.word.book; opening = document; limit = 1000 } }
 {
     let line = kept_line::<B, H>(rt, alloc, opened, document, disk).expect(rt, "a line");
     let Kept { keeper, watch, two } = line;
@@ -124,7 +126,8 @@ fn kept_at<B: Lines, H: Wait + Abort>(
     document: Document,
     disk: &Disk,
 ) -> u64
-    requires { B.line 1 ≡ record { book = opened.head.word.book; opening = document; limit = 1000 } }
+    requires { B.line 1
+        ≡ record { book = opened.head.word.book; opening = document; limit = 1000 } }
 {
     let line = kept_line::<B, H>(rt, alloc, opened, document, disk).expect(rt, "a line");
     line.keeper.kept()

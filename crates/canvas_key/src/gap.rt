@@ -25,7 +25,8 @@ use arrayvec::ArrayVec;
 pub fn between(low: Option<&Key>, high: Option<&Key>) -> Result<Key, KeyFault>
     requires { AreApart (option_copied low) (option_copied high) }
     ensures exact { result ≡ key_between (option_copied low.entry) (option_copied high.entry) }
-    ensures no_room { IsErr result ↔ (128 < length (key_text (option_copied low.entry) (option_copied high.entry))) }
+    ensures no_room { IsErr result
+        ↔ (128 < length (key_text (option_copied low.entry) (option_copied high.entry))) }
 
     ensures key { IfOk result IsKey }
     ensures above { IfOk result (λ key. IsAbove (option_copied low.entry) key) }
@@ -37,12 +38,16 @@ pub fn between(low: Option<&Key>, high: Option<&Key>) -> Result<Key, KeyFault>
 }
 
 impl Key {
-    /// Turns the key into the one between two others, where it lies: what `between` gives, with no move of a key. Where
-    /// that is refused, the key stays.
+    /// Turns the key into the one between two others, where it lies: what `between` gives, with no
+    /// move of a key. Where that is refused, the key stays.
     pub fn make_between(&mut self, low: Option<&Key>, high: Option<&Key>) -> Result<(), KeyFault>
         requires { AreApart (option_copied low) (option_copied high) }
-        ensures exact { MatchResult result (λ _. key_between (option_copied low.entry) (option_copied high.entry) ≡ Ok self.new) (λ fault. key_between (option_copied low.entry) (option_copied high.entry) ≡ Err fault) }
-        ensures no_room { IsErr result ↔ (128 < length (key_text (option_copied low.entry) (option_copied high.entry))) }
+        ensures exact { MatchResult result
+            (λ _. key_between (option_copied low.entry) (option_copied high.entry) ≡ Ok self.new)
+            (λ fault. key_between (option_copied low.entry) (option_copied high.entry)
+            ≡ Err fault) }
+        ensures no_room { IsErr result
+            ↔ (128 < length (key_text (option_copied low.entry) (option_copied high.entry))) }
         ensures kept { IsErr result → self.new ≡ self.old }
         ensures key { IsOk result → IsKey self.new }
         ensures above { IsOk result → IsAbove (option_copied low.entry) self.new }
@@ -62,7 +67,9 @@ impl Key {
 
 /// A law: a key that lies between two others by definition is a key, strictly between them.
 pub fn defined_keys_lie_between()
-    ensures { (low high : Option (List ℕ)) (key : List ℕ) → IsKeyOrNone low → IsKeyOrNone high → AreApart low high → key_between low high ≡ Ok key → IsKey key × IsAbove low key × IsBelow high key }
+    ensures { (low high : Option (List ℕ)) (key : List ℕ) → IsKeyOrNone low → IsKeyOrNone high
+        → AreApart low high → key_between low high ≡ Ok key
+        → IsKey key × IsAbove low key × IsBelow high key }
 {}
 
 // Each `write_..` below puts a text in place of what the draft has, so that no draft is copied.

@@ -84,7 +84,8 @@ impl Coded for KeyFault {
 impl Key {
     /// The key with this text.
     pub fn read(text: &[u8]) -> Result<Key, KeyFault>
-        ensures { MatchResult result (λ key. (key ≡ text.now) × IsKey text.now) (λ fault. key_fault text.now ≡ Some fault) }
+        ensures { MatchResult result (λ key. (key ≡ text.now) × IsKey text.now)
+            (λ fault. key_fault text.now ≡ Some fault) }
     {
         match fault_of(text) {
             Some(fault) => Err(fault),

@@ -60,7 +60,8 @@ pub(crate) fn push_midpoint_between(draft: &mut Draft, low: &[u8], high: &[u8], 
     requires high_digits { HasDigits high.now }
     requires low_room { length draft.old.items + (length low.now - at) < 129 }
     requires high_room { length draft.old.items + (length high.now - at) < 129 }
-    ensures { draft.new.items ≡ draft.old.items ++ midpoint_between (drop at low.now) (drop at high.now) }
+    ensures { draft.new.items
+        ≡ draft.old.items ++ midpoint_between (drop at low.now) (drop at high.now) }
 {
     if at >= high.len() {
         push_midpoint_above(draft, low, at);
@@ -82,7 +83,10 @@ fn push_midpoint_apart(draft: &mut Draft, low: &[u8], high: &[u8], at: usize)
     requires high_digits { HasDigits high.now }
     requires low_room { length draft.old.items + (length low.now - at) < 129 }
     requires high_room { length draft.old.items + (length high.now - at) < 129 }
-    ensures { draft.new.items ≡ draft.old.items ++ midpoint_apart (drop at low.now) (slice_index_or high.now at 48) (drop (at + 1) high.now) }
+    ensures { draft.new.items
+        ≡ draft.old.items
+        ++ midpoint_apart (drop at low.now) (slice_index_or high.now at 48)
+        (drop (at + 1) high.now) }
 {
     let first = digit_at(low, at);
     let low_value = digit_value(first);

@@ -9,9 +9,9 @@ use super::digit::digit_of;
 use super::{KEY_LIMIT, Key};
 use arrayvec::ArrayVec;
 
-/// The n-th fresh key, counted from 0: the integer part of rank n, so `a0`, `a1`, .., `az`, `b00`, .. These are
-/// the keys of siblings that are spaced anew, and those that fractional-indexing gives one after the other from
-/// `a0` on. They rise with n.
+/// The n-th fresh key, counted from 0: the integer part of rank n, so `a0`, `a1`, .., `az`, `b00`,
+/// .. These are the keys of siblings that are spaced anew, and those that fractional-indexing gives
+/// one after the other from `a0` on. They rise with n.
 #[inline(always)]
 pub fn fresh(n: u32) -> Key
     ensures value { result ≡ fresh_key n }
@@ -23,8 +23,8 @@ pub fn fresh(n: u32) -> Key
     key
 }
 
-/// The first fresh key, `a0`: a constant, to be put where a key shall lie, and then to be turned there into another
-/// by `Key::make_fresh`.
+/// The first fresh key, `a0`: a constant, to be put where a key shall lie, and then to be turned
+/// there into another by `Key::make_fresh`.
 #[inline(always)]
 pub fn first_fresh() -> Key
     ensures value { result ≡ fresh_key 0 }
@@ -32,8 +32,9 @@ pub fn first_fresh() -> Key
 {
     let mut text = ArrayVec::new();
     text.push(b'a');
-    // Eight bytes written one by one are kept apart from the other 120, which then are whole words to the compiler.
-    // After two bytes alone the rest would be copied by words that overlap, and each such copy stalls.
+    // Eight bytes written one by one are kept apart from the other 120, which then are whole words
+    // to the compiler. After two bytes alone the rest would be copied by words that overlap, and
+    // each such copy stalls.
     for _ in 0..7u32 {
         text.push(b'0');
     }
@@ -51,8 +52,8 @@ impl Key {
     }
 }
 
-// Writes the integer part of a rank over a text. Parts of one and two digits, which are those of nearly all siblings,
-// are written at fixed places.
+// Writes the integer part of a rank over a text. Parts of one and two digits, which are those of
+// nearly all siblings, are written at fixed places.
 #[inline(always)]
 fn write_part(text: &mut ArrayVec<u8, KEY_LIMIT>, n: u32)
     requires { 2 ≤ length text.old.items }
@@ -80,8 +81,8 @@ fn write_start(text: &mut ArrayVec<u8, KEY_LIMIT>, head: u8, digit: u8)
     text[1] = digit;
 }
 
-// Writes the integer part of any rank over a text. If it made a text of its own, a caller that it is inlined in would
-// clear that one on every path.
+// Writes the integer part of any rank over a text. If it made a text of its own, a caller that it
+// is inlined in would clear that one on every path.
 fn write_long_part(text: &mut ArrayVec<u8, KEY_LIMIT>, n: u32)
     ensures { part_above 25 1 n ≡ Some text.new.items }
 {
@@ -133,11 +134,14 @@ pub fn fresh_keys_rise()
 
 /// A law: integer parts stand in the order of their ranks.
 pub fn parts_are_in_order()
-    ensures { (r s : ℤ) (low high : List ℕ) → r <ℤ s → part_of_rank r ≡ Some low → part_of_rank s ≡ Some high → Before low high }
+    ensures { (r s : ℤ) (low high : List ℕ) → r <ℤ s → part_of_rank r ≡ Some low
+        → part_of_rank s ≡ Some high
+        → Before low high }
 {}
 
 /// A law: each integer part has a rank of its own, and the part of a rank has that rank.
 pub fn ranks_number_the_parts()
     ensures part { (part : List ℕ) → IsPart part → part_of_rank (rank_of part) ≡ Some part }
-    ensures rank { (r : ℤ) (part : List ℕ) → part_of_rank r ≡ Some part → IsPart part × (rank_of part ≡ r) }
+    ensures rank { (r : ℤ) (part : List ℕ) → part_of_rank r ≡ Some part
+        → IsPart part × (rank_of part ≡ r) }
 {}

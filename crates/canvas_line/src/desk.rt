@@ -23,16 +23,17 @@ use std::marker::{Model, PhantomData};
 use std::mem::ManuallyDrop;
 use std::sync::{Arc, Wait};
 
-/// The value of the lock. Contracts see it as the line's name, opening document, limit and history, and how many changes were
-/// taken of a line that records: taken and pending edits together make the history.
+/// The value of the lock. Contracts see it as the line's name, opening document, limit and history,
+/// and how many changes were taken of a line that records: taken and pending edits together make
+/// the history.
 #[derive(Drop)]
 pub struct Desk<B: Lines> {
     writer: ManuallyDrop<LineWriter>,
     head: Arc<CachePadded<Head>, Global>,
     name: u64,
     alloc: Global,
-    // The version before the published one, and the one before that until it is taken. A desk keeps them so that no version
-    // is freed under the lock.
+    // The version before the published one, and the one before that until it is taken. A desk keeps
+    // them so that no version is freed under the lock.
     previous: Option<Arc<Version, Global>>,
     retired: Option<Arc<Version, Global>>,
     recorder: Recorder,
@@ -51,9 +52,16 @@ impl<B: Lines> Model for Desk<B> {
 
     ghost Value = { Line };
 
-    ghost view = { λ d. line_of d.name (B.line d.name) (manually_drop_value d.writer).desk.shown.value.changes d.recorder.taken };
+    ghost view = { λ d. line_of d.name (B.line d.name)
+        (manually_drop_value d.writer).desk.shown.value.changes d.recorder.taken };
 
-    ghost invariant = { λ d. Knows (seat_view (manually_drop_value d.writer).desk.place) (B.line d.name) × ((manually_drop_value d.writer).desk.shown.value.facts ≡ B.line d.name) × ((padded_value (arc_value d.head)).word.book ≡ (B.line d.name).book) × ((B.line d.name).limit ≤ 1000000) × Records (B.line d.name).opening (manually_drop_value d.writer).desk.shown.value.changes d.recorder.taken d.recorder.edits.items };
+    ghost invariant = { λ d.
+        Knows (seat_view (manually_drop_value d.writer).desk.place) (B.line d.name)
+        × ((manually_drop_value d.writer).desk.shown.value.facts ≡ B.line d.name)
+        × ((padded_value (arc_value d.head)).word.book ≡ (B.line d.name).book)
+        × ((B.line d.name).limit ≤ 1000000)
+        × Records (B.line d.name).opening (manually_drop_value d.writer).desk.shown.value.changes
+        d.recorder.taken d.recorder.edits.items };
 }
 
 impl<B: Lines> Desk<B> {
@@ -65,7 +73,9 @@ impl<B: Lines> Desk<B> {
         writer: LineWriter,
     ) -> Desk<B>
         requires view { Knows (seat_view writer.desk.place) (B.line name) }
-        requires facts { (writer.desk.shown.value.facts ≡ B.line name) × ((padded_value (arc_value head)).word.book ≡ (B.line name).book) × ((B.line name).limit ≤ 1000000) }
+        requires facts { (writer.desk.shown.value.facts ≡ B.line name)
+            × ((padded_value (arc_value head)).word.book ≡ (B.line name).book)
+            × ((B.line name).limit ≤ 1000000) }
         ensures { result ≡ line_of name (B.line name) writer.desk.shown.value.changes None }
     {
         Desk {
@@ -101,7 +111,8 @@ impl<B: Lines> Desk<B> {
     // The line's name, by which its facts are known.
     pub(crate) fn name(&self) -> u64
         ensures name { result ≡ self.now.name }
-        ensures facts { (self.now.opening ≡ (B.line self.now.name).opening) × (self.now.limit ≡ (B.line self.now.name).limit) }
+        ensures facts { (self.now.opening ≡ (B.line self.now.name).opening)
+            × (self.now.limit ≡ (B.line self.now.name).limit) }
     {
         self.name
     }
@@ -117,17 +128,20 @@ impl<B: Lines> Desk<B> {
     pub(crate) fn trace(&self) -> Trace
         ensures book { result.book ≡ (B.line self.now.name).book }
         ensures changes { result.changes ≡ self.now.history }
-        ensures fits { AllFit self.now.opening self.now.history × (length self.now.history ≤ self.now.limit) }
+        ensures fits { AllFit self.now.opening self.now.history
+            × (length self.now.history ≤ self.now.limit) }
     {
         self.writer.published().trace.again()
     }
 
-    /// Makes an edit, or says why it is refused: `VersionsSpent` where the history has as many changes as the line may
-    /// accept, then the document's refusal, then `OutOfMemory`. A refused edit leaves the history as it was. An accepted one is
-    /// pending from then on, where the line records.
+    /// Makes an edit, or says why it is refused: `VersionsSpent` where the history has as many
+    /// changes as the line may accept, then the document's refusal, then `OutOfMemory`. A refused
+    /// edit leaves the history as it was. An accepted one is pending from then on, where the line
+    /// records.
     pub fn apply<R: Wait>(&mut self, rt: &R, edit: &Edit) -> Result<Edited, LineFault>
         ensures accepted { IfOk result (λ r. Accepts self.old edit.now self.new r) }
-        ensures refused { MatchResult result (λ _. Unit {0}) (λ f. (self.new ≡ self.old) × Rightly self.old.opening self.old.limit self.old.history edit.now f) }
+        ensures refused { MatchResult result (λ _. Unit {0}) (λ f. (self.new ≡ self.old)
+            × Rightly self.old.opening self.old.limit self.old.history edit.now f) }
     {
         let (next, edited, copy) = next_published(
             self.alloc,
@@ -145,8 +159,8 @@ impl<B: Lines> Desk<B> {
         Ok(edited)
     }
 
-    /// The version that the last edit retired. Where no seat looks at it, it is freed with this pointer: whoever holds the lock
-    /// takes it, and lets it go once the lock is free.
+    /// The version that the last edit retired. Where no seat looks at it, it is freed with this
+    /// pointer: whoever holds the lock takes it, and lets it go once the lock is free.
     pub(crate) fn take_retired(&mut self) -> Option<Arc<Version, Global>>
         ensures { self.new ≡ self.old }
     {
@@ -162,8 +176,8 @@ impl<B: Lines> Desk<B> {
         }
     }
 
-    /// The edits that were accepted since some were last taken, in the order of versions. An empty list takes their place. None
-    /// where the line does not record.
+    /// The edits that were accepted since some were last taken, in the order of versions. An empty
+    /// list takes their place. None where the line does not record.
     pub fn take_pending(&mut self, empty: Vec<Edit>) -> Option<Taken>
         requires { empty.items ≡ [] }
         ensures { Takes self.old result self.new }

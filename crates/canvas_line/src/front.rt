@@ -76,7 +76,8 @@ impl Plain<(), Change, u64> for Look {
     ghost state = { λ _. None };
 }
 
-/// Gives a line's book, opening document and limit from the line's name. A program picks it where it opens its lines.
+/// Gives a line's book, opening document and limit from the line's name. A program picks it where
+/// it opens its lines.
 pub trait Lines {
     ghost use Rattle.std.specs.Prelude.{ℕ};
     ghost use Rattle.canvas_line.specs.Trails.{Facts};
@@ -109,7 +110,8 @@ impl Head {
         (head, Trace { count: 0, seen })
     }
 
-    /// How long the history is by now: no shorter than any that was seen. Whose glimpse it is makes no difference.
+    /// How long the history is by now: no shorter than any that was seen. Whose glimpse it is makes
+    /// no difference.
     pub(crate) fn number(&self, seen: &Glimpse) -> u64
         requires { seen.now.book ≡ self.now.word.book }
         ensures { length seen.now.changes ≤ result }
@@ -135,7 +137,8 @@ impl Opened {
     }
 }
 
-/// What was seen of a book's history, for clauses alone: it has no bytes, so nothing that runs rests on how much that is.
+/// What was seen of a book's history, for clauses alone: it has no bytes, so nothing that runs
+/// rests on how much that is.
 #[derive(Drop)]
 pub struct Glimpse {
     seen: Seen<Change, u64, Law>,

@@ -42,7 +42,8 @@ impl<B: Lines> Herald<B> {
         }
     }
 
-    /// How many changes the line has accepted by now: no fewer than any of its seats has seen, whichever it is. It takes no lock.
+    /// How many changes the line has accepted by now: no fewer than any of its seats has seen,
+    /// whichever it is. It takes no lock.
     pub fn number(&self, seen: &Glimpse) -> u64
         requires { seen.now.book ≡ (B.line self.now).book }
         ensures { length seen.now.changes ≤ result }

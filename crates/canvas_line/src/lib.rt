@@ -1,5 +1,5 @@
-//! One history of a document under many threads: a desk under a lock publishes versions, and seats look without it. A line
-//! here is such a shared document with its history, and no line of text.
+//! One history of a document under many threads: a desk under a lock publishes versions, and seats
+//! look without it. A line here is such a shared document with its history, and no line of text.
 #![tactic(auto)]
 
 mod desk;

@@ -27,11 +27,11 @@ use std::sync::{Arc, Mutex, Wait};
 pub struct Line;
 
 impl Line {
-    /// Opens a line under a name, with so many seats, 1 to 64, which may accept up to `limit` changes, 1 to 1,000,000.
-    /// All seats are at its beginning.
+    /// Opens a line under a name, with so many seats, 1 to 64, which may accept up to `limit`
+    /// changes, 1 to 1,000,000. All seats are at its beginning.
     ///
-    /// `BadSetting` comes before all else, for another number of seats or another limit; then `OutOfMemory`, or `NoSeats`
-    /// where a reader of the line could not be had.
+    /// `BadSetting` comes before all else, for another number of seats or another limit; then
+    /// `OutOfMemory`, or `NoSeats` where a reader of the line could not be had.
     pub fn open<B: Lines, R: Wait>(
         rt: &R,
         alloc: Global,
@@ -41,10 +41,14 @@ impl Line {
         seats: u32,
         limit: u64,
     ) -> Result<Vec<Seat<B>>, LineFault>
-        requires { B.line name ≡ record { book = opened.head.word.book; opening = document; limit = limit } }
+        requires { B.line name
+            ≡ record { book = opened.head.word.book; opening = document; limit = limit } }
         ensures count { IfOk result (λ v. vec_len v ≡ seats) }
-        ensures each { IfOk result (λ v. All (λ s. s ≡ record { name = name; opening = document; limit = limit; front = [] }) v.items) }
-        ensures refused { MatchResult result (λ _. is_setting seats limit ≡ true) (λ f. OpenRefused seats limit f) }
+        ensures each { IfOk result (λ v. All
+            (λ s. s ≡ record { name = name; opening = document; limit = limit; front = [] })
+            v.items) }
+        ensures refused { MatchResult result (λ _. is_setting seats limit ≡ true)
+            (λ f. OpenRefused seats limit f) }
     {
         if !is_setting(seats, limit) {
             return Err(LineFault::BadSetting);
@@ -90,8 +94,10 @@ fn first_writer<R: Wait>(
 ) -> Result<LineWriter, OutOfMemory>
     requires trace { trace.now.changes ≡ [] }
     requires viewers { (0 < viewers) × (viewers < 2 ^ 32) }
-    ensures view { IfOk result (λ w. Knows (seat_view w.desk.place) (record { book = trace.now.book; opening = document; limit = limit })) }
-    ensures facts { IfOk result (λ w. w.desk.shown.value.facts ≡ record { book = trace.now.book; opening = document; limit = limit }) }
+    ensures view { IfOk result (λ w. Knows (seat_view w.desk.place)
+        (record { book = trace.now.book; opening = document; limit = limit })) }
+    ensures facts { IfOk result (λ w. w.desk.shown.value.facts
+        ≡ record { book = trace.now.book; opening = document; limit = limit }) }
     ensures changes { IfOk result (λ w. w.desk.shown.value.changes ≡ []) }
 {
     let first = first_published(alloc, trace, document, limit)?;
@@ -114,7 +120,8 @@ fn first_published(
     limit: u64,
 ) -> Result<Published, OutOfMemory>
     requires { trace.now.changes ≡ [] }
-    ensures facts { IfOk result (λ p. p.facts ≡ record { book = trace.now.book; opening = document; limit = limit }) }
+    ensures facts { IfOk result
+        (λ p. p.facts ≡ record { book = trace.now.book; opening = document; limit = limit }) }
     ensures changes { IfOk result (λ p. p.changes ≡ []) }
 {
     let recent = Recent::none(alloc)?;
@@ -177,7 +184,8 @@ fn seated<B: Lines>(
 ) -> Result<Vec<Seat<B>>, OutOfMemory>
     requires { trace.now.book ≡ (B.line name).book }
     ensures count { IfOk result (λ v. vec_len v ≡ seats) }
-    ensures each { IfOk result (λ v. All (λ s. s ≡ sight_of name (B.line name) trace.now.changes) v.items) }
+    ensures each { IfOk result
+        (λ v. All (λ s. s ≡ sight_of name (B.line name) trace.now.changes) v.items) }
 {
     let mut all = Vec::with_capacity(alloc, seats as usize)?;
     for seat in 0..seats {

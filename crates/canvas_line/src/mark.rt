@@ -37,7 +37,8 @@ impl<B: Lines> Mark<B> {
         }
     }
 
-    /// Whether the other mark is of the same line, and has as many changes or more. Then its history begins with this one's.
+    /// Whether the other mark is of the same line, and has as many changes or more. Then its
+    /// history begins with this one's.
     pub fn begins(&self, other: &Mark<B>) -> bool
         ensures test { result ≡ is_no_further self.now other.now }
         ensures begins { IsTrue result → Begins self.now other.now }

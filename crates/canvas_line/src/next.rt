@@ -46,8 +46,12 @@ fn next_version(
     version: &Version,
     edit: &Edit,
 ) -> Result<NextVersion, LineFault>
-    ensures follows { IfOk result (λ n. Follows version.now limit edit.now n.change.value (arc_value n.version) × (n.edited.number ≡ (arc_value n.version).number) × (n.edited.id ≡ new_id n.change.value)) }
-    ensures refused { MatchResult result (λ _. Unit {0}) (λ f. RefusedAt version.now limit edit.now f) }
+    ensures follows { IfOk result
+        (λ n. Follows version.now limit edit.now n.change.value (arc_value n.version)
+        × (n.edited.number ≡ (arc_value n.version).number)
+        × (n.edited.id ≡ new_id n.change.value)) }
+    ensures refused { MatchResult result (λ _. Unit {0})
+        (λ f. RefusedAt version.now limit edit.now f) }
 {
     if version.number >= limit {
         return Err(LineFault::VersionsSpent);
@@ -72,8 +76,13 @@ fn version_after(
 ) -> Result<Arc<Version, Global>, OutOfMemory>
     requires number { version.now.number + 1 < 2 ^ 64 }
     requires fits { Fits change version.now.document }
-    ensures { IfOk result (λ w. ((arc_value w).number ≡ version.now.number + 1) × ((arc_value w).change ≡ Some change) × ((arc_value w).document ≡ effect_of change version.now.document)
-        × ((arc_value w).recent ≡ last_64 (version.now.recent ++ record { number = version.now.number + 1; area = damage_of change version.now.document } ∷ []))) }
+    ensures { IfOk result (λ w. ((arc_value w).number ≡ version.now.number + 1)
+        × ((arc_value w).change ≡ Some change)
+        × ((arc_value w).document ≡ effect_of change version.now.document)
+        × ((arc_value w).recent
+        ≡ last_64 (version.now.recent
+        ++ record { number = version.now.number + 1; area = damage_of change version.now.document }
+        ∷ []))) }
 {
     let document = version.document.with(alloc, &change)?;
     let number = version.number + 1;
@@ -90,8 +99,8 @@ fn version_after(
     )?)
 }
 
-// What is to be published once the edit is accepted, what is answered then, and the copy that is recorded where the line
-// records. All memory is there before the history grows.
+// What is to be published once the edit is accepted, what is answered then, and the copy that is
+// recorded where the line records. All memory is there before the history grows.
 pub(crate) fn next_published(
     alloc: Global,
     now: &Published,
@@ -101,8 +110,10 @@ pub(crate) fn next_published(
 ) -> Result<(Published, Edited, Option<Edit>), LineFault>
     requires book { head.now.word.book ≡ now.now.facts.book }
     requires limit { now.now.facts.limit ≤ 1000000 }
-    ensures next { IfOk result (λ p. Next now.now.facts now.now.facts.opening now.now.facts.limit now.now.changes edit.now p.0 p.1) }
-    ensures refused { MatchResult result (λ _. Unit {0}) (λ f. Rightly now.now.facts.opening now.now.facts.limit now.now.changes edit.now f) }
+    ensures next { IfOk result (λ p. Next now.now.facts now.now.facts.opening now.now.facts.limit
+        now.now.changes edit.now p.0 p.1) }
+    ensures refused { MatchResult result (λ _. Unit {0})
+        (λ f. Rightly now.now.facts.opening now.now.facts.limit now.now.changes edit.now f) }
     ensures taken { recorder.new.taken ≡ recorder.old.taken }
     ensures edits { recorder.new.edits.items ≡ recorder.old.edits.items }
     ensures copy { IfOk result (λ p. Awaits recorder.new edit.now p.2) }

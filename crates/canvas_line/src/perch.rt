@@ -1,4 +1,5 @@
-//! A seat's place at the line, without the lock: the viewers of the line, and the beginning of the history that it has seen.
+//! A seat's place at the line, without the lock: the viewers of the line, and the beginning of the
+//! history that it has seen.
 ghost use Rattle.std.specs.Prelude.{◌≡◌, ◌⊎◌, [], length, IfOk, MatchResult};
 ghost use Rattle.std.specs.Arc.{arc_value};
 ghost use mathlib.Core.List.{IsPrefix};
@@ -64,7 +65,8 @@ impl<B: Lines> Perch<B> {
 
     /// The published version. Its history begins with the front, and becomes it.
     pub(crate) fn look(&mut self) -> Result<Arc<Version, Global>, LineFault>
-        ensures { MatchResult result (λ v. Looks self.old self.new (arc_value v)) (λ f. (f ≡ fault.NoView) × (self.new ≡ self.old)) }
+        ensures { MatchResult result (λ v. Looks self.old self.new (arc_value v))
+            (λ f. (f ≡ fault.NoView) × (self.new ≡ self.old)) }
     {
         let Some(
             Latest {
@@ -126,7 +128,8 @@ impl<B: Lines> Perch<B> {
     // The line's name, by which its facts are known.
     pub(crate) fn name(&self) -> u64
         ensures name { result ≡ self.now.name }
-        ensures facts { (self.now.opening ≡ (B.line self.now.name).opening) × (self.now.limit ≡ (B.line self.now.name).limit) }
+        ensures facts { (self.now.opening ≡ (B.line self.now.name).opening)
+            × (self.now.limit ≡ (B.line self.now.name).limit) }
     {
         self.name
     }
@@ -167,7 +170,8 @@ impl<B: Lines> Perch<B> {
         edit: &Edit,
     ) -> Result<Edited, LineFault>
         ensures accepted { IfOk result (λ r. EditAccepted self.old edit.now self.new r) }
-        ensures refused { MatchResult result (λ _. Unit {0}) (λ f. EditRefused self.old edit.now self.new f) }
+        ensures refused { MatchResult result (λ _. Unit {0})
+            (λ f. EditRefused self.old edit.now self.new f) }
         ensures once { IfOk result (λ r. Accepts desk.old edit.now desk.new r) }
         ensures stays { MatchResult result (λ _. Unit {0}) (λ _. desk.new ≡ desk.old) }
         ensures follows { KeepsUp desk.new result self.new }
@@ -199,7 +203,8 @@ impl<B: Lines> Perch<B> {
     /// Brings two seats to the desk's history, under its lock.
     pub(crate) fn meet_at(&mut self, other: &mut Perch<B>, desk: &Desk<B>) -> Result<(), LineFault>
         ensures met { IfOk result (λ _. Meets self.old other.old self.new other.new) }
-        ensures refused { MatchResult result (λ _. Unit {0}) (λ f. MeetRefused self.old other.old self.new other.new f) }
+        ensures refused { MatchResult result (λ _. Unit {0})
+            (λ f. MeetRefused self.old other.old self.new other.new f) }
     {
         self.meets(desk)?;
         other.meets(desk)?;

@@ -14,12 +14,14 @@ pub const MOST_RECENT: usize = 64;
 /// How many of them a version has in a list of its own.
 const MOST_NEWER: usize = 16;
 
-/// A change that was accepted, by the version that it made, and the box of the page outside of which it changed no colour.
+/// A change that was accepted, by the version that it made, and the box of the page outside of
+/// which it changed no colour.
 #[derive(Clone, Copy, Debug, PartialEq, Eq)]
 pub struct Damage {
     /// The version that the change made, from 1.
     pub number: u64,
-    /// The box, as `Document::damage` found it: 0, 0, 0, 0 for new indexes alone, and where the change touched no leaf and no frame.
+    /// The box, as `Document::damage` found it: 0, 0, 0, 0 for new indexes alone, and where the
+    /// change touched no leaf and no frame.
     pub area: PageBox,
 }
 
@@ -44,7 +46,9 @@ impl Model for Recent {
 
     ghost view = { λ r. drop r.forgotten (arc_value r.older).items ++ r.newer.items };
 
-    ghost invariant = { λ r. (r.forgotten ≤ length (arc_value r.older).items) × (length r.newer.items ≤ MOST_NEWER) × (length (arc_value r.older).items + length r.newer.items ≤ r.forgotten + MOST_RECENT) };
+    ghost invariant = { λ r. (r.forgotten ≤ length (arc_value r.older).items)
+        × (length r.newer.items ≤ MOST_NEWER)
+        × (length (arc_value r.older).items + length r.newer.items ≤ r.forgotten + MOST_RECENT) };
 }
 
 impl Recent {

@@ -38,8 +38,8 @@ impl Recorder {
         }
     }
 
-    /// A copy of an edit that is about to be accepted, and room for it, where the line records. Want of memory is the only
-    /// refusal.
+    /// A copy of an edit that is about to be accepted, and room for it, where the line records.
+    /// Want of memory is the only refusal.
     pub(crate) fn copy(&mut self, alloc: Global, edit: &Edit) -> Result<Option<Edit>, OutOfMemory>
         ensures taken { self.new.taken ≡ self.old.taken }
         ensures edits { self.new.edits.items ≡ self.old.edits.items }
@@ -55,7 +55,8 @@ impl Recorder {
     /// Adds the copy of the edit that was accepted.
     pub(crate) fn add(&mut self, copy: Option<Edit>)
         ensures taken { self.new.taken ≡ self.old.taken }
-        ensures edits { (e : AnEdit) → Awaits self.old e copy → self.new.edits.items ≡ self.old.edits.items ++ noted self.old.taken e }
+        ensures edits { (e : AnEdit) → Awaits self.old e copy
+            → self.new.edits.items ≡ self.old.edits.items ++ noted self.old.taken e }
     {
         if let Some(edit) = copy {
             // There is room, so this takes no memory.
@@ -67,7 +68,11 @@ impl Recorder {
     pub(crate) fn take(&mut self, number: u64, empty: Vec<Edit>) -> Option<Taken>
         requires { empty.items ≡ [] }
         ensures off { self.old.taken ≡ None → (result ≡ None) × (self.new ≡ self.old) }
-        ensures taken { MatchOption result (self.old.taken ≡ None) (λ t. (self.old.taken ≡ Some t.before) × (t.edits ≡ self.old.edits) × (self.new.taken ≡ Some number) × (self.new.edits.items ≡ [])) }
+        ensures taken { MatchOption result (self.old.taken ≡ None)
+            (λ t. (self.old.taken ≡ Some t.before)
+            × (t.edits ≡ self.old.edits)
+            × (self.new.taken ≡ Some number)
+            × (self.new.edits.items ≡ [])) }
     {
         let before = self.taken?;
         self.taken = Some(number);

@@ -52,7 +52,8 @@ impl<B: Lines> Seat<B> {
     /// Makes an edit.
     pub fn edit<R: Wait>(&mut self, rt: &R, edit: &Edit) -> Result<Edited, LineFault>
         ensures accepted { IfOk result (λ r. EditAccepted self.old edit.now self.new r) }
-        ensures refused { MatchResult result (λ _. Unit {0}) (λ f. EditRefused self.old edit.now self.new f) }
+        ensures refused { MatchResult result (λ _. Unit {0})
+            (λ f. EditRefused self.old edit.now self.new f) }
     {
         let Seat { desk, perch } = self;
         let mut guard = held(rt, desk, perch.painters());
@@ -65,7 +66,8 @@ impl<B: Lines> Seat<B> {
 
     /// The published version, without the lock. Its history begins with the front, and becomes it.
     pub fn look(&mut self) -> Result<Arc<Version, Global>, LineFault>
-        ensures { MatchResult result (λ v. Looks self.old self.new (arc_value v)) (λ f. (f ≡ fault.NoView) × (self.new ≡ self.old)) }
+        ensures { MatchResult result (λ v. Looks self.old self.new (arc_value v))
+            (λ f. (f ≡ fault.NoView) × (self.new ≡ self.old)) }
     {
         self.perch.look()
     }
@@ -73,8 +75,10 @@ impl<B: Lines> Seat<B> {
     /// Brings two seats to one front. Seats of two lines are refused by both names.
     pub fn meet<R: Wait>(&mut self, rt: &R, other: &mut Seat<B>) -> Result<(), LineFault>
         ensures met { IfOk result (λ _. Meets self.old other.old self.new other.new) }
-        ensures refused { MatchResult result (λ _. Unit {0}) (λ f. MeetRefused self.old other.old self.new other.new f) }
-        ensures apart { self.old.name ≢ other.old.name → result ≡ Err (fault.Strangers self.old.name other.old.name) }
+        ensures refused { MatchResult result (λ _. Unit {0})
+            (λ f. MeetRefused self.old other.old self.new other.new f) }
+        ensures apart { self.old.name ≢ other.old.name
+            → result ≡ Err (fault.Strangers self.old.name other.old.name) }
     {
         let own = self.perch.name();
         let found = other.perch.name();
@@ -89,13 +93,15 @@ impl<B: Lines> Seat<B> {
     /// Tells that two seats at one line have seen one history: one front is a beginning of the other.
     pub fn one_history(&self, other: &Seat<B>)
         requires { other.now.name ≡ self.now.name }
-        ensures { IsPrefix self.now.front other.now.front ⊎ IsPrefix other.now.front self.now.front }
+        ensures { IsPrefix self.now.front other.now.front
+            ⊎ IsPrefix other.now.front self.now.front }
     {
         self.perch.one_history(&other.perch);
     }
 
-    /// Has the line record from now on each edit that it accepts, if it did not before. What is pending then grows until it is
-    /// taken. The front becomes the whole history, of which nothing is recorded where the line did not record before.
+    /// Has the line record from now on each edit that it accepts, if it did not before. What is
+    /// pending then grows until it is taken. The front becomes the whole history, of which nothing
+    /// is recorded where the line did not record before.
     pub fn start_recording<R: Wait>(&mut self, rt: &R) -> Result<(), LineFault>
         ensures started { IfOk result (λ _. GoesOn self.old self.new) }
         ensures refused { MatchResult result (λ _. Unit {0}) (λ f. Stays self.old self.new f) }
@@ -105,9 +111,10 @@ impl<B: Lines> Seat<B> {
         perch.start_recording_at(&mut *guard)
     }
 
-    /// Takes the edits that the line accepted since some were last taken, in the order of versions; the list that is handed in
-    /// takes their place, so that no memory is asked for under the lock. The front becomes the whole history, and the edits
-    /// make all its changes but the first `before`. None where the line does not record.
+    /// Takes the edits that the line accepted since some were last taken, in the order of versions;
+    /// the list that is handed in takes their place, so that no memory is asked for under the lock.
+    /// The front becomes the whole history, and the edits make all its changes but the first
+    /// `before`. None where the line does not record.
     pub fn take_pending<R: Wait>(
         &mut self,
         rt: &R,
@@ -122,8 +129,8 @@ impl<B: Lines> Seat<B> {
         perch.take_pending_at(&mut *guard, empty)
     }
 
-    /// Counts one more picture of the line that is being painted, until `stop_painting`. Meanwhile an edit that finds the
-    /// desk taken does not let the threads that paint run first.
+    /// Counts one more picture of the line that is being painted, until `stop_painting`. Meanwhile
+    /// an edit that finds the desk taken does not let the threads that paint run first.
     pub fn start_painting(&self) {
         self.perch.painters().start();
     }
@@ -164,7 +171,8 @@ impl<B: Lines> Seat<B> {
         self.perch.mark()
     }
 
-    /// Gives the seat up. The last one of a line gives up its memory too. It waits for no reader that could come.
+    /// Gives the seat up. The last one of a line gives up its memory too. It waits for no reader
+    /// that could come.
     pub fn close<R: Wait>(self, rt: &R) {
         let Seat { desk, perch } = self;
         drop(perch);
@@ -174,9 +182,10 @@ impl<B: Lines> Seat<B> {
     }
 }
 
-// Takes the lock. Edits are short, so a seat tries for a while before it sleeps: a lock that goes over to a sleeping thread
-// lies idle until that thread runs. Between its tries it lets other threads run, but not while somebody paints: it would
-// wait for a turn of each thread that paints, where one that sleeps is woken in time.
+// Takes the lock. Edits are short, so a seat tries for a while before it sleeps: a lock that goes
+// over to a sleeping thread lies idle until that thread runs. Between its tries it lets other
+// threads run, but not while somebody paints: it would wait for a turn of each thread that paints,
+// where one that sleeps is woken in time.
 fn held<'a, B: Lines, R: Wait>(
     rt: &R,
     desk: &'a Mutex<Desk<B>>,

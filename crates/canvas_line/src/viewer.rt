@@ -32,7 +32,10 @@ pub(crate) type LineReader = Reader<Published, View, Constant, Global>;
 
 // What is published now, unless there is no view of it.
 fn read(reader: LineReader) -> (LineReader, Option<Latest>)
-    ensures { (f : Facts) → Knows (seat_view reader.place) f → Knows (seat_view result.0.place) f × IfSome result.1 (λ l. (l.trace.book ≡ f.book) × IsVersionOf f.opening f.limit l.trace.changes (arc_value l.version)) }
+    ensures { (f : Facts) → Knows (seat_view reader.place) f
+        → Knows (seat_view result.0.place) f
+        × IfSome result.1 (λ l. (l.trace.book ≡ f.book)
+        × IsVersionOf f.opening f.limit l.trace.changes (arc_value l.version)) }
 {
     match reader.enter_as::<Sees>() {
         Ok(reading) => {
@@ -77,7 +80,9 @@ impl<B: Lines> Viewer<B> {
 
     fn viewed(self) -> (Viewer<B>, Option<Latest>)
         ensures same { result.0 ≡ self }
-        ensures latest { IfSome result.1 (λ l. (l.trace.book ≡ (B.line self).book) × IsVersionOf (B.line self).opening (B.line self).limit l.trace.changes (arc_value l.version)) }
+        ensures latest { IfSome result.1 (λ l. (l.trace.book ≡ (B.line self).book)
+            × IsVersionOf (B.line self).opening (B.line self).limit l.trace.changes
+            (arc_value l.version)) }
     {
         let Viewer {
             reader,
@@ -90,7 +95,9 @@ impl<B: Lines> Viewer<B> {
 
     // What is published now, if this is a reader of the line of that name.
     fn latest(&mut self, name: u64) -> Option<Latest>
-        ensures { IfSome result (λ l. (l.trace.book ≡ (B.line name).book) × IsVersionOf (B.line name).opening (B.line name).limit l.trace.changes (arc_value l.version)) }
+        ensures { IfSome result (λ l. (l.trace.book ≡ (B.line name).book)
+            × IsVersionOf (B.line name).opening (B.line name).limit l.trace.changes
+            (arc_value l.version)) }
     {
         if self.name != name {
             return None;
@@ -99,7 +106,8 @@ impl<B: Lines> Viewer<B> {
     }
 }
 
-/// The viewers that the seats of a line share, each on cache lines of its own; and how many of these seats paint.
+/// The viewers that the seats of a line share, each on cache lines of its own; and how many of
+/// these seats paint.
 #[derive(Drop)]
 pub(crate) struct Viewers<B: Lines> {
     pub(crate) all: Vec<CachePadded<Mutex<Viewer<B>>>>,
@@ -107,10 +115,13 @@ pub(crate) struct Viewers<B: Lines> {
 }
 
 impl<B: Lines> Viewers<B> {
-    /// What is published now, by the first viewer from the place `home` on that no other seat has in hand. It takes no lock that
-    /// an editor holds, and tries on while other seats have all of them in hand.
+    /// What is published now, by the first viewer from the place `home` on that no other seat has
+    /// in hand. It takes no lock that an editor holds, and tries on while other seats have all of
+    /// them in hand.
     pub(crate) fn latest(&self, home: usize, name: u64) -> Option<Latest>
-        ensures { IfSome result (λ l. (l.trace.book ≡ (B.line name).book) × IsVersionOf (B.line name).opening (B.line name).limit l.trace.changes (arc_value l.version)) }
+        ensures { IfSome result (λ l. (l.trace.book ≡ (B.line name).book)
+            × IsVersionOf (B.line name).opening (B.line name).limit l.trace.changes
+            (arc_value l.version)) }
     {
         let mut at = home;
         for attempt in 0..TRIES {

@@ -22,9 +22,12 @@ pub(crate) fn publish<R: Wait>(
     next: Published,
 ) -> (LineWriter, bool)
     requires { next.facts ≡ writer.desk.shown.value.facts }
-    ensures value { MatchBool result.1 (result.0.desk.shown.value ≡ next) (result.0.desk.shown.value ≡ writer.desk.shown.value) }
-    ensures known { MatchBool result.1 (Knows (seat_view result.0.desk.place) next.facts) (Unit {0}) }
-    ensures view { (f : Facts) → Knows (seat_view writer.desk.place) f → Knows (seat_view result.0.desk.place) f }
+    ensures value { MatchBool result.1 (result.0.desk.shown.value ≡ next)
+        (result.0.desk.shown.value ≡ writer.desk.shown.value) }
+    ensures known { MatchBool result.1 (Knows (seat_view result.0.desk.place) next.facts)
+        (Unit {0}) }
+    ensures view { (f : Facts) → Knows (seat_view writer.desk.place) f
+        → Knows (seat_view result.0.desk.place) f }
 {
     match writer.append(next) {
         Ok(()) => {
@@ -45,16 +48,23 @@ pub(crate) fn publish_at<R: Wait>(
     next: Published,
 ) -> bool
     requires { next.facts ≡ (manually_drop_value writer.old).desk.shown.value.facts }
-    ensures value { MatchBool result ((manually_drop_value writer.new).desk.shown.value ≡ next) ((manually_drop_value writer.new).desk.shown.value ≡ (manually_drop_value writer.old).desk.shown.value) }
-    ensures view { (f : Facts) → Knows (seat_view (manually_drop_value writer.old).desk.place) f → Knows (seat_view (manually_drop_value writer.new).desk.place) f }
+    ensures value { MatchBool result ((manually_drop_value writer.new).desk.shown.value ≡ next)
+        ((manually_drop_value writer.new).desk.shown.value
+        ≡ (manually_drop_value writer.old).desk.shown.value) }
+    ensures view { (f : Facts) → Knows (seat_view (manually_drop_value writer.old).desk.place) f
+        → Knows (seat_view (manually_drop_value writer.new).desk.place) f }
 {
     replace_with(
         writer,
         next,
         |writer: ManuallyDrop<LineWriter>, next: Published| -> (ManuallyDrop<LineWriter>, bool)
             requires { next.facts ≡ (manually_drop_value writer).desk.shown.value.facts }
-            ensures value { MatchBool result.1 ((manually_drop_value result.0).desk.shown.value ≡ next) ((manually_drop_value result.0).desk.shown.value ≡ (manually_drop_value writer).desk.shown.value) }
-            ensures view { (f : Facts) → Knows (seat_view (manually_drop_value writer).desk.place) f → Knows (seat_view (manually_drop_value result.0).desk.place) f }
+            ensures value { MatchBool result.1
+                ((manually_drop_value result.0).desk.shown.value ≡ next)
+                ((manually_drop_value result.0).desk.shown.value
+                ≡ (manually_drop_value writer).desk.shown.value) }
+            ensures view { (f : Facts) → Knows (seat_view (manually_drop_value writer).desk.place) f
+                → Knows (seat_view (manually_drop_value result.0).desk.place) f }
         {
             let (writer, done) = publish(rt, ManuallyDrop::into_inner(writer), next);
             (unsafe { ManuallyDrop::new_unchecked(writer) }, done)

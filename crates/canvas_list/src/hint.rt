@@ -1,8 +1,8 @@
 //! Where an item most likely stands.
 
-/// Where an item most likely stands in a list. A list notes it of the first item of each of its parts. A search
-/// follows these to one part, and in it the short hints of the items. It may be anything: where hints do not rise
-/// along the list, a search takes longer and finds the same.
+/// Where an item most likely stands in a list. A list notes it of the first item of each of its
+/// parts. A search follows these to one part, and in it the short hints of the items. It may be
+/// anything: where hints do not rise along the list, a search takes longer and finds the same.
 #[derive(Clone, Copy)]
 pub struct Hint {
     /// By this first.

@@ -4,8 +4,8 @@ ghost use Rattle.std.specs.Prelude.{◌≡◌};
 
 use crate::hint::Hint;
 
-/// How many items a part has, and where the first most likely stands. The numbers lie side by side with no gap: tables
-/// are copied and gone over.
+/// How many items a part has, and where the first most likely stands. The numbers lie side by side
+/// with no gap: tables are copied and gone over.
 #[derive(Clone, Copy)]
 pub(crate) struct Noted {
     minor: u64,

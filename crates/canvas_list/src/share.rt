@@ -27,7 +27,8 @@ pub trait Share: Drop {
     /// Where it most likely stands in a list.
     fn hint(&self) -> Hint;
 
-    /// The beginning of that hint. A search asks it of the items of a chunk, so it is best told without a look at what is shared.
+    /// The beginning of that hint. A search asks it of the items of a chunk, so it is best told
+    /// without a look at what is shared.
     fn short_hint(&self) -> ShortHint;
 
     /// A summary of this item alone.
@@ -39,9 +40,11 @@ pub trait Share: Drop {
         ensures first { (item : Self) → covers first.now item → covers result item }
         ensures second { (item : Self) → covers second.now item → covers result item };
 
-    /// Whether an item that a summary tells of may have something of what a walk seeks. That is given as a summary, too.
+    /// Whether an item that a summary tells of may have something of what a walk seeks. That is
+    /// given as a summary, too.
     fn may_meet(summary: &Self::Summary, sought: &Self::Summary) -> bool
-        ensures { result ≡ false → (item : Self) → covers summary.now item → lies_apart sought.now item };
+        ensures { result ≡ false → (item : Self) → covers summary.now item
+            → lies_apart sought.now item };
 }
 
 /// A value that lies in one place for all its owners, seen as that value.

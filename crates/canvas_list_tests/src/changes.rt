@@ -25,7 +25,8 @@ pub(crate) struct Both {
 }
 
 impl Both {
-    /// Ends the test with these words and a number unless both have the same numbers, however the list is read.
+    /// Ends the test with these words and a number unless both have the same numbers, however the
+    /// list is read.
     pub(crate) fn check(&self, rt: &impl Abort, what: &str, number: u32) {
         holds_at(rt, what, number, has(&self.list, &self.plain));
     }

@@ -80,7 +80,8 @@ fn changes_beside_clones(rt: HostRuntime) {
     }
 }
 
-// A list that loses its numbers one by one, at its front, at its end and in the middle, and gets as many again.
+// A list that loses its numbers one by one, at its front, at its end and in the middle, and gets as
+// many again.
 fn emptied(rt: &impl Abort, alloc: Global, dice: &mut Dice, count: u32) {
     let mut both = first_evens(rt, alloc, count);
     for round in 0..count {

@@ -24,12 +24,14 @@ fn number_of(item: Option<&NumberItem>) -> Option<u32> {
     }
 }
 
-// Where the first number stands that is no less than another, searched from the front and begun where a hint points to,
-// and that number.
+// Where the first number stands that is no less than another, searched from the front and begun
+// where a hint points to, and that number.
 fn places_of(list: &Numbers, hint: u32, least: u32) -> (usize, usize, Option<u32>)
     requires { IsNonDecreasingBy (λ number. number.value) list.now }
-    ensures place { IsPartitionPoint (λ number. number.value < least) (λ number. least ≤ number.value) list.now result.0 }
-    ensures near { IsPartitionPoint (λ number. number.value < least) (λ number. least ≤ number.value) list.now result.1 }
+    ensures place { IsPartitionPoint (λ number. number.value < least)
+        (λ number. least ≤ number.value) list.now result.0 }
+    ensures near { IsPartitionPoint (λ number. number.value < least)
+        (λ number. least ≤ number.value) list.now result.1 }
 {
     let is_less = |number: &NumberItem| number.value().value < least;
     let place = list.partition_point(is_less);
@@ -47,8 +49,8 @@ fn place_in(count: u32, value: u32) -> usize {
     (value as usize).div_ceil(2).min(count as usize)
 }
 
-// Whether the numbers from one up to another stand where they should, wherever the searches for both ends begin, and
-// the reader gives the first of them.
+// Whether the numbers from one up to another stand where they should, wherever the searches for
+// both ends begin, and the reader gives the first of them.
 fn finds_range(list: &Numbers, count: u32, least: u32, end: u32, [from, to]: [u32; 2]) -> bool {
     let FoundRange {
         start,

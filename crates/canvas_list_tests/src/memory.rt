@@ -16,7 +16,8 @@ const COUNT: u32 = 600;
 
 // A change of each sort at some place of 600 items.
 fn pick_of(alloc: Global, sort: u32) -> Result<ListChange<NumberItem>, OutOfMemory>
-    ensures { IfOk result (λ change. (xs : List NumberItem) → length xs ≡ 600 → MayChange change xs) }
+    ensures { IfOk result
+        (λ change. (xs : List NumberItem) → length xs ≡ 600 → MayChange change xs) }
 {
     let item = shared_number(alloc, 7)?;
     Ok(match sort {

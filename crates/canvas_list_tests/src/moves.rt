@@ -12,7 +12,8 @@ use canvas_list::ListChange;
 use std::alloc::Global;
 use std::process::Abort;
 
-/// Takes the number at a position away from a plain list, and puts another in front of what then stands at `to`.
+/// Takes the number at a position away from a plain list, and puts another in front of what then
+/// stands at `to`.
 pub(crate) fn move_plain(
     rt: &impl Abort,
     plain: &mut Vec<u32>,

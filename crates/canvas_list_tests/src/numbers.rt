@@ -71,9 +71,11 @@ impl Share for NumberItem {
 
     type Summary = Span;
 
-    ghost covers = { λ summary item. (summary.least ≤ item.value) × (item.value ≤ summary.greatest) };
+    ghost covers = { λ summary item. (summary.least ≤ item.value)
+        × (item.value ≤ summary.greatest) };
 
-    ghost lies_apart = { λ sought item. sought.least ≤ item.value → item.value ≤ sought.greatest → ⊥ };
+    ghost lies_apart = { λ sought item. sought.least ≤ item.value → item.value ≤ sought.greatest
+        → ⊥ };
 
     fn share(&self) -> Result<NumberItem, OutOfMemory> {
         Ok(NumberItem {

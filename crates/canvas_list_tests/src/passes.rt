@@ -40,9 +40,11 @@ impl Share for Watched {
 
     type Summary = Note;
 
-    ghost covers = { λ summary watched. (summary.span.least ≤ watched.value) × (watched.value ≤ summary.span.greatest) };
+    ghost covers = { λ summary watched. (summary.span.least ≤ watched.value)
+        × (watched.value ≤ summary.span.greatest) };
 
-    ghost lies_apart = { λ sought watched. sought.span.least ≤ watched.value → watched.value ≤ sought.span.greatest → ⊥ };
+    ghost lies_apart = { λ sought watched.
+        sought.span.least ≤ watched.value → watched.value ≤ sought.span.greatest → ⊥ };
 
     fn share(&self) -> Result<Watched, OutOfMemory> {
         Ok(Watched { value: self.value })
@@ -109,8 +111,8 @@ fn first_watched(rt: &impl Abort, alloc: Global) -> SharedList<Watched> {
 
 const COUNT: u32 = 3_000;
 
-// The least and the greatest number that a walk seeks, and how many items it gives at least and at most: one for a
-// single number gives few others.
+// The least and the greatest number that a walk seeks, and how many items it gives at least and at
+// most: one for a single number gives few others.
 const WALKS: [(u32, u32, usize, usize); 7] = [
     (0, COUNT, 3_000, 3_000),
     (COUNT, COUNT, 0, 0),

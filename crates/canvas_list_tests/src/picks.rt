@@ -105,7 +105,8 @@ pub(crate) fn remove_plain(plain: &mut Vec<u32>, at: usize) {
     }
 }
 
-/// Puts a number in front of the one at a position of a plain list or behind its last one, if there is such a place.
+/// Puts a number in front of the one at a position of a plain list or behind its last one, if there
+/// is such a place.
 pub(crate) fn insert_plain(rt: &impl Abort, plain: &mut Vec<u32>, at: usize, number: u32) {
     if at <= plain.len() {
         plain.insert(at, number).expect(rt, "memory");

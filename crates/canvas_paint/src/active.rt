@@ -18,7 +18,8 @@ pub(crate) struct Active<'a> {
 impl<'a> Active<'a> {
     /// A block that may show in some pixels of a word, and of which no row was painted.
     pub(crate) fn new(block: &Block<'a>, reach: u64) -> Active<'a>
-        ensures { result ≡ record { reach = reach; mask = 0; fill = block.now.fill; form = block.now.form } }
+        ensures { result
+            ≡ record { reach = reach; mask = 0; fill = block.now.fill; form = block.now.form } }
     {
         Active {
             reach,

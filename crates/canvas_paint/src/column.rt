@@ -59,7 +59,9 @@ impl<'a> Column<'a> {
     pub(crate) fn add(&mut self, block: &Block<'a>, base: usize) -> Result<(), OutOfMemory>
         requires base { base < 256 }
         ensures new { OnOk result (IsNew self.old → IsNew self.new) }
-        ensures front { OnOk result ((k j : ℕ) → base ≤ k → k < base + 64 → last_block_fill self.new.blocks.items k j ≡ or_else (block_fill block.now k j) (last_block_fill self.old.blocks.items k j)) }
+        ensures front { OnOk result ((k j : ℕ) → base ≤ k → k < base + 64
+            → last_block_fill self.new.blocks.items k j
+            ≡ or_else (block_fill block.now k j) (last_block_fill self.old.blocks.items k j)) }
     {
         if block.meets(base) {
             self.blocks.push(*block)?;
@@ -81,7 +83,9 @@ impl<'a> Column<'a> {
         ensures blocks { OnOk result (self.new.blocks.items ≡ self.old.blocks.items) }
         ensures live { OnOk result (y < self.new.until) }
         ensures kept { OnOk result (IsColumn base row.new self.new y) }
-        ensures outside { OnOk result ((x : ℕ) (d : List ℕ) → x < length row.old → is_within base x (base + 64) ≡ false → slice_index_or row.new x d ≡ slice_index_or row.old x d) }
+        ensures outside { OnOk result
+            ((x : ℕ) (d : List ℕ) → x < length row.old → is_within base x (base + 64) ≡ false
+            → slice_index_or row.new x d ≡ slice_index_or row.old x d) }
     {
         if self.until <= y {
             self.repaint(base, y, row)?;
@@ -99,7 +103,9 @@ impl<'a> Column<'a> {
         ensures blocks { OnOk result (self.new.blocks.items ≡ self.old.blocks.items) }
         ensures live { OnOk result (y < self.new.until) }
         ensures kept { OnOk result (IsColumn base row.new self.new y) }
-        ensures outside { OnOk result ((x : ℕ) (d : List ℕ) → x < length row.old → is_within base x (base + 64) ≡ false → slice_index_or row.new x d ≡ slice_index_or row.old x d) }
+        ensures outside { OnOk result
+            ((x : ℕ) (d : List ℕ) → x < length row.old → is_within base x (base + 64) ≡ false
+            → slice_index_or row.new x d ≡ slice_index_or row.old x d) }
     {
         let is_chosen = y < self.end;
         if !is_chosen {
@@ -170,8 +176,10 @@ fn follow(active: &mut [Active<'_>], base: usize, y: usize, end: usize) -> Chang
     ensures live { y < result.until }
     ensures end { result.until ≤ end }
     ensures kept { (i z : ℕ) → active_fill base active.new i z ≡ active_fill base active.old i z }
-    ensures exact { (i z : ℕ) → i < 64 → y ≤ z → z < result.until → masked_fill active.new i ≡ active_fill base active.new i z }
-    ensures same { (i : ℕ) → i < 64 → has result.pixels i ≡ false → masked_fill active.new i ≡ masked_fill active.old i }
+    ensures exact { (i z : ℕ) → i < 64 → y ≤ z → z < result.until
+        → masked_fill active.new i ≡ active_fill base active.new i z }
+    ensures same { (i : ℕ) → i < 64 → has result.pixels i ≡ false
+        → masked_fill active.new i ≡ masked_fill active.old i }
 {
     let mut pixels = 0;
     let mut until = end;
@@ -188,7 +196,11 @@ fn follow(active: &mut [Active<'_>], base: usize, y: usize, end: usize) -> Chang
 // has it, or with white.
 fn paint_word(active: &[Active<'_>], base: usize, pixels: u64, row: &mut [Pixel])
     requires { (i : ℕ) → i < 64 → has pixels i ≡ true → base + i < length row.old }
-    ensures { (k : ℕ) (d : List ℕ) → k < length row.old → slice_index_or row.new k d ≡ (if covers base pixels k then masked active.now (k - base) else slice_index_or row.old k d) }
+    ensures { (k : ℕ) (d : List ℕ) → k < length row.old
+        → slice_index_or row.new k d
+        ≡ (if covers base pixels k
+        then masked active.now (k - base)
+        else slice_index_or row.old k d) }
 {
     let mut free = pixels;
     let mut at = 0;

@@ -56,8 +56,11 @@ impl FreeRow {
     /// Without memory both are as they were.
     pub fn take(&mut self, span: Span, out: &mut Vec<Span>) -> Result<(), OutOfMemory>
         requires { span.from ≤ℤ span.to }
-        ensures taken { OnOk result (AppendsSpans out.old.items out.new.items (λ x. is_from_to span.from x span.to && covers self.old x)) }
-        ensures rest { OnOk result ((x : ℤ) → covers self.new x ≡ (covers self.old x && not (is_from_to span.from x span.to))) }
+        ensures taken { OnOk result
+            (AppendsSpans out.old.items out.new.items
+            (λ x. is_from_to span.from x span.to && covers self.old x)) }
+        ensures rest { OnOk result ((x : ℤ)
+            → covers self.new x ≡ (covers self.old x && not (is_from_to span.from x span.to))) }
         ensures row_kept { OnErr result (self.new ≡ self.old) }
         ensures out_kept { OnErr result (out.new.items ≡ out.old.items) }
     {

@@ -21,7 +21,11 @@ fn put(row: &mut [Pixel], from: usize, to: usize, pattern: &[Pixel])
     requires ends { from ≤ to }
     requires within { to ≤ length row.old }
     requires long { to ≤ from + length pattern.now }
-    ensures { (k : ℕ) (d : List ℕ) → k < length row.old → slice_index_or row.new k d ≡ (if is_within from k to then slice_index_or pattern.now (k - from) d else slice_index_or row.old k d) }
+    ensures { (k : ℕ) (d : List ℕ) → k < length row.old
+        → slice_index_or row.new k d
+        ≡ (if is_within from k to
+        then slice_index_or pattern.now (k - from) d
+        else slice_index_or row.old k d) }
 {
     row[from..to].copy_from_slice(&pattern[..to - from]);
 }
@@ -30,7 +34,9 @@ fn put(row: &mut [Pixel], from: usize, to: usize, pattern: &[Pixel])
 fn fill_long(row: &mut [Pixel], from: usize, to: usize, colour: Pixel)
     requires ends { from ≤ to }
     requires within { to ≤ length row.old }
-    ensures { (k : ℕ) (d : List ℕ) → k < length row.old → slice_index_or row.new k d ≡ (if is_within from k to then colour else slice_index_or row.old k d) }
+    ensures { (k : ℕ) (d : List ℕ) → k < length row.old
+        → slice_index_or row.new k d
+        ≡ (if is_within from k to then colour else slice_index_or row.old k d) }
 {
     let pattern = [colour; PIECE];
     let mut at = from;
@@ -45,7 +51,9 @@ fn fill_long(row: &mut [Pixel], from: usize, to: usize, colour: Pixel)
 fn fill_short(row: &mut [Pixel], from: usize, to: usize, colour: Pixel)
     requires ends { from ≤ to }
     requires within { to ≤ length row.old }
-    ensures { (k : ℕ) (d : List ℕ) → k < length row.old → slice_index_or row.new k d ≡ (if is_within from k to then colour else slice_index_or row.old k d) }
+    ensures { (k : ℕ) (d : List ℕ) → k < length row.old
+        → slice_index_or row.new k d
+        ≡ (if is_within from k to then colour else slice_index_or row.old k d) }
 {
     for at in from..to {
         row[at] = colour;
@@ -56,7 +64,9 @@ fn fill_short(row: &mut [Pixel], from: usize, to: usize, colour: Pixel)
 fn fill(row: &mut [Pixel], from: usize, to: usize, colour: Pixel)
     requires ends { from ≤ to }
     requires within { to ≤ length row.old }
-    ensures { (k : ℕ) (d : List ℕ) → k < length row.old → slice_index_or row.new k d ≡ (if is_within from k to then colour else slice_index_or row.old k d) }
+    ensures { (k : ℕ) (d : List ℕ) → k < length row.old
+        → slice_index_or row.new k d
+        ≡ (if is_within from k to then colour else slice_index_or row.old k d) }
 {
     if to - from < PIECE {
         fill_short(row, from, to, colour);
@@ -69,7 +79,9 @@ fn fill(row: &mut [Pixel], from: usize, to: usize, colour: Pixel)
 #[inline(always)]
 pub(crate) fn fill_word(row: &mut [Pixel], base: usize, word: u64, colour: Pixel)
     requires { (i : ℕ) → i < 64 → has word i ≡ true → base + i < length row.old }
-    ensures { (k : ℕ) (d : List ℕ) → k < length row.old → slice_index_or row.new k d ≡ (if covers base word k then colour else slice_index_or row.old k d) }
+    ensures { (k : ℕ) (d : List ℕ) → k < length row.old
+        → slice_index_or row.new k d
+        ≡ (if covers base word k then colour else slice_index_or row.old k d) }
 {
     if word != 0 {
         fill_runs(row, base, word, colour);
@@ -79,7 +91,9 @@ pub(crate) fn fill_word(row: &mut [Pixel], base: usize, word: u64, colour: Pixel
 // The same, run by run.
 fn fill_runs(row: &mut [Pixel], base: usize, word: u64, colour: Pixel)
     requires { (i : ℕ) → i < 64 → has word i ≡ true → base + i < length row.old }
-    ensures { (k : ℕ) (d : List ℕ) → k < length row.old → slice_index_or row.new k d ≡ (if covers base word k then colour else slice_index_or row.old k d) }
+    ensures { (k : ℕ) (d : List ℕ) → k < length row.old
+        → slice_index_or row.new k d
+        ≡ (if covers base word k then colour else slice_index_or row.old k d) }
 {
     let mut at = 0;
     while let Some(run) = next_run(word, at) {

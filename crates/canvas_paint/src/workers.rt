@@ -72,7 +72,8 @@ fn append_strips<R: Threads + Sync, G: Gate + Sync>(
 ) -> Result<(), OutOfMemory>
     requires some { 0 < n }
     requires admitted { (k : ℕ) → k < n → G.admits gate.now k }
-    ensures ok { OnOk result (out.new.items ≡ out.old.items ++ rows_of (last_colour items.now) window.now 0 window.now.h) }
+    ensures ok { OnOk result (out.new.items
+        ≡ out.old.items ++ rows_of (last_colour items.now) window.now 0 window.now.h) }
     ensures kept { take (length out.old.items) out.new.items ≡ out.old.items }
     ensures passed { OnOk result ((k : ℕ) → k < n → G.passed gate.now k) }
 {
@@ -99,7 +100,8 @@ fn append_painted<R: Threads + Sync, G: Gate + Sync>(
 ) -> Result<(), OutOfMemory>
     requires workers { are_workers workers ≡ true }
     requires admitted { (k : ℕ) → k < workers → G.admits gate.now k }
-    ensures ok { OnOk result (out.new.items ≡ out.old.items ++ rows_of (last_colour items.now) window.now 0 window.now.h) }
+    ensures ok { OnOk result (out.new.items
+        ≡ out.old.items ++ rows_of (last_colour items.now) window.now 0 window.now.h) }
     ensures err { OnErr result (out.new.items ≡ out.old.items) }
     ensures passed { OnOk result ((k : ℕ) → k < workers → G.passed gate.now k) }
 {
@@ -135,9 +137,11 @@ pub fn paint<R: Threads + Sync, G: Gate + Sync>(
     gate: &G,
 ) -> Result<Vec<u8>, PaintFault>
     requires { (k : ℕ) → k < workers → G.admits gate.now k }
-    ensures raster { IfOk result (λ raster. raster.items ≡ rows_of (last_colour items.now) window.now 0 window.now.h) }
+    ensures raster { IfOk result
+        (λ raster. raster.items ≡ rows_of (last_colour items.now) window.now 0 window.now.h) }
     ensures passed { OnOk result ((k : ℕ) → k < workers → G.passed gate.now k) }
-    ensures refused { MatchBool (are_workers workers) (IfErr result (λ fault. fault ≡ PaintFault.OutOfMemory)) (result ≡ Err BadWorkers) }
+    ensures refused { MatchBool (are_workers workers)
+        (IfErr result (λ fault. fault ≡ PaintFault.OutOfMemory)) (result ≡ Err BadWorkers) }
 {
     if workers < 1 || 16 < workers {
         return Err(PaintFault::BadWorkers);
@@ -158,7 +162,8 @@ pub fn append_raster<R: Threads + Sync>(
     out: &mut Vec<u8>,
 ) -> Result<(), OutOfMemory>
     requires { are_workers workers ≡ true }
-    ensures ok { OnOk result (out.new.items ≡ out.old.items ++ picture_of (last_colour items.now) window.now) }
+    ensures ok { OnOk result
+        (out.new.items ≡ out.old.items ++ picture_of (last_colour items.now) window.now) }
     ensures err { OnErr result (out.new.items ≡ out.old.items) }
 {
     let strips = strips_worth(items, window, workers);

@@ -7,11 +7,11 @@ use crate::item::Item;
 use canvas_plane::{PageBox, Point, Window};
 use canvas_shape::Carried;
 
-// About how many nanoseconds of painting pay for one more thread. This and the other costs are estimates, from what threads and
-// tiles of few and of many shapes were measured to take.
+// About how many nanoseconds of painting pay for one more thread. This and the other costs are
+// estimates, from what threads and tiles of few and of many shapes were measured to take.
 const STRIP: u64 = 120_000;
-// About how many nanoseconds an item takes, and what a row of an ellipse or a polygon, a vertex, and a row that an edge of a
-// polygon meets add to that.
+// About how many nanoseconds an item takes, and what a row of an ellipse or a polygon, a vertex,
+// and a row that an edge of a polygon meets add to that.
 const ITEM: u64 = 900;
 
 const ROW: u64 = 30;
@@ -20,8 +20,8 @@ const VERTEX: u64 = 20;
 
 const CROSSING: u64 = 3;
 
-/// How many strips a picture is worth, of as many as there are workers for. It goes over the items once, and no further than
-/// is needed to know that all the workers pay.
+/// How many strips a picture is worth, of as many as there are workers for. It goes over the items
+/// once, and no further than is needed to know that all the workers pay.
 pub(crate) fn strips_worth(items: &[Item<'_>], window: &Window, workers: u32) -> u32
     requires { are_workers workers ≡ true }
     ensures some { are_workers result ≡ true }

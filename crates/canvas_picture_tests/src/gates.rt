@@ -72,7 +72,8 @@ fn alone<R: Threads + Sync + Abort>(rt: &R, alloc: Global, rows: u32) -> Vec<u8>
     painted(rt, alloc, &document, &window, 1, &FreeGate).expect(rt, "a picture")
 }
 
-// Asserts that so many workers paint a picture of so many rows as one does, and that so often each strip passes.
+// Asserts that so many workers paint a picture of so many rows as one does, and that so often each
+// strip passes.
 fn check<R: Threads + Sync + Abort>(
     rt: &R,
     alloc: Global,

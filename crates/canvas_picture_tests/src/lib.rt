@@ -1,4 +1,5 @@
-//! Tests of scenes and pictures of small documents and of random ones, of images, of lists of events, and of lines.
+//! Tests of scenes and pictures of small documents and of random ones, of images, of lists of
+//! events, and of lines.
 #![tactic(auto)]
 
 #[cfg(test)]

@@ -1,5 +1,6 @@
-//! Scenes, pictures and images for which memory may be refused: run with each allocation refused in turn, each call
-//! answers want of memory and leaves all as it was, or answers what it answers with ample memory.
+//! Scenes, pictures and images for which memory may be refused: run with each allocation refused in
+//! turn, each call answers want of memory and leaves all as it was, or answers what it answers with
+//! ample memory.
 
 ghost use Rattle.std.specs.Prelude.{◌≤ℤ◌};
 
@@ -94,7 +95,8 @@ fn is_painted(answer: Result<Vec<u8>, PaintFault>) -> Result<bool, OutOfMemory> 
     }
 }
 
-// Asserts that three workers paint the picture, or no strip of it where memory is refused, and at a second time too.
+// Asserts that three workers paint the picture, or no strip of it where memory is refused, and at a
+// second time too.
 fn check_three<R: Threads + Clock + Sync + Abort>(
     rt: &R,
     alloc: Global,
@@ -163,8 +165,8 @@ fn are_strips(alloc: Global, document: &Document, window: &Window) -> Result<boo
     Ok(are_right(first, again))
 }
 
-// Asserts that a span is taken, at the second time where memory was wanted: then nothing had been taken. All spans that were
-// taken are these then.
+// Asserts that a span is taken, at the second time where memory was wanted: then nothing had been
+// taken. All spans that were taken are these then.
 fn check_taken(
     rt: &impl Abort,
     row: &mut FreeRow,

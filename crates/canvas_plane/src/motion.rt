@@ -38,8 +38,12 @@ impl Pose {
 
     /// The pose of these parts, refused as `BadPose` where `check` refuses it.
     pub fn new(dx: i64, dy: i64, quarter: u8, flip: bool) -> Result<Pose, PoseFault>
-        ensures fault { MatchResult result (λ _. pose_fault (record { dx = dx; dy = dy; quarter = quarter; flip = flip }) ≡ None) (λ fault. pose_fault (record { dx = dx; dy = dy; quarter = quarter; flip = flip }) ≡ Some fault) }
-        ensures value { IfOk result (λ pose. pose ≡ record { dx = dx; dy = dy; quarter = quarter; flip = flip }) }
+        ensures fault { MatchResult result
+            (λ _. pose_fault (record { dx = dx; dy = dy; quarter = quarter; flip = flip }) ≡ None)
+            (λ fault. pose_fault (record { dx = dx; dy = dy; quarter = quarter; flip = flip })
+            ≡ Some fault) }
+        ensures value { IfOk result
+            (λ pose. pose ≡ record { dx = dx; dy = dy; quarter = quarter; flip = flip }) }
         ensures limits { IfOk result IsPose }
     {
         let pose = Pose {
@@ -54,7 +58,8 @@ impl Pose {
 
     /// Refuses as `BadPose` a dx or dy above 2^20 in size, and a quarter above 3.
     pub fn check(&self) -> Result<(), PoseFault>
-        ensures fault { MatchResult result (λ _. pose_fault self.now ≡ None) (λ fault. pose_fault self.now ≡ Some fault) }
+        ensures fault { MatchResult result (λ _. pose_fault self.now ≡ None)
+            (λ fault. pose_fault self.now ≡ Some fault) }
         ensures limits { IsOk result ↔ IsPose self.now }
     {
         if self.is_within() {
@@ -209,7 +214,8 @@ fn flip(flip: bool, point: Point) -> Point
     }
 }
 
-// Both steps are choices between values, not jumps: the quarters of shapes that a walk comes to are as good as random.
+// Both steps are choices between values, not jumps: the quarters of shapes that a walk comes to are
+// as good as random.
 fn turn(quarter: u8, point: Point) -> Point
     requires quarters { quarter ≤ 3 }
     requires within { size_of point ≤ 2 ^ 27 }

@@ -47,7 +47,8 @@ impl PageBox {
         ensures value { result ≡ hull_of self.now other.now }
         ensures first { IsWithin self.now result }
         ensures second { IsWithin other.now result }
-        ensures least { (outer : PageBox) → IsWithin self.now outer → IsWithin other.now outer → IsWithin result outer }
+        ensures least { (outer : PageBox) → IsWithin self.now outer → IsWithin other.now outer
+            → IsWithin result outer }
     {
         if self.is_empty() {
             if other.is_empty() {

@@ -57,7 +57,8 @@ impl Window {
     /// The window of level 0 of `w` by `h` pixels whose left top pixel is (x, y). It is `BadWindow`
     /// where a side is outside 1 to 256, or an edge outside -2^21 to 2^21.
     pub fn new(x: i32, y: i32, w: u32, h: u32) -> Result<Window, WindowFault>
-        ensures fault { MatchResult result (λ _. window_fault 0 x y w h ≡ None) (λ fault. window_fault 0 x y w h ≡ Some fault) }
+        ensures fault { MatchResult result (λ _. window_fault 0 x y w h ≡ None)
+            (λ fault. window_fault 0 x y w h ≡ Some fault) }
         ensures value { IfOk result (λ window. IsWindowAt 0 x y w h window) }
     {
         Window::placed(0, i64::from(x), i64::from(y), w, h)
@@ -65,17 +66,21 @@ impl Window {
 
     /// The window of level 0 of 256 by 256 pixels at (256 * col, 256 * row), refused as by `new`.
     pub fn tile(col: i32, row: i32) -> Result<Window, WindowFault>
-        ensures fault { MatchResult result (λ _. window_fault 0 (pos 256 *ℤ col) (pos 256 *ℤ row) 256 256 ≡ None) (λ fault. window_fault 0 (pos 256 *ℤ col) (pos 256 *ℤ row) 256 256 ≡ Some fault) }
-        ensures value { IfOk result (λ window. IsWindowAt 0 (pos 256 *ℤ col) (pos 256 *ℤ row) 256 256 window) }
+        ensures fault { MatchResult result
+            (λ _. window_fault 0 (pos 256 *ℤ col) (pos 256 *ℤ row) 256 256 ≡ None)
+            (λ fault. window_fault 0 (pos 256 *ℤ col) (pos 256 *ℤ row) 256 256 ≡ Some fault) }
+        ensures value { IfOk result
+            (λ window. IsWindowAt 0 (pos 256 *ℤ col) (pos 256 *ℤ row) 256 256 window) }
     {
         Window::tile_at(0, col, row)
     }
 
-    /// The window of a level whose pixel (i, j) shows the page's pixel ((x + i) * 2^level, (y + j) * 2^level).
-    /// It is `BadLevel` where the level is above 6, and else `BadWindow` where a side is outside 1 to
-    /// 256, or an edge times 2^level outside -2^21 to 2^21.
+    /// The window of a level whose pixel (i, j) shows the page's pixel ((x + i) * 2^level, (y + j)
+    /// * 2^level). It is `BadLevel` where the level is above 6, and else `BadWindow` where a side
+    /// is outside 1 to 256, or an edge times 2^level outside -2^21 to 2^21.
     pub fn at_level(level: u8, x: i32, y: i32, w: u32, h: u32) -> Result<Window, WindowFault>
-        ensures fault { MatchResult result (λ _. window_fault level x y w h ≡ None) (λ fault. window_fault level x y w h ≡ Some fault) }
+        ensures fault { MatchResult result (λ _. window_fault level x y w h ≡ None)
+            (λ fault. window_fault level x y w h ≡ Some fault) }
         ensures value { IfOk result (λ window. IsWindowAt level x y w h window) }
     {
         Window::placed(level, i64::from(x), i64::from(y), w, h)
@@ -83,8 +88,11 @@ impl Window {
 
     /// The window of a level of 256 by 256 pixels at (256 * col, 256 * row), refused as by `at_level`.
     pub fn tile_at(level: u8, col: i32, row: i32) -> Result<Window, WindowFault>
-        ensures fault { MatchResult result (λ _. window_fault level (pos 256 *ℤ col) (pos 256 *ℤ row) 256 256 ≡ None) (λ fault. window_fault level (pos 256 *ℤ col) (pos 256 *ℤ row) 256 256 ≡ Some fault) }
-        ensures value { IfOk result (λ window. IsWindowAt level (pos 256 *ℤ col) (pos 256 *ℤ row) 256 256 window) }
+        ensures fault { MatchResult result
+            (λ _. window_fault level (pos 256 *ℤ col) (pos 256 *ℤ row) 256 256 ≡ None)
+            (λ fault. window_fault level (pos 256 *ℤ col) (pos 256 *ℤ row) 256 256 ≡ Some fault) }
+        ensures value { IfOk result
+            (λ window. IsWindowAt level (pos 256 *ℤ col) (pos 256 *ℤ row) 256 256 window) }
     {
         Window::placed(
             level,
@@ -98,7 +106,8 @@ impl Window {
     fn placed(level: u8, x: i64, y: i64, w: u32, h: u32) -> Result<Window, WindowFault>
         requires across { (neg_ℤ (pos (2 ^ 40)) ≤ℤ x) × (x ≤ℤ pos (2 ^ 40)) }
         requires down { (neg_ℤ (pos (2 ^ 40)) ≤ℤ y) × (y ≤ℤ pos (2 ^ 40)) }
-        ensures fault { MatchResult result (λ _. window_fault level x y w h ≡ None) (λ fault. window_fault level x y w h ≡ Some fault) }
+        ensures fault { MatchResult result (λ _. window_fault level x y w h ≡ None)
+            (λ fault. window_fault level x y w h ≡ Some fault) }
         ensures value { IfOk result (λ window. IsWindowAt level x y w h window) }
     {
         if 6 < level {
@@ -177,8 +186,10 @@ impl Window {
     /// How many of the window's columns show a column of the page before an edge.
     pub fn columns_before(&self, edge: i64) -> usize
         ensures within { result ≤ self.now.w }
-        ensures before { (k : ℕ) → k < self.now.w → nat_lt k result ≡ int_lt (column_shown self.now k) edge }
-        ensures after { (k : ℕ) → k < self.now.w → nat_le result k ≡ int_le edge (column_shown self.now k) }
+        ensures before { (k : ℕ) → k < self.now.w
+            → nat_lt k result ≡ int_lt (column_shown self.now k) edge }
+        ensures after { (k : ℕ) → k < self.now.w
+            → nat_le result k ≡ int_le edge (column_shown self.now k) }
     {
         places_before(self.level, self.x, self.w, edge)
     }
@@ -186,8 +197,10 @@ impl Window {
     /// How many of the window's rows show a row of the page before an edge.
     pub fn rows_before(&self, edge: i64) -> usize
         ensures within { result ≤ self.now.h }
-        ensures before { (k : ℕ) → k < self.now.h → nat_lt k result ≡ int_lt (row_shown self.now k) edge }
-        ensures after { (k : ℕ) → k < self.now.h → nat_le result k ≡ int_le edge (row_shown self.now k) }
+        ensures before { (k : ℕ) → k < self.now.h
+            → nat_lt k result ≡ int_lt (row_shown self.now k) edge }
+        ensures after { (k : ℕ) → k < self.now.h
+            → nat_le result k ≡ int_le edge (row_shown self.now k) }
     {
         places_before(self.level, self.y, self.h, edge)
     }
@@ -246,8 +259,10 @@ fn places_before(level: u8, from: i32, size: u32, edge: i64) -> usize
     requires leveled { level ≤ 6 }
     requires side { IsWindowSide (scale_of level) from size }
     ensures within { result ≤ size }
-    ensures before { (k : ℕ) → k < size → nat_lt k result ≡ int_lt ((from +ℤ pos k) *ℤ pos (scale_of level)) edge }
-    ensures after { (k : ℕ) → k < size → nat_le result k ≡ int_le edge ((from +ℤ pos k) *ℤ pos (scale_of level)) }
+    ensures before { (k : ℕ) → k < size
+        → nat_lt k result ≡ int_lt ((from +ℤ pos k) *ℤ pos (scale_of level)) edge }
+    ensures after { (k : ℕ) → k < size
+        → nat_le result k ≡ int_le edge ((from +ℤ pos k) *ℤ pos (scale_of level)) }
 {
     let start = page_place(level, from, 0);
     if edge <= start {

@@ -21,22 +21,23 @@ pub struct Image {
     /// Its height in pixels, 1 to 65,535.
     pub h: u32,
 
-    /// Its rows from top to bottom, pixels from left to right, each as red, green and blue, a byte per sample.
+    /// Its rows from top to bottom, pixels from left to right, each as red, green and blue, a byte
+    /// per sample.
     pub raster: Vec<u8>,
 }
 
-/// The picture of a P6 file: `P6`; white space; width; white space; height; white space; maxval; one white-space byte;
-/// the raster, and nothing after it. White space is one or more of blank, TAB, CR and LF, a number has one to nine
-/// digits, sides are 1 to 65,535 and maxval is 255. Narrower than Netpbm's ppm manual, which allows comments, other
-/// maxvals and further images.
+/// The picture of a P6 file: `P6`; white space; width; white space; height; white space; maxval;
+/// one white-space byte; the raster, and nothing after it. White space is one or more of blank,
+/// TAB, CR and LF, a number has one to nine digits, sides are 1 to 65,535 and maxval is 255.
+/// Narrower than Netpbm's ppm manual, which allows comments, other maxvals and further images.
 ///
-/// The fault is the first of NotP6, BadHeader, Truncated, TooLong that holds; OutOfMemory is answered for a sound
-/// file alone.
+/// The fault is the first of NotP6, BadHeader, Truncated, TooLong that holds; OutOfMemory is
+/// answered for a sound file alone.
 #[tactic(auto, unfolding(crate::specs::Header::after_magic, crate::specs::Image::pixels_at, crate::specs::Image::image_of))]
 pub fn read(alloc: Global, bytes: &[u8]) -> Result<Image, PpmFault>
     ensures image { IfOk result (λ image. image_of bytes.now ≡ Ok (pixels_of image)) }
-    ensures fault { IfErr result (λ fault.
-        (image_of bytes.now ≡ Err fault) ⊎ ((fault ≡ PpmFault.OutOfMemory) × IsOk (image_of bytes.now))) }
+    ensures fault { IfErr result (λ fault. (image_of bytes.now ≡ Err fault)
+        ⊎ ((fault ≡ PpmFault.OutOfMemory) × IsOk (image_of bytes.now))) }
 {
     let [b'P', b'6', rest @ ..] = bytes else {
         return Err(PpmFault::NotP6);
@@ -150,7 +151,8 @@ fn digits_len(bytes: &[u8]) -> usize
 // The number that at most nine digits stand for.
 fn value_of(digits: &[u8]) -> u32
     requires few { length digits.now ≤ 9 }
-    requires digits { (k : ℕ) → k < length digits.now → IsTrue (is_ascii_digit (slice_index digits.now k)) }
+    requires digits { (k : ℕ) → k < length digits.now
+        → IsTrue (is_ascii_digit (slice_index digits.now k)) }
     ensures { result ≡ digits_value 10 digits.now }
 {
     let mut value = 0;

@@ -56,8 +56,9 @@ pub fn start(alloc: Global, w: u32, h: u32) -> Result<Vec<u8>, OutOfMemory>
     Ok(file)
 }
 
-/// The P6 file of a picture of `w` by `h` pixels: `raster` holds its rows from top to bottom, pixels from left to
-/// right, each as red, green and blue, a byte per sample (Netpbm's ppm manual). One allocation, of the file's size.
+/// The P6 file of a picture of `w` by `h` pixels: `raster` holds its rows from top to bottom,
+/// pixels from left to right, each as red, green and blue, a byte per sample (Netpbm's ppm manual).
+/// One allocation, of the file's size.
 #[tactic(auto, using(crate::proofs::Files::read_back))]
 pub fn write(alloc: Global, w: u32, h: u32, raster: &[u8]) -> Result<Vec<u8>, OutOfMemory>
     requires width { IsSide w }
@@ -66,8 +67,8 @@ pub fn write(alloc: Global, w: u32, h: u32, raster: &[u8]) -> Result<Vec<u8>, Ou
     ensures bytes { IfOk result (λ file. file.items ≡ p6_of w h raster.now) }
 
     // What is written is read back.
-    ensures read_back { IfOk result (λ file.
-        image_of file.items ≡ Ok (record { w = w; h = h; raster = raster.now })) }
+    ensures read_back { IfOk result
+        (λ file. image_of file.items ≡ Ok (record { w = w; h = h; raster = raster.now })) }
 {
     let mut file = start(alloc, w, h)?;
     file.extend_from_slice(raster)?;

@@ -1,5 +1,6 @@
-//! Records in a page tree, edits of them, and boxes outside of which a record and all below it show nothing. What a
-//! document decides of an edit, what a change makes of a document and what it shows is defined here, on lists of records.
+//! Records in a page tree, edits of them, and boxes outside of which a record and all below it show
+//! nothing. What a document decides of an edit, what a change makes of a document and what it shows
+//! is defined here, on lists of records.
 #![tactic(auto)]
 
 mod edits;

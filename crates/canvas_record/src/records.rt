@@ -82,7 +82,8 @@ impl Record {
         })
     }
 
-    /// Whether the id is 1 to `next - 1`, the pose is none that `Pose::check` refuses and the kind none that `Kind::check` refuses.
+    /// Whether the id is 1 to `next - 1`, the pose is none that `Pose::check` refuses and the kind
+    /// none that `Kind::check` refuses.
     pub fn is_within(&self, next: u32) -> bool
         ensures { result ≡ is_record next self.now }
     {

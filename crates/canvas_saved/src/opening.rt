@@ -58,7 +58,9 @@ fn head_of(saved: &Given<'_, '_>) -> Option<Head>
 
 // How many items there are, if they are at most so many.
 fn count_of(most: usize, items: GivenItems<'_, '_>) -> Option<usize>
-    ensures { result ≡ (if nat_le (items_len (items_view items.entry)) most then Some (items_len (items_view items.entry)) else None) }
+    ensures { result ≡ (if nat_le (items_len (items_view items.entry)) most
+        then Some (items_len (items_view items.entry))
+        else None) }
 {
     let mut left = items;
     let mut count = 0;
@@ -81,7 +83,8 @@ struct Shapes<'t, 'a> {
 // The list of shapes, which has to be there and to have at most as many elements as the format has.
 #[tactic(auto, unfolding(crate::specs::Opened::shapes_of))]
 fn shapes_of<'t, 'a>(format: Format, saved: &Given<'t, 'a>) -> Option<Shapes<'t, 'a>>
-    ensures value { option_map (λ shapes. items_view shapes.items) result ≡ shapes_of format (view saved.now) }
+    ensures value { option_map (λ shapes. items_view shapes.items) result
+        ≡ shapes_of format (view saved.now) }
     ensures few { IfSome result (λ shapes. items_len (items_view shapes.items) ≤ most_records) }
 {
     let list = saved.get("shapes")?;
@@ -98,8 +101,10 @@ fn push(records: &mut Vec<Record>, shape: Record) -> Result<(), OutOfMemory>
 
 // The records of the elements.
 fn records_of(alloc: Global, head: Head, shapes: Shapes<'_, '_>) -> Result<Vec<Record>, StoreFault>
-    ensures value { GivesSeen (λ records. records.items) result (records_from head 0 (items_view shapes.entry.items)) }
-    ensures count { IfOk result (λ records. length records.items ≡ items_len (items_view shapes.entry.items)) }
+    ensures value { GivesSeen (λ records. records.items) result
+        (records_from head 0 (items_view shapes.entry.items)) }
+    ensures count { IfOk result
+        (λ records. length records.items ≡ items_len (items_view shapes.entry.items)) }
 {
     let mut records = Vec::with_capacity(alloc, shapes.count)?;
     let mut left = shapes.items;

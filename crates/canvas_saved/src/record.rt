@@ -33,7 +33,8 @@ fn whole_shape_of(alloc: Global, shape: Given<'_, '_>) -> Result<Option<Kind>, O
 
 // The shape, which has to be there.
 fn shape_at(alloc: Global, object: &Given<'_, '_>) -> Result<Option<Kind>, OutOfMemory>
-    ensures { IfOk result (λ kind. kind ≡ required whole_shape_of (codes "shape") (view object.now)) }
+    ensures { IfOk result
+        (λ kind. kind ≡ required whole_shape_of (codes "shape") (view object.now)) }
 {
     match object.get("shape") {
         Some(shape) => whole_shape_of(alloc, shape),

@@ -57,7 +57,8 @@ fn push_record(out: &mut Vec<u8>, shape: &Record) -> Result<(), AllocError>
 
 // The records of a list, and its closing bracket.
 fn push_records(out: &mut Vec<u8>, records: &[&Record]) -> Result<(), AllocError>
-    ensures text { OnOk result (out.new.items ≡ out.old.items ++ list_text (λ r. record_text r.now) false records.now) }
+    ensures text { OnOk result
+        (out.new.items ≡ out.old.items ++ list_text (λ r. record_text r.now) false records.now) }
     ensures kept { OnOk result (All (λ r. IsKept r.now) records.now) }
 {
     let mut later = false;
@@ -69,7 +70,8 @@ fn push_records(out: &mut Vec<u8>, records: &[&Record]) -> Result<(), AllocError
     push_text(out, "]")
 }
 
-// Room that suffices for the text of these records: each takes at most 200 bytes, those of its index, and 20 for each vertex.
+// Room that suffices for the text of these records: each takes at most 200 bytes, those of its
+// index, and 20 for each vertex.
 fn room_for(records: &[&Record]) -> usize {
     let mut room: usize = 64;
     for shape in records {
@@ -86,7 +88,8 @@ fn room_for(records: &[&Record]) -> usize {
 
 // The text of a document with these records and this next id.
 fn document_text(alloc: Global, next: u32, records: &[&Record]) -> Result<Vec<u8>, AllocError>
-    ensures text { IfOk result (λ out. out.items ≡ document_text next (list_text (λ r. record_text r.now) false records.now)) }
+    ensures text { IfOk result (λ out. out.items
+        ≡ document_text next (list_text (λ r. record_text r.now) false records.now)) }
     ensures kept { IfOk result (λ _. All (λ r. IsKept r.now) records.now) }
 {
     let mut out = Vec::with_capacity(alloc, room_for(records))?;
@@ -104,11 +107,14 @@ fn document_text(alloc: Global, next: u32, records: &[&Record]) -> Result<Vec<u8
 /// `older` is a law: what format 1 was for the document, if it had room for it, opens as it too.
 pub fn write_records(alloc: Global, next: u32, records: &[&Record]) -> Result<Vec<u8>, OutOfMemory>
     requires { IsWellFormed (contents_with next records.now) }
-    ensures saved { IfOk result (λ text. text.items ≡ saved_text_of (contents_with next records.now)) }
+    ensures saved { IfOk result
+        (λ text. text.items ≡ saved_text_of (contents_with next records.now)) }
     ensures opens { IfOk result (λ text. opened text.items ≡ Ok (contents_with next records.now)) }
-    ensures reads { IfOk result (λ text. records_read text.items ≡ Ok (contents_with next records.now)) }
+    ensures reads { IfOk result
+        (λ text. records_read text.items ≡ Ok (contents_with next records.now)) }
     ensures older { IfOk result (λ _. length (contents_with next records.now).records ≤ most_of One
-        → opened (text_in One (contents_with next records.now)) ≡ Ok (contents_with next records.now)) }
+        → opened (text_in One (contents_with next records.now))
+        ≡ Ok (contents_with next records.now)) }
 {
     Ok(document_text(alloc, next, records)?)
 }

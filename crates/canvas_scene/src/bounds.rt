@@ -19,8 +19,11 @@ pub(crate) fn part_of(kind: &Kind, page: &Pose, clip: &PageBox) -> PageBox
     requires kind { IsSound kind.now }
     requires quarter { page.now.quarter ≤ 3 }
     requires reach { reach_of page.now ≤ 2 ^ 26 }
-    ensures seen { (inner : Option Colour) (x y : ℤ) → seen (is_in result x y) (shown_of kind.now page.now inner x y) ≡ seen (is_in clip.now x y) (shown_of kind.now page.now inner x y) }
-    ensures clip { is_container kind.now ≡ true → result ≡ clip_of kind.now (carry page.now) clip.now }
+    ensures seen { (inner : Option Colour) (x y : ℤ)
+        → seen (is_in result x y) (shown_of kind.now page.now inner x y)
+        ≡ seen (is_in clip.now x y) (shown_of kind.now page.now inner x y) }
+    ensures clip { is_container kind.now ≡ true
+        → result ≡ clip_of kind.now (carry page.now) clip.now }
 {
     match kind {
         Kind::Group => *clip,
@@ -37,7 +40,8 @@ fn carried_bounds(page: &Pose, points: &[Point]) -> PageBox
     requires vertices { AreVertices points.now }
     requires quarter { page.now.quarter ≤ 3 }
     requires reach { reach_of page.now ≤ 2 ^ 26 }
-    ensures { (x y : ℤ) → is_in_polygon (map (carry page.now) points.now) x y ≡ true → is_in result x y ≡ true }
+    ensures { (x y : ℤ) → is_in_polygon (map (carry page.now) points.now) x y ≡ true
+        → is_in result x y ≡ true }
 {
     let own = bounds(points);
     bounds(&[page.apply(left_top(&own)), page.apply(right_bottom(&own))])

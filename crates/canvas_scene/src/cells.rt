@@ -21,8 +21,9 @@ pub(crate) struct Cells {
     touched: [u64; 32],
 }
 
-/// The cells that a box touches, if it is not empty and lies in what the window covers, and else any: in each row from one up
-/// to another those of a word. No clause says so, for they only decide what is looked at more closely.
+/// The cells that a box touches, if it is not empty and lies in what the window covers, and else
+/// any: in each row from one up to another those of a word. No clause says so, for they only decide
+/// what is looked at more closely.
 #[derive(Clone, Copy)]
 struct Patch {
     word: u64,
@@ -49,7 +50,8 @@ impl Cells {
 
     /// Marks the cells that lie wholly in a box.
     pub(crate) fn mark(&mut self, part: &PageBox)
-        ensures { (x y : ℤ) → is_covered self.new x y ≡ true → (is_covered self.old x y || is_in part.now x y) ≡ true }
+        ensures { (x y : ℤ) → is_covered self.new x y ≡ true
+            → (is_covered self.old x y || is_in part.now x y) ≡ true }
     {
         let across = self.across.within(part.left, part.right);
         let down = self.down.within(part.top, part.bottom);
@@ -72,8 +74,9 @@ impl Cells {
         }
     }
 
-    /// Whether each cell that a box touches is touched by a box whose cells were marked, for boxes in the window that are not
-    /// empty. If not, some cell that it touches is not marked, and it lies within no such box.
+    /// Whether each cell that a box touches is touched by a box whose cells were marked, for boxes
+    /// in the window that are not empty. If not, some cell that it touches is not marked, and it
+    /// lies within no such box.
     pub(crate) fn may_cover(&self, part: &PageBox) -> bool {
         let patch = self.patch(part);
         for row in patch.first..patch.end {
@@ -106,7 +109,8 @@ impl Cells {
 
     // The box of the cells.
     fn area(&self) -> PageBox
-        ensures { result ≡ record { left = self.now.across.start; top = self.now.down.start; right = self.now.across.end; bottom = self.now.down.end } }
+        ensures { result
+            ≡ record { left = self.now.across.start; top = self.now.down.start; right = self.now.across.end; bottom = self.now.down.end } }
     {
         PageBox {
             left: self.across.start,
@@ -116,11 +120,12 @@ impl Cells {
         }
     }
 
-    /// Whether a box lies in what the window covers, and each cell that it touches is marked. Most others fail in the first
-    /// row. Inlined, it shares the cells of a box with `may_cover`.
+    /// Whether a box lies in what the window covers, and each cell that it touches is marked. Most
+    /// others fail in the first row. Inlined, it shares the cells of a box with `may_cover`.
     #[inline(always)]
     pub(crate) fn covers(&self, part: &PageBox) -> bool
-        ensures { IsTrue result → (x y : ℤ) → is_in part.now x y ≡ true → is_covered self.now x y ≡ true }
+        ensures { IsTrue result → (x y : ℤ) → is_in part.now x y ≡ true
+            → is_covered self.now x y ≡ true }
     {
         if !self.begins_marked(part) || !lies_within(part, &self.area()) {
             return false;

@@ -31,7 +31,8 @@ pub enum Node<'a> {
 pub(crate) fn leaf<'a>(item: Item<'a>) -> Node<'a>
     ensures items { items_of result ≡ item.entry ∷ [] }
     ensures pixels { (x y : ℤ) → at_pixel x y result ≡ leaf_at x y item.entry }
-    ensures tree { (rs : List Record) → is_node_of rs result ≡ is_leaf_of item.entry.clip item.entry.fill }
+    ensures tree { (rs : List Record)
+        → is_node_of rs result ≡ is_leaf_of item.entry.clip item.entry.fill }
 {
     Node::Leaf(item)
 }
@@ -43,8 +44,11 @@ pub(crate) fn branch<'a>(
     children: &'a [Node<'a>],
 ) -> Node<'a>
     ensures items { items_of result ≡ back_item back.entry ++ items_along children.now }
-    ensures pixels { (x y : ℤ) → at_pixel x y result ≡ branch_at x y clip back.entry (map (at_pixel x y) children.now) }
-    ensures tree { (rs : List Record) → is_node_of rs result ≡ is_branch_of rs clip back.entry (map (is_node_of rs) children.now) }
+    ensures pixels { (x y : ℤ)
+        → at_pixel x y result ≡ branch_at x y clip back.entry (map (at_pixel x y) children.now) }
+    ensures tree { (rs : List Record)
+        → is_node_of rs result
+        ≡ is_branch_of rs clip back.entry (map (is_node_of rs) children.now) }
 {
     Node::Branch {
         clip,
@@ -58,7 +62,8 @@ pub(crate) fn keep<'a>(
     nodes: &mut Vec<Node<'a>, &'a Bump>,
     node: Node<'a>,
 ) -> Result<(), OutOfMemory>
-    ensures items { OnOk result (items_along (reverse nodes.new.items) ≡ items_of node.entry ++ items_along (reverse nodes.old.items)) }
+    ensures items { OnOk result (items_along (reverse nodes.new.items)
+        ≡ items_of node.entry ++ items_along (reverse nodes.old.items)) }
     ensures nodes { OnOk result (nodes.new.items ≡ nodes.old.items ++ node.entry ∷ []) }
 {
     nodes.push(node)?;

@@ -27,7 +27,8 @@ pub fn append_picture<R: Threads + Sync>(
     out: &mut Vec<u8>,
 ) -> Result<(), OutOfMemory>
     requires { are_workers workers ≡ true }
-    ensures ok { OnOk result (out.new.items ≡ out.old.items ++ picture_of (colour document.now.records) window.now) }
+    ensures ok { OnOk result
+        (out.new.items ≡ out.old.items ++ picture_of (colour document.now.records) window.now) }
     ensures err { OnErr result (out.new.items ≡ out.old.items) }
 {
     let scene = Scene::build(bump, document, window)?;

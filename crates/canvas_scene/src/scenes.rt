@@ -38,9 +38,12 @@ impl<'a> Scene<'a> {
         document: &Document,
         window: &Window,
     ) -> Result<Scene<'a>, OutOfMemory>
-        ensures colours { IfOk result (λ scene. (x y : ℤ) → is_in (covered_by window.now) x y ≡ true → last_colour (display_list_of scene) x y ≡ colour document.now.records x y) }
-        ensures clips { IfOk result (λ scene. All (IsClipped (covered_by window.now)) (root_of scene)) }
-        ensures tree { IfOk result (λ scene. AreNodesOf document.now.records Page (λ q. q) (covered_by window.now) (root_of scene)) }
+        ensures colours { IfOk result (λ scene. (x y : ℤ) → is_in (covered_by window.now) x y ≡ true
+            → last_colour (display_list_of scene) x y ≡ colour document.now.records x y) }
+        ensures clips { IfOk result
+            (λ scene. All (IsClipped (covered_by window.now)) (root_of scene)) }
+        ensures tree { IfOk result (λ scene. AreNodesOf document.now.records Page (λ q. q)
+            (covered_by window.now) (root_of scene)) }
         ensures order { IfOk result (λ scene. display_list_of scene ≡ items_along (root_of scene)) }
     {
         let mut shown = Shown::new(bump, window)?;

@@ -20,8 +20,8 @@ use std::marker::Model;
 /// How many items and rectangles have room before memory grows: those of most windows.
 const ROOM: usize = 32;
 
-/// How many rectangles are kept at most, so that thousands of them don't make a walk slow: what lies behind one of them alone is
-/// painted then, where the cells don't show it hidden.
+/// How many rectangles are kept at most, so that thousands of them don't make a walk slow: what
+/// lies behind one of them alone is painted then, where the cells don't show it hidden.
 const MOST_COVERS: usize = 128;
 
 /// The items that a walk has come to, seen as their list from front to back. It keeps what the first
@@ -41,7 +41,8 @@ impl<'a> Model for Shown<'a> {
 
     ghost view = { λ shown. shown.items.items };
 
-    ghost invariant = { λ shown. All (IsHidden shown.items.items) shown.covers.items × AreCellsHidden shown.items.items shown.cells };
+    ghost invariant = { λ shown. All (IsHidden shown.items.items) shown.covers.items
+        × AreCellsHidden shown.items.items shown.cells };
 }
 
 impl<'a> Shown<'a> {
@@ -104,7 +105,10 @@ impl<'a> Shown<'a> {
         clip: &PageBox,
         fill: Colour,
     ) -> Result<Item<'a>, OutOfMemory>
-        ensures fills { IfOk result (λ item. (x y : ℤ) → first_fill self.new x y ≡ or_else (first_fill self.old x y) (seen (is_in clip.now x y) (seen (carried_holds leaf.entry x y) (Some fill)))) }
+        ensures fills { IfOk result (λ item. (x y : ℤ)
+            → first_fill self.new x y
+            ≡ or_else (first_fill self.old x y)
+            (seen (is_in clip.now x y) (seen (carried_holds leaf.entry x y) (Some fill)))) }
         ensures items { IfOk result (λ item. self.new ≡ self.old ++ item ∷ []) }
         ensures clip { IfOk result (λ item. item.clip ≡ clip.now) }
         ensures fill { IfOk result (λ item. item.fill ≡ fill) }
@@ -136,7 +140,8 @@ impl<'a> Shown<'a> {
 
 // Puts a box behind others. Where as many are kept as may be, the last one makes room.
 fn keep_cover(covers: &mut Vec<PageBox, &Bump>, part: PageBox) -> Result<(), OutOfMemory>
-    ensures { (items : List Item) → All (IsHidden items) covers.old.items → IsHidden items part → All (IsHidden items) covers.new.items }
+    ensures { (items : List Item) → All (IsHidden items) covers.old.items → IsHidden items part
+        → All (IsHidden items) covers.new.items }
 {
     covers.truncate(MOST_COVERS - 1);
     covers.push(part)?;
@@ -145,7 +150,8 @@ fn keep_cover(covers: &mut Vec<PageBox, &Bump>, part: PageBox) -> Result<(), Out
 
 // Whether one of some boxes holds all that a box holds.
 fn lies_within_one(part: &PageBox, covers: &[PageBox]) -> bool
-    ensures { IsTrue result → (items : List Item) → All (IsHidden items) covers.now → IsHidden items part.now }
+    ensures { IsTrue result → (items : List Item) → All (IsHidden items) covers.now
+        → IsHidden items part.now }
 {
     for cover in covers {
         if lies_within(part, cover) {
@@ -157,7 +163,8 @@ fn lies_within_one(part: &PageBox, covers: &[PageBox]) -> bool
 
 // Whether the last of some boxes holds all that a box holds.
 fn lies_within_last(part: &PageBox, covers: &[PageBox]) -> bool
-    ensures { IsTrue result → (items : List Item) → All (IsHidden items) covers.now → IsHidden items part.now }
+    ensures { IsTrue result → (items : List Item) → All (IsHidden items) covers.now
+        → IsHidden items part.now }
 {
     match covers.last() {
         Some(cover) => lies_within(part, cover),

@@ -7,7 +7,8 @@ ghost use Rattle.canvas_scene.specs.Places.{cell_of, is_among};
 /// How many cells a side has at most.
 const COUNT: u32 = 32;
 
-/// The places from one up to another, in cells of `2 ^ shift` places from the first on, of which the last may be cut.
+/// The places from one up to another, in cells of `2 ^ shift` places from the first on, of which
+/// the last may be cut.
 #[derive(Clone, Copy)]
 pub(crate) struct Side {
     pub start: i64,
@@ -42,7 +43,9 @@ impl Side {
 
     /// The cells whose places all lie from one place up to another.
     pub(crate) fn within(&self, from: i64, to: i64) -> Run
-        ensures { (x : ℤ) → is_from_to self.now.start x self.now.end ≡ true → is_among result.first result.end (cell_of self.now.start self.now.shift x) ≡ true → is_from_to from x to ≡ true }
+        ensures { (x : ℤ) → is_from_to self.now.start x self.now.end ≡ true
+            → is_among result.first result.end (cell_of self.now.start self.now.shift x) ≡ true
+            → is_from_to from x to ≡ true }
     {
         Run {
             first: self.begun(from),
@@ -52,7 +55,9 @@ impl Side {
 
     /// The cells that have a place from one up to another.
     pub(crate) fn touched(&self, from: i64, to: i64) -> Run
-        ensures { (x : ℤ) → is_from_to self.now.start x self.now.end ≡ true → is_from_to from x to ≡ true → is_among result.first result.end (cell_of self.now.start self.now.shift x) ≡ true }
+        ensures { (x : ℤ) → is_from_to self.now.start x self.now.end ≡ true
+            → is_from_to from x to ≡ true
+            → is_among result.first result.end (cell_of self.now.start self.now.shift x) ≡ true }
     {
         Run {
             first: self.ended(from),
@@ -60,8 +65,8 @@ impl Side {
         }
     }
 
-    /// The cell that has a place of the side, and of a place elsewhere some cell. No clause says so: it is asked for where a
-    /// wrong answer costs time alone.
+    /// The cell that has a place of the side, and of a place elsewhere some cell. No clause says
+    /// so: it is asked for where a wrong answer costs time alone.
     #[inline(always)]
     pub(crate) fn cell_near(&self, at: i64) -> u32
         ensures { result < 32 }
@@ -72,7 +77,9 @@ impl Side {
     // How many cells begin before a place.
     fn begun(&self, at: i64) -> u32
         ensures bound { result ≤ 32 }
-        ensures past { (x : ℤ) → is_from_to self.now.start x self.now.end ≡ true → result ≤ cell_of self.now.start self.now.shift x → int_le at x ≡ true }
+        ensures past { (x : ℤ) → is_from_to self.now.start x self.now.end ≡ true
+            → result ≤ cell_of self.now.start self.now.shift x
+            → int_le at x ≡ true }
     {
         (self.offset(at) + (cell(self.shift) - 1)) >> self.shift
     }
@@ -80,7 +87,9 @@ impl Side {
     // How many cells end before a place or at it: all where the side does.
     fn ended(&self, at: i64) -> u32
         ensures bound { result ≤ 32 }
-        ensures before { (x : ℤ) → is_from_to self.now.start x self.now.end ≡ true → int_le at x ≡ true → result ≤ cell_of self.now.start self.now.shift x }
+        ensures before { (x : ℤ) → is_from_to self.now.start x self.now.end ≡ true
+            → int_le at x ≡ true
+            → result ≤ cell_of self.now.start self.now.shift x }
     {
         if self.end <= at {
             COUNT
@@ -92,7 +101,8 @@ impl Side {
     // How many places lie before one.
     fn offset(&self, at: i64) -> u32
         ensures bound { result ≤ 32 * 2 ^ self.now.shift }
-        ensures places { (x : ℤ) → is_from_to self.now.start x self.now.end ≡ true → int_le at x ≡ nat_le result (unsigned_abs (x -ℤ self.now.start)) }
+        ensures places { (x : ℤ) → is_from_to self.now.start x self.now.end ≡ true
+            → int_le at x ≡ nat_le result (unsigned_abs (x -ℤ self.now.start)) }
     {
         if at <= self.start {
             0

@@ -44,10 +44,12 @@ pub(crate) fn nodes_of_page<'a>(
     shown: &mut Shown<'a>,
 ) -> Result<&'a [Node<'a>], OutOfMemory>
     requires { shown.old ≡ [] }
-    ensures colours { IfOk result (λ nodes. (x y : ℤ) → is_in clip.now x y ≡ true → or_white (first_fill shown.new x y) ≡ colour document.now.records x y) }
+    ensures colours { IfOk result (λ nodes. (x y : ℤ) → is_in clip.now x y ≡ true
+        → or_white (first_fill shown.new x y) ≡ colour document.now.records x y) }
     ensures items { IfOk result (λ nodes. shown.new ≡ reverse (items_along nodes.now)) }
     ensures clips { IfOk result (λ nodes. All (IsClipped clip.now) nodes.now) }
-    ensures tree { IfOk result (λ nodes. AreNodesOf document.now.records Page (λ q. q) clip.now nodes.now) }
+    ensures tree { IfOk result
+        (λ nodes. AreNodesOf document.now.records Page (λ q. q) clip.now nodes.now) }
 {
     nodes_among(
         bump,
@@ -73,10 +75,16 @@ fn nodes_among<'a>(
 ) -> Result<&'a [Node<'a>], OutOfMemory>
     requires quarter { out.now.quarter ≤ 3 }
     requires reach { reach_of out.now + levels * 2 ^ 20 ≤ 2 ^ 26 }
-    ensures fills { IfOk result (λ nodes. (x y : ℤ) → first_fill shown.new x y ≡ or_else (first_fill shown.old x y) (seen (is_in clip.now x y) (answer_among levels document.now.records parent (carry out.now) x y))) }
-    ensures items { IfOk result (λ nodes. shown.new ≡ shown.old ++ reverse (items_along nodes.now)) }
+    ensures fills { IfOk result (λ nodes. (x y : ℤ)
+        → first_fill shown.new x y
+        ≡ or_else (first_fill shown.old x y)
+        (seen (is_in clip.now x y)
+        (answer_among levels document.now.records parent (carry out.now) x y))) }
+    ensures items { IfOk result
+        (λ nodes. shown.new ≡ shown.old ++ reverse (items_along nodes.now)) }
     ensures clips { IfOk result (λ nodes. All (IsClipped clip.now) nodes.now) }
-    ensures tree { IfOk result (λ nodes. AreNodesOf document.now.records parent (carry out.now) clip.now nodes.now) }
+    ensures tree { IfOk result
+        (λ nodes. AreNodesOf document.now.records parent (carry out.now) clip.now nodes.now) }
 {
     if levels == 0 {
         return Ok(&[]);
@@ -117,8 +125,14 @@ fn is_out_of_sight(
     part: &PageBox,
     shown: &Shown<'_>,
 ) -> bool
-    requires part { (inner : Option Colour) (x y : ℤ) → seen (is_in part.now x y) (shown_of shape.now.kind page.now inner x y) ≡ seen (is_in clip.now x y) (shown_of shape.now.kind page.now inner x y) }
-    ensures nothing { IsTrue result → (inner : Option Colour) (x y : ℤ) → first_fill shown.now x y ≡ or_else (first_fill shown.now x y) (seen (is_in clip.now x y) (shape_answer shape.now (holds_of shape.now.kind (carry page.now) x y) inner)) }
+    requires part { (inner : Option Colour) (x y : ℤ)
+        → seen (is_in part.now x y) (shown_of shape.now.kind page.now inner x y)
+        ≡ seen (is_in clip.now x y) (shown_of shape.now.kind page.now inner x y) }
+    ensures nothing { IsTrue result → (inner : Option Colour) (x y : ℤ)
+        → first_fill shown.now x y
+        ≡ or_else (first_fill shown.now x y)
+        (seen (is_in clip.now x y)
+        (shape_answer shape.now (holds_of shape.now.kind (carry page.now) x y) inner)) }
     ensures shown { result ≡ false → shape.now.hidden ≡ false }
 {
     if shape.hidden {
@@ -149,11 +163,23 @@ fn add_node<'a>(
     requires kind { IsSound shape.now.kind }
     requires quarter { page.now.quarter ≤ 3 }
     requires reach { reach_of page.now + levels * 2 ^ 20 ≤ 2 ^ 26 }
-    requires part { is_container shape.now.kind ≡ true → part.now ≡ clip_of shape.now.kind (carry page.now) clip.now }
-    ensures fills { OnOk result ((x y : ℤ) → first_fill shown.new x y ≡ or_else (first_fill shown.old x y) (seen (is_in clip.now x y) (shown_of shape.now.kind page.now (answer_among levels document.now.records (Shape shape.now.id) (carry page.now) x y) x y))) }
-    ensures items { OnOk result ((start : List Item) → AreShown start shown.old nodes.old.items → AreShown start shown.new nodes.new.items) }
-    ensures clips { OnOk result (All (IsClipped clip.now) nodes.old.items → All (IsClipped clip.now) nodes.new.items) }
-    ensures tree { OnOk result (IsOneMore (λ node. is_node_of document.now.records node shape.now (carry page.now) clip.now ≡ true) nodes.old.items nodes.new.items) }
+    requires part { is_container shape.now.kind ≡ true
+        → part.now ≡ clip_of shape.now.kind (carry page.now) clip.now }
+    ensures fills { OnOk result ((x y : ℤ)
+        → first_fill shown.new x y
+        ≡ or_else (first_fill shown.old x y)
+        (seen (is_in clip.now x y)
+        (shown_of shape.now.kind page.now
+        (answer_among levels document.now.records (Shape shape.now.id) (carry page.now) x y)
+        x y))) }
+    ensures items { OnOk result ((start : List Item) → AreShown start shown.old nodes.old.items
+        → AreShown start shown.new nodes.new.items) }
+    ensures clips { OnOk result
+        (All (IsClipped clip.now) nodes.old.items → All (IsClipped clip.now) nodes.new.items) }
+    ensures tree { OnOk result
+        (IsOneMore
+        (λ node. is_node_of document.now.records node shape.now (carry page.now) clip.now ≡ true)
+        nodes.old.items nodes.new.items) }
 {
     let bump: &'a Bump = *nodes.allocator();
     let inside = Parent::Shape(shape.id);
@@ -188,8 +214,12 @@ fn back_of<'a>(
     fill: Option<Colour>,
     shown: &mut Shown<'a>,
 ) -> Result<Option<Item<'a>>, OutOfMemory>
-    requires part { (x y : ℤ) → is_in clip.now x y ≡ true → carried_holds leaf x y ≡ true → is_in part.now x y ≡ true }
-    ensures fills { IfOk result (λ back. (x y : ℤ) → first_fill shown.new x y ≡ or_else (first_fill shown.old x y) (seen (is_in clip.now x y) (seen (carried_holds leaf.entry x y) fill))) }
+    requires part { (x y : ℤ) → is_in clip.now x y ≡ true → carried_holds leaf x y ≡ true
+        → is_in part.now x y ≡ true }
+    ensures fills { IfOk result (λ back. (x y : ℤ)
+        → first_fill shown.new x y
+        ≡ or_else (first_fill shown.old x y)
+        (seen (is_in clip.now x y) (seen (carried_holds leaf.entry x y) fill))) }
     ensures items { IfOk result (λ back. shown.new ≡ shown.old ++ back_item back) }
     ensures clip { IfOk result (λ back. IfSome back (λ i. i.clip ≡ clip.now)) }
     ensures fill { IfOk result (λ back. IfSome back (λ i. fill ≡ Some i.fill)) }
@@ -212,10 +242,17 @@ fn add_leaf<'a>(
     shown: &mut Shown<'a>,
     nodes: &mut Vec<Node<'a>, &'a Bump>,
 ) -> Result<(), OutOfMemory>
-    ensures fills { OnOk result ((x y : ℤ) → first_fill shown.new x y ≡ or_else (first_fill shown.old x y) (seen (is_in clip.now x y) (seen (carried_holds shape.entry x y) (Some fill)))) }
-    ensures items { OnOk result ((start : List Item) → AreShown start shown.old nodes.old.items → AreShown start shown.new nodes.new.items) }
-    ensures clips { OnOk result (All (IsClipped clip.now) nodes.old.items → All (IsClipped clip.now) nodes.new.items) }
-    ensures tree { OnOk result (IsOneMore (λ node. (rs : List Record) → is_node_of rs node ≡ is_leaf_of clip.now fill) nodes.old.items nodes.new.items) }
+    ensures fills { OnOk result ((x y : ℤ)
+        → first_fill shown.new x y
+        ≡ or_else (first_fill shown.old x y)
+        (seen (is_in clip.now x y) (seen (carried_holds shape.entry x y) (Some fill)))) }
+    ensures items { OnOk result ((start : List Item) → AreShown start shown.old nodes.old.items
+        → AreShown start shown.new nodes.new.items) }
+    ensures clips { OnOk result
+        (All (IsClipped clip.now) nodes.old.items → All (IsClipped clip.now) nodes.new.items) }
+    ensures tree { OnOk result
+        (IsOneMore (λ node. (rs : List Record) → is_node_of rs node ≡ is_leaf_of clip.now fill)
+        nodes.old.items nodes.new.items) }
 {
     let item = shown.add(shape, clip, fill)?;
     keep(nodes, leaf(item))
@@ -235,8 +272,8 @@ fn carried<'a>(bump: &'a Bump, page: &Pose, points: &[Point]) -> Result<&'a [Poi
     Ok(into_bump_slice(vertices))
 }
 
-// Carries vertices to the page. Each turn has a loop of its own, in which it is a constant: so it is not chosen anew for
-// each vertex.
+// Carries vertices to the page. Each turn has a loop of its own, in which it is a constant: so it
+// is not chosen anew for each vertex.
 fn carry_all(vertices: &mut [Point], page: &Pose)
     requires vertices { AreVertices vertices.old }
     requires quarter { page.now.quarter ≤ 3 }

@@ -22,7 +22,7 @@ use std::time::Clock;
 /// How a line is served at its doors.
 #[derive(Clone, Copy, Debug, PartialEq, Eq)]
 pub struct DoorSettings {
-    /// How many pictures each seat keeps, 0 to 256.
+    /// How many pictures are kept for each seat, 0 to 256.
     pub keep: u32,
     /// How many threads paint a picture, 1 to 16.
     pub workers: u32,
@@ -31,7 +31,8 @@ pub struct DoorSettings {
 }
 
 impl DoorSettings {
-    /// The first of `BadSetting` and `BadWorkers` that the settings call for at so many doors and seats: there is a door, and 1 to 64 seats.
+    /// The first of `BadSetting` and `BadWorkers` that the settings call for at so many doors and
+    /// seats: there is a door, and 1 to 64 seats.
     pub fn check(&self, doors: usize, seats: usize) -> Result<(), ServerFault>
         ensures { result ≡ door_fault doors seats self.now }
     {
@@ -54,13 +55,16 @@ pub enum Ended {
     Unsettled,
 }
 
-/// Serves a line to the connections that come to its doors, each on a thread of its own with one of the seats, until the gate ends that: it
-/// can't settle, or says that the server is to end. No bytes of a session leave before the gate has settled for all that were put in.
+/// Serves a line to the connections that come to its doors, each on a thread of its own with one of
+/// the seats, until the gate ends that: it can't settle, or says that the server is to end. No
+/// bytes of a session leave before the gate has settled for all that were put in.
 ///
-/// A connection that finds all seats taken gets the reply `NoSeats` and is closed; one whose thread can't be
-/// started is closed without a reply. `BadSetting` and then `BadWorkers` come before all else, and `OutOfMemory` before the first connection.
-/// At the end no connection is accepted any more. Where the gate asked for the end, what was answered still leaves, for five seconds at most; then
-/// all sessions are closed, and so are the seats. The doors stay open. `AcceptFault` is such an end too, where a door accepts no connection any more.
+/// A connection that finds all seats taken gets the reply `NoSeats` and is closed; one whose thread
+/// can't be started is closed without a reply. `BadSetting` and then `BadWorkers` come before all
+/// else, and `OutOfMemory` before the first connection. At the end no connection is accepted any
+/// more. Where the gate asked for the end, what was answered still leaves, for five seconds at
+/// most; then all sessions are closed, and so are the seats. The doors stay open. `AcceptFault` is
+/// such an end too, where a door accepts no connection any more.
 pub fn serve_doors<
     L: Lines + Send + Sync,
     G: Settles + Sync,
@@ -89,8 +93,8 @@ pub fn serve_doors<
     ended
 }
 
-/// The same over boards of one line, 1 to 64, which their maker closes; of the settings `keep` is their maker's. The end has a place for each board, and
-/// others may begin it too.
+/// The same over boards of one line, 1 to 64, which their maker closes; of the settings `keep` is
+/// their maker's. The end has a place for each board, and others may begin it too.
 pub fn serve_boards_at<
     B: Board + Send,
     G: Settles + Sync,

@@ -33,8 +33,8 @@ pub enum Answered {
     Session(Result<Served, SessionFault>),
 }
 
-/// Answers what a reader brings until that has ended, to a writer that comes back. A gate is asked before any bytes are handed to the writer, and
-/// a witness is told of each answer of a session.
+/// Answers what a reader brings until that has ended, to a writer that comes back. A gate is asked
+/// before any bytes are handed to the writer, and a witness is told of each answer of a session.
 /// `None` where no memory could be had or not all was sent.
 pub fn answer<
     H: Threads + Wait + Sync,
@@ -53,15 +53,17 @@ pub fn answer<
     reader: R,
     writer: W,
 ) -> (W, Option<Answered>)
-    ensures answered { IfSome result.1 (λ answered. (unread : Option (List ℕ)) × IsAnswered workers.now (record {
-      input = R.remaining reader;
-      unread = unread;
-      held = W.contents writer;
-      output = W.contents result.0;
-      before = B.seen board.old;
-      after = B.seen board.new;
-    }) answered) }
-    ensures settled { ∥ ((n : ℕ) × HasPassed (G.settled gate.now) (W.contents writer) (W.contents result.0) n) ∥₁ }
+    ensures answered { IfSome result.1 (λ answered. (unread : Option (List ℕ))
+        × IsAnswered workers.now (record {
+          input = R.remaining reader;
+          unread = unread;
+          held = W.contents writer;
+          output = W.contents result.0;
+          before = B.seen board.old;
+          after = B.seen board.new;
+        }) answered) }
+    ensures settled { ∥ ((n : ℕ)
+        × HasPassed (G.settled gate.now) (W.contents writer) (W.contents result.0) n) ∥₁ }
 {
     answer_gated::<Brand, H, B, G, O, R, W>(
         rt, alloc, board, workers, gate, witness, reader, writer,
@@ -89,14 +91,15 @@ fn answer_gated<
 ) -> (W, Option<Answered>)
     requires begun { K.begun ≡ W.contents writer }
     requires tells { (n : ℕ) → G.settled gate.now n → K.settled n }
-    ensures answered { IfSome result.1 (λ answered. (unread : Option (List ℕ)) × IsAnswered workers.now (record {
-      input = R.remaining reader;
-      unread = unread;
-      held = W.contents writer;
-      output = W.contents result.0;
-      before = B.seen board.old;
-      after = B.seen board.new;
-    }) answered) }
+    ensures answered { IfSome result.1 (λ answered. (unread : Option (List ℕ))
+        × IsAnswered workers.now (record {
+          input = R.remaining reader;
+          unread = unread;
+          held = W.contents writer;
+          output = W.contents result.0;
+          before = B.seen board.old;
+          after = B.seen board.new;
+        }) answered) }
     ensures settled { ∥ ((n : ℕ) × HasPassed K.settled K.begun (W.contents result.0) n) ∥₁ }
 {
     let gated = Gated::<K, H, G, W>::new(rt, gate, writer);
@@ -104,7 +107,8 @@ fn answer_gated<
     (gated.into_inner(), answered)
 }
 
-// Answers what a reader brings, to a writer that comes back: `None` where no memory could be had or not all was sent.
+// Answers what a reader brings, to a writer that comes back: `None` where no memory could be had or
+// not all was sent.
 fn answer_input<H: Threads + Wait + Sync, B: Board, O: Witness, R: Read + Drop, W: WriteTwo + Drop>(
     rt: &H,
     alloc: Global,
@@ -114,14 +118,15 @@ fn answer_input<H: Threads + Wait + Sync, B: Board, O: Witness, R: Read + Drop, 
     mut reader: R,
     mut writer: W,
 ) -> (W, Option<Answered>)
-    ensures { IfSome result.1 (λ answered. (unread : Option (List ℕ)) × IsAnswered workers.now (record {
-      input = R.remaining reader;
-      unread = unread;
-      held = W.contents writer;
-      output = W.contents result.0;
-      before = B.seen board.old;
-      after = B.seen board.new;
-    }) answered) }
+    ensures { IfSome result.1 (λ answered. (unread : Option (List ℕ))
+        × IsAnswered workers.now (record {
+          input = R.remaining reader;
+          unread = unread;
+          held = W.contents writer;
+          output = W.contents result.0;
+          before = B.seen board.old;
+          after = B.seen board.new;
+        }) answered) }
 {
     let mut first = [0u8; FIRST_BYTES];
     let count = read_first(&mut reader, &mut first);
@@ -158,16 +163,19 @@ pub fn refuse(stream: &Stream) {
     let _ = tell(&mut writer, &no_seats());
 }
 
-/// Tells a client that speaks HTTP that its request is none, and says whether the reply went out. It names no version.
+/// Tells a client that speaks HTTP that its request is none, and says whether the reply went out.
+/// It names no version.
 pub fn refuse_http<W: Write>(writer: &mut W) -> bool
-    ensures { IsTrue result → Appends (W.contents writer.old) (W.contents writer.new) (line_of (refused 50)) }
+    ensures { IsTrue result
+        → Appends (W.contents writer.old) (W.contents writer.new) (line_of (refused 50)) }
 {
     tell(writer, &no_json())
 }
 
 // Writes the only reply of a connection, and says whether it went out.
 fn tell<W: Write>(writer: &mut W, line: &ReplyLine) -> bool
-    ensures { IsTrue result → Appends (W.contents writer.old) (W.contents writer.new) line.now.bytes }
+    ensures { IsTrue result
+        → Appends (W.contents writer.old) (W.contents writer.new) line.now.bytes }
 {
     writer.write_all(line.as_str().as_bytes()).is_ok()
 }
@@ -198,8 +206,9 @@ const SETTLING: u64 = 2;
 /// How many pieces of at most 4,096 bytes it then reads at most: 1 MiB.
 const MOST_PIECES: u32 = 256;
 
-/// Ends what is sent, and reads what still comes, at most 1 MiB for two seconds, and up to two more where a read waits:
-/// a connection that is closed with bytes unread is reset, and a reset may take the closing reply with it.
+/// Ends what is sent, and reads what still comes, at most 1 MiB for two seconds, and up to two more
+/// where a read waits: a connection that is closed with bytes unread is reset, and a reset may take
+/// the closing reply with it.
 pub fn settle<H: Clock>(rt: &H, stream: &Stream) {
     let mut reader = stream;
     let patience = Duration::from_secs(SETTLING);

@@ -51,7 +51,8 @@ impl Accepts for Door {
 }
 
 impl Door {
-    /// Has an accept that waits at the door go on: by a connection of our own, or, where none can be had, by shutting the door for good.
+    /// Has an accept that waits at the door go on: by a connection of our own, or, where none can
+    /// be had, by shutting the door for good.
     pub fn wake<H: Net>(&self, rt: &H) {
         if self.knock(rt).is_err() {
             // Then nobody can connect there, and the accept may wait on.

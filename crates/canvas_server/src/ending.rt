@@ -90,8 +90,8 @@ impl Ending {
         self.has_begun.load(Ordering::SeqCst)
     }
 
-    /// Notes the socket of a session that begins. False where the end has begun, or the socket can't be held twice: then there is to be no
-    /// session.
+    /// Notes the socket of a session that begins. False where the end has begun, or the socket
+    /// can't be held twice: then there is to be no session.
     pub fn enter<H: Wait>(&self, rt: &H, seat: usize, stream: &Stream) -> bool {
         if !self.can_begin {
             return true;
@@ -112,7 +112,8 @@ impl Ending {
         }
     }
 
-    /// Notes the socket of a session that begins at the first seat that has none. `Err` is why there is to be no session.
+    /// Notes the socket of a session that begins at the first seat that has none. `Err` is why
+    /// there is to be no session.
     pub fn enter_free<H: Wait>(&self, rt: &H, stream: &Stream) -> Result<usize, NoEntry> {
         let Ok(socket) = stream.try_clone() else {
             return Err(NoEntry::Ended);
@@ -139,8 +140,8 @@ impl Ending {
         }
     }
 
-    /// Begins the end, unless it has begun: no session takes in anything more, and what it has answered still leaves. Where the gate could not settle
-    /// nothing leaves any more.
+    /// Begins the end, unless it has begun: no session takes in anything more, and what it has
+    /// answered still leaves. Where the gate could not settle nothing leaves any more.
     pub fn begin<H: Wait>(&self, rt: &H, call: Call) {
         if !self.can_begin {
             return;

@@ -9,10 +9,12 @@ use std::io::Read;
 /// How many first bytes tell whether a connection speaks HTTP: those of the longest method and its blank.
 pub const FIRST_BYTES: usize = 8;
 
-/// Reads first bytes until they tell whether the connection speaks HTTP, or no more come, and says how many there are.
+/// Reads first bytes until they tell whether the connection speaks HTTP, or no more come, and says
+/// how many there are.
 pub fn read_first<R: Read>(reader: &mut R, first: &mut [u8; FIRST_BYTES]) -> usize
     ensures within { result ≤ 8 }
-    ensures read { Consumes (R.remaining reader.old) (R.remaining reader.new) (take result first.new) }
+    ensures read { Consumes (R.remaining reader.old) (R.remaining reader.new)
+        (take result first.new) }
 {
     let mut count = 0;
     while count < FIRST_BYTES {
@@ -29,13 +31,14 @@ pub fn read_first<R: Read>(reader: &mut R, first: &mut [u8; FIRST_BYTES]) -> usi
     count
 }
 
-// Reads behind the first bytes, and says how many came: none where the input has ended or a read failed, which the session
-// then meets again.
+// Reads behind the first bytes, and says how many came: none where the input has ended or a read
+// failed, which the session then meets again.
 fn read_more<R: Read>(reader: &mut R, first: &mut [u8; FIRST_BYTES], count: usize) -> usize
     requires { count < 8 }
     ensures within { count + result ≤ 8 }
     ensures front { take count first.new ≡ take count first.old }
-    ensures read { Consumes (R.remaining reader.old) (R.remaining reader.new) (take result (drop count first.new)) }
+    ensures read { Consumes (R.remaining reader.old) (R.remaining reader.new)
+        (take result (drop count first.new)) }
 {
     match reader.read(&mut first[count..]) {
         Ok(more) => more,

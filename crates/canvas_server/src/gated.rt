@@ -12,7 +12,8 @@ use std::io::{ErrorKind, Write};
 use std::marker::{Brand, PhantomData};
 use std::sync::Wait;
 
-/// What proofs know of one connection: the bytes that its writer held at first, and what its gate has settled.
+/// What proofs know of one connection: the bytes that its writer held at first, and what its gate
+/// has settled.
 pub trait Connection {
     ghost use Rattle.std.specs.Prelude.{ℕ, List, Option};
 
@@ -76,7 +77,8 @@ impl<K: Connection, W: WriteTwo + Drop> Passage<K, W> {
         requires fits { self.old.passed + length bytes.now < 2 ^ 64 }
         requires settled { ∥ K.settled (self.old.passed + length bytes.now) ∥₁ }
         ensures bound { WritesAtMost result bytes.now }
-        ensures bytes { WriteAppends (W.contents self.old.writer) (W.contents self.new.writer) result bytes.now }
+        ensures bytes { WriteAppends (W.contents self.old.writer) (W.contents self.new.writer)
+            result bytes.now }
         ensures counted { IfOk result (λ n. self.new.passed ≡ self.old.passed + n) }
         ensures same { OnErr result (self.new.passed ≡ self.old.passed) }
     {
@@ -90,7 +92,8 @@ impl<K: Connection, W: WriteTwo + Drop> Passage<K, W> {
         requires fits { self.old.passed + length (first.now ++ second.now) < 2 ^ 64 }
         requires settled { ∥ K.settled (self.old.passed + length (first.now ++ second.now)) ∥₁ }
         ensures bound { WritesAtMost result (first.now ++ second.now) }
-        ensures bytes { WriteAppends (W.contents self.old.writer) (W.contents self.new.writer) result (first.now ++ second.now) }
+        ensures bytes { WriteAppends (W.contents self.old.writer) (W.contents self.new.writer)
+            result (first.now ++ second.now) }
         ensures counted { IfOk result (λ n. self.new.passed ≡ self.old.passed + n) }
         ensures same { OnErr result (self.new.passed ≡ self.old.passed) }
     {
@@ -108,7 +111,8 @@ impl<K: Connection, W: WriteTwo + Drop> Passage<K, W> {
     }
 }
 
-/// A writer that asks a gate before it hands bytes on: what it is called with lies on top of all that it has handed on.
+/// A writer that asks a gate before it hands bytes on: what it is called with lies on top of all
+/// that it has handed on.
 #[derive(Drop)]
 pub struct Gated<'a, K: Connection, H: Wait, G: Settles, W: WriteTwo + Drop> {
     rt: &'a H,

@@ -27,11 +27,13 @@ const PATIENCE: u32 = 100;
 /// How many milliseconds the server waits after an accept that failed.
 const PAUSE: u64 = 10;
 
-/// How often the server looks whether all sessions have ended before it cuts those that are left: once in ten milliseconds.
+/// How often the server looks whether all sessions have ended before it cuts those that are left:
+/// once in ten milliseconds.
 const LOOKS: u32 = 500;
 
-/// What the threads of a server share: a board for each seat, which seats are taken, and how many connections are
-/// being settled; the gate that sessions ask, who is told of them, after how many silent seconds they end (0 for never), and the server's end.
+/// What the threads of a server share: a board for each seat, which seats are taken, and how many
+/// connections are being settled; the gate that sessions ask, who is told of them, after how many
+/// silent seconds they end (0 for never), and the server's end.
 #[derive(Drop)]
 pub struct House<'a, B: Board, G: Settles, E: Events> {
     pub alloc: Global,
@@ -45,9 +47,8 @@ pub struct House<'a, B: Board, G: Settles, E: Events> {
     pub ending: &'a Ending,
 }
 
-/// Serves so many connections, or without end where the number is 0, each with a board that no other session has. There is a
-/// board for each seat.
-/// Returns when all sessions have ended.
+/// Serves so many connections, or without end where the number is 0, each with a board that no
+/// other session has. There is a board for each seat. Returns when all sessions have ended.
 pub fn serve_boards<H: Threads + Wait + Clock + Sync, B: Board + Send>(
     rt: &H,
     alloc: Global,
@@ -91,8 +92,9 @@ pub fn serve_boards<H: Threads + Wait + Clock + Sync, B: Board + Send>(
     Ok(())
 }
 
-/// Serves the connections that come to several doors, each door on a thread of its own, until something ends the server, and says
-/// what. There is a board for each seat. Returns when all sessions have ended.
+/// Serves the connections that come to several doors, each door on a thread of its own, until
+/// something ends the server, and says what. There is a board for each seat. Returns when all
+/// sessions have ended.
 pub fn serve_until<
     'a,
     H: Threads + Wait + Clock + Net + Sync,
@@ -170,7 +172,8 @@ fn open_doors<
     }
 }
 
-// Accepts at a door until the server ends, or until no connection can be accepted there any more, which ends it.
+// Accepts at a door until the server ends, or until no connection can be accepted there any more,
+// which ends it.
 fn keep_door<
     's,
     'e: 's,
@@ -206,7 +209,8 @@ pub fn close_doors<H: Wait + Clock + Net>(rt: &H, doors: &[Door], ending: &Endin
     ending.cut(rt);
 }
 
-// Admits each connection that comes, until there were so many, the server ends, or none can be accepted any more.
+// Admits each connection that comes, until there were so many, the server ends, or none can be
+// accepted any more.
 fn accept_each<
     's,
     'e: 's,
@@ -240,7 +244,8 @@ fn accept_each<
     Err(ServerFault::AcceptFault)
 }
 
-/// Waits for the next connection that comes to a door; `None` once the server ends, or where none can be accepted any more.
+/// Waits for the next connection that comes to a door; `None` once the server ends, or where none
+/// can be accepted any more.
 pub fn next_stream<H: Wait + Clock, D: Accepts>(
     rt: &H,
     door: &D,
@@ -288,8 +293,9 @@ fn admit<
     }
 }
 
-// Tells a connection that no seat is free, and closes it. The reply is written at once, into a connection that holds
-// nothing yet; a thread of its own then settles the connection, unless too many are being settled.
+// Tells a connection that no seat is free, and closes it. The reply is written at once, into a
+// connection that holds nothing yet; a thread of its own then settles the connection, unless too
+// many are being settled.
 fn turn_away<'s, 'e: 's, H: Threads + Wait + Clock + Sync>(
     rt: &'e H,
     scope: &'s Scope<'s, &'e ()>,

@@ -1,4 +1,5 @@
-//! The server: one document lent to the connections that come to an address, the words that ask for it, and its statuses.
+//! The server: one document lent to the connections that come to an address, the words that ask for
+//! it, and its statuses.
 #![tactic(auto)]
 
 mod at_doors;

@@ -17,11 +17,13 @@ pub trait WriteTwo: Write {
     /// Writes the beginning of two pieces, one behind the other, and says how many bytes went out.
     fn write_two(&mut self, first: &[u8], second: &[u8]) -> io::Result<usize>
         ensures bound { WritesAtMost result (first.now ++ second.now) }
-        ensures bytes { WriteAppends (Self.contents self.old) (Self.contents self.new) result (first.now ++ second.now) };
+        ensures bytes { WriteAppends (Self.contents self.old) (Self.contents self.new) result
+            (first.now ++ second.now) };
 }
 
-/// A writer that gathers small pieces, and sends them together with the large piece behind them in one call. What its writer
-/// has got and what it holds are together the bytes that it was given, in order.
+/// A writer that gathers small pieces, and sends them together with the large piece behind them in
+/// one call. What its writer has got and what it holds are together the bytes that it was given, in
+/// order.
 #[derive(Drop)]
 pub struct Outlet<W: WriteTwo + Drop> {
     writer: W,
@@ -29,7 +31,8 @@ pub struct Outlet<W: WriteTwo + Drop> {
 }
 
 impl<W: WriteTwo + Drop> Outlet<W> {
-    /// An outlet that holds nothing yet. Where memory for what it will hold is refused, the writer comes back.
+    /// An outlet that holds nothing yet. Where memory for what it will hold is refused, the writer
+    /// comes back.
     pub fn new(alloc: Global, writer: W) -> Result<Outlet<W>, W>
         ensures writer { IfOk result (λ outlet. writer_of outlet ≡ writer) }
         ensures empty { IfOk result (λ outlet. held_by outlet ≡ []) }
@@ -41,7 +44,8 @@ impl<W: WriteTwo + Drop> Outlet<W> {
         }
     }
 
-    /// Sends what is held and gives the writer back. Where that went well the writer has all bytes that the outlet was given.
+    /// Sends what is held and gives the writer back. Where that went well the writer has all bytes
+    /// that the outlet was given.
     pub fn finish(mut self) -> (W, io::Result<()>)
         ensures { OnOk result.1 (Keeps (given_to W.contents self) (W.contents result.0)) }
     {
@@ -53,7 +57,8 @@ impl<W: WriteTwo + Drop> Outlet<W> {
     // Sends what is held, and behind it the beginning of a piece.
     fn send(&mut self, bytes: &[u8]) -> io::Result<usize>
         ensures bound { WritesAtMost result bytes.now }
-        ensures bytes { WriteAppends (given_to W.contents self.old) (given_to W.contents self.new) result bytes.now }
+        ensures bytes { WriteAppends (given_to W.contents self.old) (given_to W.contents self.new)
+            result bytes.now }
     {
         let held = self.held.len();
         let sent = self.writer.write_two(&self.held, bytes)?;

@@ -104,8 +104,8 @@ impl<E: Events> WriteTwo for Output<'_, E> {
     }
 }
 
-/// Answers a client until it has sent all or the server ends, and says whether more may still come. Where the server has ended before, nothing is
-/// answered.
+/// Answers a client until it has sent all or the server ends, and says whether more may still come.
+/// Where the server has ended before, nothing is answered.
 pub fn answer_visit<H: Threads + Wait + Sync, B: Board, G: Settles, E: Events>(
     rt: &H,
     house: &House<B, G, E>,
@@ -128,7 +128,8 @@ pub fn answer_visit<H: Threads + Wait + Sync, B: Board, G: Settles, E: Events>(
         )
 }
 
-/// Sets how a connection sends and after how many silent seconds a read or a write fails, 0 for never. Where that can't be set it is served all the same.
+/// Sets how a connection sends and after how many silent seconds a read or a write fails, 0 for
+/// never. Where that can't be set it is served all the same.
 pub fn set_up(stream: &Stream, idle: u64) {
     // Where small replies are delayed they come all the same.
     let _ = stream.set_nodelay();

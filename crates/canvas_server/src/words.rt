@@ -11,7 +11,8 @@ pub enum Command<'a> {
     Script {
         workers: u32,
     },
-    /// Serves a saved document to the connections that come to an address, with so many workers for a picture.
+    /// Serves a saved document to the connections that come to an address, with so many workers for
+    /// a picture.
     Serve {
         address: &'a str,
         file: &'a str,
@@ -80,8 +81,9 @@ fn workers_of(word: &str) -> Option<u32>
     }
 }
 
-/// The status with which the program ends at a fault: 3 where a document was refused, 5 at want of memory and where
-/// a reader of the line or a view could not be had, else 4. A fault of input or output has no code.
+/// The status with which the program ends at a fault: 3 where a document was refused, 5 at want of
+/// memory and where a reader of the line or a view could not be had, else 4. A fault of input or
+/// output has no code.
 pub fn exit_status(code: Option<u16>) -> u8
     ensures { result ≡ status_of code }
 {

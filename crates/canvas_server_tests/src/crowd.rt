@@ -57,8 +57,8 @@ fn is_told(answer: &io::Result<Vec<u8>>, line: &str) -> bool {
     }
 }
 
-// Connects 1,000 times, one after another, with a millisecond after each that finds no seat. How many were turned away before the
-// first that was answered, and how many were answered.
+// Connects 1,000 times, one after another, with a millisecond after each that finds no seat. How
+// many were turned away before the first that was answered, and how many were answered.
 fn ask_each<H: Net<Stream = TcpStream> + Clock>(
     rt: &H,
     alloc: Global,

@@ -229,7 +229,8 @@ fn a_silent_session_ends_and_its_seat_is_free(rt: HostRuntime) {
     equal(&rt, "told", &counts.told(), &[2, 1, 1, 0]);
 }
 
-// A viewer that has been answered once, a client without a seat, an edit of the viewer's, and what comes after that.
+// A viewer that has been answered once, a client without a seat, an edit of the viewer's, and what
+// comes after that.
 fn last_edit<H: Net<Stream = TcpStream> + Abort>(
     rt: &H,
     alloc: Global,

@@ -74,7 +74,8 @@ impl<H: Clock> Settles for Slow<'_, H> {
     }
 }
 
-/// How many sessions began, how many ended because they were silent or in another way, and how many connections found no seat.
+/// How many sessions began, how many ended because they were silent or in another way, and how many
+/// connections found no seat.
 #[derive(Drop)]
 pub(crate) struct Counts {
     began: AtomicU64,

@@ -1,4 +1,5 @@
-//! Tests of the server, on threads and over the loopback, of the words that ask for it, and of the texts of its faults.
+//! Tests of the server, on threads and over the loopback, of the words that ask for it, and of the
+//! texts of its faults.
 #![tactic(auto)]
 
 #[cfg(test)]

@@ -1,5 +1,5 @@
-//! A server for which memory may be refused: run with each allocation refused in turn, it ends before the first connection, or
-//! answers it or closes it, and it serves another one afterwards.
+//! A server for which memory may be refused: run with each allocation refused in turn, it ends
+//! before the first connection, or answers it or closes it, and it serves another one afterwards.
 
 use crate::asserts::{equal, holds};
 use crate::crowd::{WHITE, asking};
@@ -43,8 +43,8 @@ fn a_server_with_little_memory(rt: HostRuntime) -> Result<(), Fail> {
     }
 }
 
-// The client that waits once a server has ended: the first one, where it ended before it accepted a connection, or another
-// one. None where the first was answered in full.
+// The client that waits once a server has ended: the first one, where it ended before it accepted a
+// connection, or another one. None where the first was answered in full.
 fn next_client<H: Threads + Wait + Clock + Net<Stream = TcpStream> + Abort + Sync>(
     rt: &H,
     alloc: Global,

@@ -21,7 +21,8 @@ pub enum Next {
 
 /// The place of the first LF.
 fn lf_in(bytes: &[u8]) -> Option<usize>
-    ensures found { IfSome result (λ n. (n < length bytes.now) × LacksLf n bytes.now × (slice_index bytes.now n ≡ 10)) }
+    ensures found { IfSome result
+        (λ n. (n < length bytes.now) × LacksLf n bytes.now × (slice_index bytes.now n ≡ 10)) }
     ensures none { IfNone result (HasNoLf bytes.now) }
 {
     memchr::memchr(b'\n', bytes)
@@ -31,7 +32,8 @@ fn lf_in(bytes: &[u8]) -> Option<usize>
 fn find_lf(bytes: &[u8], seen: usize) -> Option<usize>
     requires within { seen ≤ length bytes.now }
     requires before { LacksLf seen bytes.now }
-    ensures found { IfSome result (λ n. (n < length bytes.now) × LacksLf n bytes.now × (slice_index bytes.now n ≡ 10)) }
+    ensures found { IfSome result
+        (λ n. (n < length bytes.now) × LacksLf n bytes.now × (slice_index bytes.now n ≡ 10)) }
     ensures none { IfNone result (HasNoLf bytes.now) }
 {
     let (_, rest) = bytes.split_at(seen);
@@ -55,7 +57,8 @@ pub fn find_next<R: Read, W: Write>(
     writer: &mut W,
 ) -> Result<Next, Interruption>
     requires { length pending.old ≤ 65537 }
-    ensures takes { TakesIn (R.remaining reader.old) (R.remaining reader.new) pending.old pending.new }
+    ensures takes { TakesIn (R.remaining reader.old) (R.remaining reader.new) pending.old
+        pending.new }
     ensures kept { Keeps (W.contents writer.old) (W.contents writer.new) }
     ensures next { IfOk result (λ n. IsNext n pending.new (R.remaining reader.new)) }
     ensures interrupted { IfErr result (λ why. IsInterrupted why pending.new) }
@@ -76,7 +79,8 @@ pub fn find_next<R: Read, W: Write>(
 fn read_next<R: Read>(pending: &mut Pending, reader: &mut R) -> io::Result<Next>
     requires fits { length pending.old ≤ 65537 }
     requires none { HasNoLf pending.old }
-    ensures takes { TakesIn (R.remaining reader.old) (R.remaining reader.new) pending.old pending.new }
+    ensures takes { TakesIn (R.remaining reader.old) (R.remaining reader.new) pending.old
+        pending.new }
     ensures next { IfOk result (λ n. IsNext n pending.new (R.remaining reader.new)) }
     ensures unread { OnErr result (HasNoLf pending.new × (length pending.new ≤ 65536)) }
 {

@@ -16,7 +16,8 @@ use std::io::Write;
 // Writes until a write fails or takes nothing, and says how many bytes went out.
 fn write_counted<W: Write>(writer: &mut W, bytes: &[u8]) -> usize
     ensures within { result ≤ length bytes.now }
-    ensures wrote { Appends (W.contents writer.old) (W.contents writer.new) (take result bytes.now) }
+    ensures wrote { Appends (W.contents writer.old) (W.contents writer.new)
+        (take result bytes.now) }
 {
     let mut at = 0;
     while at < bytes.len() {
@@ -33,7 +34,8 @@ fn write_counted<W: Write>(writer: &mut W, bytes: &[u8]) -> usize
 pub fn write_answer<W: Write>(writer: &mut W, answer: &Answer) -> (usize, bool)
     ensures within { result.0 ≤ length (text_of answer.now) }
     ensures small { result.0 ≤ 2 ^ 41 }
-    ensures wrote { Appends (W.contents writer.old) (W.contents writer.new) (take result.0 (text_of answer.now)) }
+    ensures wrote { Appends (W.contents writer.old) (W.contents writer.new)
+        (take result.0 (text_of answer.now)) }
     ensures whole { IsTrue result.1 → result.0 ≡ length (text_of answer.now) }
     ensures cut { IsFalse result.1 → result.0 < length (text_of answer.now) }
 {
@@ -70,7 +72,8 @@ pub fn close<W: Write>(writer: &mut W, cause: Cause, answered: u64, written: u64
 fn write_closing<W: Write>(writer: &mut W, cause: Cause) -> (usize, bool)
     ensures within { result.0 ≤ length (closing_line (cause_code cause)) }
     ensures small { result.0 ≤ 160 }
-    ensures wrote { Appends (W.contents writer.old) (W.contents writer.new) (take result.0 (closing_line (cause_code cause))) }
+    ensures wrote { Appends (W.contents writer.old) (W.contents writer.new)
+        (take result.0 (closing_line (cause_code cause))) }
     ensures whole { IsTrue result.1 → result.0 ≡ length (closing_line (cause_code cause)) }
 {
     let line = write_reply(&refusal(cause.code()));

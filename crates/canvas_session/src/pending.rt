@@ -24,7 +24,8 @@ impl Model for Pending {
 
     ghost view = { λ p. slice_range p.bytes.items p.start p.end };
 
-    ghost invariant = { λ p. (p.start ≤ p.end) × (p.end ≤ vec_len p.bytes) × (vec_len p.bytes ≡ 65537) };
+    ghost invariant = { λ p.
+        (p.start ≤ p.end) × (p.end ≤ vec_len p.bytes) × (vec_len p.bytes ≡ 65537) };
 }
 
 impl Pending {
@@ -56,7 +57,8 @@ impl Pending {
     /// Reads what there is room for, and says whether something came.
     pub fn fill<R: Read>(&mut self, reader: &mut R) -> io::Result<bool>
         requires { length self.old < 65537 }
-        ensures takes { TakesIn (R.remaining reader.old) (R.remaining reader.new) self.old self.new }
+        ensures takes { TakesIn (R.remaining reader.old) (R.remaining reader.new) self.old
+            self.new }
         ensures fits { length self.new ≤ 65537 }
         ensures more { IfOk result (λ any. IsMore any (R.remaining reader.new) self.old self.new) }
         ensures err { OnErr result (self.new ≡ self.old) }
@@ -78,7 +80,8 @@ fn make_room(bytes: &mut Vec<u8>, start: usize, end: usize) -> (usize, usize)
     ensures len { vec_len bytes.new ≡ vec_len bytes.old }
     ensures in_order { result.0 ≤ result.1 }
     ensures room { result.1 < vec_len bytes.old }
-    ensures same { slice_range bytes.new.items result.0 result.1 ≡ slice_range bytes.old.items start end }
+    ensures same { slice_range bytes.new.items result.0 result.1
+        ≡ slice_range bytes.old.items start end }
 {
     if end == bytes.len() || start == end {
         bytes.copy_within(start..end, 0);
@@ -100,10 +103,13 @@ fn read_after<R: Read>(
     ensures len { vec_len bytes.new ≡ vec_len bytes.old }
     ensures within { end + result.0 ≤ vec_len bytes.old }
     ensures takes { TakesIn (R.remaining reader.old) (R.remaining reader.new)
-        (slice_range bytes.old.items start end) (slice_range bytes.new.items start (end + result.0)) }
-    ensures more { OnOk result.1 (IsMore (nat_lt 0 result.0) (R.remaining reader.new)
-        (slice_range bytes.old.items start end) (slice_range bytes.new.items start (end + result.0))) }
-    ensures err { OnErr result.1 (slice_range bytes.new.items start (end + result.0) ≡ slice_range bytes.old.items start end) }
+        (slice_range bytes.old.items start end)
+        (slice_range bytes.new.items start (end + result.0)) }
+    ensures more { OnOk result.1
+        (IsMore (nat_lt 0 result.0) (R.remaining reader.new) (slice_range bytes.old.items start end)
+        (slice_range bytes.new.items start (end + result.0))) }
+    ensures err { OnErr result.1 (slice_range bytes.new.items start (end + result.0)
+        ≡ slice_range bytes.old.items start end) }
 {
     match read_at(reader, bytes, end) {
         Ok(n) => (n, Ok(())),
@@ -116,7 +122,8 @@ fn read_at<R: Read>(reader: &mut R, bytes: &mut Vec<u8>, end: usize) -> io::Resu
     ensures len { vec_len bytes.new ≡ vec_len bytes.old }
     ensures front { take end bytes.new.items ≡ take end bytes.old.items }
     ensures fits { IfOk result (λ n. end + n ≤ vec_len bytes.old) }
-    ensures ok { IfOk result (λ n. Consumes (R.remaining reader.old) (R.remaining reader.new) (take n (drop end bytes.new.items))) }
+    ensures ok { IfOk result (λ n. Consumes (R.remaining reader.old) (R.remaining reader.new)
+        (take n (drop end bytes.new.items))) }
     ensures end { IfOk result (λ n. n ≡ 0 → IsAtEnd (R.remaining reader.new)) }
     ensures err { OnErr result (Keeps (R.remaining reader.old) (R.remaining reader.new)) }
 {

@@ -17,9 +17,9 @@ use std::alloc::Global;
 use std::sync::Wait;
 use std::thread::Threads;
 
-/// What is answered to one line of a session, without its LF: the request is read and put to the board, and pictures
-/// are painted by so many workers. Where memory for the request is refused, the answer is the reply `OutOfMemory`, and
-/// the board is as it was.
+/// What is answered to one line of a session, without its LF: the request is read and put to the
+/// board, and pictures are painted by so many workers. Where memory for the request is refused, the
+/// answer is the reply `OutOfMemory`, and the board is as it was.
 pub fn answer_line<B: Board, H: Threads + Wait + Sync>(
     rt: &H,
     alloc: Global,
@@ -105,7 +105,8 @@ fn answer_tile<B: Board, H: Threads + Wait + Sync>(
     col: i32,
     row: i32,
 ) -> Answer
-    ensures { ShowsAt workers (B.seen board.old) level (pos 256 *ℤ col) (pos 256 *ℤ row) 256 256 result (B.seen board.new) }
+    ensures { ShowsAt workers (B.seen board.old) level (pos 256 *ℤ col) (pos 256 *ℤ row) 256 256
+        result (B.seen board.new) }
 {
     match Window::tile_at(level, col, row) {
         Ok(window) => answer_window(rt, board, workers, &window),

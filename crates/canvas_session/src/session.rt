@@ -22,8 +22,9 @@ pub const MOST_REQUESTS: u64 = 1_000_000;
 
 /// Answers each line of a reader to a writer, until the input ends.
 ///
-/// A line is the bytes before an LF, at most 65,536. The writer is flushed before each read, which may wait, and at the
-/// end, so that no answer is held back; a writer that gathers small writes, as `BufWriter`, is welcome.
+/// A line is the bytes before an LF, at most 65,536. The writer is flushed before each read, which
+/// may wait, and at the end, so that no answer is held back; a writer that gathers small writes, as
+/// `BufWriter`, is welcome.
 pub fn serve<B: Board, R: Read, W: Write, H: Threads + Wait + Sync>(
     rt: &H,
     alloc: Global,

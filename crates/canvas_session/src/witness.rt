@@ -2,9 +2,11 @@
 
 use canvas_wire::Request;
 
-/// Who is told of each answer of a session, before it is written. Many sessions may tell one witness at any time.
+/// Who is told of each answer of a session, before it is written. Many sessions may tell one
+/// witness at any time.
 pub trait Witness {
-    /// A line was answered: it was read as a request, or it is none, and the answer is perhaps the refusal of a number.
+    /// A line was answered: it was read as a request, or it is none, and the answer is perhaps the
+    /// refusal of a number.
     fn answered(&self, _request: Option<&Request>, _refusal: Option<u16>) {}
 }
 

@@ -53,7 +53,8 @@ pub(crate) fn boards<B: Lines, H: Wait + Abort>(
     document: Document,
     limit: u64,
 ) -> Result<(Shared<B>, Shared<B>), LineFault>
-    requires { B.line 1 ≡ record { book = opened.head.word.book; opening = document; limit = limit } }
+    requires { B.line 1
+        ≡ record { book = opened.head.word.book; opening = document; limit = limit } }
 {
     let mut seats = Line::open::<B, H>(rt, alloc, opened, 1, document, 2, limit)?;
     let first = board(rt, alloc, seats.pop(), 4);
@@ -69,7 +70,8 @@ pub(crate) fn first_board<B: Lines, H: Wait + Abort>(
     document: Document,
     limit: u64,
 ) -> Shared<B>
-    requires { B.line 1 ≡ record { book = opened.head.word.book; opening = document; limit = limit } }
+    requires { B.line 1
+        ≡ record { book = opened.head.word.book; opening = document; limit = limit } }
 {
     let (first, _) = boards::<B, H>(rt, alloc, opened, document, limit).expect(rt, "boards");
     first
@@ -91,8 +93,8 @@ pub(crate) fn accepted(number: u64, id: Option<u32>) -> Result<Edited, BoardFaul
     Ok(Edited { number, id })
 }
 
-/// Whether a picture of 16 by 16 names such a version and has such a colour at the left of its first row, and white elsewhere
-/// from the eleventh row on.
+/// Whether a picture of 16 by 16 names such a version and has such a colour at the left of its
+/// first row, and white elsewhere from the eleventh row on.
 pub(crate) fn is_painted(picture: &Picture, version: u64, left: Colour) -> bool {
     let bytes = picture.bytes.as_slice();
     let lower_rows = [255; 288];
@@ -111,8 +113,8 @@ fn first_row(left: Colour) -> [u8; 61] {
     row
 }
 
-/// Asserts that an edit is accepted as such a version, and makes such a shape. (Calls of this, of `check_dot` and of
-/// `check_picture` tell a proof nothing, which keeps tests quick to prove.)
+/// Asserts that an edit is accepted as such a version, and makes such a shape. (Calls of this, of
+/// `check_dot` and of `check_picture` tell a proof nothing, which keeps tests quick to prove.)
 pub(crate) fn check_edit<B: Lines, H: Wait + Abort>(
     rt: &H,
     board: &mut Shared<B>,
@@ -224,8 +226,8 @@ fn saved<B: Lines>(rt: &impl Abort, board: &mut Shared<B>) -> (u64, Arc<Vec<u8>,
     (saved.version, saved.text)
 }
 
-// Asserts that an edit has this fault, and that a witness saves what was saved before. It has exported nothing yet, so it makes
-// the text.
+// Asserts that an edit has this fault, and that a witness saves what was saved before. It has
+// exported nothing yet, so it makes the text.
 fn check_kept<B: Lines, H: Wait + Abort>(
     rt: &H,
     board: &mut Shared<B>,

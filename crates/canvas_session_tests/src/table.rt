@@ -132,7 +132,8 @@ fn opened<B: Lines, P: Play, H: Threads + Wait + Abort + Sync>(
     play: &P,
 )
     requires sync { IsSync H.row }
-    requires line { B.line 1 ≡ record { book = opened.head.word.book; opening = document; limit = 4000 } }
+    requires line { B.line 1
+        ≡ record { book = opened.head.word.book; opening = document; limit = 4000 } }
 {
     let seats = Line::open::<B, H>(rt, alloc, opened, 1, document, 3, LIMIT);
     let mut table = seated(rt, alloc, seats.expect(rt, "a line"), keep);

@@ -1,4 +1,5 @@
-//! Kept pictures beside painted ones: random edits and windows, and viewers of a large document in which one shape moves.
+//! Kept pictures beside painted ones: random edits and windows, and viewers of a large document in
+//! which one shape moves.
 
 ghost use denote.Param.Send.{IsSync};
 

@@ -13,10 +13,11 @@ use crate::parts::Row;
 use crate::polygon::push_piece;
 use canvas_code::OutOfMemory;
 
-/// The edge flags of a row of up to 256 columns, as plain data: bit i % 64 of word i / 64 says that the row goes from held
-/// to not held, or back, behind column i. So a column is held where an odd number of flags stand at it or right of it, two
-/// flags in one place cancel each other, and the flags that stand are the row's cuts in order, without a sort. (Ackland and
-/// Weste, "The Edge Flag Algorithm", 1981.)
+/// The edge flags of a row of up to 256 columns, as plain data: bit i % 64 of word i / 64 says that
+/// the row goes from held to not held, or back, behind column i. So a column is held where an odd
+/// number of flags stand at it or right of it, two flags in one place cancel each other, and the
+/// flags that stand are the row's cuts in order, without a sort. (Ackland and Weste, "The Edge Flag
+/// Algorithm", 1981.)
 #[derive(Clone, Copy, Debug)]
 pub struct EdgeFlags {
     pub words: [u64; 4],
@@ -32,7 +33,8 @@ impl EdgeFlags {
 
     /// The held columns: bit i of word k is column 64 k + i.
     pub fn held(&self) -> [u64; 4]
-        ensures { (k i : ℕ) → k < 4 → i < 64 → has (slice_index result k) i ≡ is_held self.now.words (64 * k + i) }
+        ensures { (k i : ℕ) → k < 4 → i < 64
+            → has (slice_index result k) i ≡ is_held self.now.words (64 * k + i) }
     {
         let fourth = odd_from(self.words[3]);
         let third = carried(odd_from(self.words[2]), fourth);
@@ -44,7 +46,8 @@ impl EdgeFlags {
     /// Turns over all columns before a place: what was held is not, and the other way round.
     pub(crate) fn toggle_before(&mut self, place: usize)
         requires { place ≤ 256 }
-        ensures { (i : ℕ) → is_held self.new.words i ≡ not_same (is_held self.old.words i) (nat_lt i place) }
+        ensures { (i : ℕ)
+            → is_held self.new.words i ≡ not_same (is_held self.old.words i) (nat_lt i place) }
     {
         if 0 < place {
             self.toggle_through((place - 1) as u8);
@@ -53,14 +56,16 @@ impl EdgeFlags {
 
     /// Turns over all columns up to one, and that one too.
     pub(crate) fn toggle_through(&mut self, last: u8)
-        ensures { (i : ℕ) → is_held self.new.words i ≡ not_same (is_held self.old.words i) (nat_lt i (last + 1)) }
+        ensures { (i : ℕ)
+            → is_held self.new.words i ≡ not_same (is_held self.old.words i) (nat_lt i (last + 1)) }
     {
         let word = (last / 64) as usize;
         self.words[word] = flipped(self.words[word], (last % 64) as u32);
     }
 
-    /// Appends the held columns before `width`, of which the first is the pixel `left`, as spans that rise, lie apart and are
-    /// not empty. Without memory `out` stays as it was; no column wants no memory. The width is at most 256, and the columns end at 2,147,483,647 at most.
+    /// Appends the held columns before `width`, of which the first is the pixel `left`, as spans
+    /// that rise, lie apart and are not empty. Without memory `out` stays as it was; no column
+    /// wants no memory. The width is at most 256, and the columns end at 2,147,483,647 at most.
     pub fn append_spans(
         &self,
         left: i32,
@@ -69,7 +74,8 @@ impl EdgeFlags {
     ) -> Result<(), OutOfMemory>
         requires wide { width ≤ 256 }
         requires range { (left +ℤ pos width) ≤ℤ pos 2147483647 }
-        ensures ok { OnOk result (AppendsSpans out.old.items out.new.items (held_from left width self.now.words)) }
+        ensures ok { OnOk result
+            (AppendsSpans out.old.items out.new.items (held_from left width self.now.words)) }
         ensures err { OnErr result (out.new.items ≡ out.old.items) }
         ensures want { OnErr result (0 < width) }
     {
@@ -112,7 +118,10 @@ fn push_spans(
     out: &mut Vec<Span>,
 ) -> Result<(), OutOfMemory>
     requires wide { row.right ≡ row.left +ℤ pos width }
-    ensures ok { OnOk result (out.new.items ≡ out.old.items ++ spans_of row.left (is_held flags.now.words 0) 0 (cuts_behind width (flag flags.now.words) 0 256)) }
+    ensures ok { OnOk result (out.new.items
+        ≡ out.old.items
+        ++ spans_of row.left (is_held flags.now.words 0) 0
+        (cuts_behind width (flag flags.now.words) 0 256)) }
     ensures kept { take (length out.old.items) out.new.items ≡ out.old.items }
     ensures want { OnErr result (0 < width) }
 {
@@ -138,7 +147,11 @@ fn push_word(
     requires small { base ≤ 192 }
     requires wide { row.right ≡ row.left +ℤ pos width }
     requires start { reached.place ≤ width }
-    ensures ok { IfOk result (λ after. (rest : List ℕ) → out.new.items ++ spans_of row.left after.inside after.place rest ≡ out.old.items ++ spans_of row.left reached.inside reached.place (cuts_behind width (λ j. has word (j - base)) base 64 ++ rest)) }
+    ensures ok { IfOk result (λ after. (rest : List ℕ)
+        → out.new.items ++ spans_of row.left after.inside after.place rest
+        ≡ out.old.items
+        ++ spans_of row.left reached.inside reached.place
+        (cuts_behind width (λ j. has word (j - base)) base 64 ++ rest)) }
     ensures place { IfOk result (λ after. after.place ≤ width) }
     ensures kept { take (length out.old.items) out.new.items ≡ out.old.items }
     ensures want { OnErr result (0 < width) }

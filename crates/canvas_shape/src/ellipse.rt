@@ -21,7 +21,9 @@ pub(crate) fn ellipse_spans(
     requires across { IsSide shape.now.left shape.now.right }
     requires down { IsSide shape.now.top shape.now.bottom }
     requires range { left ≤ℤ right }
-    ensures ok { OnOk result (AppendsSpans out.old.items out.new.items (within left right (λ x. is_in_ellipse shape.now x y))) }
+    ensures ok { OnOk result
+        (AppendsSpans out.old.items out.new.items
+        (within left right (λ x. is_in_ellipse shape.now x y))) }
     ensures err { OnErr result (out.new.items ≡ out.old.items) }
     ensures want { OnErr result (left <ℤ right) }
 {
@@ -127,8 +129,9 @@ fn ends_at(left: i64, w: u64, reach: u64) -> Ends
     }
 }
 
-// How far a row reaches from the middle, where it is `m` away from the middle, all doubled: w / h times the root of h² - m².
-// Floats only propose it, which is quicker than a search; whole numbers decide whether it is right.
+// How far a row reaches from the middle, where it is `m` away from the middle, all doubled: w / h
+// times the root of h² - m². Floats only propose it, which is quicker than a search; whole numbers
+// decide whether it is right.
 fn reach(m: u64, w: u64, h: u64) -> u64
     requires row { m < h }
     requires odd { (m + h) % 2 ≡ 1 }
@@ -157,8 +160,8 @@ const POINT_BITS: u32 = 20;
 // The bits before the point, once those behind it are shifted away.
 const WHOLE: u64 = 0xffff;
 
-// w / h times the square root of `rest`, rounded down, as floats have it: added to 2^32 it has its whole part at one place of
-// its bits, which is quicker than a cast.
+// w / h times the square root of `rest`, rounded down, as floats have it: added to 2^32 it has its
+// whole part at one place of its bits, which is quicker than a cast.
 fn guessed_reach(rest: u64, w: u64, h: u64) -> u64
     requires small { rest < 2 ^ 32 }
     requires across { w ≤ 65536 }

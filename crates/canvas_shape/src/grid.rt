@@ -46,7 +46,9 @@ impl Grid {
 
     /// Whether a threshold lies in the window, to the right of its left side.
     pub(crate) fn has_inside(&self, edge: i64) -> bool
-        ensures { IsTrue result ↔ ((column_shown self.now.window 0 <ℤ edge) × (edge ≤ℤ column_shown self.now.window self.now.window.w)) }
+        ensures { IsTrue result
+            ↔ ((column_shown self.now.window 0 <ℤ edge)
+            × (edge ≤ℤ column_shown self.now.window self.now.window.w)) }
     {
         self.covered.left < edge && edge <= self.covered.right
     }
@@ -56,7 +58,8 @@ impl Grid {
         requires least { column_shown self.now.window 0 <ℤ edge }
         requires most { edge ≤ℤ column_shown self.now.window self.now.window.w }
         ensures within { result < self.now.window.w }
-        ensures before { (k : ℕ) → nat_lt k (result + 1) ≡ int_lt (column_shown self.now.window k) edge }
+        ensures before { (k : ℕ)
+            → nat_lt k (result + 1) ≡ int_lt (column_shown self.now.window k) edge }
     {
         steps_before(edge, self.covered.left, self.window.level()) as u8
     }
@@ -65,7 +68,8 @@ impl Grid {
     pub(crate) fn rows_before(&self, edge: i64, count: usize) -> usize
         requires { self.now.first + count ≤ self.now.window.h }
         ensures within { result ≤ count }
-        ensures before { (k : ℕ) → k < count → nat_lt k result ≡ int_lt (row_shown self.now.window (self.now.first + k)) edge }
+        ensures before { (k : ℕ) → k < count
+            → nat_lt k result ≡ int_lt (row_shown self.now.window (self.now.first + k)) edge }
     {
         let before = self.window.rows_before(edge);
         before.saturating_sub(self.first).min(count)
@@ -74,7 +78,8 @@ impl Grid {
     /// How many columns lie before an edge.
     pub(crate) fn columns_before(&self, edge: i64) -> usize
         ensures within { result ≤ self.now.window.w }
-        ensures before { (k : ℕ) → k < self.now.window.w → nat_lt k result ≡ int_lt (column_shown self.now.window k) edge }
+        ensures before { (k : ℕ) → k < self.now.window.w
+            → nat_lt k result ≡ int_lt (column_shown self.now.window k) edge }
     {
         self.window.columns_before(edge)
     }
@@ -102,7 +107,8 @@ fn steps_before(edge: i64, from: i64, level: u8) -> u64
     requires least { from <ℤ edge }
     requires most { edge ≤ℤ (from +ℤ pos 16384) }
     ensures most { (k : ℕ) → edge ≤ℤ (from +ℤ pos (k * scale_of level)) → result < k }
-    ensures before { (k : ℕ) → nat_lt k (result + 1) ≡ int_lt (from +ℤ pos (k * scale_of level)) edge }
+    ensures before { (k : ℕ)
+        → nat_lt k (result + 1) ≡ int_lt (from +ℤ pos (k * scale_of level)) edge }
 {
     way_before(edge, from) >> u32::from(level)
 }

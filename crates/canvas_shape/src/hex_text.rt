@@ -30,7 +30,8 @@ impl Colour {
 }
 
 fn bytes_of(text: &str) -> Option<[u8; 3]>
-    ensures value { MatchOption result (IsErr (decode_sized text.now 3)) (λ bytes. decode_sized text.now 3 ≡ Ok bytes) }
+    ensures value { MatchOption result (IsErr (decode_sized text.now 3))
+        (λ bytes. decode_sized text.now 3 ≡ Ok bytes) }
     ensures digits { IsSome result ↔ ((length text.now ≡ 6) × AllPass is_hex_digit text.now) }
 {
     <[u8; 3] as FromHex>::from_hex(text).ok()

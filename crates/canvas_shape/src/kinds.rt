@@ -32,7 +32,8 @@ impl Kind {
     /// Refuses as `BadSize` a side outside 1 to 65,536, and as `BadPolygon` fewer than 3 vertices, more
     /// than 256, or a coordinate above 2^20 in size.
     pub fn check(&self) -> Result<(), KindFault>
-        ensures fault { MatchResult result (λ _. kind_fault self.now ≡ None) (λ fault. kind_fault self.now ≡ Some fault) }
+        ensures fault { MatchResult result (λ _. kind_fault self.now ≡ None)
+            (λ fault. kind_fault self.now ≡ Some fault) }
         ensures sound { IsOk result ↔ IsSound self.now }
     {
         if !self.has_sides() {
@@ -97,8 +98,8 @@ impl Kind {
         })
     }
 
-    /// Whether the kind holds the pixel (x, y) of the page, where the pose carries its own points to the page: a
-    /// leaf its area, a frame its box, a group nothing.
+    /// Whether the kind holds the pixel (x, y) of the page, where the pose carries its own points
+    /// to the page: a leaf its area, a frame its box, a group nothing.
     pub fn holds(&self, page: &Pose, x: i32, y: i32) -> bool
         requires sound { IsSound self.now }
         requires quarter { page.now.quarter ≤ 3 }
@@ -198,7 +199,9 @@ fn carried_last(page: &Pose, points: &[Point]) -> Point
     requires vertices { AreVertices points.now }
     requires quarter { page.now.quarter ≤ 3 }
     requires reach { reach_of page.now ≤ 2 ^ 26 }
-    ensures value { (x y : ℤ) → is_odd_along result (map (carry page.now) points.now) x y ≡ is_in_polygon (map (carry page.now) points.now) x y }
+    ensures value { (x y : ℤ)
+        → is_odd_along result (map (carry page.now) points.now) x y
+        ≡ is_in_polygon (map (carry page.now) points.now) x y }
     ensures near { size_of result ≤ 2 ^ 27 }
 {
     page.apply(points[points.len() - 1])

@@ -26,7 +26,8 @@ impl<'a> Carried<'a> {
         requires sides { AreSides w h }
         requires quarter { pose.now.quarter ≤ 3 }
         requires reach { reach_of pose.now ≤ 2 ^ 26 }
-        ensures pixels { (x y : ℤ) → carried_holds result x y ≡ is_in (box_of (carry pose.now) w h) x y }
+        ensures pixels { (x y : ℤ)
+            → carried_holds result x y ≡ is_in (box_of (carry pose.now) w h) x y }
         ensures sides { page_box_of result ≡ box_of (carry pose.now) w h }
     {
         Carried::Rect(carried_box(pose, w, h))
@@ -37,7 +38,8 @@ impl<'a> Carried<'a> {
         requires sides { AreSides w h }
         requires quarter { pose.now.quarter ≤ 3 }
         requires reach { reach_of pose.now ≤ 2 ^ 26 }
-        ensures pixels { (x y : ℤ) → carried_holds result x y ≡ is_in_ellipse (box_of (carry pose.now) w h) x y }
+        ensures pixels { (x y : ℤ)
+            → carried_holds result x y ≡ is_in_ellipse (box_of (carry pose.now) w h) x y }
         ensures sides { page_box_of result ≡ box_of (carry pose.now) w h }
     {
         Carried::Ellipse(carried_box(pose, w, h))
@@ -79,8 +81,9 @@ impl<'a> Carried<'a> {
         }
     }
 
-    /// Appends the pixels of the leaf in the row `y`, from `left` up to `right`, as spans that rise, lie apart and are not empty.
-    /// Without memory `out` stays as it was; a range without a pixel needs none.
+    /// Appends the pixels of the leaf in the row `y`, from `left` up to `right`, as spans that
+    /// rise, lie apart and are not empty. Without memory `out` stays as it was; a range without a
+    /// pixel needs none.
     pub fn row_spans(
         &self,
         alloc: Global,
@@ -90,7 +93,9 @@ impl<'a> Carried<'a> {
         out: &mut Vec<Span>,
     ) -> Result<(), OutOfMemory>
         requires { left ≤ℤ right }
-        ensures ok { OnOk result (AppendsSpans out.old.items out.new.items (within left right (λ x. carried_holds self.now x y))) }
+        ensures ok { OnOk result
+            (AppendsSpans out.old.items out.new.items
+            (within left right (λ x. carried_holds self.now x y))) }
         ensures err { OnErr result (out.new.items ≡ out.old.items) }
         ensures want { OnErr result (left <ℤ right) }
     {
@@ -108,7 +113,9 @@ impl<'a> Carried<'a> {
         out: &mut Vec<Span>,
     ) -> Result<(), OutOfMemory>
         requires { left ≤ℤ right }
-        ensures ok { OnOk result (AppendsSpans out.old.items out.new.items (within left right (λ x. carried_holds self.now x y))) }
+        ensures ok { OnOk result
+            (AppendsSpans out.old.items out.new.items
+            (within left right (λ x. carried_holds self.now x y))) }
         ensures err { OnErr result (out.new.items ≡ out.old.items) }
         ensures want { OnErr result (left <ℤ right) }
     {
@@ -129,7 +136,9 @@ fn vertices_spans(
     row: Row,
     out: &mut Vec<Span>,
 ) -> Result<(), OutOfMemory>
-    ensures ok { OnOk result (AppendsSpans out.old.items out.new.items (within row.left row.right (λ x. is_in_polygon vertices.now.points.now x row.y))) }
+    ensures ok { OnOk result
+        (AppendsSpans out.old.items out.new.items
+        (within row.left row.right (λ x. is_in_polygon vertices.now.points.now x row.y))) }
     ensures err { OnErr result (out.new.items ≡ out.old.items) }
     ensures want { OnErr result (row.left <ℤ row.right) }
 {
@@ -146,15 +155,18 @@ fn vertices_spans(
 impl LeafBox {
     /// The row `y` of the ellipse that fills the box.
     pub fn row_ends(&self, y: i32) -> Ends
-        ensures { (x : ℤ) → is_from_to result.from x result.to ≡ is_in_ellipse (sides_of self.now) x y }
+        ensures { (x : ℤ)
+            → is_from_to result.from x result.to ≡ is_in_ellipse (sides_of self.now) x y }
     {
         row_ends(&self.sides(), y)
     }
 
-    /// The mirror image of the row `y`, from top to bottom: the ellipse that fills the box holds the same there.
+    /// The mirror image of the row `y`, from top to bottom: the ellipse that fills the box holds
+    /// the same there.
     pub fn mirror(&self, y: i32) -> i64
         ensures row { result ≡ self.now.top +ℤ self.now.bottom -ℤ pos 1 -ℤ y }
-        ensures same { (x : ℤ) → is_in_ellipse (sides_of self.now) x result ≡ is_in_ellipse (sides_of self.now) x y }
+        ensures same { (x : ℤ)
+            → is_in_ellipse (sides_of self.now) x result ≡ is_in_ellipse (sides_of self.now) x y }
         ensures bound { unsigned_abs result ≤ 2 ^ 32 }
     {
         self.top + self.bottom - 1 - i64::from(y)
@@ -183,7 +195,9 @@ fn box_spans(
     out: &mut Vec<Span>,
 ) -> Result<(), OutOfMemory>
     requires { left ≤ℤ right }
-    ensures ok { OnOk result (AppendsSpans out.old.items out.new.items (within left right (λ x. is_in (sides_of shape.now) x y))) }
+    ensures ok { OnOk result
+        (AppendsSpans out.old.items out.new.items
+        (within left right (λ x. is_in (sides_of shape.now) x y))) }
     ensures err { OnErr result (out.new.items ≡ out.old.items) }
     ensures want { OnErr result (left <ℤ right) }
 {

@@ -44,8 +44,9 @@ impl Model for Points {
     ghost view = { λ points. points.items.items };
 }
 
-/// What a record shows. A box lies from (0, 0) to (w, h) in the shape's own coordinates. In a record its sides are 1 to
-/// 65,536 pixels, and a polygon has 3 to 256 vertices with coordinates of at most 2^20 in size (`Kind::check`).
+/// What a record shows. A box lies from (0, 0) to (w, h) in the shape's own coordinates. In a
+/// record its sides are 1 to 65,536 pixels, and a polygon has 3 to 256 vertices with coordinates of
+/// at most 2^20 in size (`Kind::check`).
 #[derive(Debug, PartialEq, Drop)]
 pub enum Kind {
     /// Shows its children alone.
@@ -68,8 +69,8 @@ pub enum Kind {
         h: u32,
         fill: Colour,
     },
-    /// The pixels whose middles its edges enclose an odd number of times (even-odd rule). The edges go from each vertex to
-    /// the next, and from the last to the first.
+    /// The pixels whose middles its edges enclose an odd number of times (even-odd rule). The edges
+    /// go from each vertex to the next, and from the last to the first.
     Polygon {
         points: Points,
         fill: Colour,

@@ -17,9 +17,9 @@ pub(crate) struct Division {
     pub rest: u64,
 }
 
-/// The line of an edge in one row, and how it goes on to the next of rows that lie equally far apart: `x + here.whole` is the
-/// first pixel whose centre no longer lies to the left of the line, and `step` is what the way to the next row adds. Quotients
-/// are by twice the edge's height.
+/// The line of an edge in one row, and how it goes on to the next of rows that lie equally far
+/// apart: `x + here.whole` is the first pixel whose centre no longer lies to the left of the line,
+/// and `step` is what the way to the next row adds. Quotients are by twice the edge's height.
 #[derive(Clone, Copy)]
 pub(crate) struct Line {
     pub x: i64,
@@ -51,9 +51,12 @@ impl Line {
     /// The line in the next row.
     pub(crate) fn next(self) -> Line
         requires low { self.height ≤ 2 ^ 28 }
-        requires here { (self.here.rest < self.height + self.height) × (unsigned_abs self.here.whole ≤ 2 ^ 62 + 2 ^ 47) }
-        requires step { (self.step.rest < self.height + self.height) × (unsigned_abs self.step.whole ≤ 2 ^ 35) }
-        ensures follows { (p q : Point) (apart : ℕ) (y : ℤ) → Follows p q apart y self → Follows p q apart (y +ℤ pos apart) result }
+        requires here { (self.here.rest < self.height + self.height)
+            × (unsigned_abs self.here.whole ≤ 2 ^ 62 + 2 ^ 47) }
+        requires step { (self.step.rest < self.height + self.height)
+            × (unsigned_abs self.step.whole ≤ 2 ^ 35) }
+        ensures follows { (p q : Point) (apart : ℕ) (y : ℤ) → Follows p q apart y self
+            → Follows p q apart (y +ℤ pos apart) result }
         ensures x { result.x ≡ self.x }
         ensures here { unsigned_abs result.here.whole ≤ unsigned_abs self.here.whole + 2 ^ 36 }
         ensures step { result.step.whole ≡ self.step.whole }
@@ -70,7 +73,9 @@ impl Line {
     pub(crate) fn threshold(self) -> i64
         requires near { unsigned_abs self.x ≤ 2 ^ 27 }
         requires here { unsigned_abs self.here.whole ≤ 2 ^ 62 + 2 ^ 47 }
-        ensures { (p q : Point) (apart : ℕ) (x y : ℤ) → Follows p q apart y self → crosses_row p q y ≡ true → counts p q x y ≡ int_lt x result }
+        ensures { (p q : Point) (apart : ℕ) (x y : ℤ) → Follows p q apart y self
+            → crosses_row p q y ≡ true
+            → counts p q x y ≡ int_lt x result }
     {
         plus(self.x, self.here.whole)
     }
@@ -101,9 +106,11 @@ fn line_of(x: i64, height: u64, lean: i64, step: i64) -> Line
     requires slow { unsigned_abs step ≤ 2 ^ 35 }
     ensures x { result.x ≡ x }
     ensures height { result.height ≡ height }
-    ensures here { IsDivided ((lean +ℤ pos height) -ℤ pos 1) height result.here.whole result.here.rest }
+    ensures here { IsDivided ((lean +ℤ pos height) -ℤ pos 1) height result.here.whole
+        result.here.rest }
     ensures step { IsDivided step height result.step.whole result.step.rest }
-    ensures bounds { (unsigned_abs result.here.whole ≤ 2 ^ 62) × (unsigned_abs result.step.whole ≤ 2 ^ 35) }
+    ensures bounds { (unsigned_abs result.here.whole ≤ 2 ^ 62)
+        × (unsigned_abs result.step.whole ≤ 2 ^ 35) }
 {
     Line {
         x,
@@ -150,7 +157,9 @@ fn sum(a: Division, b: Division, height: u64) -> Division
     requires low { height ≤ 2 ^ 28 }
     requires first { (a.rest < height + height) × (unsigned_abs a.whole ≤ 2 ^ 62 + 2 ^ 47) }
     requires second { (b.rest < height + height) × (unsigned_abs b.whole ≤ 2 ^ 35) }
-    ensures value { (n m : ℤ) → IsDivided n height a.whole a.rest → IsDivided m height b.whole b.rest → IsDivided (n +ℤ m) height result.whole result.rest }
+    ensures value { (n m : ℤ) → IsDivided n height a.whole a.rest
+        → IsDivided m height b.whole b.rest
+        → IsDivided (n +ℤ m) height result.whole result.rest }
     ensures bound { unsigned_abs result.whole ≤ unsigned_abs a.whole + 2 ^ 36 }
 {
     let whole = plus(b.whole, a.whole);

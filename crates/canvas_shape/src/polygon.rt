@@ -18,8 +18,8 @@ use canvas_plane::{PageBox, Point};
 use std::alloc::Global;
 use std::marker::Model;
 
-/// Memory for the cuts of a row, to be kept from row to row: only a row with more cuts than any before makes it grow.
-/// It is seen as the cuts that were left in it, which no later row counts.
+/// Memory for the cuts of a row, to be kept from row to row: only a row with more cuts than any
+/// before makes it grow. It is seen as the cuts that were left in it, which no later row counts.
 #[derive(Drop)]
 pub struct Cuts {
     places: Vec<u32>,
@@ -53,7 +53,9 @@ pub(crate) fn polygon_spans(
 ) -> Result<(), OutOfMemory>
     requires some { 0 < length points.now }
     requires near { All (λ p. size_of p ≤ 2 ^ 27) points.now }
-    ensures ok { OnOk result (AppendsSpans out.old.items out.new.items (within row.left row.right (λ x. is_in_polygon points.now x row.y))) }
+    ensures ok { OnOk result
+        (AppendsSpans out.old.items out.new.items
+        (within row.left row.right (λ x. is_in_polygon points.now x row.y))) }
     ensures err { OnErr result (out.new.items ≡ out.old.items) }
 {
     let places = &mut cuts.places;
@@ -149,7 +151,8 @@ fn collect(points: &[Point], row: Row, cuts: &mut Vec<u32>) -> Result<(), OutOfM
     requires some { 0 < length points.now }
     requires near { All (λ p. size_of p ≤ 2 ^ 27) points.now }
     requires empty { cuts.old.items ≡ [] }
-    ensures { OnOk result (AreCuts row.left row.right cuts.new.items (λ x. is_in_polygon points.now x row.y)) }
+    ensures { OnOk result
+        (AreCuts row.left row.right cuts.new.items (λ x. is_in_polygon points.now x row.y)) }
 {
     let mut from = last(points);
     for to in points {
@@ -171,7 +174,8 @@ pub(crate) fn last(points: &[Point]) -> Point
 // Notes where an edge stops to count, if it counts in this row.
 fn add_cut(from: Point, to: Point, row: Row, cuts: &mut Vec<u32>) -> Result<(), OutOfMemory>
     requires near { (size_of from ≤ 2 ^ 27) × (size_of to ≤ 2 ^ 27) }
-    ensures { OnOk result (AddsCut row.left row.right cuts.old.items cuts.new.items (λ x. counts from to x row.y)) }
+    ensures { OnOk result
+        (AddsCut row.left row.right cuts.old.items cuts.new.items (λ x. counts from to x row.y)) }
 {
     if crosses(from, to, row.y) {
         cuts.push(edge_cut(from, to, row))?;
@@ -183,14 +187,16 @@ fn add_cut(from: Point, to: Point, row: Row, cuts: &mut Vec<u32>) -> Result<(), 
 fn edge_cut(p: Point, q: Point, row: Row) -> u32
     requires near { (size_of p ≤ 2 ^ 27) × (size_of q ≤ 2 ^ 27) }
     requires crossing { crosses_row p q row.y ≡ true }
-    ensures value { (x : ℤ) → row.left ≤ℤ x → x <ℤ row.right → counts p q x row.y ≡ int_lt x (row.left +ℤ pos result) }
+    ensures value { (x : ℤ) → row.left ≤ℤ x → x <ℤ row.right
+        → counts p q x row.y ≡ int_lt x (row.left +ℤ pos result) }
     ensures bound { (row.left +ℤ pos result) ≤ℤ row.right }
 {
     place(threshold(p, q, row.y), row)
 }
 
 fn place(edge: i64, row: Row) -> u32
-    ensures value { (x : ℤ) → row.left ≤ℤ x → x <ℤ row.right → int_lt x edge ≡ int_lt x (row.left +ℤ pos result) }
+    ensures value { (x : ℤ) → row.left ≤ℤ x → x <ℤ row.right
+        → int_lt x edge ≡ int_lt x (row.left +ℤ pos result) }
     ensures bound { (row.left +ℤ pos result) ≤ℤ row.right }
 {
     distance(row.left, clamped(row.left, edge, row.right))
@@ -206,7 +212,8 @@ fn distance(from: i32, to: i32) -> u32
 // Appends the spans between cuts, or leaves all as it was.
 fn append_spans(cuts: &[u32], row: Row, out: &mut Vec<Span>) -> Result<(), OutOfMemory>
     requires { AreWithin row.left row.right cuts.now }
-    ensures ok { OnOk result (out.new.items ≡ out.old.items ++ spans_of row.left (is_odd (length cuts.now)) 0 cuts.now) }
+    ensures ok { OnOk result
+        (out.new.items ≡ out.old.items ++ spans_of row.left (is_odd (length cuts.now)) 0 cuts.now) }
     ensures err { OnErr result (out.new.items ≡ out.old.items) }
 {
     let before = out.len();
@@ -221,7 +228,8 @@ fn append_spans(cuts: &[u32], row: Row, out: &mut Vec<Span>) -> Result<(), OutOf
 
 fn push_spans(cuts: &[u32], row: Row, out: &mut Vec<Span>) -> Result<(), OutOfMemory>
     requires { AreWithin row.left row.right cuts.now }
-    ensures ok { OnOk result (out.new.items ≡ out.old.items ++ spans_of row.left (is_odd (length cuts.now)) 0 cuts.now) }
+    ensures ok { OnOk result
+        (out.new.items ≡ out.old.items ++ spans_of row.left (is_odd (length cuts.now)) 0 cuts.now) }
     ensures kept { take (length out.old.items) out.new.items ≡ out.old.items }
 {
     let mut inside = is_odd_size(cuts.len());
@@ -385,7 +393,9 @@ fn first_past(x: i64, lean: i64, rise: u64) -> i64
     requires near { unsigned_abs x ≤ 2 ^ 27 }
     requires small { unsigned_abs lean ≤ 2 ^ 61 }
     requires height { (0 < rise) × (rise ≤ 2 ^ 28) }
-    ensures { (z : ℤ) → int_lt z result ≡ int_lt (pos 0) ((pos 2 *ℤ x -ℤ pos 2 *ℤ z -ℤ pos 1) *ℤ pos rise +ℤ lean) }
+    ensures { (z : ℤ)
+        → int_lt z result
+        ≡ int_lt (pos 0) ((pos 2 *ℤ x -ℤ pos 2 *ℤ z -ℤ pos 1) *ℤ pos rise +ℤ lean) }
 {
     plus(x, half_floor(raised(lean, rise), rise))
 }

@@ -15,7 +15,8 @@ pub(crate) fn append_cut(
     out: &mut Vec<Span>,
 ) -> Result<(), OutOfMemory>
     requires { left ≤ℤ right }
-    ensures ok { OnOk result (AppendsSpans out.old.items out.new.items (within left right (λ x. is_from_to from x to))) }
+    ensures ok { OnOk result
+        (AppendsSpans out.old.items out.new.items (within left right (λ x. is_from_to from x to))) }
     ensures err { OnErr result (out.new.items ≡ out.old.items) }
     ensures want { OnErr result (left <ℤ right) }
 {
@@ -28,7 +29,9 @@ pub(crate) fn append_cut(
 // What lies from `from` up to `to`, if anything does.
 fn cut_span(from: i64, to: i64, left: i32, right: i32) -> Option<Span>
     requires { left ≤ℤ right }
-    ensures { MatchOption result (IsSpans [] (within left right (λ x. is_from_to from x to))) (λ span. IsSpans (span ∷ []) (within left right (λ x. is_from_to from x to)) × (left <ℤ right)) }
+    ensures { MatchOption result (IsSpans [] (within left right (λ x. is_from_to from x to)))
+        (λ span. IsSpans (span ∷ []) (within left right (λ x. is_from_to from x to))
+        × (left <ℤ right)) }
 {
     let span = cut(from, to, left, right);
     if is_filled(&span) { Some(span) } else { None }

@@ -1,4 +1,5 @@
-//! Many rows of a polygon at once: an edge is asked only in the rows that it crosses, of those that a window shows.
+//! Many rows of a polygon at once: an edge is asked only in the rows that it crosses, of those that
+//! a window shows.
 
 ghost use Rattle.std.specs.Prelude.{◌≡◌, ◌≤◌, ◌<◌, ◌^◌, ◌&&◌, All, ℕ, ◌≤ℤ◌, false, get_or, int_lt, nat_lt, length, IsTrue, ◌+◌, ◌<ℤ◌};
 ghost use Rattle.canvas_plane.specs.Motion.{not_same, size_of};
@@ -15,12 +16,17 @@ use crate::polygon::last;
 use canvas_plane::{Point, Window};
 
 impl Vertices<'_> {
-    /// Puts into each of `rows`, which are the window's rows from the row `first` on, its edge flags for the window's columns:
-    /// exactly the columns that show a pixel of the polygon are held, and none beyond the window's width. Page rows and columns
-    /// that the window does not show are not computed. The rows end at the window's last at most.
+    /// Puts into each of `rows`, which are the window's rows from the row `first` on, its edge
+    /// flags for the window's columns: exactly the columns that show a pixel of the polygon are
+    /// held, and none beyond the window's width. Page rows and columns that the window does not
+    /// show are not computed. The rows end at the window's last at most.
     pub fn flag_rows(&self, window: &Window, first: usize, rows: &mut [EdgeFlags])
         requires { first + length rows.old ≤ window.now.h }
-        ensures { (k i : ℕ) (d : EdgeFlags) → k < length rows.new → is_held (get_or rows.new k d).words i ≡ (nat_lt i window.now.w && is_in_polygon self.now.points.now (column_shown window.now i) (row_shown window.now (first + k))) }
+        ensures { (k i : ℕ) (d : EdgeFlags) → k < length rows.new
+            → is_held (get_or rows.new k d).words i
+            ≡ (nat_lt i window.now.w
+            && is_in_polygon self.now.points.now (column_shown window.now i)
+            (row_shown window.now (first + k))) }
     {
         clear_rows(rows);
         flag_edges(self.points, Grid::of(window, first), rows);
@@ -28,7 +34,8 @@ impl Vertices<'_> {
 }
 
 fn clear_rows(rows: &mut [EdgeFlags])
-    ensures { (k i : ℕ) (d : EdgeFlags) → k < length rows.new → is_held (get_or rows.new k d).words i ≡ false }
+    ensures { (k i : ℕ) (d : EdgeFlags) → k < length rows.new
+        → is_held (get_or rows.new k d).words i ≡ false }
 {
     for k in 0..rows.len() {
         rows[k] = EdgeFlags::none();
@@ -39,9 +46,14 @@ fn clear_rows(rows: &mut [EdgeFlags])
 fn flag_edges(points: &[Point], grid: Grid, rows: &mut [EdgeFlags])
     requires some { 0 < length points.now }
     requires near { All (λ p. size_of p ≤ 2 ^ 27) points.now }
-    requires empty { (k i : ℕ) (d : EdgeFlags) → k < length rows.old → is_held (get_or rows.old k d).words i ≡ false }
+    requires empty { (k i : ℕ) (d : EdgeFlags) → k < length rows.old
+        → is_held (get_or rows.old k d).words i ≡ false }
     requires bottom { grid.first + length rows.old ≤ grid.window.h }
-    ensures { (k i : ℕ) (d : EdgeFlags) → k < length rows.new → is_held (get_or rows.new k d).words i ≡ (nat_lt i grid.window.w && is_in_polygon points.now (column_shown grid.window i) (row_shown grid.window (grid.first + k))) }
+    ensures { (k i : ℕ) (d : EdgeFlags) → k < length rows.new
+        → is_held (get_or rows.new k d).words i
+        ≡ (nat_lt i grid.window.w
+        && is_in_polygon points.now (column_shown grid.window i)
+        (row_shown grid.window (grid.first + k))) }
 {
     let mut from = last(points);
     for to in points {
@@ -50,12 +62,17 @@ fn flag_edges(points: &[Point], grid: Grid, rows: &mut [EdgeFlags])
     }
 }
 
-// Turns over the columns in which an edge counts: none where it lies to the left of them, and all where it lies to the right. The
-// loop over its rows is made twice more, so that it asks no threshold of an edge that lies inside where the window ends.
+// Turns over the columns in which an edge counts: none where it lies to the left of them, and all
+// where it lies to the right. The loop over its rows is made twice more, so that it asks no
+// threshold of an edge that lies inside where the window ends.
 fn flag_edge(from: Point, to: Point, grid: Grid, rows: &mut [EdgeFlags])
     requires near { (size_of from ≤ 2 ^ 27) × (size_of to ≤ 2 ^ 27) }
     requires bottom { grid.first + length rows.old ≤ grid.window.h }
-    ensures { (k i : ℕ) (d : EdgeFlags) → k < length rows.new → is_held (get_or rows.new k d).words i ≡ not_same (is_held (get_or rows.old k d).words i) (nat_lt i grid.window.w && counts from to (column_shown grid.window i) (row_shown grid.window (grid.first + k))) }
+    ensures { (k i : ℕ) (d : EdgeFlags) → k < length rows.new
+        → is_held (get_or rows.new k d).words i
+        ≡ not_same (is_held (get_or rows.old k d).words i)
+        (nat_lt i grid.window.w
+        && counts from to (column_shown grid.window i) (row_shown grid.window (grid.first + k))) }
 {
     if grid.is_right_of(from.x) && grid.is_right_of(to.x) {
         return;
@@ -72,9 +89,14 @@ fn flag_edge(from: Point, to: Point, grid: Grid, rows: &mut [EdgeFlags])
 // Turns over all columns in each row that an edge to the right of them crosses.
 fn flag_whole(from: Point, to: Point, grid: Grid, rows: &mut [EdgeFlags])
     requires near { (size_of from ≤ 2 ^ 27) × (size_of to ≤ 2 ^ 27) }
-    requires beyond { (column_shown grid.window grid.window.w ≤ℤ from.x) × (column_shown grid.window grid.window.w ≤ℤ to.x) }
+    requires beyond { (column_shown grid.window grid.window.w ≤ℤ from.x)
+        × (column_shown grid.window grid.window.w ≤ℤ to.x) }
     requires bottom { grid.first + length rows.old ≤ grid.window.h }
-    ensures { (k i : ℕ) (d : EdgeFlags) → k < length rows.new → is_held (get_or rows.new k d).words i ≡ not_same (is_held (get_or rows.old k d).words i) (nat_lt i grid.window.w && counts from to (column_shown grid.window i) (row_shown grid.window (grid.first + k))) }
+    ensures { (k i : ℕ) (d : EdgeFlags) → k < length rows.new
+        → is_held (get_or rows.new k d).words i
+        ≡ not_same (is_held (get_or rows.old k d).words i)
+        (nat_lt i grid.window.w
+        && counts from to (column_shown grid.window i) (row_shown grid.window (grid.first + k))) }
 {
     let start = grid.rows_before(from.y.min(to.y), rows.len());
     let end = grid.rows_before(from.y.max(to.y), rows.len());
@@ -87,10 +109,17 @@ fn flag_whole(from: Point, to: Point, grid: Grid, rows: &mut [EdgeFlags])
 #[inline(always)]
 fn flag_crossed(from: Point, to: Point, grid: Grid, inside: bool, rows: &mut [EdgeFlags])
     requires near { (size_of from ≤ 2 ^ 27) × (size_of to ≤ 2 ^ 27) }
-    requires first { IsTrue inside → (column_shown grid.window 0 <ℤ from.x) × (from.x ≤ℤ column_shown grid.window grid.window.w) }
-    requires second { IsTrue inside → (column_shown grid.window 0 <ℤ to.x) × (to.x ≤ℤ column_shown grid.window grid.window.w) }
+    requires first { IsTrue inside
+        → (column_shown grid.window 0 <ℤ from.x)
+        × (from.x ≤ℤ column_shown grid.window grid.window.w) }
+    requires second { IsTrue inside
+        → (column_shown grid.window 0 <ℤ to.x) × (to.x ≤ℤ column_shown grid.window grid.window.w) }
     requires bottom { grid.first + length rows.old ≤ grid.window.h }
-    ensures { (k i : ℕ) (d : EdgeFlags) → k < length rows.new → is_held (get_or rows.new k d).words i ≡ not_same (is_held (get_or rows.old k d).words i) (nat_lt i grid.window.w && counts from to (column_shown grid.window i) (row_shown grid.window (grid.first + k))) }
+    ensures { (k i : ℕ) (d : EdgeFlags) → k < length rows.new
+        → is_held (get_or rows.new k d).words i
+        ≡ not_same (is_held (get_or rows.old k d).words i)
+        (nat_lt i grid.window.w
+        && counts from to (column_shown grid.window i) (row_shown grid.window (grid.first + k))) }
 {
     let start = grid.rows_before(from.y.min(to.y), rows.len());
     let end = grid.rows_before(from.y.max(to.y), rows.len());
@@ -107,8 +136,12 @@ fn flag_crossed(from: Point, to: Point, grid: Grid, inside: bool, rows: &mut [Ed
 // Turns over a row's columns before a threshold.
 #[inline(always)]
 fn flag_row(row: &mut EdgeFlags, edge: i64, grid: Grid, inside: bool)
-    requires { IsTrue inside → (column_shown grid.window 0 <ℤ edge) × (edge ≤ℤ column_shown grid.window grid.window.w) }
-    ensures { (i : ℕ) → is_held row.new.words i ≡ not_same (is_held row.old.words i) (nat_lt i grid.window.w && int_lt (column_shown grid.window i) edge) }
+    requires { IsTrue inside
+        → (column_shown grid.window 0 <ℤ edge) × (edge ≤ℤ column_shown grid.window grid.window.w) }
+    ensures { (i : ℕ)
+        → is_held row.new.words i
+        ≡ not_same (is_held row.old.words i)
+        (nat_lt i grid.window.w && int_lt (column_shown grid.window i) edge) }
 {
     if inside {
         row.toggle_through(grid.column_before(edge));

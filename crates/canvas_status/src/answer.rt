@@ -28,8 +28,9 @@ pub(crate) enum Outcome {
     TooLong,
 }
 
-/// The answer to the first bytes of a connection after which no more come: a whole HTTP/1.1 response, behind which the connection is to be
-/// closed. Bytes that are no request, also an unfinished one, get an answer that says so.
+/// The answer to the first bytes of a connection after which no more come: a whole HTTP/1.1
+/// response, behind which the connection is to be closed. Bytes that are no request, also an
+/// unfinished one, get an answer that says so.
 pub fn answer_of(alloc: Global, head: Head, report: &Report) -> Result<Vec<u8>, OutOfMemory>
     ensures { IfOk result (λ bytes. bytes.items ≡ answer_text head report.now) }
 {

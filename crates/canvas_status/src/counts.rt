@@ -7,8 +7,9 @@ use crate::verb::Verb;
 use std::array;
 use std::sync::atomic::{AtomicBool, AtomicU32, AtomicU64, Ordering};
 
-/// What is counted from the beginning of the program on, and what is known of the document. Many threads write and read it at any time; no thread
-/// waits for another. A reader may see one count before and another after an event.
+/// What is counted from the beginning of the program on, and what is known of the document. Many
+/// threads write and read it at any time; no thread waits for another. A reader may see one count
+/// before and another after an event.
 #[derive(Drop)]
 pub struct Counts {
     generation: AtomicU32,
@@ -133,7 +134,8 @@ impl Counts {
         Health::Well
     }
 
-    /// The counts as they are now, of a program of this version that has run for so many seconds, with so many seats.
+    /// The counts as they are now, of a program of this version that has run for so many seconds,
+    /// with so many seats.
     pub fn status(&self, program: &'static str, seconds: u64, seats: u32) -> Status {
         let ended = read(&self.ended_sessions);
         let begun = read(&self.begun_sessions);

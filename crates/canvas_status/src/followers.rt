@@ -5,7 +5,8 @@ ghost use Rattle.canvas_status.specs.Followers.{behind, followers_at, lag_at};
 /// The most followers at once.
 pub const MOST_FOLLOWERS: usize = 256;
 
-/// How many follow. At the place of a follower stands one more than the last version that was sent to it, and 0 where nobody follows.
+/// How many follow. At the place of a follower stands one more than the last version that was sent
+/// to it, and 0 where nobody follows.
 pub(crate) fn followers_at(places: &[u64]) -> u64
     ensures { result ≡ followers_at places.now }
 {

@@ -10,7 +10,8 @@ pub const TICK: u64 = 250;
 /// How many looks are kept: those of two seconds.
 const LOOKS: usize = 8;
 
-/// The newest version at each of the last looks, the oldest first; before there were so many looks it was none.
+/// The newest version at each of the last looks, the oldest first; before there were so many looks
+/// it was none.
 #[derive(Drop)]
 pub struct Lookback {
     newest: [u64; LOOKS],

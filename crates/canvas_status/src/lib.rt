@@ -1,4 +1,5 @@
-//! What a server tells of itself: its state as a page of numbers, its health, and the answers to those who ask for them.
+//! What a server tells of itself: its state as a page of numbers, its health, and the answers to
+//! those who ask for them.
 #![tactic(auto)]
 
 mod answer;

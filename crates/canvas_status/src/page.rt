@@ -24,7 +24,8 @@ fn write_families(
     families: &[Family],
     status: &Status,
 ) -> Result<(), OutOfMemory>
-    ensures { OnOk result (out.new.items ≡ out.old.items ++ flat_map (family_text status.now) families.now) }
+    ensures { OnOk result
+        (out.new.items ≡ out.old.items ++ flat_map (family_text status.now) families.now) }
 {
     for family in families {
         write_family(out, *family, status)?;
@@ -100,7 +101,8 @@ fn write_verbs(
     requests: &[u64; 12],
     verbs: &[Verb],
 ) -> Result<(), OutOfMemory>
-    ensures { OnOk result (out.new.items ≡ out.old.items ++ flat_map (request_sample name.now requests.now) verbs.now) }
+    ensures { OnOk result (out.new.items
+        ≡ out.old.items ++ flat_map (request_sample name.now requests.now) verbs.now) }
 {
     for verb in verbs {
         write_request(out, name, requests, *verb)?;
@@ -116,7 +118,8 @@ fn write_request(
     requests: &[u64; 12],
     verb: Verb,
 ) -> Result<(), OutOfMemory>
-    ensures { OnOk result (out.new.items ≡ out.old.items ++ request_sample name.now requests.now verb) }
+    ensures { OnOk result
+        (out.new.items ≡ out.old.items ++ request_sample name.now requests.now verb) }
 {
     push_labelled(out, name, "verb", verb.name(), requests[verb.place()])
 }

@@ -26,7 +26,8 @@ pub struct Status {
     pub sessions: u64,
     /// How many connections found all seats taken.
     pub refused_connections: u64,
-    /// At the place of each follower of the feed one more than the last version that was sent to it; 0 where nobody follows.
+    /// At the place of each follower of the feed one more than the last version that was sent to
+    /// it; 0 where nobody follows.
     pub followers: [u64; MOST_FOLLOWERS],
     /// How many lines were answered, by the place of their verb.
     pub requests: [u64; 12],

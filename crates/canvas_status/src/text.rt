@@ -74,7 +74,8 @@ pub(crate) fn push_labelled(
     of: &str,
     value: u64,
 ) -> Result<(), OutOfMemory>
-    ensures { OnOk result (out.new.items ≡ out.old.items ++ labelled name.now label.now of.now (decimal value)) }
+    ensures { OnOk result
+        (out.new.items ≡ out.old.items ++ labelled name.now label.now of.now (decimal value)) }
 {
     push_text(out, name)?;
     push_text(out, "{")?;

@@ -9,9 +9,11 @@ use std::io::{ErrorKind, Read};
 /// A line without its LF, in printable ASCII.
 pub(crate) type Line = Words;
 
-/// Reads a line, and nothing behind its LF. One that is longer than 254 bytes, or has others than printable ones, is `Strange`.
+/// Reads a line, and nothing behind its LF. One that is longer than 254 bytes, or has others than
+/// printable ones, is `Strange`.
 pub(crate) fn read_line<R: Read>(reader: &mut R) -> Result<Line, StoreFault>
-    ensures { IfOk result (λ line. Consumes (R.remaining reader.old) (R.remaining reader.new) (line.bytes ++ 10 ∷ [])) }
+    ensures { IfOk result (λ line. Consumes (R.remaining reader.old) (R.remaining reader.new)
+        (line.bytes ++ 10 ∷ [])) }
 {
     let mut line = Line::new();
     while line.len() < MOST_LINE {
@@ -28,7 +30,8 @@ pub(crate) fn read_line<R: Read>(reader: &mut R) -> Result<Line, StoreFault>
 }
 
 fn read_byte<R: Read>(reader: &mut R) -> Result<u8, StoreFault>
-    ensures { IfOk result (λ byte. Consumes (R.remaining reader.old) (R.remaining reader.new) (byte ∷ [])) }
+    ensures { IfOk result
+        (λ byte. Consumes (R.remaining reader.old) (R.remaining reader.new) (byte ∷ [])) }
 {
     let mut byte = [0u8; 1];
     read_whole(reader, &mut byte)?;
@@ -37,7 +40,8 @@ fn read_byte<R: Read>(reader: &mut R) -> Result<u8, StoreFault>
 
 /// Reads as many bytes as there is room for.
 pub(crate) fn read_whole<R: Read>(reader: &mut R, bytes: &mut [u8]) -> Result<(), StoreFault>
-    ensures { IfOk result (λ _. Consumes (R.remaining reader.old) (R.remaining reader.new) bytes.new) }
+    ensures { IfOk result
+        (λ _. Consumes (R.remaining reader.old) (R.remaining reader.new) bytes.new) }
 {
     match reader.read_exact(bytes) {
         Ok(()) => Ok(()),

@@ -9,7 +9,8 @@ pub(crate) type Head = ArrayString<64>;
 
 /// The line before a generation's opening of so many bytes.
 pub(crate) fn begin_head(generation: u32, len: usize) -> Head
-    ensures { result.bytes ≡ codes "begin " ++ decimal generation ++ codes " " ++ decimal len ++ codes "\n" }
+    ensures { result.bytes
+        ≡ codes "begin " ++ decimal generation ++ codes " " ++ decimal len ++ codes "\n" }
 {
     let mut head = Head::new();
     head.push_str("begin ");
@@ -22,7 +23,8 @@ pub(crate) fn begin_head(generation: u32, len: usize) -> Head
 
 /// The line before so many bytes that stand at a place.
 pub(crate) fn write_head(place: usize, len: usize) -> Head
-    ensures { result.bytes ≡ codes "write " ++ decimal place ++ codes " " ++ decimal len ++ codes "\n" }
+    ensures { result.bytes
+        ≡ codes "write " ++ decimal place ++ codes " " ++ decimal len ++ codes "\n" }
 {
     let mut head = Head::new();
     head.push_str("write ");

@@ -56,7 +56,8 @@ pub(crate) fn read_held<R: Read>(alloc: Global, reader: &mut R) -> Result<Held, 
 
 // Reads so many bytes.
 fn read_bytes<R: Read>(alloc: Global, reader: &mut R, len: u64) -> Result<Vec<u8>, StoreFault>
-    ensures bytes { IfOk result (λ bytes. Consumes (R.remaining reader.old) (R.remaining reader.new) bytes.items) }
+    ensures bytes { IfOk result
+        (λ bytes. Consumes (R.remaining reader.old) (R.remaining reader.new) bytes.items) }
     ensures len { IfOk result (λ bytes. length bytes.items ≡ len) }
 {
     let mut bytes = vec![in alloc; 0u8; len as usize]?;

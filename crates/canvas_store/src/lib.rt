@@ -1,5 +1,5 @@
-//! A store: where a document is kept in place of the disk of one machine. It is at the other end of a connection; this is what it is told, and what is
-//! taken from its answers.
+//! A store: where a document is kept in place of the disk of one machine. It is at the other end of
+//! a connection; this is what it is told, and what is taken from its answers.
 #![tactic(auto)]
 
 mod answer;

@@ -5,8 +5,8 @@ ghost use Rattle.canvas_store.specs.Names.{IsName, is_name_byte};
 /// The most bytes of a name.
 const MOST_NAME: usize = 63;
 
-/// The name that the last part of a folder's path is: 1 to 63 small letters, digits and hyphens, the first of them no hyphen. `None` where it is no
-/// name.
+/// The name that the last part of a folder's path is: 1 to 63 small letters, digits and hyphens,
+/// the first of them no hyphen. `None` where it is no name.
 pub fn name_of(folder: &str) -> Option<&str>
     ensures { IfSome result (λ name. IsName name.now) }
 {

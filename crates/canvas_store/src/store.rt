@@ -14,9 +14,10 @@ use std::io::{ErrorKind, Read, Write};
 
 /// A store at the other end of a connection, which holds the lease of one document at most.
 ///
-/// **What a store promises**: once it has answered `ok` to `begin` or `sync`, what they were about is kept, in the order in which it was sent: whoever
-/// holds the document next is given it, whatever crashes meanwhile. What was sent and not answered may be kept whole or not at all. Another that holds
-/// the document ends this lease: no `ok` comes any more.
+/// **What a store promises**: once it has answered `ok` to `begin` or `sync`, what they were about
+/// is kept, in the order in which it was sent: whoever holds the document next is given it,
+/// whatever crashes meanwhile. What was sent and not answered may be kept whole or not at all.
+/// Another that holds the document ends this lease: no `ok` comes any more.
 #[derive(Drop)]
 pub struct Store<R: Read, W: Write> {
     /// From where its answers come.
@@ -28,8 +29,11 @@ pub struct Store<R: Read, W: Write> {
 impl<R: Read, W: Write> Store<R, W> {
     /// Asks for the lease of the document of a name, and for what is kept of it.
     pub fn hold(&mut self, alloc: Global, name: &str) -> Result<Held, StoreFault>
-        ensures sent { OnOk result (Appends (W.contents self.old.messages) (W.contents self.new.messages) (hold_text name.now)) }
-        ensures read { IfOk result (λ held. Consumes (R.remaining self.old.answers) (R.remaining self.new.answers)
+        ensures sent { OnOk result
+            (Appends (W.contents self.old.messages) (W.contents self.new.messages)
+            (hold_text name.now)) }
+        ensures read { IfOk result
+            (λ held. Consumes (R.remaining self.old.answers) (R.remaining self.new.answers)
             (held_message held.epoch held.generation held.opening.items held.journal.items)) }
     {
         self.ask(name)?;
@@ -38,8 +42,11 @@ impl<R: Read, W: Write> Store<R, W> {
 
     /// Begins a generation with a saved document. At `Ok` the store keeps it, and an empty journal.
     pub fn begin(&mut self, generation: u32, opening: &[u8]) -> Result<(), StoreFault>
-        ensures sent { OnOk result (Appends (W.contents self.old.messages) (W.contents self.new.messages) (begin_text generation opening.now)) }
-        ensures kept { OnOk result (Consumes (R.remaining self.old.answers) (R.remaining self.new.answers) ok_text) }
+        ensures sent { OnOk result
+            (Appends (W.contents self.old.messages) (W.contents self.new.messages)
+            (begin_text generation opening.now)) }
+        ensures kept { OnOk result
+            (Consumes (R.remaining self.old.answers) (R.remaining self.new.answers) ok_text) }
     {
         self.send(begin_head(generation, opening.len()).as_bytes())?;
         self.send(opening)?;
@@ -48,7 +55,9 @@ impl<R: Read, W: Write> Store<R, W> {
 
     /// Notes that bytes stand at a place of the journal, over what was there and past the end.
     pub fn write(&mut self, place: usize, bytes: &[u8]) -> Result<(), StoreFault>
-        ensures sent { OnOk result (Appends (W.contents self.old.messages) (W.contents self.new.messages) (write_text place bytes.now)) }
+        ensures sent { OnOk result
+            (Appends (W.contents self.old.messages) (W.contents self.new.messages)
+            (write_text place bytes.now)) }
     {
         self.send(write_head(place, bytes.len()).as_bytes())?;
         self.send(bytes)
@@ -56,24 +65,28 @@ impl<R: Read, W: Write> Store<R, W> {
 
     /// Notes that the journal has a length.
     pub fn cut(&mut self, len: usize) -> Result<(), StoreFault>
-        ensures sent { OnOk result (Appends (W.contents self.old.messages) (W.contents self.new.messages) (cut_text len)) }
+        ensures sent { OnOk result
+            (Appends (W.contents self.old.messages) (W.contents self.new.messages) (cut_text len)) }
     {
         self.send(cut_head(len).as_bytes())
     }
 
     /// Has the store keep all that was noted since the last time. At `Ok` it does.
     pub fn sync(&mut self) -> Result<(), StoreFault>
-        ensures sent { OnOk result (Appends (W.contents self.old.messages) (W.contents self.new.messages) sync_text) }
-        ensures kept { OnOk result (Consumes (R.remaining self.old.answers) (R.remaining self.new.answers) ok_text) }
+        ensures sent { OnOk result
+            (Appends (W.contents self.old.messages) (W.contents self.new.messages) sync_text) }
+        ensures kept { OnOk result
+            (Consumes (R.remaining self.old.answers) (R.remaining self.new.answers) ok_text) }
     {
         self.send(b"sync\n")?;
         self.confirm()
     }
 
-    /// Whether the store stands, over a connection whose reads don't wait: it has neither ended the connection nor said that it keeps no more. It is
-    /// called while no answer is awaited.
+    /// Whether the store stands, over a connection whose reads don't wait: it has neither ended the
+    /// connection nor said that it keeps no more. It is called while no answer is awaited.
     pub fn heed(&mut self) -> Result<(), StoreFault>
-        ensures unread { OnOk result (Keeps (R.remaining self.old.answers) (R.remaining self.new.answers)) }
+        ensures unread { OnOk result
+            (Keeps (R.remaining self.old.answers) (R.remaining self.new.answers)) }
         ensures unsent { self.new.messages ≡ self.old.messages }
     {
         read_unasked(&mut self.answers)
@@ -81,7 +94,9 @@ impl<R: Read, W: Write> Store<R, W> {
 
     // Asks for the document of a name.
     fn ask(&mut self, name: &str) -> Result<(), StoreFault>
-        ensures sent { OnOk result (Appends (W.contents self.old.messages) (W.contents self.new.messages) (hold_text name.now)) }
+        ensures sent { OnOk result
+            (Appends (W.contents self.old.messages) (W.contents self.new.messages)
+            (hold_text name.now)) }
         ensures unread { OnOk result (self.new.answers ≡ self.old.answers) }
     {
         self.send(b"hold ")?;
@@ -91,7 +106,8 @@ impl<R: Read, W: Write> Store<R, W> {
 
     // Reads the answer to a message that the store keeps.
     fn confirm(&mut self) -> Result<(), StoreFault>
-        ensures kept { OnOk result (Consumes (R.remaining self.old.answers) (R.remaining self.new.answers) ok_text) }
+        ensures kept { OnOk result
+            (Consumes (R.remaining self.old.answers) (R.remaining self.new.answers) ok_text) }
         ensures unsent { self.new.messages ≡ self.old.messages }
     {
         let line = read_line(&mut self.answers)?;
@@ -104,7 +120,8 @@ impl<R: Read, W: Write> Store<R, W> {
 
     // Sends bytes.
     fn send(&mut self, bytes: &[u8]) -> Result<(), StoreFault>
-        ensures sent { OnOk result (Appends (W.contents self.old.messages) (W.contents self.new.messages) bytes.now) }
+        ensures sent { OnOk result
+            (Appends (W.contents self.old.messages) (W.contents self.new.messages) bytes.now) }
         ensures unread { OnOk result (self.new.answers ≡ self.old.answers) }
     {
         match self.messages.write_all(bytes) {

@@ -55,7 +55,8 @@ fn create_of(alloc: Global, object: &Given<'_, '_>) -> Result<Option<Request>, O
 
 #[tactic(auto, unfolding(crate::specs::Asked::asked))]
 fn create_with(kind: Kind, object: &Given<'_, '_>) -> Option<Request>
-    ensures { required shape_of (codes "shape") (view object.now) ≡ Some kind → result ≡ asked verb.Create (view object.now) }
+    ensures { required shape_of (codes "shape") (view object.now) ≡ Some kind
+        → result ≡ asked verb.Create (view object.now) }
 {
     let pose = pose_or_still(object)?;
     let hidden = bool_or_false(object, "hidden")?;

@@ -48,11 +48,12 @@ impl RequestReader {
 
     /// The request of a line, which stands without its LF: one JSON object, by serde_json's reading of it.
     ///
-    /// The first of these faults that applies is answered: 50 where the line is not JSON, 51 where it
-    /// is no object, 52 where `verb` is missing or no verb's name, 53 where a member of the verb, or
-    /// of an object inside it, is missing, of the wrong type or out of range, 54 where there is a
-    /// member besides these. 1 is answered only where the allocator refused memory, or where the line
-    /// has more than 4 GiB less 256 bytes, whatever else it holds; an empty line and bytes that are no UTF-8 take none.
+    /// The first of these faults that applies is answered: 50 where the line is not JSON, 51 where
+    /// it is no object, 52 where `verb` is missing or no verb's name, 53 where a member of the
+    /// verb, or of an object inside it, is missing, of the wrong type or out of range, 54 where
+    /// there is a member besides these. 1 is answered only where the allocator refused memory, or
+    /// where the line has more than 4 GiB less 256 bytes, whatever else it holds; an empty line and
+    /// bytes that are no UTF-8 take none.
     #[tactic(auto, unfolding(crate::specs::Requests::request_of))]
     pub fn read(&mut self, alloc: Global, line: &[u8]) -> Result<Request, WireFault>
         ensures request { Gives result (request_of line.now) }

@@ -25,7 +25,8 @@ use std::alloc::{AllocError, Global};
 const USUAL_BYTES: usize = 256;
 
 fn push_over(line: &mut Vec<u8>, id: u32) -> Result<(), AllocError>
-    ensures text { OnOk result (line.new.items ≡ line.old.items ++ codes "{\"over\":" ++ decimal id ++ codes "}") }
+    ensures text { OnOk result
+        (line.new.items ≡ line.old.items ++ codes "{\"over\":" ++ decimal id ++ codes "}") }
     ensures fits { id < 2 ^ 32 }
 {
     push_text(line, "{\"over\":")?;
@@ -34,7 +35,8 @@ fn push_over(line: &mut Vec<u8>, id: u32) -> Result<(), AllocError>
 }
 
 fn push_at(line: &mut Vec<u8>, key: &Key) -> Result<(), AllocError>
-    ensures text { OnOk result (line.new.items ≡ line.old.items ++ codes "{\"at\":" ++ in_quotes key.now ++ codes "}") }
+    ensures text { OnOk result
+        (line.new.items ≡ line.old.items ++ codes "{\"at\":" ++ in_quotes key.now ++ codes "}") }
     ensures fits { OnOk result (IsKey key.now) }
 {
     push_text(line, "{\"at\":")?;
@@ -58,7 +60,8 @@ fn push_spot(line: &mut Vec<u8>, spot: &Spot) -> Result<(), AllocError>
 // Appends the first members of a new shape.
 fn push_created(line: &mut Vec<u8>, hidden: bool, parent: Parent) -> Result<(), AllocError>
     ensures text { OnOk result (line.new.items
-        ≡ line.old.items ++ codes "{\"hidden\":" ++ boolean_text hidden ++ codes ",\"parent\":" ++ parent_text parent) }
+        ≡ line.old.items ++ codes "{\"hidden\":" ++ boolean_text hidden ++ codes ",\"parent\":"
+        ++ parent_text parent) }
     ensures fits { FitsParent parent }
 {
     push_text(line, "{\"hidden\":")?;
@@ -70,7 +73,8 @@ fn push_created(line: &mut Vec<u8>, hidden: bool, parent: Parent) -> Result<(), 
 // Appends the last members of a new shape.
 fn push_create_at(line: &mut Vec<u8>, spot: &Spot) -> Result<(), AllocError>
     ensures text { OnOk result (line.new.items
-        ≡ line.old.items ++ codes ",\"spot\":" ++ spot_text spot.now ++ codes ",\"verb\":\"create\"}") }
+        ≡ line.old.items ++ codes ",\"spot\":" ++ spot_text spot.now
+        ++ codes ",\"verb\":\"create\"}") }
     ensures fits { OnOk result (FitsSpot spot.now) }
 {
     push_text(line, ",\"spot\":")?;
@@ -87,7 +91,8 @@ fn push_create(
     parent: Parent,
     spot: &Spot,
 ) -> Result<(), AllocError>
-    ensures text { OnOk result (line.new.items ≡ line.old.items ++ edit_text (edits.Create kind.now pose.now hidden parent spot.now)) }
+    ensures text { OnOk result (line.new.items
+        ≡ line.old.items ++ edit_text (edits.Create kind.now pose.now hidden parent spot.now)) }
     ensures fits { OnOk result (FitsEdit (edits.Create kind.now pose.now hidden parent spot.now)) }
 {
     push_created(line, hidden, parent)?;
@@ -100,7 +105,8 @@ fn push_create(
 
 #[tactic(auto, unfolding(crate::specs::EditTexts::edit_text))]
 fn push_move(line: &mut Vec<u8>, id: u32, parent: Parent, spot: &Spot) -> Result<(), AllocError>
-    ensures text { OnOk result (line.new.items ≡ line.old.items ++ edit_text (edits.Move id parent spot.now)) }
+    ensures text { OnOk result
+        (line.new.items ≡ line.old.items ++ edit_text (edits.Move id parent spot.now)) }
     ensures fits { OnOk result (FitsEdit (edits.Move id parent spot.now)) }
 {
     push_text(line, "{\"id\":")?;
@@ -114,7 +120,8 @@ fn push_move(line: &mut Vec<u8>, id: u32, parent: Parent, spot: &Spot) -> Result
 
 #[tactic(auto, unfolding(crate::specs::EditTexts::edit_text))]
 fn push_pose_edit(line: &mut Vec<u8>, id: u32, pose: &Pose) -> Result<(), AllocError>
-    ensures text { OnOk result (line.new.items ≡ line.old.items ++ edit_text (edits.Pose id pose.now)) }
+    ensures text { OnOk result
+        (line.new.items ≡ line.old.items ++ edit_text (edits.Pose id pose.now)) }
     ensures fits { OnOk result (FitsEdit (edits.Pose id pose.now)) }
 {
     push_text(line, "{\"id\":")?;
@@ -126,7 +133,8 @@ fn push_pose_edit(line: &mut Vec<u8>, id: u32, pose: &Pose) -> Result<(), AllocE
 
 #[tactic(auto, unfolding(crate::specs::EditTexts::edit_text))]
 fn push_reshape(line: &mut Vec<u8>, id: u32, kind: &Kind) -> Result<(), AllocError>
-    ensures text { OnOk result (line.new.items ≡ line.old.items ++ edit_text (edits.Reshape id kind.now)) }
+    ensures text { OnOk result
+        (line.new.items ≡ line.old.items ++ edit_text (edits.Reshape id kind.now)) }
     ensures fits { OnOk result (FitsEdit (edits.Reshape id kind.now)) }
 {
     push_text(line, "{\"id\":")?;
@@ -138,7 +146,8 @@ fn push_reshape(line: &mut Vec<u8>, id: u32, kind: &Kind) -> Result<(), AllocErr
 
 #[tactic(auto, unfolding(crate::specs::EditTexts::edit_text))]
 fn push_show(line: &mut Vec<u8>, id: u32, hidden: bool) -> Result<(), AllocError>
-    ensures text { OnOk result (line.new.items ≡ line.old.items ++ edit_text (edits.Show id hidden)) }
+    ensures text { OnOk result
+        (line.new.items ≡ line.old.items ++ edit_text (edits.Show id hidden)) }
     ensures fits { OnOk result (FitsEdit (edits.Show id hidden)) }
 {
     push_text(line, "{\"hidden\":")?;
@@ -160,7 +169,8 @@ fn push_delete(line: &mut Vec<u8>, id: u32) -> Result<(), AllocError>
 
 #[tactic(auto, unfolding(crate::specs::EditTexts::edit_text))]
 fn push_respace(line: &mut Vec<u8>, parent: Parent) -> Result<(), AllocError>
-    ensures text { OnOk result (line.new.items ≡ line.old.items ++ edit_text (edits.Respace parent)) }
+    ensures text { OnOk result
+        (line.new.items ≡ line.old.items ++ edit_text (edits.Respace parent)) }
     ensures fits { OnOk result (FitsEdit (edits.Respace parent)) }
 {
     push_text(line, "{\"parent\":")?;
@@ -190,15 +200,18 @@ fn push_edit(line: &mut Vec<u8>, edit: &Edit) -> Result<(), AllocError>
     }
 }
 
-/// The text of an edit: the compact JSON of the object that asks for it, its members in the order of their names, in one line.
+/// The text of an edit: the compact JSON of the object that asks for it, its members in the order
+/// of their names, in one line.
 ///
-/// It is read as this edit again (`read_request`) wherever its coordinates have 32 bits, and those of each edit have that some
-/// document accepts.
+/// It is read as this edit again (`read_request`) wherever its coordinates have 32 bits, and those
+/// of each edit have that some document accepts.
 pub fn write_edit(alloc: Global, edit: &Edit) -> Result<Vec<u8>, OutOfMemory>
     ensures text { IfOk result (λ line. line.items ≡ edit_text edit.now) }
     ensures one_line { IfOk result (λ line. IsOneLine line.items) }
-    ensures reads { IfOk result (λ line. IsInRange edit.now → request_of line.items ≡ Ok (requests.Edit edit.now)) }
-    ensures accepted { IfOk result (λ line. (document : Contents) (change : Change) → decision_of edit.now document ≡ Ok change
+    ensures reads { IfOk result
+        (λ line. IsInRange edit.now → request_of line.items ≡ Ok (requests.Edit edit.now)) }
+    ensures accepted { IfOk result
+        (λ line. (document : Contents) (change : Change) → decision_of edit.now document ≡ Ok change
         → request_of line.items ≡ Ok (requests.Edit edit.now)) }
 {
     let mut line = Vec::with_capacity(alloc, USUAL_BYTES)?;

@@ -1,5 +1,6 @@
-//! Spans, clones and requests for which memory may be refused: run with each allocation refused in turn, they answer want of
-//! memory and leave what was there, or answer what they answer with ample memory.
+//! Spans, clones and requests for which memory may be refused: run with each allocation refused in
+//! turn, they answer want of memory and leave what was there, or answer what they answer with ample
+//! memory.
 
 use crate::asserts::{holds, holds_at};
 use crate::random_leaves::polygon;

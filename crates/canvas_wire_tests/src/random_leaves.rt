@@ -119,8 +119,8 @@ fn are_rising(spans: &[Span]) -> bool {
     rising
 }
 
-// Whether the first of some spans is one that was there, and those behind it are the pixels of a row that the leaf holds
-// one by one.
+// Whether the first of some spans is one that was there, and those behind it are the pixels of a
+// row that the leaf holds one by one.
 fn are_held(out: &[Span], leaf: &Carried<'_>, y: i32, left: i32, right: i32) -> bool
     requires { left ≤ℤ right }
 {
@@ -288,8 +288,8 @@ fn is_set(words: &[u64; 4], i: u32) -> bool
     words[i as usize / 64] >> (i % 64) & 1 == 1
 }
 
-// Whether the columns of a window's row that `held` and, from the pixel `left` on, the spans behind the first have are the
-// page pixels that the leaf holds one by one, and nothing else.
+// Whether the columns of a window's row that `held` and, from the pixel `left` on, the spans behind
+// the first have are the page pixels that the leaf holds one by one, and nothing else.
 fn columns_agree(
     held: &[u64; 4],
     out: &[Span],
@@ -386,8 +386,8 @@ fn make_up(first: &Carried<'_>, second: &Carried<'_>, whole: &Carried<'_>) -> bo
     once
 }
 
-// Whether each pixel of two triangles on both sides of an edge, carried by a pose, is in exactly one of them, and
-// each other pixel near them in none.
+// Whether each pixel of two triangles on both sides of an edge, carried by a pose, is in exactly
+// one of them, and each other pixel near them in none.
 fn share_an_edge(rt: &impl Abort, pose: &Pose, [a, b, c, d]: [Point; 4]) -> bool {
     let a = carried(rt, pose, a);
     let b = carried(rt, pose, b);

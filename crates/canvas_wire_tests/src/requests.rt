@@ -229,7 +229,8 @@ fn assert_with_cr(rt: &impl Abort, alloc: Global, line: &str, wanted: &str) {
     assert_alone(rt, alloc, with_cr.as_bytes(), wanted);
 }
 
-// Each line says what stands beside it to a reader of them all, and the same with a CR before its LF and read alone.
+// Each line says what stands beside it to a reader of them all, and the same with a CR before its
+// LF and read alone.
 fn assert_told(rt: &impl Abort, alloc: Global, rows: &[(&str, &str)]) {
     let mut reader = RequestReader::new(alloc);
     for row in rows {

@@ -110,7 +110,8 @@ fn shows(points: &[Point], window: &Window, want: u64) -> bool {
     rows[0].held() == [want, 0, 0, 0]
 }
 
-// Asserts that windows of one row, each of a level, from an x and y on and so wide, hold these columns of a polygon.
+// Asserts that windows of one row, each of a level, from an x and y on and so wide, hold these
+// columns of a polygon.
 fn assert_shows(rt: &impl Abort, points: &[Point], windows: &[(u8, i32, i32, u32, u32)]) {
     for (level, x, y, w, want) in windows {
         let window = Window::at_level(*level, *x, *y, *w, 1).expect(rt, "a window");
@@ -231,7 +232,8 @@ fn vertices(rt: &impl Abort, alloc: Global, count: i64) -> Kind {
     }
 }
 
-// Whether a kind, carried by a pose, holds these pixels of five rows of four from (0, 0) on, the first in the highest bit.
+// Whether a kind, carried by a pose, holds these pixels of five rows of four from (0, 0) on, the
+// first in the highest bit.
 fn holds_exactly(kind: &Kind, page: &Pose, want: u32) -> bool {
     if kind.check().is_err() || page.quarter > 3 || page.reach() > 1 << 26 {
         return false;
@@ -243,8 +245,8 @@ fn holds_exactly(kind: &Kind, page: &Pose, want: u32) -> bool {
     held == want
 }
 
-// Asserts that a kind holds these pixels after a quarter turn, and then 3 to the right and 1 down: (x, y) goes to
-// (3 - y, x + 1).
+// Asserts that a kind holds these pixels after a quarter turn, and then 3 to the right and 1 down:
+// (x, y) goes to (3 - y, x + 1).
 fn assert_held(rt: &impl Abort, what: &str, kind: Kind, want: u32) {
     let page = Pose {
         dx: 3,

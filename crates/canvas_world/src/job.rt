@@ -35,7 +35,8 @@ impl Model for Job {
 
     ghost Value = { Work };
 
-    ghost view = { λ j. record { version = j.version; window = j.window; document = j.document.value; cuts = cuts_of j.pieces.items } };
+    ghost view = { λ j.
+        record { version = j.version; window = j.window; document = j.document.value; cuts = cuts_of j.pieces.items } };
 
     ghost invariant = { λ j. ArePainted j.document.value j.window j.pieces.items };
 }
@@ -43,7 +44,8 @@ impl Model for Job {
 impl Job {
     /// The work at the picture of a window of a document, with no strip painted yet.
     pub(crate) fn new(alloc: Global, version: u64, window: Window, document: Rc<Document>) -> Job
-        ensures { result ≡ record { version = version; window = window; document = document.value; cuts = [] } }
+        ensures { result
+            ≡ record { version = version; window = window; document = document.value; cuts = [] } }
     {
         Job {
             version,
@@ -96,7 +98,9 @@ impl Job {
 
     /// The picture, where all its strips are there.
     pub(crate) fn picture(&self, alloc: Global) -> Result<Option<Raster>, OutOfMemory>
-        ensures { IfOk result (λ raster. raster ≡ (if is_whole self.now.cuts then Some (picture_of (colour self.now.document.records) self.now.window) else None)) }
+        ensures { IfOk result (λ raster. raster ≡ (if is_whole self.now.cuts
+            then Some (picture_of (colour self.now.document.records) self.now.window)
+            else None)) }
     {
         match self.pieces.first() {
             None => Ok(None),

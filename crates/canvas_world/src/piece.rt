@@ -60,7 +60,9 @@ pub(crate) fn are_beside(pieces: &[Piece], cut: Cut) -> bool
 /// The rows of a strip, if it is among the pieces.
 pub(crate) fn rows_of(pieces: &[Piece], cut: Cut) -> Option<&Raster>
     ensures found { is_some result ≡ list_any (is_cut cut.k cut.n) (cuts_of pieces.now) }
-    ensures rows { IfSome result (λ rows. (document : Contents) (window : Window) → ArePainted document window pieces.now → rows.now ≡ strip_of document window cut) }
+    ensures rows { IfSome result
+        (λ rows. (document : Contents) (window : Window) → ArePainted document window pieces.now
+        → rows.now ≡ strip_of document window cut) }
 {
     for piece in pieces {
         let own = piece.cut;
@@ -74,7 +76,11 @@ pub(crate) fn rows_of(pieces: &[Piece], cut: Cut) -> Option<&Raster>
 /// The picture of which the pieces are strips, where each of `n` is there.
 pub(crate) fn joined(alloc: Global, pieces: &[Piece], n: u32) -> Result<Option<Raster>, OutOfMemory>
     requires { 0 < n }
-    ensures { IfOk result (λ raster. (document : Contents) (window : Window) → ArePainted document window pieces.now → raster ≡ (if has_below n n (cuts_of pieces.now) then Some (picture_of (colour document.records) window) else None)) }
+    ensures { IfOk result
+        (λ raster. (document : Contents) (window : Window) → ArePainted document window pieces.now
+        → raster ≡ (if has_below n n (cuts_of pieces.now)
+        then Some (picture_of (colour document.records) window)
+        else None)) }
 {
     let mut bytes = Vec::new(alloc);
     for k in 0..n {

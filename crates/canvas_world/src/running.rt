@@ -20,7 +20,8 @@ pub fn run(
     events: &[Event],
 ) -> Result<Transcript, OutOfMemory>
     // The entry of each event looks back over all events before it and their entries.
-    ensures exact { IfOk result (λ transcript. transcript ≡ transcript_of start.now seats events.now) }
+    ensures exact { IfOk result
+        (λ transcript. transcript ≡ transcript_of start.now seats events.now) }
     // The accepted edits come to one history, numbered in turn. Each tile is the picture of the
     // document after as many of its changes as the tile names: no more than were accepted before
     // the tile, and no less than any entry before the seat's latest look names.

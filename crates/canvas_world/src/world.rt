@@ -88,7 +88,8 @@ impl World {
 
     // The seat's next picture will show a window of the document as it is.
     fn look(&mut self, seat: u32, window: &Window) -> Result<Entry, OutOfMemory>
-        ensures entry { IfOk result (λ entry. Enters (Look seat window.now) self.old entry self.new) }
+        ensures entry { IfOk result
+            (λ entry. Enters (Look seat window.now) self.old entry self.new) }
         ensures version { self.new.version ≡ self.old.version }
     {
         let document = self.document.clone()?;
@@ -101,7 +102,8 @@ impl World {
 
     // A strip of the seat's picture is painted, from the document that its look fixed.
     fn strip(&mut self, seat: u32, cut: Cut) -> Result<Entry, OutOfMemory>
-        ensures entry { IfOk result (λ entry. Enters (Strip seat cut.k cut.n) self.old entry self.new) }
+        ensures entry { IfOk result
+            (λ entry. Enters (Strip seat cut.k cut.n) self.old entry self.new) }
         ensures version { self.new.version ≡ self.old.version }
     {
         match self.jobs.get_mut(&seat) {

@@ -10,7 +10,8 @@ pub enum Address<'a> {
     Unix(&'a str),
 }
 
-/// Whether a word names an address to which a connection can be asked for: `unix:` and a path, or a host, a colon and a port of 0 to 65,535.
+/// Whether a word names an address to which a connection can be asked for: `unix:` and a path, or a
+/// host, a colon and a port of 0 to 65,535.
 pub fn is_address(word: &str) -> bool {
     match address_of(word) {
         Address::Unix(path) => !path.is_empty(),

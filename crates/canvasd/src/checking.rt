@@ -11,8 +11,8 @@ use std::io;
 use std::rt::Files;
 use std::sync::Wait;
 
-/// Tells on standard output what is in a folder and whether it opens. It changes nothing and takes no lock, so a document that is being served can be
-/// checked too.
+/// Tells on standard output what is in a folder and whether it opens. It changes nothing and takes
+/// no lock, so a document that is being served can be checked too.
 pub fn check<H: Files<File = File> + Alloc + Print + Wait + Clone + Drop>(
     rt: &H,
     alloc: Global,

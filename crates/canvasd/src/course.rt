@@ -37,7 +37,8 @@ impl From<Away> for Stop {
     }
 }
 
-/// Goes on as the leader's feed tells, over as many connections as it takes, and ends the generation where that is over.
+/// Goes on as the leader's feed tells, over as many connections as it takes, and ends the
+/// generation where that is over.
 pub fn keep_course<
     D: Device + Drop,
     L: Lines,
@@ -131,7 +132,8 @@ fn follow_once<
     unreachable!()
 }
 
-// A connection to the feed, from the first edit that is compared. The first one shows whether the generation began there as here.
+// A connection to the feed, from the first edit that is compared. The first one shows whether the
+// generation began there as here.
 fn open_source<
     D: Device + Drop,
     L: Lines,
@@ -160,7 +162,8 @@ fn since<H: Clock>(rt: &H, moment: Instant) -> Result<u64, Away> {
     Ok(moment.elapsed(rt)?.as_secs())
 }
 
-// Says once that all is there that the leader had. The answer is which version it still has to reach, 0 from then on.
+// Says once that all is there that the leader had. The answer is which version it still has to
+// reach, 0 from then on.
 fn tell_caught_up<D: Device + Drop, L: Lines, K: Log>(
     yard: &Yard<'_, D, L, K>,
     goal: u64,
@@ -227,8 +230,8 @@ fn look_again<
     look(rt, yard, recent)
 }
 
-// Takes the whole lines with which these bytes begin, which tell the versions behind this one. The answer is how many bytes they have, and the version
-// of the last.
+// Takes the whole lines with which these bytes begin, which tell the versions behind this one. The
+// answer is how many bytes they have, and the version of the last.
 fn take_lines<D: Device + Drop, L: Lines, K: Log, H: Wait>(
     rt: &H,
     yard: &Yard<'_, D, L, K>,

@@ -60,7 +60,8 @@ pub struct Feed {
 }
 
 impl Feed {
-    /// A feed of which nothing was told. Its file loses its name at once, so a crash leaves none that anybody would look at.
+    /// A feed of which nothing was told. Its file loses its name at once, so a crash leaves none
+    /// that anybody would look at.
     pub fn open<H: Files<File = File>>(
         rt: &H,
         alloc: Global,
@@ -107,7 +108,8 @@ impl Feed {
         self.word.notify_all();
     }
 
-    /// Waits until this version was told, and says where the lines behind it begin. `None` where the feed has ended before.
+    /// Waits until this version was told, and says where the lines behind it begin. `None` where
+    /// the feed has ended before.
     pub fn place_behind<H: Wait>(&self, rt: &H, version: u64) -> Option<u64> {
         let mut told = self.told.lock(rt);
         for _ in rt.forever() {
@@ -122,7 +124,8 @@ impl Feed {
         unreachable!()
     }
 
-    /// Waits until more was told than a follower was sent, and says how far it is sent next. `None` where no more is told.
+    /// Waits until more was told than a follower was sent, and says how far it is sent next. `None`
+    /// where no more is told.
     pub fn reach_beyond<H: Wait>(&self, rt: &H, sent: Reach) -> Option<Reach>
         ensures { IfSome result (λ next. sent.end < next.end) }
     {

@@ -1,4 +1,5 @@
-//! Serving a generation with its feed: the thread that tells it, the doors where followers come, and their end.
+//! Serving a generation with its feed: the thread that tells it, the doors where followers come,
+//! and their end.
 
 ghost use denote.Param.Send.{IsSend, IsSync};
 
@@ -63,8 +64,8 @@ struct Hall<'a, G: Kept, K: Log> {
     settling: &'a Mutex<Settling>,
 }
 
-/// Serves the boards of a gate's line at its doors, and what is kept of it to followers. When the doors have ended, followers are sent all that is kept, for
-/// five seconds at most.
+/// Serves the boards of a gate's line at its doors, and what is kept of it to followers. When the
+/// doors have ended, followers are sent all that is kept, for five seconds at most.
 pub fn serve_fed<
     'a,
     B: Board + Send,

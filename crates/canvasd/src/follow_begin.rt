@@ -27,8 +27,8 @@ pub fn judge_addresses(following: &Following<'_>) -> Result<(), Fault> {
     }
 }
 
-/// The generation that a follower serves first, which is made where its folder has none: that of the folder, or the later one of the leader.
-/// An empty folder waits for the leader.
+/// The generation that a follower serves first, which is made where its folder has none: that of
+/// the folder, or the later one of the leader. An empty folder waits for the leader.
 pub fn first_followed<
     H: Files<File = File>
         + Alloc
@@ -58,7 +58,8 @@ pub fn first_followed<
     }
 }
 
-/// The generation behind this one, which is made as soon as the leader serves a later one. Behind 0 it is whichever the leader serves.
+/// The generation behind this one, which is made as soon as the leader serves a later one. Behind 0
+/// it is whichever the leader serves.
 pub fn next_followed<
     H: Files<File = File> + Clock + Net<Listener = TcpListener, Stream = TcpStream>,
     K: Log,
@@ -87,7 +88,8 @@ pub fn next_followed<
     Err(Fault::NoNumber)
 }
 
-// The generation that the leader serves, which is made here if it is later than this one. The inner error is why the leader does not say.
+// The generation that the leader serves, which is made here if it is later than this one. The inner
+// error is why the leader does not say.
 fn begin_served<
     H: Files<File = File> + Clock + Net<Listener = TcpListener, Stream = TcpStream>,
     K: Log,

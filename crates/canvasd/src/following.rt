@@ -99,7 +99,8 @@ pub fn refuse<W: Write>(alloc: Global, writer: &mut W, refusal: &Refusal) -> Par
     }
 }
 
-// Sends the lines that are asked for, as they are told, until no more are told. `None` where not all could be sent.
+// Sends the lines that are asked for, as they are told, until no more are told. `None` where not
+// all could be sent.
 fn send_all<H: Wait, W: Write>(
     rt: &H,
     alloc: Global,

@@ -35,7 +35,8 @@ pub struct Gate<D: Device, B: Lines> {
 }
 
 impl<D: Device + Drop, B: Lines> Gate<D, B> {
-    /// The gate of a keeper's line, whose generation ends with so many edits. `watch` is another seat of the line.
+    /// The gate of a keeper's line, whose generation ends with so many edits. `watch` is another
+    /// seat of the line.
     pub fn new<R: Wait>(
         rt: &R,
         alloc: Global,
@@ -92,7 +93,8 @@ pub trait Kept {
     /// How many versions are kept.
     fn kept<R: Wait>(&self, rt: &R) -> u64;
 
-    /// Waits until more versions are kept than so many, and says how many. `None` where no more are kept, once that can't be or the waits were ended.
+    /// Waits until more versions are kept than so many, and says how many. `None` where no more are
+    /// kept, once that can't be or the waits were ended.
     fn wait_beyond<R: Wait>(&self, rt: &R, has: u64) -> Option<u64>
         ensures { IfSome result (λ kept. has < kept) };
 

@@ -1,4 +1,5 @@
-//! Guarding a document that a store keeps while nobody asks for anything: where the store is lost, the server ends.
+//! Guarding a document that a store keeps while nobody asks for anything: where the store is lost,
+//! the server ends.
 ghost use denote.Param.Send.{IsSync};
 
 use crate::store::Link;
@@ -14,8 +15,9 @@ pub trait Loses {
     fn lose(&self);
 }
 
-/// Starts a thread that looks after the store, until the watch is ended. Once the store is lost nobody is answered any more, and the doors are shut,
-/// which ends the server. Where no thread can be had, an edit finds out.
+/// Starts a thread that looks after the store, until the watch is ended. Once the store is lost
+/// nobody is answered any more, and the doors are shut, which ends the server. Where no thread can
+/// be had, an edit finds out.
 pub fn start_guard<'s, 'e: 's, G: Loses + Sync, H: Threads + Wait + Clock + Sync>(
     rt: &'e H,
     scope: &'s Scope<'s, &'e ()>,

@@ -47,7 +47,8 @@ pub fn write_version<H: Files<File = File> + Alloc + Print + Wait + Clone + Drop
     }
 }
 
-/// How many edits the journal of a generation has, and the saved document after so many of them, or after all.
+/// How many edits the journal of a generation has, and the saved document after so many of them, or
+/// after all.
 pub fn replayed<H: Files<File = File> + Wait>(
     rt: &H,
     alloc: Global,
@@ -96,7 +97,8 @@ fn text_after<L: Lines, H: Wait>(
     lines: &[Vec<u8>],
     number: u32,
 ) -> Result<Vec<u8>, Fault>
-    requires { L.line 1 ≡ record { book = opened.head.word.book; opening = document; limit = 1000000 } }
+    requires { L.line 1
+        ≡ record { book = opened.head.word.book; opening = document; limit = 1000000 } }
 {
     let mut seats = match Line::open::<L, H>(rt, alloc, opened, NAME, document, 1, MOST_EDITS) {
         Ok(seats) => seats,
@@ -119,7 +121,8 @@ fn text_at<L: Lines, H: Wait>(
     number: u32,
 ) -> Result<Vec<u8>, Fault>
     requires { IsUnused seat.old }
-    ensures { IfOk result (λ text. IsSavedAfter seat.old.opening (map (λ v. v.items) lines.now) text.items) }
+    ensures { IfOk result
+        (λ text. IsSavedAfter seat.old.opening (map (λ v. v.items) lines.now) text.items) }
 {
     if let Err(fault) = replay(rt, alloc, seat, lines) {
         return Err(Fault::Line {

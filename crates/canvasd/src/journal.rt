@@ -57,8 +57,9 @@ impl Reason {
     }
 }
 
-/// An open file, which keeps the reason of a call that failed, and counts how often and how long it is put on the disk. With a store all is kept
-/// there in place of the disk, and the file has the same for those who read it.
+/// An open file, which keeps the reason of a call that failed, and counts how often and how long it
+/// is put on the disk. With a store all is kept there in place of the disk, and the file has the
+/// same for those who read it.
 #[derive(Drop)]
 pub struct JournalFile<'a, H: Clock> {
     file: File,

@@ -172,7 +172,8 @@ impl<'w, H: Wait + Clock + Net<Listener = TcpListener, Stream = TcpStream>, K: L
         }
     }
 
-    // A connection that is in use from now on: one that was free, or a new one. There is none where all are in use for too long.
+    // A connection that is in use from now on: one that was free, or a new one. There is none where
+    // all are in use for too long.
     fn take<R: Wait>(&self, rt: &R) -> Option<Lane> {
         let mut pool = self.pool.lock(rt);
         for _ in rt.forever() {

@@ -101,7 +101,8 @@ pub struct Opening {
 }
 
 impl Source {
-    /// Connects, and asks for the edits behind a version of a generation, or of the one that is served, and for its opening.
+    /// Connects, and asks for the edits behind a version of a generation, or of the one that is
+    /// served, and for its opening.
     pub fn open<H: Net<Listener = TcpListener, Stream = TcpStream>>(
         rt: &H,
         alloc: Global,
@@ -196,7 +197,8 @@ impl Source {
     }
 }
 
-/// How many edits a leader has kept of a generation, which a feed of what lies beyond is told as it is refused.
+/// How many edits a leader has kept of a generation, which a feed of what lies beyond is told as it
+/// is refused.
 pub fn kept_there<H: Clock + Net<Listener = TcpListener, Stream = TcpStream>>(
     rt: &H,
     alloc: Global,

@@ -1,7 +1,8 @@
 //! The program `canvasd`: one design document in a folder, where nothing that was answered is lost.
 //!
-//! `canvasd FOLDER` serves the document of a folder. `canvasd check FOLDER` tells what is in it, and `canvasd history FOLDER [VERSION]` writes
-//! the document as it was. `canvasd follow FEED FOLDER` serves it as another server's feed tells it.
+//! `canvasd FOLDER` serves the document of a folder. `canvasd check FOLDER` tells what is in it,
+//! and `canvasd history FOLDER [VERSION]` writes the document as it was. `canvasd follow FEED
+//! FOLDER` serves it as another server's feed tells it.
 #![tactic(auto)]
 
 mod addresses;
@@ -102,7 +103,8 @@ fn words_status(kind: ErrorKind) -> u8 {
     }
 }
 
-// The words of the command line, the first of them the program's own name. A word that is not UTF-8 is no word of a command.
+// The words of the command line, the first of them the program's own name. A word that is not UTF-8
+// is no word of a command.
 fn given_words(rt: &HostRuntime) -> io::Result<Vec<String>> {
     let mut words = Vec::new(rt.alloc());
     for word in env::args(rt)?.skip(1) {

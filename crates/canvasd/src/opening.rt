@@ -13,13 +13,15 @@ use std::io::Read;
 /// The most bytes of a saved document that is opened.
 const MOST_BYTES: u64 = 134_217_728;
 
-/// The document of a saved text of at most 134,217,728 bytes; a longer one is refused as 60, and is not read to its end.
+/// The document of a saved text of at most 134,217,728 bytes; a longer one is refused as 60, and is
+/// not read to its end.
 pub fn read_document<R: Read + Drop>(
     alloc: Global,
     file: R,
     place: Place,
 ) -> Result<Document, Fault>
-    ensures { IfOk result (λ document. IfSome (R.remaining file) (λ bytes. opened bytes ≡ Ok document)) }
+    ensures { IfOk result
+        (λ document. IfSome (R.remaining file) (λ bytes. opened bytes ≡ Ok document)) }
 {
     let text = text_of(alloc, file, place)?;
     match import(alloc, &text) {

@@ -21,7 +21,8 @@ pub fn take_seat<L: Lines>(seats: &mut Vec<Seat<L>>) -> Option<Seat<L>>
 
 /// The saved document after all that the seat has seen. `Busy` where the line has more.
 pub fn saved_at<L: Lines>(alloc: Global, seat: &mut Seat<L>) -> Result<Vec<u8>, Fault>
-    ensures { IfOk result (λ text. text.items ≡ saved_text_of (replay_of seat.old.opening seat.old.front)) }
+    ensures { IfOk result
+        (λ text. text.items ≡ saved_text_of (replay_of seat.old.opening seat.old.front)) }
 {
     let seen = seat.number();
     let version = match seat.look() {

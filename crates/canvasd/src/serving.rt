@@ -274,7 +274,8 @@ struct Run<'a> {
     is_first: bool,
 }
 
-// Serves a generation until it has all its edits. The answer is the saved document with which the next one begins.
+// Serves a generation until it has all its edits. The answer is the saved document with which the
+// next one begins.
 fn serve_generation<
     H: Files<File = File>
         + Print
@@ -344,7 +345,8 @@ fn serve_line<
     device: Asked<JournalFile<'_, H>>,
     run: &Run<'_>,
 ) -> Result<Vec<u8>, Fault>
-    requires line { L.line 1 ≡ record { book = opened.head.word.book; opening = document; limit = limit } }
+    requires line { L.line 1
+        ≡ record { book = opened.head.word.book; opening = document; limit = limit } }
     requires durable { Only (seen_of device) (may_leave device) }
 {
     // One for the keeper, one that looks, and one by which a follower makes what it is told.
@@ -642,7 +644,8 @@ fn serve_sessions<
     }
 }
 
-// How a generation ended at its doors. Where a session could not settle, the journal is lost, or the newest version could not be seen.
+// How a generation ended at its doors. Where a session could not settle, the journal is lost, or
+// the newest version could not be seen.
 fn ended<H: Wait>(
     rt: &H,
     end: Result<Ended, ServerFault>,

@@ -8,7 +8,8 @@ use std::net::Net;
 use std::os::unix::net::UnixStream;
 use std::sync::{Mutex, Wait};
 
-/// A connection to a store, by which one document is held as long as it lives. One thread at a time speaks over it.
+/// A connection to a store, by which one document is held as long as it lives. One thread at a time
+/// speaks over it.
 #[derive(Drop)]
 pub struct Link {
     stream: UnixStream,

@@ -1,4 +1,5 @@
-//! The folder of a document that a store keeps. It is made anew of what is kept there at each start, and nothing rests on what it has.
+//! The folder of a document that a store keeps. It is made anew of what is kept there at each
+//! start, and nothing rests on what it has.
 
 use crate::fault::{Deed, Fault, Misfit, Place, refused};
 use crate::folder::{Found, keep_folder, look, path_in};
@@ -18,7 +19,8 @@ use std::io::{ErrorKind, Write};
 use std::rt::Files;
 use std::sync::Wait;
 
-/// The generation that is served first of a document that a store keeps. Its folder has what is kept of it then, and a file that names the store.
+/// The generation that is served first of a document that a store keeps. Its folder has what is
+/// kept of it then, and a file that names the store.
 pub fn first_held<H: Files<File = File> + Alloc + Wait + Clone + Drop, K: Log>(
     rt: &H,
     log: &K,

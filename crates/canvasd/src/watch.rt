@@ -58,7 +58,8 @@ impl Watch {
     }
 }
 
-/// Starts a thread that tells the counts how a generation is kept, until the watch is ended. Where no thread can be had, they stay as they were.
+/// Starts a thread that tells the counts how a generation is kept, until the watch is ended. Where
+/// no thread can be had, they stay as they were.
 pub fn start_watch<'s, 'e: 's, G: Watched + Sync, H: Threads + Wait + Clock + Sync>(
     rt: &'e H,
     scope: &'s Scope<'s, &'e ()>,

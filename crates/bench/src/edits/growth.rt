@@ -30,8 +30,9 @@ fn time_size<R: Clock + Print>(rt: &R, alloc: Global, records: u32) -> Result<()
     time_growth(rt, alloc, &small, records, more)
 }
 
-/// Prints the least of some mean times of a new shape while a document grows to so many records by its last eighth. One
-/// length alone says little: what a new shape costs goes up and down with the lengths of the parts at the lists' ends.
+/// Prints the least of some mean times of a new shape while a document grows to so many records by
+/// its last eighth. One length alone says little: what a new shape costs goes up and down with the
+/// lengths of the parts at the lists' ends.
 fn time_growth<R: Clock + Print>(
     rt: &R,
     alloc: Global,

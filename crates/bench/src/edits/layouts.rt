@@ -12,8 +12,9 @@ use std::alloc::Global;
 /// What documents are made of that grow.
 pub const SQUARE: Part = Part::Square(5);
 
-/// How records hang together. In all but `Grown` ids begin at 2, as where the first shape was deleted, and indexes stand in no order of
-/// the ids, with a gap behind each, so that new indexes are other ones.
+/// How records hang together. In all but `Grown` ids begin at 2, as where the first shape was
+/// deleted, and indexes stand in no order of the ids, with a gap behind each, so that new indexes
+/// are other ones.
 #[derive(Clone, Copy)]
 pub enum Layout {
     /// Groups on the page, each with 63 rectangles.

@@ -30,7 +30,8 @@ pub enum Outline {
 
 /// The vertices of an outline.
 pub fn vertices(alloc: Global, outline: Outline) -> Result<Vec<Point>, Fault>
-    ensures { IfOk result (λ points. (0 < length points.items) × All (λ p. size_of p ≤ 2 ^ 27) points.items) }
+    ensures { IfOk result
+        (λ points. (0 < length points.items) × All (λ p. size_of p ≤ 2 ^ 27) points.items) }
 {
     let mut points = Vec::new(alloc);
     let mut state: u64 = 1;
@@ -98,8 +99,8 @@ fn at(x: u32, y: u32) -> Point
     }
 }
 
-// One of 256 places round a circle: 64 a quarter, at (1 - s²) / (1 + s²) and 2s / (1 + s²) of the radius, where s goes
-// from 0 to 1 in steps of a 64th.
+// One of 256 places round a circle: 64 a quarter, at (1 - s²) / (1 + s²) and 2s / (1 + s²) of the
+// radius, where s goes from 0 to 1 in steps of a 64th.
 fn ring(k: u32, radius: u32) -> Point
     requires { radius ≤ 120 }
     ensures { size_of result ≤ 2 ^ 27 }

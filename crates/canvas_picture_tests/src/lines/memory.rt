@@ -20,7 +20,8 @@ fn check_at<B: Lines, R: Abort>(rt: &R, seat: &mut Seat<B>, number: u64) {
     equal(rt, "its shapes", &count, &number);
 }
 
-// Makes an edit, and makes it again if it was refused. The seat's number and its version stay until it is accepted.
+// Makes an edit, and makes it again if it was refused. The seat's number and its version stay until
+// it is accepted.
 fn made<B: Lines, R: Wait + Abort>(
     rt: &R,
     seat: &mut Seat<B>,

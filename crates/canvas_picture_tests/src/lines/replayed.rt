@@ -27,7 +27,8 @@ fn place_of(number: u64) -> Option<usize> {
     usize::try_from(number.checked_sub(1)?).ok()
 }
 
-/// The documents after none, one, two and so on of the edits, from an empty one. Each place is to have its edit.
+/// The documents after none, one, two and so on of the edits, from an empty one. Each place is to
+/// have its edit.
 pub(crate) fn replayed<R: Abort>(
     rt: &R,
     alloc: Global,

@@ -36,7 +36,8 @@ fn opened<B: Lines, P: Play, R: Wait + Abort>(
     document: Document,
     limit: u64,
 )
-    requires { B.line 1 ≡ record { book = opened.head.word.book; opening = document; limit = limit } }
+    requires { B.line 1
+        ≡ record { book = opened.head.word.book; opening = document; limit = limit } }
 {
     let seats = Line::open::<B, R>(rt, alloc, opened, 1, document, 1, limit);
     let mut seat = only(rt, seats.expect(rt, "a line"));
@@ -76,7 +77,8 @@ pub(crate) fn create(kind: Kind, dx: i64, parent: Parent, spot: Spot) -> Edit {
     }
 }
 
-/// What an edit through a seat gives. (Calls of this and of `seen` tell a proof nothing, which keeps tests quick to prove.)
+/// What an edit through a seat gives. (Calls of this and of `seen` tell a proof nothing, which
+/// keeps tests quick to prove.)
 pub(crate) fn edited<B: Lines, R: Wait>(
     rt: &R,
     seat: &mut Seat<B>,

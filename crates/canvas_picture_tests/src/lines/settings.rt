@@ -44,7 +44,8 @@ fn refused<B: Lines, R: Wait + Abort>(
     seats: u32,
     limit: u64,
 ) -> Option<LineFault>
-    requires { B.line 1 ≡ record { book = opened.head.word.book; opening = document; limit = limit } }
+    requires { B.line 1
+        ≡ record { book = opened.head.word.book; opening = document; limit = limit } }
 {
     match Line::open::<B, R>(rt, alloc, opened, 1, document, seats, limit) {
         Ok(all) => {
@@ -81,7 +82,8 @@ fn apart<B: Lines, R: Wait + Abort>(
     two: Document,
 )
     requires first { B.line 3 ≡ record { book = first.head.word.book; opening = one; limit = 10 } }
-    requires second { B.line 7 ≡ record { book = second.head.word.book; opening = two; limit = 10 } }
+    requires second { B.line 7
+        ≡ record { book = second.head.word.book; opening = two; limit = 10 } }
 {
     let threes = Line::open::<B, R>(rt, alloc, first, 3, one, 1, 10).expect(rt, "a line");
     let sevens = Line::open::<B, R>(rt, alloc, second, 7, two, 1, 10).expect(rt, "a line");
@@ -95,7 +97,8 @@ fn apart<B: Lines, R: Wait + Abort>(
     check_strangers(rt, &mut three, &mut seven, (1, 2));
 }
 
-// Asserts that a seat of line 3 and one of line 7 do not meet, in either order, and that their fronts stay so long.
+// Asserts that a seat of line 3 and one of line 7 do not meet, in either order, and that their
+// fronts stay so long.
 fn check_strangers<B: Lines, R: Wait + Abort>(
     rt: &R,
     three: &mut Seat<B>,

@@ -60,7 +60,8 @@ fn crowd<B: Lines + Send + Sync, R: Threads + Wait + Abort + Sync>(
     opened: Opened,
     document: Document,
 )
-    requires { B.line 1 ≡ record { book = opened.head.word.book; opening = document; limit = 1000000 } }
+    requires { B.line 1
+        ≡ record { book = opened.head.word.book; opening = document; limit = 1000000 } }
 {
     let seats = Line::open::<B, R>(rt, alloc, opened, 1, document, SEATS, 1_000_000);
     let jobs = jobs_of(rt, alloc, seats.expect(rt, "a line"));

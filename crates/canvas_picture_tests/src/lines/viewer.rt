@@ -17,8 +17,8 @@ pub(crate) struct Sight {
     pub(crate) raster: Vec<u8>,
 }
 
-/// So many looks, each version painted where it is another than the last one. No look is refused, goes back, or is not at
-/// the seat's number.
+/// So many looks, each version painted where it is another than the last one. No look is refused,
+/// goes back, or is not at the seat's number.
 pub(crate) fn take_looks<B: Lines, R: Threads + Sync + Abort>(
     rt: &R,
     alloc: Global,

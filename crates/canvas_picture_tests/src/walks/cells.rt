@@ -1,4 +1,5 @@
-//! What several rectangles hide together: the cells of 8 by 8 pixels of the window that lie in one of them each.
+//! What several rectangles hide together: the cells of 8 by 8 pixels of the window that lie in one
+//! of them each.
 
 use crate::asserts::{equal, holds_at};
 use crate::pictures::count;

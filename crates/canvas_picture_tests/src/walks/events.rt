@@ -110,8 +110,8 @@ fn tell_all(alloc: Global, entries: &[Entry]) -> Result<String, OutOfMemory> {
     Ok(text)
 }
 
-/// The transcript of a list of events over an empty document. (A call of this tells a proof nothing, which keeps tests quick
-/// to prove.)
+/// The transcript of a list of events over an empty document. (A call of this tells a proof
+/// nothing, which keeps tests quick to prove.)
 pub(crate) fn ran(alloc: Global, seats: u32, events: &[Event]) -> Result<Transcript, OutOfMemory> {
     run(alloc, &Document::empty(alloc), seats, events)
 }

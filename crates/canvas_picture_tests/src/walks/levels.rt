@@ -1,4 +1,5 @@
-//! Pictures of windows of each level: worked ones, and random documents compared with the walk, pixel by pixel.
+//! Pictures of windows of each level: worked ones, and random documents compared with the walk,
+//! pixel by pixel.
 
 use crate::asserts::equal;
 use crate::pictures::picture;

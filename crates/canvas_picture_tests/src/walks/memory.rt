@@ -1,5 +1,5 @@
-//! Lists of events for which memory may be refused: run with each allocation refused in turn, a list answers want of
-//! memory, or what it answers with ample memory.
+//! Lists of events for which memory may be refused: run with each allocation refused in turn, a
+//! list answers want of memory, or what it answers with ample memory.
 
 use crate::asserts::equal;
 use crate::memory::are_right;

@@ -388,8 +388,8 @@ fn tiles_in(entries: &[Entry]) -> u32 {
     many
 }
 
-// How many tiles there were in a list of events over an empty document, of which all entries are to be right. The number
-// tells which list it is.
+// How many tiles there were in a list of events over an empty document, of which all entries are to
+// be right. The number tells which list it is.
 fn tiles_of(rt: &impl Abort, alloc: Global, events: &[Event], number: u64) -> u32 {
     let transcript = ran(alloc, 3, events).expect(rt, "memory");
     holds_at(

@@ -36,7 +36,8 @@ pub(crate) fn agrees(document: &Document, window: &Window, bytes: &[u8]) -> bool
     at == bytes.len()
 }
 
-/// Asserts that a document's picture in a window has its colour at each pixel. The number tells which picture it is.
+/// Asserts that a document's picture in a window has its colour at each pixel. The number tells
+/// which picture it is.
 pub(crate) fn check_walk(
     rt: &impl Abort,
     alloc: Global,

@@ -13,7 +13,8 @@ use std::alloc::Global;
 use std::process::Abort;
 use std::thread::Threads;
 
-// Asserts that a document's picture by 1 to 4 workers has its colour at each pixel. The number tells which picture it is.
+// Asserts that a document's picture by 1 to 4 workers has its colour at each pixel. The number
+// tells which picture it is.
 fn check_walk_by<R: Abort + Threads + Sync>(
     rt: &R,
     alloc: Global,

@@ -40,8 +40,8 @@ fn last_index_below_a1(rt: &impl Abort) -> Key {
     Key::read(&text).expect(rt, "a key")
 }
 
-// Makes the groups 1 to 32, each in the one before, and on the page the rectangles 33 and 34, with no room between 34
-// and 33.
+// Makes the groups 1 to 32, each in the one before, and on the page the rectangles 33 and 34, with
+// no room between 34 and 33.
 fn edit_in<H: Wait + Abort>(rt: &H, board: &mut Alone) {
     let mut parent = Parent::Page;
     for id in 1..33u32 {

@@ -1,5 +1,6 @@
-//! Sessions for which memory may be refused: run with each allocation refused in turn, nothing is read, or one line is answered by
-//! want of memory and all others as they should be; what was refused is asked again, and answered in full.
+//! Sessions for which memory may be refused: run with each allocation refused in turn, nothing is
+//! read, or one line is answered by want of memory and all others as they should be; what was
+//! refused is asked again, and answered in full.
 
 use crate::alone::serving::board;
 use crate::alone::sessions::{RED, RED_ANSWERS};

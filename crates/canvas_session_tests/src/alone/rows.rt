@@ -1,5 +1,5 @@
-//! Worked sessions, from the bytes of the requests to the bytes of the answers: each is served in one piece and byte by
-//! byte, with and without a CR before each LF.
+//! Worked sessions, from the bytes of the requests to the bytes of the answers: each is served in
+//! one piece and byte by byte, with and without a CR before each LF.
 
 use crate::alone::serving::{answers, board, check};
 use crate::asserts::holds;
