@@ -1,5 +1,5 @@
 #!/usr/bin/env python3
-"""Times of pictures that a seat has kept, beside pictures that are painted anew and a server that sends the same bytes.
+"""Times of pictures that the server has kept, beside pictures that are painted anew and a server that sends the same bytes.
 
 usage: bench/kept.py [seconds of each run, 3 where it is left out]
 

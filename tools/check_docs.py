@@ -1,5 +1,5 @@
 #!/usr/bin/env python3
-"""Compares the pages with what is there: the wrong bodies, and the files, crates and commands that a page names.
+"""Compares the pages with what is there: the wrong bodies, and the files, crates and commands that a page names. Measures pages and clauses.
 
 usage: tools/check_docs.py [--write]
 
@@ -10,6 +10,7 @@ usage: tools/check_docs.py [--write]
 - each file, crate and command that README.md, CHANGELOG.md, docs/*.md or a crate's README.md names exists, and each function that is named
   behind its file;
 - no page, and not all together, have more words than MOST and MOST_OF_ALL say (count_of says what counts);
+- no more lines of clauses are wide than MOST_WIDE says;
 - tools/README.md and examples/README.md name each file beside them;
 - docs/PROOFS.md names each crate of the kit that crates.txt has among those that are trusted;
 - each heading that docs/QUESTIONS.md names stands in its page;
@@ -24,6 +25,7 @@ import sys
 
 from body_lists import faults_of_lists, write_lists
 from excerpts import NoDefinition, as_they_stand, faults_of_excerpts
+from functions import clause_lines
 from repository import TOP, lines
 from try_wrong_bodies import BadEdit, edited
 
@@ -39,6 +41,9 @@ MOST = {"README.md": 1_000, "docs/ARCHITECTURE.md": 1_500, "docs/DECISIONS.md": 
 """How many words a page may have."""
 MOST_OF_ALL = 27_000
 """How many words README.md, docs/ and the READMEs of crates, tools, the viewer and examples may have together."""
+
+MOST_WIDE = {100: 60, 150: 0}
+"""How many lines of clauses may be wider than so many columns."""
 
 
 def count_of(text):
@@ -144,6 +149,14 @@ def faults_of_lengths(pages):
         yield None if count <= most else f"{page}: {count} words, and {most} may be"
 
 
+def faults_of_widths():
+    """As faults_of_bodies, for how wide the lines of clauses are."""
+    widths = [len(line) for it in sorted(CRATES.glob("*/src/**/*.rt")) for line in clause_lines(it.read_text())]
+    for columns, most in MOST_WIDE.items():
+        count = sum(it > columns for it in widths)
+        yield None if count <= most else f"crates: {count} lines of clauses are over {columns} columns, and {most} may be"
+
+
 def faults_of_trusted():
     """As faults_of_bodies, for the crates of the kit that docs/PROOFS.md trusts."""
     used = {it for line in lines().values() for it in line.partition(":")[2].split()} - {*lines()}
@@ -193,7 +206,7 @@ def main():
             write(page)
         write_lists()
     found = [*faults_of_bodies(), *faults_of_lists(), *faults_of_questions(), *faults_of_trusted(), *faults_of_gate(), *faults_of_version()]
-    found += faults_of_lengths(pages)
+    found += [*faults_of_lengths(pages), *faults_of_widths()]
     for page in indexes:
         found += faults_of_index(page)
     for page in pages:

@@ -241,7 +241,7 @@ def small_sessions(folder):
 
 
 def kept_level(folder):
-    """A picture at a level, which the seat keeps: shapes beside the pixels shown change no byte of it."""
+    """A picture at a level, which the server keeps: shapes beside the pixels shown change no byte of it."""
     picture = {"verb": "patch", "x": 0, "y": 0, "w": 2, "h": 2, "level": 3}
     red = b"P6\n2 2\n255\n" + b"\xff\0\0" * 4
     with Server(folder) as server, server.connect() as canvas:
@@ -441,7 +441,7 @@ def history(folder, count, seconds, seed, most):
         yield f"refusals by {code}, {count} clients", None if found.refusals.get(code) else "none came"
 
 
-# -- pictures that a seat may keep -------------------------------------------------------------------------------------
+# -- pictures that the server may keep ---------------------------------------------------------------------------------
 
 WINDOWS = [
     {"verb": "tile", "col": 0, "row": 0},
@@ -583,7 +583,7 @@ def come_and_go(server, chance):
 
 
 def fill(server):
-    """Has each seat keep a picture."""
+    """Has each seat look at a picture, which the server keeps."""
     with contextlib.ExitStack() as held:
         for viewer in [held.enter_context(server.connect()) for _ in range(SEATS)]:
             viewer.ask(verb="tile", col=0, row=0)

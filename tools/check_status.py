@@ -132,7 +132,7 @@ def counts():
                 b'{"verb":"reshape","id":4,"shape":{"kind":"rect","w":20,"h":10,"fill":"ff0000"}}\n',
             ])
             more, replies = converse(second, [
-                TILE, TILE, b'{"verb":"patch","x":0,"y":0,"w":3,"h":2}\n', b'{"verb":"point","x":1,"y":1}\n', b'{"verb":"export"}\n',
+                TILE, TILE, TILE, b'{"verb":"patch","x":0,"y":0,"w":3,"h":2}\n', b'{"verb":"point","x":1,"y":1}\n', b'{"verb":"export"}\n',
                 b'{"verb":"delete","id":99}\n', b'{"verb":"delete","id":1}\n', b"no json\n", b'{"verb":"draw"}\n', b'{"verb":"tile","col":0,"row":0,"level":9}\n',
             ])
             open_now = server.samples()
@@ -142,14 +142,14 @@ def counts():
         ended = wait_for(lambda: server.samples()["canvas_open_sessions"] == 0)
         yield "no session is open after both have ended", None if ended else "canvas_open_sessions stays above 0"
         after = server.samples()
-        told = {"create": 4, "pose": 1, "show": 1, "move": 1, "respace": 1, "delete": 3, "reshape": 1, "tile": 3, "patch": 1, "point": 1, "export": 1, "unread": 2}
+        told = {"create": 4, "pose": 1, "show": 1, "move": 1, "respace": 1, "delete": 3, "reshape": 1, "tile": 4, "patch": 1, "point": 1, "export": 1, "unread": 2}
         yield "each request is counted by its verb", differing(after, {'canvas_requests_total{verb="%s"}' % verb: told[verb] for verb in VERBS})
         yield "each refusal is counted by its name", differing(after, {
             'canvas_refusals_total{name="NoSuchShape"}': 2, 'canvas_refusals_total{name="BadJson"}': 1, 'canvas_refusals_total{name="BadVerb"}': 1,
             'canvas_refusals_total{name="BadLevel"}': 1, 'canvas_refusals_total{name="BadField"}': 0, 'canvas_refusals_total{name="BadWindow"}': 0,
         })
         yield "each byte is counted", differing(after, {"canvas_sent_bytes_total": sent + more})
-        yield "pictures are counted, painted and kept", differing(after, {"canvas_painted_pictures_total": 2, "canvas_kept_pictures_total": 1})
+        yield "pictures are counted, painted and kept", differing(after, {"canvas_painted_pictures_total": 3, "canvas_kept_pictures_total": 1})
         kept = wait_for(lambda: server.samples()["canvas_kept_version"] == 10)
         yield "all ten edits are kept", None if kept else f"{server.samples()['canvas_kept_version']} are kept"
         yield "the newest version is the tenth", differing(server.samples(), {"canvas_version": 10})

@@ -1,5 +1,5 @@
-"""In which functions of a source, as `rt fmt` lays it out, a change lies, what a source says without their bodies, and which function a line of the
-prover refuses."""
+"""In which functions of a source, as `rt fmt` lays it out, a change lies, what a source says without their bodies, which lines its clauses have, and
+which function a line of the prover refuses."""
 
 import re
 from dataclasses import dataclass
@@ -9,6 +9,8 @@ HEAD = re.compile(r"( *)(?:pub(?:\([a-z]+\))? )?(?:const )?fn (\w+)")
 GOAL = re.compile(r"(?:note: )?(?:\./)?(src/\S+\.rt):(\d+):\d+: (?:error: |it is not proved)")
 # A text or a character, which stay as they are; or what lays a source out: space and comments.
 LAYOUT = re.compile(r"""("(?:\\.|[^"\\])*"|'(?:\\.|[^'\\\n])')|(?:\s|//[^\n]*)+""")
+# The line on which a clause begins: one of a contract or of a loop, or a ghost member.
+CLAUSE = re.compile(r" *(?:pub )?(?:(?:requires|ensures|invariant)\*?(?: \w+)?|ghost \w+(?: =|:)) \{")
 # An answer of a proof file, which stands in a folder with the function's name.
 ANSWER = re.compile(r"(?:note: )?(?:\./)?proofs/(?:\S+/)?(\w+)/\w+\.antt:\d+:\d+: error")
 
@@ -64,6 +66,16 @@ def without_bodies(text):
 def without_layout(text):
     """A source without its comments and with one space wherever there is space: how it is laid out changes no goal of the prover."""
     return LAYOUT.sub(lambda it: it[1] or " ", text).strip()
+
+
+def clause_lines(text):
+    """The lines of a source that clauses take."""
+    open_braces = 0
+    for line in text.split("\n"):
+        if open_braces or CLAUSE.match(line):
+            yield line
+            bare = LAYOUT.sub("", line)
+            open_braces += bare.count("{") - bare.count("}")
 
 
 def changed_functions(old, new):

@@ -24,7 +24,7 @@ A run of canvasd may besides end with its status for a lost journal, where memor
 exactly the edits that were answered, and perhaps the one that was not. Before it answers it may end with its own words for want of memory, or say
 that it accepts nothing, where the thread of its door could not be started.
 
-Another conversation asks for one window again and again, whose pictures a seat may keep: it is answered by the picture of the
+Another conversation asks for one window again and again, whose pictures the server may keep: it is answered by the picture of the
 version that it names, whether that was kept or not.
 
 With `long` the conversation is longer, is painted by two workers too, and several allocations are refused in a row.

@@ -31,7 +31,7 @@ TESTS = {
     ],
     "canvas_session_tests": [
         "alone::memory::an_edit_and_a_picture_with_little_memory", "alone::memory::an_export_with_little_memory",
-        "memory::a_square_moves_away_with_little_memory",
+        "memory::a_square_moves_away_with_little_memory", "memory::two_boards_share_pictures_with_little_memory",
     ],
     "canvas_keep_tests": ["memory::kept_edits_with_little_memory"],
     "canvas_server_tests": ["memory::a_server_with_little_memory"],

@@ -1,74 +1,43 @@
--- What comes into the kept pictures by a put, and what is found among them.
-use Rattle.std.proofs.Common.{◌≡◌, ℕ, ◌-◌, inl, inr, Bool, true, false, List, ◌∷◌, take, Contains, Option, Some, None, Result, Ok, Err, OnOk, OnErr, refl, sym, ap, ◌∙◌, subst, arith}
-use Rattle.std.specs.Arc.{arc_value}
+-- What is put in is found among what is kept.
+use Rattle.std.proofs.Common.{◌≡◌, ◌-◌, Bool, true, false, List, ◌∷◌, take, Contains, Option, Some, None, Result, Ok, Err, OnOk, OnErr, refl, sym, ap, ◌∙◌, subst, arith}
 use Rattle.std.specs.Prelude.{◌&&◌, nat_eq}
 use Rattle.std.specs.Ordering.{int_eq}
-use Rattle.canvas_board.specs.contracts.kept.WindowKeyPartialEq.TheImpl as key_impl
+use Rattle.canvas_board.specs.contracts.window_key.WindowKeyPartialEq.TheImpl as key_impl
 use Rattle.std.specs.Option.{option_map_or}
-use Rattle.std.specs.Map.{lookup, lookup_entry, remove_entry}
+use Rattle.std.specs.Map.{lookup_entry, remove_entry}
 use Rattle.std.specs.Cmp.{signed_Decides}
 use Rattle.std.proofs.lemmas.Bool.{eqb-true}
 use Rattle.lru.specs.LruCache.{LruCache, lru_cache, put_entries}
-use Rattle.lru.proofs.CallerLemmas.{Contains-put_entries, Contains-lookup, Contains-lookup_entry}
+use Rattle.lru.proofs.CallerLemmas.{Contains-lookup_entry}
 use Rattle.canvas_plane.specs.declared.windows.Window.{Window}
-use Rattle.canvas_line.specs.declared.recent.Damage.{Damage}
-use Rattle.canvas_board.specs.declared.answers.Picture.{Picture}
-use Rattle.canvas_board.specs.declared.kept.WindowKey.{WindowKey}
-use Rattle.canvas_board.specs.Kept.{key_of, BringsIn, CountsAt, IsStillRight, TellsOfKept}
+use Rattle.canvas_line.specs.Lines.{Sight}
+use Rattle.canvas_board.specs.declared.window_key.WindowKey.{WindowKey}
+use Rattle.canvas_board.specs.Kept.{key_of, CountsAt}
 
 -- keys that pass as equal are one
 abbrev pub IsExact : (WindowKey → WindowKey → Bool) → Type 0
 IsExact eq = (a b : WindowKey) → eq a b ≡ true → a ≡ b
 
 module _ (eq : WindowKey → WindowKey → Bool) (exact : IsExact eq) where
-  -- what is put in counts under the window's numbers
-  pub put-brings : (cache : LruCache WindowKey Picture) (window : Window) (key : WindowKey) (picture : Picture) (Is : Picture → Type 0) → key ≡ key_of window → Is picture → BringsIn cache.entries window Is (put_entries eq cache key picture)
-  put-brings cache window key picture Is named is = λ e h. elim (Contains-put_entries eq cache key picture e h) [
-    | inl there ↦ inl there
-    | inr put ↦ inr ((elim put.1 [ inl same ↦ same ∙ named | inr found ↦ sym (exact key e.0 found.2) ∙ named ]), subst Is (sym put.0) is)
-  ]
-
-  -- a put that fails brings in nothing
-  pub put-either : {A E : Type 0} (r : Result A E) (old new : LruCache WindowKey Picture) (window : Window) (key : WindowKey) (picture : Picture) (Is : Picture → Type 0) → key ≡ key_of window → Is picture
-      → OnOk r (new ≡ lru_cache (put_entries eq old key picture) old.cap) → OnErr r (new ≡ old) → BringsIn old.entries window Is new.entries
-  put-either (Ok a) old new window key picture Is named is ok err = subst (λ (c : LruCache WindowKey Picture). BringsIn old.entries window Is c.entries) (sym ok) (put-brings old window key picture Is named is)
-  put-either (Err a) old new window key picture Is named is ok err = subst (λ (c : LruCache WindowKey Picture). BringsIn old.entries window Is c.entries) (sym err) (λ e h. inl h)
-
   -- a put leaves room for as many
-  pub put-room : {A E : Type 0} (r : Result A E) (old new : LruCache WindowKey Picture) (es : List (WindowKey × Picture)) → OnOk r (new ≡ lru_cache es old.cap) → OnErr r (new ≡ old) → new.cap ≡ old.cap
-  put-room (Ok a) old new es ok err = ap (λ (c : LruCache WindowKey Picture). c.cap) ok
-  put-room (Err a) old new es ok err = ap (λ (c : LruCache WindowKey Picture). c.cap) err
+  pub put-room : {A E : Type 0} (r : Result A E) (old new : LruCache WindowKey Sight) (es : List (WindowKey × Sight)) → OnOk r (new ≡ lru_cache es old.cap) → OnErr r (new ≡ old) → new.cap ≡ old.cap
+  put-room (Ok a) old new es ok err = ap (λ (c : LruCache WindowKey Sight). c.cap) ok
+  put-room (Err a) old new es ok err = ap (λ (c : LruCache WindowKey Sight). c.cap) err
 
-  there-after : (cache : LruCache WindowKey Picture) (window : Window) (key : WindowKey) (picture : Picture) (o : Option (WindowKey × Picture)) → key ≡ key_of window → lookup_entry (eq key) cache.entries ≡ o
-      → Contains (option_map_or (λ e. (e.0, picture) ∷ remove_entry (eq key) cache.entries) o ((key, picture) ∷ take (cache.cap - 1) cache.entries)) (key_of window, picture)
-  there-after cache window key picture None named found = (0, omega arith, ap (λ (k : WindowKey). (k, picture)) named)
-  there-after cache window key picture (Some e) named found =
+  there-after : (cache : LruCache WindowKey Sight) (window : Window) (key : WindowKey) (seat : Sight) (o : Option (WindowKey × Sight)) → key ≡ key_of window → lookup_entry (eq key) cache.entries ≡ o
+      → Contains (option_map_or (λ e. (e.0, seat) ∷ remove_entry (eq key) cache.entries) o ((key, seat) ∷ take (cache.cap - 1) cache.entries)) (key_of window, seat)
+  there-after cache window key seat None named found = (0, omega arith, ap (λ (k : WindowKey). (k, seat)) named)
+  there-after cache window key seat (Some e) named found =
       let same : key ≡ e.0 = exact key e.0 (Contains-lookup_entry (eq key) cache.entries e found).1 in
-      (0, omega arith, ap (λ (k : WindowKey). (k, picture)) (sym same ∙ named))
+      (0, omega arith, ap (λ (k : WindowKey). (k, seat)) (sym same ∙ named))
 
   -- what was put in is there, under the window's numbers
-  pub put-there : (cache : LruCache WindowKey Picture) (window : Window) (key : WindowKey) (picture : Picture) → key ≡ key_of window → Contains (put_entries eq cache key picture) (key_of window, picture)
-  put-there cache window key picture named = there-after cache window key picture (lookup_entry (eq key) cache.entries) named refl
-
-  -- so it counts as kept
-  pub put-counts : {A E : Type 0} (r : Result A E) (a : A) (cache new : LruCache WindowKey Picture) (window : Window) (key : WindowKey) (number : ℕ) (put picture : Picture) → key ≡ key_of window → r ≡ Ok a
-      → OnOk r (new ≡ lru_cache (put_entries eq cache key put) cache.cap) → put.version ≡ number → arc_value put.bytes ≡ arc_value picture.bytes → CountsAt new.entries window number picture
-  put-counts (Ok b) a cache new window key number put picture named done is version bytes =
-      (put, subst (λ (c : LruCache WindowKey Picture). Contains c.entries (key_of window, put)) (sym is) (put-there cache window key put named), version, bytes)
-  put-counts (Err e) a cache new window key number put picture named done is version bytes = absurd (cc done)
-
-  -- a kept picture that is still right tells of the later version
-  pub tells-of : (entries : List (WindowKey × Picture)) (window : Window) (key : WindowKey) (number : ℕ) (recent : List Damage) (from picture : Picture) → key ≡ key_of window → Some from ≡ lookup (eq key) entries
-      → IsStillRight recent from.version number window → picture.version ≡ number → arc_value picture.bytes ≡ arc_value from.bytes → TellsOfKept entries window number recent picture
-  tells-of entries window key number recent from picture named found right version bytes =
-      let at = Contains-lookup (eq key) entries from (sym found) in
-      record {
-        from = from;
-        there = subst (λ (k : WindowKey). Contains entries (k, from)) (sym (exact key at.0 at.2) ∙ named) at.1;
-        right = right;
-        version = version;
-        bytes = bytes;
-      }
+  pub put-counts : {A E : Type 0} (r : Result A E) (a : A) (cache new : LruCache WindowKey Sight) (window : Window) (key : WindowKey) (put seat : Sight) → key ≡ key_of window → r ≡ Ok a
+      → OnOk r (new ≡ lru_cache (put_entries eq cache key put) cache.cap) → put ≡ seat → CountsAt new.entries window seat
+  put-counts (Ok b) a cache new window key put seat named done is same =
+      subst (λ (s : Sight). CountsAt new.entries window s) same
+      (subst (λ (c : LruCache WindowKey Sight). Contains c.entries (key_of window, put)) (sym is) (there-after cache window key put (lookup_entry (eq key) cache.entries) named refl))
+  put-counts (Err e) a cache new window key put seat named done is same = absurd (cc done)
 
 and-both : (p q : Bool) → (p && q) ≡ true → (p ≡ true) × (q ≡ true)
 and-both true q h = (refl, h)

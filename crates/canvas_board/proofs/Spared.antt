@@ -1,7 +1,7 @@
 -- What changes leave as it is: a window that the damage of each misses shows the same picture after them.
 use Rattle.std.proofs.Common.{◌≡◌, ℕ, zero, suc, ◌+◌, ◌-◌, ◌<◌, ◌≤◌, Bool, true, false, ◌&&◌, List, [], ◌∷◌, ◌++◌, length, take, drop, All, refl, sym, ap, ◌∙◌, subst, arith}
 use Rattle.std.specs.Prelude.{ℤ, ◌+ℤ◌, ◌*ℤ◌, pos}
-use Rattle.std.proofs.lemmas.List.{drop-append-le, take-append-drop, get_or-append-add, length-append}
+use Rattle.std.proofs.lemmas.List.{drop_at, take-append-drop}
 use Rattle.canvas_plane.specs.declared.PageBox.{PageBox}
 use Rattle.canvas_plane.specs.declared.windows.Window.{Window}
 use Rattle.canvas_plane.specs.Page.{is_in, meet_of}
@@ -21,10 +21,11 @@ use Rattle.canvas_paint.proofs.Joined.{joined-picture}
 use Rattle.canvas_line.proofs.Prefixes.{length_take_within}
 use Rattle.canvas_board.specs.Raster.{file_of}
 use Rattle.canvas_line.specs.declared.recent.Damage.{Damage}
-use Rattle.canvas_board.specs.declared.kept.WindowKey.{WindowKey}
-use Rattle.canvas_line.specs.Recent.{damages_from, recent_of}
-use Rattle.canvas_board.specs.Kept.{key_of, misses, IsStillRight}
+use Rattle.canvas_board.specs.declared.window_key.WindowKey.{WindowKey}
+use Rattle.canvas_line.specs.Recent.{damages_from}
+use Rattle.canvas_board.specs.Kept.{key_of, misses, IsEndOf, IsStillRight}
 use Rattle.canvas_line.proofs.Recently.{damages-append, length-damages}
+use Rattle.canvas_board.proofs.Ends.{all-past}
 
 -- outside the damage of a change each colour is as it was
 abbrev pub DamageKeeps : Type 0
@@ -60,37 +61,33 @@ same-after keeps window k n le d (c ∷ cs) w fit all x y h =
     same-after keeps window k (n + 1) (omega arith) (effect_of c d) cs fit.0.left fit.1 (λ j e lt. all (suc j) e (omega (arith, lt))) x y h
     ∙ keeps c d w fit.0 x y (missed-pixel window (damage_of c d) x y first h)
 
-all-end : (P : Damage → Type 0) (a b : List Damage) → All P (a ++ b) → All P b
-all-end P a b all = λ j d lt. subst P (get_or-append-add a b j d) (all (length a + j) d (omega (arith, lt, length-append a b)))
-
--- what holds of the last damages holds of those after the k-th, if these are 64 at most
-pub all-later : (P : Damage → Type 0) (opening : Contents) (changes : List Change) (k : ℕ) → k ≤ length changes → length changes ≤ k + 64 → All P (recent_of opening changes)
+-- what holds of the last damages that are told holds of those after the k-th, if these are told
+pub all-later : (P : Damage → Type 0) (told : List Damage) (opening : Contents) (changes : List Change) (k : ℕ) → IsEndOf told opening changes → k ≤ length changes → length changes ≤ k + length told → All P told
     → All P (damages_from k (replay_of opening (take k changes)) (drop k changes))
-all-later P opening changes k within near all =
+all-later P told opening changes k end within near all =
+    let whole : List Damage = damages_from 0 opening changes in
     let before : List Damage = damages_from 0 opening (take k changes) in
     let after : List Damage = damages_from k (replay_of opening (take k changes)) (drop k changes) in
     let taken : length (take k changes) ≡ k = length_take_within k changes within in
-    let count : length before ≡ k = length-damages 0 opening (take k changes) ∙ taken in
     let number : 0 + length (take k changes) ≡ k = omega (arith, taken) in
-    let whole : damages_from 0 opening changes ≡ before ++ after =
+    let parts : whole ≡ before ++ after =
     ap (damages_from 0 opening) (sym (take-append-drop k changes)) ∙ damages-append 0 opening (take k changes) (drop k changes)
     ∙ ap (λ (n : ℕ). before ++ damages_from n (replay_of opening (take k changes)) (drop k changes)) number in
-    let total : length (damages_from 0 opening changes) ≡ length changes = length-damages 0 opening changes in
-    let past : ℕ = length (damages_from 0 opening changes) - 64 in
-    let few : past ≤ length before = omega (arith, total, count, near) in
-    let split : recent_of opening changes ≡ drop past before ++ after = ap (drop past) whole ∙ drop-append-le past before after few in
-    all-end P (drop past before) after (subst (All P) split all)
+    let count : length before ≡ k = length-damages 0 opening (take k changes) ∙ taken in
+    let long : length whole ≤ k + length told = omega (arith, length-damages 0 opening changes, near) in
+    let same : drop k whole ≡ after = ap (drop k) parts ∙ drop_at before after k count in
+    subst (All P) same (all-past P k told whole end long all)
 
 -- a picture that is still right shows the document after all changes
-pub still-shows : DamageKeeps → (opening : Contents) (changes : List Change) (k : ℕ) (window : Window) → IsWellFormed (replay_of opening (take k changes)) → AllFit opening changes → k ≤ length changes
-    → IsStillRight (recent_of opening changes) k (length changes) window → file_of (replay_of opening changes) window ≡ file_of (replay_of opening (take k changes)) window
-still-shows keeps opening changes k window w fit within right =
+pub still-shows : DamageKeeps → (told : List Damage) (opening : Contents) (changes : List Change) (k : ℕ) (window : Window) → IsWellFormed (replay_of opening (take k changes)) → AllFit opening changes → IsEndOf told opening changes
+    → IsStillRight told k (length changes) window → file_of (replay_of opening changes) window ≡ file_of (replay_of opening (take k changes)) window
+still-shows keeps told opening changes k window w fit end right =
     let d : Contents = replay_of opening (take k changes) in
     let parts : take k changes ++ drop k changes ≡ changes = take-append-drop k changes in
     let fits : AllFit d (drop k changes) = (all_fit-front opening (take k changes) (drop k changes) (subst (AllFit opening) (sym parts) fit)).1 in
     let same : replay_of d (drop k changes) ≡ replay_of opening changes = sym (replay-append opening (take k changes) (drop k changes)) ∙ ap (replay_of opening) parts in
     let missed : All (λ (e : Damage). k < e.number → misses window e.area ≡ true) (damages_from k d (drop k changes)) =
-    all-later (λ (e : Damage). k < e.number → misses window e.area ≡ true) opening changes k within right.near right.missed in
+    all-later (λ (e : Damage). k < e.number → misses window e.area ≡ true) told opening changes k end right.later right.near right.missed in
     ap (λ (e : Contents). file_of e window) (sym same) ∙ same-file d (replay_of d (drop k changes)) window (same-after keeps window k k (omega arith) d (drop k changes) w fits missed)
 
 -- the file of a window goes by its numbers

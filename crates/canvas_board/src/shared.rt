@@ -1,16 +1,15 @@
 //! The board of one caller among others, over a seat of a shared document.
 
 ghost use Rattle.std.specs.Prelude.{◌≡◌, IfOk, true};
-ghost use Rattle.canvas_line.specs.Lines.{Sight};
-ghost use Rattle.canvas_line.specs.Seats.{Looks};
+ghost use Rattle.canvas_line.specs.Standing.{IsVersionOf};
 ghost use Rattle.canvas_paint.specs.Workers.{are_workers};
-ghost use Rattle.canvas_board.specs.Kept.{entries_of, AreRight, ShowsAt};
-ghost use Rattle.canvas_board.specs.Shared.{OpensAt, known_after};
+ghost use Rattle.canvas_board.specs.Kept.{ShowsAt};
+ghost use Rattle.canvas_board.specs.Shared.{OpensAt, known_after, shared_board};
 
 use crate::answers::{Dot, Picture, Saved};
 use crate::board::Board;
 use crate::fault::BoardFault;
-use crate::kept::KeptPictures;
+use crate::gallery::Gallery;
 use crate::last_export::LastExport;
 use crate::picture::file_of;
 use bumpalo::Bump;
@@ -28,15 +27,15 @@ pub const MOST_KEPT: u32 = 256;
 
 /// The board of one caller among others: a seat at a document that many share.
 ///
-/// Its front is the history of its last answer that told of one, at first that of its seat. The seat may have seen more,
-/// where an answer could not be given.
+/// Its front is the history of its last answer that told of one, at first that of its seat. The
+/// seat may have seen more, where an answer could not be given.
 #[derive(Drop)]
 pub struct Shared<B: Lines> {
     alloc: Global,
     seat: Seat<B>,
     // How many changes the front has.
     known: u64,
-    kept: KeptPictures,
+    gallery: Gallery<B>,
     last_export: LastExport<B>,
     // How many pictures were answered from the kept ones.
     hits: u64,
@@ -46,50 +45,61 @@ impl<B: Lines> Model for Shared<B> {
     ghost use Rattle.std.specs.Prelude.{◌≤◌, length};
     ghost use Rattle.canvas_board.specs.Seen.{Seen};
     ghost use Rattle.canvas_board.specs.Shared.{board_at};
-    ghost use Rattle.canvas_board.specs.Kept.{entries_of, AreRight};
 
     ghost Value = { Seen };
 
     ghost view = { λ board. board_at board.seat board.known };
 
-    ghost invariant = { λ board. (board.known ≤ length board.seat.front) × AreRight board.seat (entries_of board.kept.cache) };
+    ghost invariant = { λ board. board.known ≤ length board.seat.front };
 }
 
 impl<B: Lines> Shared<B> {
-    /// A board over a seat, which may keep up to `keep` pictures, 0 to 256; else `BadSetting`. Where it can't be made the
-    /// seat comes back.
+    /// A board over a seat, which may keep up to `keep` pictures, 0 to 256; else `BadSetting`.
+    /// Where it can't be made the seat comes back.
     pub fn new(alloc: Global, seat: Seat<B>, keep: u32) -> Result<Shared<B>, (BoardFault, Seat<B>)>
-        ensures { OpensAt seat keep result }
-    {
-        Shared::beside(alloc, seat, keep, LastExport::new(alloc))
-    }
-
-    /// The same, beside other boards of the line that have the same last export.
-    pub fn beside(
-        alloc: Global,
-        seat: Seat<B>,
-        keep: u32,
-        last_export: LastExport<B>,
-    ) -> Result<Shared<B>, (BoardFault, Seat<B>)>
         ensures { OpensAt seat keep result }
     {
         if keep > MOST_KEPT {
             return Err((BoardFault::BadSetting, seat));
         }
+        let gallery = Gallery::of_one(alloc, keep as usize);
+        Ok(Shared::beside(alloc, seat, gallery, LastExport::new(alloc)))
+    }
+
+    /// A board over a seat, beside other boards of the line that have the same gallery and the same
+    /// last export.
+    pub fn beside(
+        alloc: Global,
+        seat: Seat<B>,
+        gallery: Gallery<B>,
+        last_export: LastExport<B>,
+    ) -> Shared<B>
+        ensures { result ≡ shared_board seat.opening seat.limit seat.front }
+    {
         let known = seat.number();
-        Ok(Shared {
+        Shared {
             alloc,
             seat,
             known,
-            kept: KeptPictures::new(keep as usize),
+            gallery,
             last_export,
             hits: 0,
-        })
+        }
     }
 
     /// How many pictures were answered from those that are kept; at 2^64 - 1 it stays.
     pub fn hits(&self) -> u64 {
         self.hits
+    }
+
+    /// Has the gallery remember the damage of the last changes, so that it still tells which
+    /// pictures are right when nobody has asked for one during 64 changes.
+    pub fn remember(&mut self)
+        ensures { self.new ≡ self.old }
+    {
+        if let Ok(version) = self.seat.look() {
+            self.gallery.remember(self.alloc, &self.seat, &version);
+        }
     }
 
     /// Gives the seat up. The last seat of a line gives up the line's memory too.
@@ -123,9 +133,15 @@ impl<B: Lines> Board for Shared<B> {
         let Ok(version) = self.seat.look() else {
             return Err(BoardFault::NoView);
         };
-        self.seat.start_painting();
-        let answer = picture_at(rt, self.alloc, &mut self.kept, &version, window, workers);
-        self.seat.stop_painting();
+        let answer = picture_at(
+            rt,
+            self.alloc,
+            &self.gallery,
+            &self.seat,
+            &version,
+            window,
+            workers,
+        );
         match answer {
             Ok(answer) => {
                 self.known = version.number;
@@ -172,28 +188,37 @@ struct Answered {
     was_kept: bool,
 }
 
-// The picture of a window at a version: the one that is kept, where it is still right; else it is painted, and kept.
-fn picture_at<R: Threads + Sync>(
+// The picture of a window at the version that a seat has looked at: the one that is kept, where it
+// is still right; else it is painted, and kept.
+fn picture_at<B: Lines, R: Threads + Sync>(
     rt: &R,
     alloc: Global,
-    kept: &mut KeptPictures,
+    gallery: &Gallery<B>,
+    seat: &Seat<B>,
     version: &Version,
     window: &Window,
     workers: u32,
 ) -> Result<Answered, OutOfMemory>
-    requires { are_workers workers ≡ true }
-    ensures shows { (s t : Sight) → Looks s t version.now → AreRight t (entries_of kept.old.cache) → IfOk result (λ answer. ShowsAt version.now window.now answer.picture) }
-    ensures right { (s t : Sight) → Looks s t version.now → AreRight t (entries_of kept.old.cache) → AreRight t (entries_of kept.new.cache) }
+    requires workers { are_workers workers ≡ true }
+    requires at { IsVersionOf seat.now.opening seat.now.limit seat.now.front version.now }
+    ensures { IfOk result (λ answer. ShowsAt version.now window.now answer.picture) }
 {
-    if let Some(picture) = kept.answer(window, version.number, &version.recent) {
+    if let Some(bytes) = gallery.answer(alloc, seat, version, window) {
+        let number = version.number;
         return Ok(Answered {
-            picture,
+            picture: Picture {
+                version: number,
+                bytes,
+            },
             was_kept: true,
         });
     }
-    let picture = painted(rt, alloc, version, window, workers)?;
+    seat.start_painting();
+    let painted = painted(rt, alloc, version, window, workers);
+    seat.stop_painting();
+    let picture = painted?;
     version.document.well_formed_law();
-    kept.keep(alloc, window, &picture);
+    gallery.keep(alloc, seat, version, window, &picture.bytes);
     Ok(Answered {
         picture,
         was_kept: false,

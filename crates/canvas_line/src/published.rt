@@ -26,9 +26,15 @@ impl Model for Published {
 
     ghost Value = { Shown };
 
-    ghost view = { λ p. record { facts = record { book = p.trace.book; opening = (arc_value p.opening).document; limit = p.limit }; changes = p.trace.changes; version = arc_value p.version } };
+    ghost view = { λ p.
+        record {
+          facts = record { book = p.trace.book; opening = (arc_value p.opening).document; limit = p.limit };
+          changes = p.trace.changes;
+          version = arc_value p.version;
+        } };
 
-    ghost invariant = { λ p. IsVersionOf (arc_value p.opening).document p.limit p.trace.changes (arc_value p.version) };
+    ghost invariant = { λ p. IsVersionOf (arc_value p.opening).document p.limit p.trace.changes
+        (arc_value p.version) };
 }
 
 /// The published version, and the history at whose end it stands.
@@ -41,7 +47,9 @@ pub(crate) struct Latest {
 impl Published {
     /// What a look takes; want of memory is the only refusal.
     pub(crate) fn latest(&self) -> Result<Latest, AllocError>
-        ensures { IfOk result (λ l. (l.trace.book ≡ self.now.facts.book) × IsVersionOf self.now.facts.opening self.now.facts.limit l.trace.changes (arc_value l.version)) }
+        ensures { IfOk result (λ l. (l.trace.book ≡ self.now.facts.book)
+            × IsVersionOf self.now.facts.opening self.now.facts.limit l.trace.changes
+            (arc_value l.version)) }
     {
         let version = Arc::try_clone(&self.version)?;
         let trace = self.trace.again();

@@ -8,30 +8,10 @@ in-two a b all is = ap length is ∙ length-append a b
 in-three : {X : Type 0} (a b c all : List X) → a ++ b ++ c ≡ all → length all ≡ length a + length b + length c
 in-three a b c all is = sym (ap length is) ∙ length-append (a ++ b) c ∙ ap (λ n. n + length c) (length-append a b)
 
--- the first of what is behind is small beside it
-pub few-first : (a b c most : ℕ) → a + b + c < most → a + b < most
-few-first a b c most few = omega arith
-
-pub few-last : {X : Type 0} (a b list rest : List X) (most : ℕ) → list ≡ a ++ b → length a + length b + length rest < most → length list + length rest < most
-few-last a b list rest most is few = omega (arith, few, in-two a b list is)
-
 -- the parts of a list, other items, and the parts of another list
 pub between : {X : Type 0} (front chunks back items front2 chunks2 back2 before behind start a b c d : List X) → start ≡ [] → a ≡ start ++ front → b ≡ a ++ chunks → c ≡ b ++ (back ++ items ++ front2) → d ≡ c ++ chunks2 → front ++ chunks ++ back ≡ before → front2 ++ chunks2 ++ back2 ≡ behind → d ++ back2 ≡ before ++ items ++ behind
 between front chunks back items front2 chunks2 back2 before behind start a b c d is_start is_a is_b is_c is_d is_before is_behind =
     rw (is_d, is_c, is_b, is_a, is_start, ← is_before, ← is_behind) (simp (append_assoc))
-
--- each list on the way to it is small
-pub few-front : {X : Type 0} (front chunks back before items behind start : List X) (most : ℕ) → start ≡ [] → front ++ chunks ++ back ≡ before → length before + length items + length behind < most → length start + length front < most
-few-front front chunks back before items behind start most is_start is_before few =
-    omega (arith, few, ap length is_start, in-three front chunks back before is_before)
-
-pub few-chunks : {X : Type 0} (front chunks back before items behind start a : List X) (most : ℕ) → start ≡ [] → a ≡ start ++ front → front ++ chunks ++ back ≡ before → length before + length items + length behind < most → length a + length chunks < most
-few-chunks front chunks back before items behind start a most is_start is_a is_before few =
-    omega (arith, few, ap length is_start, in-two start front a is_a, in-three front chunks back before is_before)
-
-pub few-middle : {X : Type 0} (front chunks back before items front2 chunks2 back2 behind start a b : List X) (most : ℕ) → start ≡ [] → a ≡ start ++ front → b ≡ a ++ chunks → front ++ chunks ++ back ≡ before → front2 ++ chunks2 ++ back2 ≡ behind → length before + length items + length behind < most → length b + length back + length items + length front2 < most
-few-middle front chunks back before items front2 chunks2 back2 behind start a b most is_start is_a is_b is_before is_behind few =
-    omega (arith, few, ap length is_start, in-two start front a is_a, in-two a chunks b is_b, in-three front chunks back before is_before, in-three front2 chunks2 back2 behind is_behind)
 
 -- and behind the other items
 pub few-behind : {X : Type 0} (front chunks back before items front2 chunks2 back2 behind start a b c : List X) (most : ℕ) → start ≡ [] → a ≡ start ++ front → b ≡ a ++ chunks → c ≡ b ++ (back ++ items ++ front2) → front ++ chunks ++ back ≡ before → front2 ++ chunks2 ++ back2 ≡ behind → length before + length items + length behind < most → length c + length chunks2 + length back2 < most
@@ -52,3 +32,8 @@ small-last none front new back rest list more most e is next same small =
 pub put-together : {X : Type 0} (none front new back rest list more : List X) → none ≡ [] → list ≡ none ++ front → more ≡ list ++ new → rest ≡ back → more ++ rest ≡ front ++ new ++ back
 put-together none front new back rest list more e is next same =
     ap (λ l. more ++ l) same ∙ ap (λ l. l ++ back) (next ∙ ap (λ l. l ++ new) (is ∙ ap (λ l. l ++ front) e))
+
+-- and so is the first piece of the rest behind what is there
+pub small-piece : {X : Type 0} (self all list held rest part got behind : List X) (most : ℕ) → list ++ rest ≡ self ++ all → held ≡ list → got ≡ part → part ++ behind ≡ rest → length self + length all < most → length held + length got < most
+small-piece self all list held rest part got behind most is same new pieces small =
+    omega (arith, small, ap length is, ap length same, ap length new, ap length pieces, length-append list rest, length-append self all, length-append part behind)

@@ -17,12 +17,6 @@ of-block cs rs xs n k s at c items t e last all is same =
     let f = found cs rs n k s at t e last in
     of-spot cs cs rs xs n k s at items t e last all refl (same ∙ is ∙ sym (one-part cs k c f.within))
 
--- the items of blocks, if there is one block
-pub joined-one : {X : Type 0} (cs : List (List X)) (c : List X) → length cs ≡ 1 → c ≡ get_or cs 0 c → joined cs ≡ c
-joined-one [] c h is = absurd (omega arith)
-joined-one (d ∷ []) c h is = append-nil d ∙ sym is
-joined-one (d ∷ e ∷ cs) c h is = absurd (omega arith)
-
 -- the first item of a list
 pub first-joined : {X : Type 0} (cs : List (List X)) (xs c : List X) (x : X) → joined cs ≡ xs → 0 < length cs → c ≡ get_or cs 0 c → slice_get c 0 ≡ Some x → slice_get xs 0 ≡ Some x
 first-joined [] xs c x all h is e = absurd (omega arith)

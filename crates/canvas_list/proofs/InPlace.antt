@@ -1,7 +1,6 @@
 -- A table after a change in place of one of its parts.
-use Rattle.std.proofs.Common.{◌≡◌, ◌∙◌, ℕ, ◌+◌, ◌-◌, ◌<◌, ◌≤◌, ◌^◌, Bool, true, false, List, ◌++◌, take, drop, set, refl, subst, sym, ap, arith, length, get_or}
-use Rattle.std.specs.List.{remove}
-use Rattle.std.proofs.lemmas.List.{append_assoc, drop-set-lt, get_or-set_same, length-append, set-get_or, take-set}
+use Rattle.std.proofs.Common.{◌≡◌, ◌∙◌, ℕ, ◌+◌, ◌-◌, ◌<◌, ◌≤◌, ◌^◌, Bool, true, false, List, ◌++◌, take, drop, set, refl, sym, ap, arith, length, get_or}
+use Rattle.std.proofs.lemmas.List.{append_assoc, drop-set-lt, get_or-set_same, length-append, take-set}
 use Rattle.std.proofs.lemmas.List.Edits.{length-insert, length-remove}
 use Rattle.std.proofs.lemmas.List.Elements.{All-set}
 use Rattle.std.proofs.Math.ListN.{length-set}
@@ -83,8 +82,3 @@ module _ {X : Type 0} (cs : List (List X)) (xs : List X) (n k s at : ℕ) (c : L
         has_len = omega (arith, long, counts change p);
         is_small = omega (arith, still-few made change new p e);
       }
-
-  -- the table has an item, if the part has one
-  pub some-after : (made : Bool) (change : ItemChange X) (new : List X) → IsChangedPart cs xs n k s at c change → 0 < length new → 0 < length (joined (set cs k new))
-  some-after made change new p some =
-      omega (arith, ap length (other-part cs k new p.spot.within), length-append (joined (take k cs) ++ new) (joined (drop (k + 1) cs)), length-append (joined (take k cs)) new)

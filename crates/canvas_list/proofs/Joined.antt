@@ -1,9 +1,9 @@
 -- Lists in chunks: what a search finds, and edits of some chunks.
-use Rattle.std.proofs.Common.{◌≡◌, ◌∙◌, ℕ, ◌+◌, ◌-◌, ◌<◌, ◌≤◌, List, [], ◌∷◌, ◌++◌, take, drop, inl, inr, refl, sym, ap, subst, arith, length, get_or, ◌^◌}
+use Rattle.std.proofs.Common.{◌≡◌, ◌∙◌, ℕ, zero, suc, All, ◌+◌, ◌-◌, ◌<◌, ◌≤◌, List, [], ◌∷◌, ◌++◌, take, drop, inl, inr, refl, sym, ap, subst, arith, length, get_or, ◌^◌}
 use Rattle.std.proofs.lemmas.Bool.{cases_lt}
 use Rattle.std.proofs.lemmas.List.{append-nil, append_assoc, drop_more, get_or-append-add, get_or_append_left, length-append, take-append-drop, take-take, take_all, take_more}
 use Rattle.std.specs.List.{sum_by}
-use Rattle.std.proofs.lemmas.List.Elements.{All-push}
+use Rattle.std.proofs.lemmas.List.Elements.{All-get_or, All-push}
 use Rattle.std.proofs.lemmas.List.Sums.{sum_by-cons}
 use Rattle.canvas_list.specs.Chunks.{joined, IsSpot, IsTable}
 
@@ -148,19 +148,37 @@ still-small cs more xs n m i c h e is len few =
     let all : length (joined (take (i + 1) more)) ≤ length (joined more) = take-fewer more (i + 1) in
     omega arith
 
--- some items, and the chunks behind them that are still to be put there
-module _ {X : Type 0} (more rest part others : List (List X)) (xs list : List X) (n : ℕ) (inv : list ++ joined rest ≡ xs ++ joined more) where
-  -- some of the chunks are put there
-  pub put-part : (next : List X) → part ≡ take n rest → others ≡ drop n rest → next ≡ list ++ joined part → next ++ joined others ≡ xs ++ joined more
-  put-part next front back is =
-      let all : part ++ others ≡ rest = ap (λ l. l ++ others) front ∙ ap (λ l. take n rest ++ l) back ∙ take-append-drop n rest in
-      ap (λ l. l ++ joined others) is
-      ∙ append_assoc list (joined part) (joined others)
-      ∙ ap (λ l. list ++ l) (sym (joined-append part others) ∙ ap joined all)
-      ∙ inv
+-- a table that is cut in two
+module _ {X : Type 0} (cs ds : List (List X)) (xs : List X) (n at : ℕ) (t : IsTable cs n) (is : joined cs ≡ xs) (same : ds ≡ cs) where
+  pub cut-both : (none more first last : List X) (front back : List (List X)) → none ≡ [] → front ≡ take at ds → first ≡ none ++ joined front → more ≡ [] → back ≡ drop at ds → last ≡ more ++ joined back → first ++ last ≡ xs
+  cut-both none more first last front back e is_front is_first d is_back is_last =
+      ap (λ l. l ++ last) (is_first ∙ ap (λ l. l ++ joined front) e ∙ ap joined is_front)
+      ∙ ap (λ l. joined (take at ds) ++ l) (is_last ∙ ap (λ l. l ++ joined back) d ∙ ap joined is_back)
+      ∙ sym (joined-append (take at ds) (drop at ds))
+      ∙ ap joined (take-append-drop at ds ∙ same)
+      ∙ is
 
-  pub rest-few : (m : ℕ) → length xs + length (joined more) < m → length list + length (joined rest) < m
-  rest-few m few = omega (arith, ap length inv, length-append list (joined rest), length-append xs (joined more))
+  pub cut-few : (none : List X) (part : List (List X)) → none ≡ [] → part ≡ take at ds → length none + length (joined part) < 2 ^ 32
+  cut-few none part e front = omega (arith, ap length e, ap (λ l. length (joined l)) front, take-fewer ds at, ap (λ l. length (joined l)) same, t.has_len, t.is_small)
 
-  pub part-few : (m : ℕ) → part ≡ take n rest → length xs + length (joined more) < m → length list + length (joined part) < m
-  part-few m front few = omega (arith, rest-few m few, ap (λ l. length (joined l)) front, take-fewer rest n)
+  pub cut-rest : (none : List X) (part : List (List X)) → none ≡ [] → part ≡ drop at ds → length none + length (joined part) < 2 ^ 32
+  cut-rest none part e back = omega (arith, ap length e, ap (λ l. length (joined l)) back, drop-fewer ds at, ap (λ l. length (joined l)) same, t.has_len, t.is_small)
+
+-- the first parts have an item
+some-taken : {X : Type 0} (cs : List (List X)) (at : ℕ) → All (λ c. 0 < length c) cs → 0 < length cs → 0 < at → 0 < length (joined (take at cs))
+some-taken [] at some h k = absurd (omega arith)
+some-taken (c ∷ cs) zero some h k = absurd (omega arith)
+some-taken (c ∷ cs) (suc n) some h k = omega (arith, All-get_or (λ l. 0 < length l) (c ∷ cs) 0 c (omega arith) some, length-append c (joined (take n cs)))
+
+pub cut-some : {X : Type 0} (cs ds : List (List X)) (xs none first : List X) (n at len : ℕ) (front : List (List X)) → IsTable cs n → joined cs ≡ xs → ds ≡ cs → length ds ≡ len → (0 < len → 0 < at) → none ≡ [] → front ≡ take at ds → first ≡ none ++ joined front → 0 < length xs → 0 < length first
+cut-some cs ds xs none first n at len front t is same long some e is_front is_first h =
+    let there : 0 < length cs = some-chunk cs 0 (omega (arith, ap length is)) in
+    omega (
+      arith,
+      some-taken cs at t.some there (some (omega (arith, ap length same))),
+      ap length is_first,
+      ap length e,
+      length-append none (joined front),
+      ap (λ l. length (joined l)) is_front,
+      ap (λ l. length (joined (take at l))) same,
+    )

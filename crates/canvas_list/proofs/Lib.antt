@@ -10,6 +10,7 @@ pub mod Joined
 pub mod Kept
 pub mod Moved
 pub mod Parted
+pub mod Ranges
 pub mod Runs
 pub mod Spliced
 pub mod Visited

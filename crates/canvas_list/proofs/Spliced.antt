@@ -1,8 +1,8 @@
 -- Other items in place of some chunks.
-use Rattle.std.proofs.Common.{◌≡◌, ◌∙◌, ℕ, ◌+◌, ◌-◌, ◌<◌, ◌≤◌, ◌^◌, List, ◌++◌, take, drop, slice_set, slice_range, inl, inr, sym, ap, subst, arith, length}
+use Rattle.std.proofs.Common.{◌≡◌, ◌∙◌, ℕ, ◌+◌, ◌-◌, ◌<◌, ◌≤◌, List, ◌++◌, take, drop, slice_set, slice_range, inl, inr, sym, ap, subst, arith, length}
 use Rattle.std.specs.List.{insert, remove, sum_by}
 use Rattle.std.proofs.lemmas.Bool.{cases_lt}
-use Rattle.std.proofs.lemmas.List.{append_assoc, length-append, set-append_left, set-append_right, take-append-drop, take-take, take_all}
+use Rattle.std.proofs.lemmas.List.{append_assoc, length-append, set-append_left, set-append_right, take-take, take_all, take_rest}
 use Rattle.std.proofs.lemmas.List.Edits.{insert-append_left, insert-append_right, length-remove, remove-append_left, remove-append_right, split_between}
 use Rattle.std.proofs.lemmas.List.Sums.{sum_by-take-le}
 use Rattle.std.proofs.Math.Seq.{take-add}
@@ -11,7 +11,6 @@ use Rattle.canvas_list.specs.Chunks.{joined, IsPartAbout, IsSpot, IsTable}
 use Rattle.canvas_list.specs.declared.in_place.ItemChange.{ItemChange}
 use Rattle.canvas_list.specs.declared.in_place.ItemChange.TheVariants.{Replace, Remove, Insert}
 use Rattle.canvas_list.proofs.Joined.{fewer, found, joined-append, len-is, start-read, sum-joined, IsFound}
-use Rattle.canvas_list.proofs.Kept.{few-changed}
 
 -- the items before some chunks, those in them, and those behind them
 pub parts : {X : Type 0} (cs : List (List X)) (i j : ℕ) → i ≤ j → joined cs ≡ joined (take i cs) ++ (joined (slice_range cs i j) ++ joined (drop j cs))
@@ -185,28 +184,11 @@ module _ {X : Type 0} (cs ds : List (List X)) (xs : List X) (i j s at : ℕ) (ol
   changed-in made new Remove e is h = removed cs ds xs i j s at old new p.part p.place same (is ∙ ap (λ l. remove l (at - s)) e) h
   changed-in made new (Insert item) e is h = inserted cs ds xs i j s at old new item p.part p.place same (is ∙ ap (λ l. insert l (at - s) item) e) h.0
 
-  pub few-in : (made new : List X) (change : ItemChange X) → made ≡ old → new ≡ changed change (at - s) made → IsPositionOf change at xs → length xs < 2 ^ 32 → length (joined (take i ds)) + length new + length (joined (drop j ds)) < 2 ^ 32
-  few-in made new change e is h few =
-      omega (
-        arith,
-        length-append (joined (take i ds) ++ new) (joined (drop j ds)),
-        length-append (joined (take i ds)) new,
-        ap length (changed-in made new change e is h),
-        few-changed change at xs h few,
-      )
+-- the parts before some and those behind them, as slices have them
+pub same-ends : {X : Type 0} (cs fs bs : List (List X)) (i j : ℕ) (new : List X) → fs ≡ cs → bs ≡ cs → joined (take i fs) ++ new ++ joined (take (length bs - j) (drop j bs)) ≡ joined (take i cs) ++ new ++ joined (drop j cs)
+same-ends cs fs bs i j new front back =
+    ap (λ l. joined (take i l) ++ new ++ joined (take (length bs - j) (drop j bs))) front
+    ∙ ap (λ l. joined (take i cs) ++ new ++ l) (ap joined (take_rest bs j ∙ ap (drop j) back))
 
--- items that were cut in two, put behind others
-cut-same : {X : Type 0} (old first second : List X) (k : ℕ) → first ≡ take k old → second ≡ drop k old → first ++ second ≡ old
-cut-same old first second k f g = ap (λ l. l ++ second) f ∙ ap (λ l. take k old ++ l) g ∙ take-append-drop k old
-
-pub both : {X : Type 0} (list old first second more : List X) (k : ℕ) → first ≡ take k old → second ≡ drop k old → more ≡ list ++ first → more ++ second ≡ list ++ old
-both list old first second more k is_first is_second is_more =
-    ap (λ l. l ++ second) is_more ∙ append_assoc list first second ∙ ap (λ l. list ++ l) (cut-same old first second k is_first is_second)
-
-pub few-first : {X : Type 0} (list old first second : List X) (k most : ℕ) → first ≡ take k old → second ≡ drop k old → length list + length old < most → length list + length first < most
-few-first list old first second k most is_first is_second few =
-    omega (arith, few, ap length (cut-same old first second k is_first is_second), length-append first second)
-
-pub few-second : {X : Type 0} (list old first second more : List X) (k most : ℕ) → first ≡ take k old → second ≡ drop k old → more ≡ list ++ first → length list + length old < most → length more + length second < most
-few-second list old first second more k most is_first is_second is_more few =
-    omega (arith, few, ap length (cut-same old first second k is_first is_second), length-append first second, ap length is_more, length-append list first)
+pub few-ends : {X : Type 0} (front new back all : List X) (most : ℕ) → front ++ new ++ back ≡ all → length all < most → length front + length new + length back < most
+few-ends front new back all most is few = omega (arith, few, ap length is, length-append (front ++ new) back, length-append front new)

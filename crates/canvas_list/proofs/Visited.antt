@@ -1,34 +1,10 @@
 -- Going over a list in chunks.
-use Rattle.std.proofs.Common.{◌≡◌, ◌∙◌, ℕ, zero, suc, false, true, ◌==◌, ◌+◌, ◌-◌, ◌<◌, ◌≤◌, List, [], ◌∷◌, ◌++◌, take, drop, inl, inr, sym, ap, arith, length, get_or, Bor, Option, None, Some}
-use Rattle.std.specs.Iterator.{item_count, MakesProgress, YieldsLastRef}
-use Rattle.std.proofs.lemmas.Bool.{cases_lt, eqb-true}
-use Rattle.std.proofs.lemmas.List.{append-nil, append_assoc, drop-append-le, drop-drop, drop-take, drop_at, get_or-take, length-append, length-drop, length-take-le, nil_from_length, take-append-le, take-take, take_all, take_at, take_more}
-use Rattle.std.proofs.Math.Seq.{drop-nil, take-add, take-nil}
+use Rattle.std.proofs.Common.{◌≡◌, ◌∙◌, ℕ, ◌+◌, ◌-◌, ◌<◌, ◌≤◌, List, ◌++◌, take, drop, inl, inr, sym, ap, arith, length, get_or}
+use Rattle.std.proofs.lemmas.Bool.{cases_lt}
+use Rattle.std.proofs.lemmas.List.{append_assoc, drop-append-le, drop-drop, drop-take, drop_at, get_or-take, length-drop, length-take-le, take-append-le, take-take, take_at}
+use Rattle.std.proofs.Math.Seq.{take-add}
 use Rattle.canvas_list.specs.Chunks.{joined}
-use Rattle.canvas_list.proofs.Joined.{chunk-read, fewer, joined-push, split_at, IsFound}
-
--- the last item of the last chunk
-pub back-step : {X : Type 0} (xs front back items new : List X) (cs rest : List (List X)) (c : List X) (x : X) → front ++ joined cs ++ back ≡ xs → length back ≡ 0 → cs ≡ rest ++ c ∷ [] → items ≡ c → 0 < length c → x ≡ get_or items (length items - 1) x → new ≡ take (length items - 1) items → xs ≡ (front ++ joined rest ++ new) ++ x ∷ []
-back-step {X} xs front back items new cs rest c x all none last same some is e =
-    let n : ℕ = length items - 1 in
-    let within : n < length items = omega (arith, ap length same) in
-    let end : n + 1 ≡ length items = omega arith in
-    let whole : items ≡ new ++ x ∷ [] =
-    sym (ap (λ k. take k items) end ∙ take_all (length items) items (omega arith))
-    ∙ take_more items n x within
-    ∙ ap (λ y. take n items ++ y ∷ []) (sym is)
-    ∙ ap (λ l. l ++ x ∷ []) (sym e) in
-    sym all
-    ∙ ap (λ l. front ++ joined cs ++ l) (nil_from_length back none)
-    ∙ append-nil (front ++ joined cs)
-    ∙ ap (λ l. front ++ joined l) last
-    ∙ ap (λ l. front ++ l) (joined-push rest c ∙ ap (λ l. joined rest ++ l) (sym same ∙ whole))
-    ∙ ap (λ l. front ++ l) (sym (append_assoc (joined rest) new (x ∷ [])))
-    ∙ sym (append_assoc front (joined rest ++ new) (x ∷ []))
-    ∙ ap (λ l. l ++ x ∷ []) (sym (append_assoc front (joined rest) new))
-
-pub back-less : {X : Type 0} (xs ys : List X) (x : X) → xs ≡ ys ++ x ∷ [] → length ys < length xs
-back-less xs ys x e = omega (arith, ap length e, length-append ys (x ∷ []))
+use Rattle.canvas_list.proofs.Joined.{chunk-read, fewer, split_at, IsFound}
 
 -- the place of a position in its chunk
 pub place-in : {X : Type 0} (cs : List (List X)) (xs : List X) (n k s at : ℕ) (c items : List X) → IsFound cs n k s at → n ≡ length xs → c ≡ get_or cs k c → items ≡ c → at ≤ length xs → at - s ≤ length items
@@ -79,10 +55,6 @@ pub place-same : {X : Type 0} (cs : List (List X)) (xs : List X) (n k s from k2 
 place-same cs xs n k s from k2 s2 to c items f l one len is same h =
     omega (arith, l.behind, f.start, ap (λ i. length (joined (take (i + 1) cs))) one, chunk-read cs k c items f.within is same)
 
--- so many items are there between two positions
-pub length-between : {X : Type 0} (xs : List X) (from to : ℕ) → from ≤ to → to ≤ length xs → length (take (to - from) (drop from xs)) ≡ to - from
-length-between xs from to order h = length-take-le (to - from) (drop from xs) (omega (arith, length-drop from xs))
-
 -- the items between two positions of one chunk
 pub items-within : {X : Type 0} (cs : List (List X)) (xs : List X) (n k s from to : ℕ) (c items : List X) → IsFound cs n k s from → joined cs ≡ xs → c ≡ get_or cs k c → items ≡ c → from ≤ to → to - s ≤ length items → take (to - s - (from - s)) (drop (from - s) items) ≡ take (to - from) (drop from xs)
 items-within {X} cs xs n k s from to c items f all is same order le =
@@ -123,38 +95,3 @@ items-between {X} cs xs n k s from k2 s2 to c items c2 items2 f l all less is sa
     ∙ ap (λ i. drop i (take to xs)) place
     ∙ ap (λ i. drop from (take i xs)) (sym upto)
     ∙ drop-take from (to - from) xs
-
--- what is not empty has an item
-pub not-empty : (n m : ℕ) → false ≡ (n == 0) → n ≡ m → 0 < m
-not-empty zero m h e = cc
-not-empty (suc n) m h e = omega arith
-
--- no parts have no items
-pub none-there : {X : Type 0} (cs : List (List X)) (xs : List X) (n : ℕ) → true ≡ (n == 0) → n ≡ length cs → joined cs ≡ xs → xs ≡ []
-none-there [] xs n h e all = sym all
-none-there (c ∷ cs) xs n h e all = absurd (omega (arith, eqb-true n 0 (sym h), e))
-
--- so there are none up to a position
-pub none-before : {X : Type 0} (xs got : List X) (at : ℕ) → got ≡ xs → xs ≡ [] → got ≡ take at xs
-none-before xs got at same none = same ∙ none ∙ sym (ap (take at) none ∙ take-nil at)
-
--- and none from there on
-pub none-from : {X : Type 0} (xs got : List X) (at : ℕ) → got ≡ xs → xs ≡ [] → got ≡ drop at xs
-none-from xs got at same none = same ∙ none ∙ sym (ap (drop at) none ∙ drop-nil at)
-
--- the last item of the last block
-pub block-steps : {X : Type 0} (xs front back items new : List X) (cs rest : List (List X)) (c : List X) (r : Option (Bor X)) → front ++ joined cs ++ back ≡ xs → back ≡ [] → cs ≡ rest ++ c ∷ [] → items ≡ c → 0 < length c → YieldsLastRef (λ l. l) items r new → YieldsLastRef (λ l. l) xs r (front ++ joined rest ++ new)
-block-steps xs front back items new cs rest c None all none last same some is = absurd (omega (arith, ap length same, ap length is.0))
-block-steps xs front back items new cs rest c (Some x) all none last same some is =
-    sym all
-    ∙ ap (λ l. front ++ joined cs ++ l) none
-    ∙ append-nil (front ++ joined cs)
-    ∙ ap (λ l. front ++ joined l) last
-    ∙ ap (λ l. front ++ l) (joined-push rest c ∙ ap (λ l. joined rest ++ l) (sym same ∙ is))
-    ∙ ap (λ l. front ++ l) (sym (append_assoc (joined rest) new (x.now ∷ [])))
-    ∙ sym (append_assoc front (joined rest ++ new) (x.now ∷ []))
-    ∙ ap (λ l. l ++ x.now ∷ []) (sym (append_assoc front (joined rest) new))
-
-pub goes-back : {X : Type 0} {can : List X → Type 0} (every : (l : List X) → can l) (xs new : List X) (r : Option (Bor X)) → YieldsLastRef (λ l. l) xs r new → MakesProgress can (item_count (λ l. l)) xs r new
-goes-back every xs new None is = record { on = λ _. tt; keeps = tt; rests = λ _. tt }
-goes-back every xs new (Some x) is = record { on = λ _. (every new, tt, back-less xs new x.now is); keeps = every new; rests = λ _. tt }

@@ -2,20 +2,20 @@
 
 ghost use Rattle.std.specs.Prelude.{◌≡◌, ◌+◌, OnErr, OnOk, length, ⊤};
 ghost use Rattle.canvas_list.specs.Changed.{changed, list_changed, IsKept, IsPositionOf, MayChange};
-ghost use Rattle.canvas_list.specs.Chunks.{FitsChunk};
 
-use crate::block::Block;
-use crate::chunk::Chunk;
+use crate::contents::Contents;
 use crate::in_place::ItemChange;
 use crate::moves::ListChange;
+use crate::part::Part;
 use crate::share::Share;
 use crate::sizes::PartSizes;
 use crate::table::SharedList;
 use canvas_code::OutOfMemory;
 use std::alloc::Global;
 
-/// What may be changed together with a list. A list makes that change once its own can't fail any more, and makes its own after that.
-pub(crate) trait Also {
+/// What may be changed together with a list. A list makes that change once its own can't fail any
+/// more, and makes its own after that.
+pub trait Also {
     /// A change of it.
     type Change: Drop;
 
@@ -34,7 +34,7 @@ pub(crate) trait Also {
 
 /// Nothing: a list is changed alone.
 #[derive(Drop)]
-pub(crate) struct Alone;
+pub struct Alone;
 
 impl Also for Alone {
     type Change = ();
@@ -66,34 +66,22 @@ impl<T: Share> Also for SharedList<T> {
 
 /// A change at a position of a part, in a list whose parts get so large.
 #[derive(Drop)]
-pub(crate) struct PartChange<T> {
+pub struct PartChange<T> {
     pub(crate) at: usize,
     pub(crate) change: ItemChange<T>,
     pub(crate) sizes: PartSizes,
 }
 
-impl<T: Share> Also for Block<T> {
+impl<T: Share, C: Contents<T>> Also for Part<T, C> {
     type Change = PartChange<T>;
 
-    ghost may = { λ change block. FitsChunk change.sizes.per_chunk × IsPositionOf change.change change.at block × IsKept change.change (length block) ⊤ };
+    ghost may = { λ change part. IsPositionOf change.change change.at part
+        × IsKept change.change (length part) (C.fits (length part + 1)) };
 
     ghost makes = { λ change old new. new ≡ changed change.change change.at old };
 
     fn make(&mut self, alloc: Global, change: PartChange<T>) -> Result<(), OutOfMemory> {
         let PartChange { at, change, sizes } = change;
         self.change(alloc, at, change, sizes, &mut Alone, ())
-    }
-}
-
-impl<T: Share> Also for Chunk<T> {
-    type Change = PartChange<T>;
-
-    ghost may = { λ change chunk. IsPositionOf change.change change.at chunk × IsKept change.change (length chunk) (FitsChunk (length chunk + 1)) };
-
-    ghost makes = { λ change old new. new ≡ changed change.change change.at old };
-
-    fn make(&mut self, alloc: Global, change: PartChange<T>) -> Result<(), OutOfMemory> {
-        let PartChange { at, change, sizes } = change;
-        self.change(alloc, at, change, sizes.per_chunk, &mut Alone, ())
     }
 }

@@ -2,7 +2,7 @@
 
 ghost use Rattle.std.specs.Prelude.{ℕ, ◌≡◌, ◌<◌, ◌≤◌, ◌^◌, IfSome, true, length, slice_index_or, sum_by, take};
 ghost use Rattle.canvas_list.specs.Changed.{IsKept};
-ghost use Rattle.canvas_list.specs.Chunks.{FitsChunk, IsPartAbout, IsSpot};
+ghost use Rattle.canvas_list.specs.Chunks.{IsPartAbout, IsSpot};
 
 use crate::hint::Hint;
 use crate::in_place::ItemChange;
@@ -26,7 +26,6 @@ pub(crate) trait Counted {
 
     /// Whether one more item may come to it, where parts get so large.
     fn takes_more(&self, sizes: PartSizes) -> bool
-        requires { FitsChunk sizes.per_chunk }
         ensures { result ≡ true → has_room self.now };
 
     /// Whether it and one beside it are so short that they are to be one.
@@ -94,17 +93,18 @@ pub(crate) fn count_of<P: Counted>(parts: &[P]) -> usize
     count
 }
 
-/// The part in which a change at a position is made in place, if there is such a one: it keeps an item and is not to be one
-/// with a part beside it, or has room for one more.
+/// The part in which a change at a position is made in place, if there is such a one: it keeps an
+/// item and is not to be one with a part beside it, or has room for one more.
 pub(crate) fn spot_for<P: Counted, T>(
     parts: &[P],
     at: usize,
     change: &ItemChange<T>,
     sizes: PartSizes,
 ) -> Option<Spot>
-    requires chunk { FitsChunk sizes.per_chunk }
     ensures spot { IfSome result (λ spot. IsSpot P.size parts.now at spot.chunk spot.start) }
-    ensures kept { IfSome result (λ spot. (part : P) → part ≡ slice_index_or parts.now spot.chunk part → IsKept change.now (P.size part) (P.has_room part)) }
+    ensures kept { IfSome result
+        (λ spot. (part : P) → part ≡ slice_index_or parts.now spot.chunk part
+        → IsKept change.now (P.size part) (P.has_room part)) }
 {
     if parts.is_empty() {
         return None;
@@ -124,9 +124,9 @@ pub(crate) fn keeps_parts<P: Counted, T>(
     change: &ItemChange<T>,
     sizes: PartSizes,
 ) -> bool
-    requires chunk { FitsChunk sizes.per_chunk }
-    requires within { part < length parts.now }
-    ensures { result ≡ true → (p : P) → p ≡ slice_index_or parts.now part p → IsKept change.now (P.size p) (P.has_room p) }
+    requires { part < length parts.now }
+    ensures { result ≡ true → (p : P) → p ≡ slice_index_or parts.now part p
+        → IsKept change.now (P.size p) (P.has_room p) }
 {
     match change {
         ItemChange::Replace(_) => true,
@@ -145,26 +145,26 @@ fn is_short<P: Counted>(parts: &[P], part: usize, sizes: PartSizes) -> bool
 
 /// Some parts side by side, from the first up to the end, and where they start.
 #[derive(Clone, Copy)]
-pub(crate) struct Part {
+pub(crate) struct PartSpan {
     pub(crate) first: usize,
     pub(crate) end: usize,
     pub(crate) start: usize,
 }
 
 /// The part that has a position, with one beside it if both are short; none where there are no parts.
-pub(crate) fn part_about<P: Counted>(parts: &[P], at: usize, sizes: PartSizes) -> Part
+pub(crate) fn part_about<P: Counted>(parts: &[P], at: usize, sizes: PartSizes) -> PartSpan
     requires { sum_by P.size parts.now < 2 ^ 32 }
     ensures { IsPartAbout P.size parts.now at result.first result.end result.start }
 {
     if parts.is_empty() {
-        return Part {
+        return PartSpan {
             first: 0,
             end: 0,
             start: 0,
         };
     }
     let about = short_about(parts, spot_of(parts, at).chunk, sizes);
-    Part {
+    PartSpan {
         first: about.first,
         end: about.end,
         start: count_of(&parts[..about.first]),

@@ -1,21 +1,18 @@
-//! Changes of a list at one position. What other lists share on the way to it is copied first; then the change is made where the
-//! item stands.
+//! Changes of a list at one position. What other lists share on the way to it is copied first; then
+//! the change is made where the item stands.
 
 ghost use Rattle.std.specs.Prelude.{◌≡◌, ◌<◌, ◌≤◌, ◌+◌, IfOk, OnErr, OnOk, length, ⊤};
 ghost use Rattle.std.specs.Result.{is_ok};
 ghost use Rattle.std.specs.Vec.{vec_len, vec_capacity};
-ghost use Rattle.canvas_list.specs.Chunks.{FitsChunk};
 ghost use Rattle.canvas_list.specs.Changed.{changed, changed_if, list_changed, IsKept, IsPositionOf, MayChange};
 
 use crate::also::{Alone, Also};
-use crate::block::chunks_of;
-use crate::chunk::items_of;
-use crate::chunks::{Chunks, cut_at, spliced};
-use crate::counted::{Counted, part_about, spot_for};
+use crate::contents::Contents;
 use crate::moves::ListChange;
+use crate::part::{Block, merged};
 use crate::share::Share;
 use crate::sizes::PartSizes;
-use crate::table::{self, SharedList};
+use crate::table::SharedList;
 use canvas_code::OutOfMemory;
 use std::alloc::Global;
 use std::marker::Model;
@@ -61,64 +58,6 @@ pub(crate) fn change_items<T: Drop>(items: &mut Vec<T>, at: usize, change: ItemC
         ItemChange::Insert(item) => {
             let _ = items.insert(at, item);
         }
-    }
-}
-
-impl<T: Share> Chunks<T> {
-    /// Changes an item together with something else.
-    pub(crate) fn change<O: Also>(
-        &mut self,
-        alloc: Global,
-        at: usize,
-        change: ItemChange<T>,
-        sizes: PartSizes,
-        other: &mut O,
-        also: O::Change,
-    ) -> Result<(), OutOfMemory>
-        requires chunk { FitsChunk sizes.per_chunk }
-        requires place { IsPositionOf change at self.old }
-        requires some { 0 < length self.old }
-        requires kept { IsKept change (length self.old) ⊤ }
-        requires other { O.may also other.old }
-        ensures items { self.new ≡ changed_if (is_ok result) change at self.old }
-        ensures some { 0 < length self.new }
-        ensures made { OnOk result (O.makes also other.old other.new) }
-        ensures same { OnErr result (other.new ≡ other.old) }
-    {
-        let Some(spot) = spot_for(&self.chunks, at, &change, sizes) else {
-            let list = self.remade(alloc, at, change, sizes)?;
-            other.make(alloc, also)?;
-            *self = list;
-            return Ok(());
-        };
-        let chunk = &mut self.chunks[spot.chunk];
-        let before = chunk.count();
-        let made = chunk.change(alloc, at - spot.start, change, sizes.per_chunk, other, also);
-        let after = chunk.count();
-        self.count = self.count - before + after;
-        made
-    }
-
-    /// The list after a change, which puts the items of a chunk, or of two short ones, into new ones: they fill whole chunks where
-    /// items are put in one after another.
-    pub(crate) fn remade(
-        &self,
-        alloc: Global,
-        at: usize,
-        change: ItemChange<T>,
-        sizes: PartSizes,
-    ) -> Result<Chunks<T>, OutOfMemory>
-        requires chunk { FitsChunk sizes.per_chunk }
-        requires place { IsPositionOf change at self.now }
-        ensures { IfOk result (λ list. list ≡ changed change at self.now) }
-    {
-        let part = part_about(&self.chunks, at, sizes);
-        let place = at - part.start;
-        let mut items = items_of(alloc, &self.chunks[part.first..part.end], sizes.per_chunk)?;
-        make_room(&mut items, &change, 0)?;
-        change_items(&mut items, place, change);
-        let cut = cut_at(place, items.len(), sizes.per_chunk);
-        spliced(alloc, &self.chunks, part, items, cut, sizes.per_chunk)
     }
 }
 
@@ -172,36 +111,46 @@ impl<T: Share> SharedList<T> {
         ensures same { OnErr result (other.new ≡ other.old) }
     {
         let sizes = PartSizes::of(self.len());
-        let Some(spot) = spot_for(&self.blocks, at, &change, sizes) else {
-            let list = self.remade(alloc, at, change, sizes)?;
-            other.make(alloc, also)?;
-            *self = list;
-            return Ok(());
-        };
-        let block = &mut self.blocks[spot.chunk];
-        let before = block.count();
-        let made = block.change(alloc, at - spot.start, change, sizes, other, also);
-        let after = block.count();
-        self.count = self.count - before + after;
-        made
+        let blocks = self.parts.len();
+        Contents::change(self, alloc, at, change, sizes, other, also)?;
+        self.balance_beyond(alloc, blocks, sizes);
+        Ok(())
     }
 
-    // The list after a change, which puts the chunks of a block, or of two short ones, into new ones.
-    fn remade(
-        &self,
-        alloc: Global,
-        at: usize,
-        change: ItemChange<T>,
-        sizes: PartSizes,
-    ) -> Result<SharedList<T>, OutOfMemory>
-        requires chunk { FitsChunk sizes.per_chunk }
-        requires some { 0 < sizes.per_block }
-        requires place { IsPositionOf change at self.now }
-        ensures { IfOk result (λ list. list ≡ changed change at self.now) }
+    /// Makes all blocks anew, if there are more than so many and they have few chunks each: most
+    /// likely they were made while the list was short. Where memory is refused they stay, until the
+    /// next block comes.
+    #[inline(always)]
+    pub(crate) fn balance_beyond(&mut self, alloc: Global, blocks: usize, sizes: PartSizes)
+        ensures { self.new ≡ self.old }
     {
-        let part = part_about(&self.blocks, at, sizes);
-        let old = chunks_of(alloc, &self.blocks[part.first..part.end])?;
-        let new = old.remade(alloc, at - part.start, change, sizes)?;
-        table::spliced(alloc, &self.blocks, part, new, sizes.per_block)
+        if self.parts.len() <= blocks || !have_few_chunks(&self.parts, sizes.per_block) {
+            return;
+        }
+        if let Ok(list) = self.balanced(alloc, sizes) {
+            *self = list;
+        }
     }
+
+    // The same items in blocks of much the same size.
+    fn balanced(&self, alloc: Global, sizes: PartSizes) -> Result<SharedList<T>, OutOfMemory>
+        ensures { IfOk result (λ list. list ≡ self.now) }
+    {
+        let chunks = merged(alloc, &self.parts, sizes)?;
+        SharedList::empty(alloc).and_contents(alloc, chunks, 0, sizes)
+    }
+}
+
+// Whether there are many blocks with well fewer chunks in the mean than a block gets. Blocks that
+// were just made anew do not have so few, nor once one more was put at an end: so they are not made
+// anew again and again.
+fn have_few_chunks<T: Share>(blocks: &[Block<T>], per_block: usize) -> bool {
+    if blocks.len() < per_block.saturating_add(per_block / 4) {
+        return false;
+    }
+    let mut chunks: usize = 0;
+    for block in blocks {
+        chunks = chunks.saturating_add(block.contents().parts.len());
+    }
+    chunks / blocks.len().max(1) < per_block.saturating_mul(7) / 8
 }

@@ -6,8 +6,7 @@
 mod also;
 mod block;
 mod chunk;
-mod chunk_items;
-mod chunks;
+mod contents;
 mod counted;
 mod hint;
 mod in_place;
@@ -15,6 +14,7 @@ mod items;
 mod made;
 mod moves;
 mod noted;
+mod part;
 mod reader;
 mod search;
 mod share;

@@ -4,10 +4,9 @@ ghost use Rattle.std.specs.Prelude.{◌≡◌, ◌≢◌, ◌<◌, ◌≤◌, �
 ghost use Rattle.std.specs.Borrow.{sem, Array, LendsBoth};
 ghost use Rattle.std.specs.List.{insert, remove};
 ghost use Rattle.std.specs.Result.{is_ok};
-ghost use Rattle.canvas_list.specs.Chunks.{FitsChunk, IsSpot};
+ghost use Rattle.canvas_list.specs.Chunks.{IsSpot};
 
-use crate::also::PartChange;
-use crate::chunks::Chunks;
+use crate::contents::Contents;
 use crate::counted::{Counted, Spot, keeps_parts, spot_of};
 use crate::in_place::ItemChange;
 use crate::share::Share;
@@ -22,13 +21,14 @@ use std::marker::Model;
 pub enum ListChange<T> {
     /// A change at a position.
     At(usize, ItemChange<T>),
-    /// The item at the first position is gone, and another one stands in front of what then stands at the second, or at the end.
+    /// The item at the first position is gone, and another one stands in front of what then stands
+    /// at the second, or at the end.
     Move(usize, usize, T),
 }
 
 impl<T: Share> SharedList<T> {
-    /// Takes the item at `from` away, and puts another one in front of what then stands at `to`, or at the end. Where memory is
-    /// refused, the list stays as it was.
+    /// Takes the item at `from` away, and puts another one in front of what then stands at `to`, or
+    /// at the end. Where memory is refused, the list stays as it was.
     pub fn shift(
         &mut self,
         alloc: Global,
@@ -42,95 +42,9 @@ impl<T: Share> SharedList<T> {
         ensures same { OnErr result (self.new ≡ self.old) }
     {
         let sizes = PartSizes::of(self.len());
-        let (source, target, place) = spots_of(&self.blocks, from, to);
-        if source.chunk == target.chunk {
-            let (from, to) = (from - source.start, to - source.start);
-            return self.blocks[source.chunk].shift(alloc, from, to, item, sizes);
-        }
-        if !may_pass(&self.blocks, source.chunk, target.chunk, sizes) {
-            return self.shift_in_clone(alloc, from, to, item);
-        }
-        let (block, goal) = two_of(&mut self.blocks, source.chunk, target.chunk);
-        let also = PartChange {
-            at: place - target.start,
-            change: ItemChange::Insert(item),
-            sizes,
-        };
-        let at = from - source.start;
-        block.change(alloc, at, ItemChange::Remove, sizes, goal, also)
-    }
-
-    // The same by two changes of a clone.
-    fn shift_in_clone(
-        &mut self,
-        alloc: Global,
-        from: usize,
-        to: usize,
-        item: T,
-    ) -> Result<(), OutOfMemory>
-        requires from { from < length self.old }
-        requires to { to < length self.old }
-        ensures made { OnOk result (self.new ≡ insert (remove self.old from) to item) }
-        ensures same { OnErr result (self.new ≡ self.old) }
-    {
-        let mut list = self.try_clone(alloc)?;
-        list.change(alloc, from, ItemChange::Remove)?;
-        list.change(alloc, to, ItemChange::Insert(item))?;
-        *self = list;
-        Ok(())
-    }
-}
-
-impl<T: Share> Chunks<T> {
-    /// Takes the item at `from` away, and puts another one in front of what then stands at `to`, or at the end.
-    pub(crate) fn shift(
-        &mut self,
-        alloc: Global,
-        from: usize,
-        to: usize,
-        item: T,
-        sizes: PartSizes,
-    ) -> Result<(), OutOfMemory>
-        requires chunk { FitsChunk sizes.per_chunk }
-        requires from { from < length self.old }
-        requires to { to < length self.old }
-        ensures { self.new ≡ cond (is_ok result) (insert (remove self.old from) to item) self.old }
-    {
-        let (source, target, place) = spots_of(&self.chunks, from, to);
-        if source.chunk == target.chunk {
-            let (from, to) = (from - source.start, to - source.start);
-            return self.chunks[source.chunk].shift(alloc, from, to, item);
-        }
-        if !may_pass(&self.chunks, source.chunk, target.chunk, sizes) {
-            return self.shift_remade(alloc, from, to, item, sizes);
-        }
-        let (chunk, goal) = two_of(&mut self.chunks, source.chunk, target.chunk);
-        let also = PartChange {
-            at: place - target.start,
-            change: ItemChange::Insert(item),
-            sizes,
-        };
-        let at = from - source.start;
-        chunk.change(alloc, at, ItemChange::Remove, sizes.per_chunk, goal, also)
-    }
-
-    // The same by two changes that make chunks anew.
-    fn shift_remade(
-        &mut self,
-        alloc: Global,
-        from: usize,
-        to: usize,
-        item: T,
-        sizes: PartSizes,
-    ) -> Result<(), OutOfMemory>
-        requires chunk { FitsChunk sizes.per_chunk }
-        requires from { from < length self.old }
-        requires to { to < length self.old }
-        ensures { self.new ≡ cond (is_ok result) (insert (remove self.old from) to item) self.old }
-    {
-        let _chunks = &self.chunks;
-        let list = self.remade(alloc, from, ItemChange::Remove, sizes)?;
-        *self = list.remade(alloc, to, ItemChange::Insert(item), sizes)?;
+        let blocks = self.parts.len();
+        Contents::shift(self, alloc, from, to, item, sizes)?;
+        self.balance_beyond(alloc, blocks, sizes);
         Ok(())
     }
 }
@@ -144,8 +58,8 @@ fn place_before(from: usize, to: usize) -> usize
     if from < to { to + 1 } else { to }
 }
 
-// The part that an item leaves, the one that it comes to, and the place where it is put in.
-fn spots_of<P: Counted>(parts: &[P], from: usize, to: usize) -> (Spot, Spot, usize)
+/// The part that an item leaves, the one that it comes to, and the place where it is put in.
+pub(crate) fn spots_of<P: Counted>(parts: &[P], from: usize, to: usize) -> (Spot, Spot, usize)
     requires some { 0 < length parts.now }
     requires to { to < 2 ^ 32 }
     ensures source { IsSpot P.size parts.now from result.0.chunk result.0.start }
@@ -157,14 +71,21 @@ fn spots_of<P: Counted>(parts: &[P], from: usize, to: usize) -> (Spot, Spot, usi
     (spot_of(parts, from), spot_of(parts, place), place)
 }
 
-// Whether an item may go from one part to another: the first one keeps an item and stays a part, and the second has room.
-fn may_pass<P: Counted>(parts: &[P], source: usize, target: usize, sizes: PartSizes) -> bool
-    requires chunk { FitsChunk sizes.per_chunk }
+/// Whether an item may go from one part to another: the first one keeps an item and stays a part,
+/// and the second has room.
+pub(crate) fn may_pass<P: Counted>(
+    parts: &[P],
+    source: usize,
+    target: usize,
+    sizes: PartSizes,
+) -> bool
     requires source { source < length parts.now }
     requires target { target < length parts.now }
     ensures apart { result ≡ true → source ≢ target }
-    ensures kept { result ≡ true → (part : P) → part ≡ slice_index_or parts.now source part → 1 < P.size part }
-    ensures room { result ≡ true → (part : P) → part ≡ slice_index_or parts.now target part → P.has_room part }
+    ensures kept { result ≡ true → (part : P) → part ≡ slice_index_or parts.now source part
+        → 1 < P.size part }
+    ensures room { result ≡ true → (part : P) → part ≡ slice_index_or parts.now target part
+        → P.has_room part }
 {
     if source == target {
         return false;
@@ -175,12 +96,14 @@ fn may_pass<P: Counted>(parts: &[P], source: usize, target: usize, sizes: PartSi
     keeps_parts(parts, source, &ItemChange::<()>::Remove, sizes)
 }
 
-// Two parts at once, to be changed.
-fn two_of<P>(parts: &mut [P], first: usize, second: usize) -> (&mut P, &mut P)
+/// Two parts at once, to be changed.
+pub(crate) fn two_of<P>(parts: &mut [P], first: usize, second: usize) -> (&mut P, &mut P)
     requires first { first < length parts.old }
     requires second { second < length parts.old }
     requires apart { first ≢ second }
-    ensures* writes_back { sem 𝓛 (LendsBoth (Array P.row 0) P.row P.row parts.entry result (λ x y. slice_set (slice_set parts.old second y) first x)) }
+    ensures* writes_back { sem 𝓛
+        (LendsBoth (Array P.row 0) P.row P.row parts.entry result
+        (λ x y. slice_set (slice_set parts.old second y) first x)) }
     ensures first { result.0.now ≡ slice_index_or parts.old first result.0.now }
     ensures second { result.1.now ≡ slice_index_or parts.old second result.1.now }
 {

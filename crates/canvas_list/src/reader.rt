@@ -3,18 +3,16 @@
 ghost use Rattle.std.specs.Prelude.{◌≡◌, ◌<◌, ◌≤◌, ◌+◌, ◌^◌, IfSome, length, slice_index_or, false, true};
 ghost use Rattle.canvas_list.specs.Chunks.{joined, AllBetween, IsRun};
 
-use crate::block::Block;
-use crate::chunk::Chunk;
-use crate::chunks::Chunks;
 use crate::counted::{Counted, hint_at, spot_near, spot_of};
 use crate::hint::Hint;
+use crate::part::{Block, Chunk};
 use crate::share::Share;
-use crate::table::SharedList;
+use crate::table::{Chunks, SharedList};
 use std::marker::Model;
 
-/// A reader of a list, seen as that list. It holds the chunk of the item that it gave last, that a walk came to, or to
-/// which the hint of a range's start led, if there was one. Of this it gives another item without a search, as it does of
-/// the next chunk of the same block.
+/// A reader of a list, seen as that list. It holds the chunk of the item that it gave last, that a
+/// walk came to, or to which the hint of a range's start led, if there was one. Of this it gives
+/// another item without a search, as it does of the next chunk of the same block.
 #[derive(Drop)]
 pub struct Reader<'a, T: Share> {
     list: &'a SharedList<T>,
@@ -33,10 +31,20 @@ impl<'a, T: Share> Model for Reader<'a, T> {
 
     ghost view = { λ reader. reader.list.now };
 
-    ghost invariant = { λ reader. length reader.list.now < 2 ^ 32 × IsRun reader.list.now reader.items.now reader.start × IsRun reader.list.now (joined reader.behind.now) (reader.start + length reader.items.now) };
+    ghost invariant = { λ reader. length reader.list.now < 2 ^ 32
+        × IsRun reader.list.now reader.items.now reader.start
+        × IsRun reader.list.now (joined reader.behind.now)
+        (reader.start + length reader.items.now) };
 }
 
 impl<'a, T: Share> Reader<'a, T> {
+    /// The list.
+    pub(crate) fn list(&self) -> &'a SharedList<T>
+        ensures { result.now ≡ self.now }
+    {
+        self.list
+    }
+
     /// The item at a position.
     #[inline(always)]
     pub fn at(&mut self, at: usize) -> &'a T
@@ -53,8 +61,8 @@ impl<'a, T: Share> Reader<'a, T> {
         &self.items[at - self.start]
     }
 
-    /// The position of the first item from `from` on that may meet what is sought, or `end` where none before that may.
-    /// Parts whose summaries lie apart from it are passed over.
+    /// The position of the first item from `from` on that may meet what is sought, or `end` where
+    /// none before that may. Parts whose summaries lie apart from it are passed over.
     #[inline(always)]
     pub fn next_meeting(&mut self, from: usize, end: usize, sought: &T::Summary) -> usize
         requires order { from ≤ end }
@@ -114,7 +122,8 @@ impl<'a, T: Share> Reader<'a, T> {
         requires within { at < end }
         requires end { end ≤ length self.now }
         ensures run { IsRun self.now result.items.now result.start }
-        ensures behind { IsRun self.now (joined result.behind.now) (result.start + length result.items.now) }
+        ensures behind { IsRun self.now (joined result.behind.now)
+            (result.start + length result.items.now) }
         ensures on { at < result.start + length result.items.now }
         ensures apart { AllBetween (T.lies_apart sought.now) self.now at result.start }
     {
@@ -132,7 +141,8 @@ impl<'a, T: Share> Reader<'a, T> {
     fn stretch_at(&self, at: usize) -> Stretch<'a, T>
         requires { at < length self.now }
         ensures run { IsRun self.now result.items.now result.start }
-        ensures behind { IsRun self.now (joined result.behind.now) (result.start + length result.items.now) }
+        ensures behind { IsRun self.now (joined result.behind.now)
+            (result.start + length result.items.now) }
         ensures from { result.start ≤ at }
         ensures upto { at < result.start + length result.items.now }
     {
@@ -164,8 +174,8 @@ struct Stretch<'a, T: Share> {
     behind: &'a [Chunk<T>],
 }
 
-/// The items of a chunk to be searched, where they start, its hint, the chunks of its block behind it, and the hint of the
-/// next block.
+/// The items of a chunk to be searched, where they start, its hint, the chunks of its block behind
+/// it, and the hint of the next block.
 #[derive(Drop)]
 pub(crate) struct Run<'a, T: Share> {
     pub(crate) items: &'a [T],
@@ -190,8 +200,8 @@ fn place_meeting<T: Share>(items: &[T], sought: &T::Summary) -> usize
     items.len()
 }
 
-// The first of some chunks that may meet what is sought, and those behind it. Where none of the first so many items
-// stands in one that may: no items, where the search ended.
+// The first of some chunks that may meet what is sought, and those behind it. Where none of the
+// first so many items stands in one that may: no items, where the search ended.
 fn chunk_meeting<'a, T: Share>(
     chunks: &'a [Chunk<T>],
     room: usize,
@@ -201,7 +211,8 @@ fn chunk_meeting<'a, T: Share>(
     requires room { 0 < room }
     requires few { length (joined chunks.now) < 2 ^ 32 }
     ensures run { IsRun (joined chunks.now) result.items.now result.start }
-    ensures behind { IsRun (joined chunks.now) (joined result.behind.now) (result.start + length result.items.now) }
+    ensures behind { IsRun (joined chunks.now) (joined result.behind.now)
+        (result.start + length result.items.now) }
     ensures on { 0 < result.start + length result.items.now }
     ensures apart { AllBetween (T.lies_apart sought.now) (joined chunks.now) 0 result.start }
 {
@@ -227,7 +238,8 @@ fn chunk_meeting<'a, T: Share>(
     }
 }
 
-// How many items the first of some blocks have that lie apart from what is sought. It stops once there are so many.
+// How many items the first of some blocks have that lie apart from what is sought. It stops once
+// there are so many.
 fn count_apart<T: Share>(blocks: &[Block<T>], room: usize, sought: &T::Summary) -> usize
     requires { length (joined blocks.now) < 2 ^ 32 }
     ensures within { result ≤ length (joined blocks.now) }
@@ -257,11 +269,13 @@ impl<T: Share> SharedList<T> {
         }
     }
 
-    /// Of a chunk and those behind it in its block, the one in which the items that come before a hint end, most likely.
+    /// Of a chunk and those behind it in its block, the one in which the items that come before a
+    /// hint end, most likely.
     #[inline(always)]
     pub(crate) fn run_from<'a>(&'a self, run: &Run<'a, T>, hint: Hint) -> Run<'a, T>
         requires run { IsRun self.now run.now.items.now run.now.start }
-        requires behind { IsRun self.now (joined run.now.behind.now) (run.now.start + length run.now.items.now) }
+        requires behind { IsRun self.now (joined run.now.behind.now)
+            (run.now.start + length run.now.items.now) }
         requires small { length self.now < 2 ^ 32 }
         ensures run { IsRun self.now result.items.now result.start }
         ensures few { result.start + length result.items.now < 2 ^ 32 }
@@ -282,7 +296,8 @@ impl<T: Share> SharedList<T> {
     #[inline(always)]
     pub(crate) fn reader_of<'a>(&'a self, run: Run<'a, T>) -> Reader<'a, T>
         requires run { IsRun self.now run.items.now run.start }
-        requires behind { IsRun self.now (joined run.behind.now) (run.start + length run.items.now) }
+        requires behind { IsRun self.now (joined run.behind.now)
+            (run.start + length run.items.now) }
         ensures { result ≡ self.now }
     {
         Reader {
@@ -297,29 +312,34 @@ impl<T: Share> SharedList<T> {
     fn stretch_at(&self, at: usize) -> Stretch<'_, T>
         requires { at < length self.now }
         ensures run { IsRun self.now result.items.now result.start }
-        ensures behind { IsRun self.now (joined result.behind.now) (result.start + length result.items.now) }
+        ensures behind { IsRun self.now (joined result.behind.now)
+            (result.start + length result.items.now) }
         ensures from { result.start ≤ at }
         ensures upto { at < result.start + length result.items.now }
     {
-        let spot = spot_of(&self.blocks, at);
-        let found = self.blocks[spot.chunk].chunks().stretch_at(at - spot.start);
+        let spot = spot_of(&self.parts, at);
+        let found = self.parts[spot.chunk]
+            .contents()
+            .stretch_at(at - spot.start);
         Stretch {
             start: spot.start + found.start,
             ..found
         }
     }
 
-    // The items of the chunk of a position, or none, where the next block begins that may meet what is sought.
+    // The items of the chunk of a position, or none, where the next block begins that may meet what
+    // is sought.
     fn stretch_meeting(&self, at: usize, end: usize, sought: &T::Summary) -> Stretch<'_, T>
         requires within { at < end }
         requires end { end ≤ length self.now }
         ensures run { IsRun self.now result.items.now result.start }
-        ensures behind { IsRun self.now (joined result.behind.now) (result.start + length result.items.now) }
+        ensures behind { IsRun self.now (joined result.behind.now)
+            (result.start + length result.items.now) }
         ensures on { at < result.start + length result.items.now }
         ensures apart { AllBetween (T.lies_apart sought.now) self.now at result.start }
     {
-        let spot = spot_of(&self.blocks, at);
-        let start = spot.start + count_apart(&self.blocks[spot.chunk..], end - spot.start, sought);
+        let spot = spot_of(&self.parts, at);
+        let start = spot.start + count_apart(&self.parts[spot.chunk..], end - spot.start, sought);
         if start <= at {
             return self.stretch_at(at);
         }
@@ -335,18 +355,19 @@ impl<T: Share> SharedList<T> {
     pub(crate) fn run_near(&self, hint: Hint) -> Option<Run<'_, T>>
         ensures run { IfSome result (λ run. IsRun self.now run.items.now run.start) }
         ensures few { IfSome result (λ run. run.start + length run.items.now < 2 ^ 32) }
-        ensures behind { IfSome result (λ run. IsRun self.now (joined run.behind.now) (run.start + length run.items.now)) }
+        ensures behind { IfSome result
+            (λ run. IsRun self.now (joined run.behind.now) (run.start + length run.items.now)) }
         ensures small { length self.now < 2 ^ 32 }
     {
-        if self.blocks.is_empty() {
+        if self.parts.is_empty() {
             return None;
         }
-        let spot = spot_near(&self.blocks, hint);
-        let run = self.blocks[spot.chunk].chunks().run_near(hint);
+        let spot = spot_near(&self.parts, hint);
+        let run = self.parts[spot.chunk].contents().run_near(hint);
         Some(Run {
             items: run.items,
             start: spot.start + run.start,
-            next: hint_at(&self.blocks, spot.chunk + 1),
+            next: hint_at(&self.parts, spot.chunk + 1),
             ..run
         })
     }
@@ -357,16 +378,17 @@ impl<T: Share> Chunks<T> {
     fn stretch_at(&self, at: usize) -> Stretch<'_, T>
         requires { at < length self.now }
         ensures run { IsRun self.now result.items.now result.start }
-        ensures behind { IsRun self.now (joined result.behind.now) (result.start + length result.items.now) }
+        ensures behind { IsRun self.now (joined result.behind.now)
+            (result.start + length result.items.now) }
         ensures from { result.start ≤ at }
         ensures upto { at < result.start + length result.items.now }
     {
-        let spot = spot_of(&self.chunks, at);
+        let spot = spot_of(&self.parts, at);
         let next = spot.chunk + 1;
         Stretch {
-            items: self.chunks[spot.chunk].items(),
+            items: self.parts[spot.chunk].items(),
             start: spot.start,
-            behind: &self.chunks[next..],
+            behind: &self.parts[next..],
         }
     }
 
@@ -375,9 +397,10 @@ impl<T: Share> Chunks<T> {
     fn run_near(&self, hint: Hint) -> Run<'_, T>
         requires { 0 < length self.now }
         ensures run { IsRun self.now result.items.now result.start }
-        ensures behind { IsRun self.now (joined result.behind.now) (result.start + length result.items.now) }
+        ensures behind { IsRun self.now (joined result.behind.now)
+            (result.start + length result.items.now) }
     {
-        run_in(&self.chunks, hint)
+        run_in(&self.parts, hint)
     }
 }
 
@@ -387,7 +410,8 @@ fn run_in<T: Share>(chunks: &[Chunk<T>], hint: Hint) -> Run<'_, T>
     requires some { 0 < length chunks.now }
     requires few { length (joined chunks.now) < 2 ^ 32 }
     ensures run { IsRun (joined chunks.now) result.items.now result.start }
-    ensures behind { IsRun (joined chunks.now) (joined result.behind.now) (result.start + length result.items.now) }
+    ensures behind { IsRun (joined chunks.now) (joined result.behind.now)
+        (result.start + length result.items.now) }
 {
     let spot = spot_near(chunks, hint);
     let behind = &chunks[spot.chunk + 1..];

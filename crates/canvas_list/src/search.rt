@@ -7,11 +7,9 @@ ghost use Rattle.std.specs.List.Sorted.{IsPartitionedBy, IsPartitionPoint};
 ghost use Rattle.std.specs.Option.{option_copied};
 ghost use Rattle.canvas_list.specs.Chunks.{first_passes, IsEnd, IsRun};
 
-use crate::block::Block;
-use crate::chunk::Chunk;
-use crate::chunks::Chunks;
-use crate::counted::{Counted, count_of};
+use crate::contents::Contents;
 use crate::hint::{Hint, ShortHint};
+use crate::part::Part;
 use crate::reader::{Reader, Run};
 use crate::share::Share;
 use crate::table::SharedList;
@@ -23,19 +21,11 @@ impl<T: Share> SharedList<T> {
     pub fn partition_point<P: Fn(&T) -> bool>(&self, pred: P) -> usize
         requires { P.IsAlwaysCallable pred }
         ensures bound { result ≤ length self.now }
-        ensures partitioned { (p : T → Bool) → ComputesKey P.FnMut p pred → IsPartitionedBy p self.now → IsPartitionPoint (λ y. p y ≡ true) (λ y. p y ≡ false) self.now result }
+        ensures partitioned { (p : T → Bool) → ComputesKey P.FnMut p pred
+            → IsPartitionedBy p self.now
+            → IsPartitionPoint (λ y. p y ≡ true) (λ y. p y ≡ false) self.now result }
     {
-        let passed = self.blocks.partition_point(
-            |block: &Block<T>| -> bool
-                requires { P.IsAlwaysCallable pred }
-                ensures { (p : T → Bool) → ComputesKey P.FnMut p pred → result ≡ first_passes p block.now }
-            { pred(block.first()) },
-        );
-        if passed == 0 {
-            return 0;
-        }
-        let last = passed - 1;
-        count_of(&self.blocks[..last]) + self.blocks[last].chunks().partition_point(&pred)
+        self.passed(&pred)
     }
 }
 
@@ -49,13 +39,15 @@ pub struct Found<'a, T> {
 }
 
 impl<T: Share> SharedList<T> {
-    /// Where the items that pass a test end, as by `partition_point`, sought from where a hint points to: it is quick
-    /// where those that pass are the items whose hints come before it.
+    /// Where the items that pass a test end, as by `partition_point`, sought from where a hint
+    /// points to: it is quick where those that pass are the items whose hints come before it.
     #[inline(always)]
     pub fn partition_point_near<P: Fn(&T) -> bool>(&self, hint: Hint, pred: P) -> usize
         requires { P.IsAlwaysCallable pred }
         ensures bound { result ≤ length self.now }
-        ensures partitioned { (p : T → Bool) → ComputesKey P.FnMut p pred → IsPartitionedBy p self.now → IsPartitionPoint (λ y. p y ≡ true) (λ y. p y ≡ false) self.now result }
+        ensures partitioned { (p : T → Bool) → ComputesKey P.FnMut p pred
+            → IsPartitionedBy p self.now
+            → IsPartitionPoint (λ y. p y ≡ true) (λ y. p y ≡ false) self.now result }
     {
         self.found_near(hint, pred).at
     }
@@ -66,7 +58,9 @@ impl<T: Share> SharedList<T> {
         requires { P.IsAlwaysCallable pred }
         ensures bound { result.at ≤ length self.now }
         ensures item { option_copied result.item ≡ slice_get self.now result.at }
-        ensures partitioned { (p : T → Bool) → ComputesKey P.FnMut p pred → IsPartitionedBy p self.now → IsPartitionPoint (λ y. p y ≡ true) (λ y. p y ≡ false) self.now result.at }
+        ensures partitioned { (p : T → Bool) → ComputesKey P.FnMut p pred
+            → IsPartitionedBy p self.now
+            → IsPartitionPoint (λ y. p y ≡ true) (λ y. p y ≡ false) self.now result.at }
     {
         if let Some(run) = self.run_near(hint) {
             if let Some(found) = self.found_in(&run, hint, &pred) {
@@ -81,22 +75,23 @@ impl<T: Share> SharedList<T> {
     }
 }
 
-/// Where some items of a list stand side by side, and a reader of the list, which most likely gives the first of them
-/// without a search.
+/// Where some items of a list stand side by side, and a reader of the list, which most likely gives
+/// the first of them without a search.
 #[derive(Drop)]
 pub struct FoundRange<'a, T: Share> {
     /// Where the first of them stands.
     pub start: usize,
-    /// Where they end: the position behind the last one. No clause says that this is not before `start`: that depends
-    /// on the tests.
+    /// Where they end: the position behind the last one. No clause says that this is not before
+    /// `start`: that depends on the tests.
     pub end: usize,
     /// A reader of the list.
     pub reader: Reader<'a, T>,
 }
 
 impl<T: Share> SharedList<T> {
-    /// From where the items end that pass a first test up to where those end that pass a second one, each as by
-    /// `partition_point_near`. Where both ends stand in one block this is quicker than two searches.
+    /// From where the items end that pass a first test up to where those end that pass a second
+    /// one, each as by `partition_point_near`. Where both ends stand in one block this is quicker
+    /// than two searches.
     pub fn range_near<P: Fn(&T) -> bool, Q: Fn(&T) -> bool>(
         &self,
         from: Hint,
@@ -108,8 +103,10 @@ impl<T: Share> SharedList<T> {
         requires within { Q.IsAlwaysCallable within }
         ensures start { result.start ≤ length self.now }
         ensures end { result.end ≤ length self.now }
-        ensures before { (p : T → Bool) → ComputesKey P.FnMut p before → IsPartitionedBy p self.now → IsPartitionPoint (λ y. p y ≡ true) (λ y. p y ≡ false) self.now result.start }
-        ensures within { (p : T → Bool) → ComputesKey Q.FnMut p within → IsPartitionedBy p self.now → IsPartitionPoint (λ y. p y ≡ true) (λ y. p y ≡ false) self.now result.end }
+        ensures before { (p : T → Bool) → ComputesKey P.FnMut p before → IsPartitionedBy p self.now
+            → IsPartitionPoint (λ y. p y ≡ true) (λ y. p y ≡ false) self.now result.start }
+        ensures within { (p : T → Bool) → ComputesKey Q.FnMut p within → IsPartitionedBy p self.now
+            → IsPartitionPoint (λ y. p y ≡ true) (λ y. p y ≡ false) self.now result.end }
         ensures reader { result.reader ≡ self.now }
     {
         let Some(run) = self.run_near(from) else {
@@ -144,7 +141,9 @@ impl<T: Share> SharedList<T> {
         requires run { IsRun self.now run.now.items.now run.now.start }
         requires few { run.now.start + length run.now.items.now < 2 ^ 32 }
         ensures bound { result ≤ length self.now }
-        ensures partitioned { (p : T → Bool) → ComputesKey P.FnMut p pred → IsPartitionedBy p self.now → IsPartitionPoint (λ y. p y ≡ true) (λ y. p y ≡ false) self.now result }
+        ensures partitioned { (p : T → Bool) → ComputesKey P.FnMut p pred
+            → IsPartitionedBy p self.now
+            → IsPartitionPoint (λ y. p y ≡ true) (λ y. p y ≡ false) self.now result }
     {
         match self.found_in(run, hint, &pred) {
             Some(found) => found.at,
@@ -166,8 +165,11 @@ impl<T: Share> SharedList<T> {
         requires run { IsRun self.now run.now.items.now run.now.start }
         requires few { run.now.start + length run.now.items.now < 2 ^ 32 }
         ensures bound { IfSome result (λ found. found.at ≤ length self.now) }
-        ensures item { IfSome result (λ found. option_copied found.item ≡ slice_get self.now found.at) }
-        ensures partitioned { IfSome result (λ found. (p : T → Bool) → ComputesKey P.FnMut p pred.now → IsPartitionedBy p self.now → IsPartitionPoint (λ y. p y ≡ true) (λ y. p y ≡ false) self.now found.at) }
+        ensures item { IfSome result
+            (λ found. option_copied found.item ≡ slice_get self.now found.at) }
+        ensures partitioned { IfSome result
+            (λ found. (p : T → Bool) → ComputesKey P.FnMut p pred.now → IsPartitionedBy p self.now
+            → IsPartitionPoint (λ y. p y ≡ true) (λ y. p y ≡ false) self.now found.at) }
     {
         let passed = run.passed(hint, pred);
         self.found_behind(run, passed, pred)
@@ -175,8 +177,8 @@ impl<T: Share> SharedList<T> {
 }
 
 impl<T: Share> SharedList<T> {
-    // The end behind so many items of a part, if it is there: the item before it is one of them, or there is none, and
-    // the one there fails the test, or there is none.
+    // The end behind so many items of a part, if it is there: the item before it is one of them, or
+    // there is none, and the one there fails the test, or there is none.
     #[inline(always)]
     fn found_behind<'a, P: Fn(&T) -> bool>(
         &'a self,
@@ -189,8 +191,11 @@ impl<T: Share> SharedList<T> {
         requires few { run.now.start + length run.now.items.now < 2 ^ 32 }
         requires passed { passed ≤ length run.now.items.now }
         ensures bound { IfSome result (λ found. found.at ≤ length self.now) }
-        ensures item { IfSome result (λ found. option_copied found.item ≡ slice_get self.now found.at) }
-        ensures end { IfSome result (λ found. (p : T → Bool) → ComputesKey P.FnMut p pred.now → IsEnd p run.now.items.now passed → IsEnd p self.now found.at) }
+        ensures item { IfSome result
+            (λ found. option_copied found.item ≡ slice_get self.now found.at) }
+        ensures end { IfSome result (λ found. (p : T → Bool) → ComputesKey P.FnMut p pred.now
+            → IsEnd p run.now.items.now passed
+            → IsEnd p self.now found.at) }
     {
         let at = run.start + passed;
         if passed == 0 && at > 0 {
@@ -217,22 +222,27 @@ fn passes<T, P: Fn(&T) -> bool>(item: &T, pred: &P) -> bool
     pred(item)
 }
 
-// How many items pass a test, where those that pass come first.
-fn count_passed<T, P: Fn(&T) -> bool>(items: &[T], pred: &P) -> usize
+/// How many items pass a test, where those that pass come first.
+pub(crate) fn count_passed<T, P: Fn(&T) -> bool>(items: &[T], pred: &P) -> usize
     requires { P.IsAlwaysCallable pred.now }
     ensures bound { result ≤ length items.now }
-    ensures partitioned { (p : T → Bool) → ComputesKey P.FnMut p pred.now → IsPartitionedBy p items.now → IsPartitionPoint (λ y. p y ≡ true) (λ y. p y ≡ false) items.now result }
+    ensures partitioned { (p : T → Bool) → ComputesKey P.FnMut p pred.now
+        → IsPartitionedBy p items.now
+        → IsPartitionPoint (λ y. p y ≡ true) (λ y. p y ≡ false) items.now result }
 {
     items.partition_point(pred)
 }
 
 impl<T: Share> Run<'_, T> {
-    // How many of its items pass a test. They are counted by their hints, and where these are wrong by the test.
+    // How many of its items pass a test. They are counted by their hints, and where these are wrong
+    // by the test.
     #[inline(always)]
     fn passed<P: Fn(&T) -> bool>(&self, hint: Hint, pred: &P) -> usize
         requires { P.IsAlwaysCallable pred.now }
         ensures bound { result ≤ length self.now.items.now }
-        ensures end { (p : T → Bool) → ComputesKey P.FnMut p pred.now → IsPartitionedBy p self.now.items.now → IsEnd p self.now.items.now result }
+        ensures end { (p : T → Bool) → ComputesKey P.FnMut p pred.now
+            → IsPartitionedBy p self.now.items.now
+            → IsEnd p self.now.items.now result }
     {
         let near = self.place_by_hints(hint);
         if is_end(self.items, near, pred) {
@@ -244,7 +254,8 @@ impl<T: Share> Run<'_, T> {
 }
 
 impl<T: Share> Run<'_, T> {
-    // Whether the items that come before a hint most likely end in its block: the next one does not begin with such an item.
+    // Whether the items that come before a hint most likely end in its block: the next one does not
+    // begin with such an item.
     #[inline(always)]
     fn ends_before_next(&self, hint: Hint) -> bool {
         match self.next {
@@ -253,8 +264,8 @@ impl<T: Share> Run<'_, T> {
         }
     }
 
-    // How many of its items come before a hint by their own: as many as the majors are apart, if that is so, as where
-    // they are numbers with no gap. Else they are counted.
+    // How many of its items come before a hint by their own: as many as the majors are apart, if
+    // that is so, as where they are numbers with no gap. Else they are counted.
     #[inline(always)]
     fn place_by_hints(&self, hint: Hint) -> usize
         ensures { result ≤ length self.now.items.now }
@@ -273,8 +284,9 @@ impl<T: Share> Run<'_, T> {
     }
 }
 
-// How many items come before a hint by their own. All of a chunk are asked, and no step of it waits for a choice that can't
-// be foreseen, as by halves. That is meant for hints that are told without a look at what is shared.
+// How many items come before a hint by their own. All of a chunk are asked, and no step of it waits
+// for a choice that can't be foreseen, as by halves. That is meant for hints that are told without
+// a look at what is shared.
 #[inline(always)]
 fn count_before<T: Share>(items: &[T], hint: ShortHint) -> usize
     ensures { result ≤ length items.now }
@@ -291,7 +303,8 @@ fn count_before<T: Share>(items: &[T], hint: ShortHint) -> usize
 fn is_end<T, P: Fn(&T) -> bool>(items: &[T], at: usize, pred: &P) -> bool
     requires callable { P.IsAlwaysCallable pred.now }
     requires within { at ≤ length items.now }
-    ensures { result ≡ true → (p : T → Bool) → ComputesKey P.FnMut p pred.now → IsEnd p items.now at }
+    ensures { result ≡ true → (p : T → Bool) → ComputesKey P.FnMut p pred.now
+        → IsEnd p items.now at }
 {
     if at > 0 && !passes(&items[at - 1], pred) {
         return false;
@@ -299,33 +312,23 @@ fn is_end<T, P: Fn(&T) -> bool>(items: &[T], at: usize, pred: &P) -> bool
     at == items.len() || !passes(&items[at], pred)
 }
 
-// How many of some chunks have a first item that passes a test, where those that have come first.
-fn count_begun<T: Share, P: Fn(&T) -> bool>(chunks: &[Chunk<T>], pred: &P) -> usize
+/// How many of some parts have a first item that passes a test, where those that have come first.
+pub(crate) fn count_begun<T: Share, C: Contents<T>, P: Fn(&T) -> bool>(
+    parts: &[Part<T, C>],
+    pred: &P,
+) -> usize
     requires { P.IsAlwaysCallable pred.now }
-    ensures bound { result ≤ length chunks.now }
-    ensures partitioned { (p : T → Bool) → ComputesKey P.FnMut p pred.now → IsPartitionedBy (first_passes p) chunks.now → IsPartitionPoint (λ c. first_passes p c ≡ true) (λ c. first_passes p c ≡ false) chunks.now result }
+    ensures bound { result ≤ length parts.now }
+    ensures partitioned { (p : T → Bool) → ComputesKey P.FnMut p pred.now
+        → IsPartitionedBy (first_passes p) parts.now
+        → IsPartitionPoint (λ c. first_passes p c ≡ true) (λ c. first_passes p c ≡ false) parts.now
+        result }
 {
-    chunks.partition_point(
-        |chunk: &Chunk<T>| -> bool
+    parts.partition_point(
+        |part: &Part<T, C>| -> bool
             requires { P.IsAlwaysCallable pred.now }
-            ensures { (p : T → Bool) → ComputesKey P.FnMut p pred.entry.now → result ≡ first_passes p chunk.now }
-        { pred(chunk.first()) },
+            ensures { (p : T → Bool) → ComputesKey P.FnMut p pred.entry.now
+                → result ≡ first_passes p part.now }
+        { pred(part.first()) },
     )
-}
-
-impl<T: Share> Chunks<T> {
-    /// The position of the first item for which `pred` answers false, where those for which it answers
-    /// true come first.
-    pub(crate) fn partition_point<P: Fn(&T) -> bool>(&self, pred: &P) -> usize
-        requires { P.IsAlwaysCallable pred.now }
-        ensures bound { result ≤ length self.now }
-        ensures partitioned { (p : T → Bool) → ComputesKey P.FnMut p pred.now → IsPartitionedBy p self.now → IsPartitionPoint (λ y. p y ≡ true) (λ y. p y ≡ false) self.now result }
-    {
-        let passed = count_begun(&self.chunks, pred);
-        if passed == 0 {
-            return 0;
-        }
-        let last = passed - 1;
-        count_of(&self.chunks[..last]) + count_passed(self.chunks[last].items(), pred)
-    }
 }

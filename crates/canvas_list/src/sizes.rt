@@ -9,23 +9,25 @@ pub(crate) const MOST_IN_CHUNK: usize = 24;
 
 /// How large the parts of a list get.
 #[derive(Clone, Copy)]
-pub(crate) struct PartSizes {
+pub struct PartSizes {
     /// How many items a chunk gets. One that would get more is cut, in place beside an end that the item
     /// comes to; where the list is made anew, at an end of its block the item gets a chunk of its own. Two
     /// neighbours in a block with no more than half as many together become one where an item is removed.
     pub(crate) per_chunk: usize,
-    /// How many chunks a block gets. One with twice as many or more is cut where a change makes it anew,
-    /// and gets no more in place. Two neighbours with no more than half as many each become one where an
-    /// item of theirs is removed and the list is made anew. Where a single item comes into a list with one and a quarter times so many blocks or
-    /// more, which have well fewer chunks in the mean, all blocks are made anew.
+    /// How many chunks a block gets. One with twice as many or more is cut where a change makes it
+    /// anew, and gets no more in place. Two neighbours with no more than half as many each become
+    /// one where an item of theirs is removed and the list is made anew. Where a single item comes
+    /// into a list with one and a quarter times so many blocks or more, which have well fewer
+    /// chunks in the mean, all blocks are made anew.
     pub(crate) per_block: usize,
+    ghost fits: { FitsChunk per_chunk },
 }
 
 impl PartSizes {
-    /// The sizes in a list of so many items. A change that makes a new list counts up an owner of each item of
-    /// one chunk, of each chunk of one block, and of each block of the list: so all three grow with the list.
+    /// The sizes in a list of so many items. A change that makes a new list counts up an owner of
+    /// each item of one chunk, of each chunk of one block, and of each block of the list: so all
+    /// three grow with the list.
     pub(crate) fn of(items: usize) -> PartSizes
-        ensures chunk { FitsChunk result.per_chunk }
         ensures some { 0 < result.per_block }
         ensures few { result.per_block ≤ 30 }
     {

@@ -53,7 +53,7 @@ has-of : (n i b : ℕ) → bit_at n i ≡ b → has n i ≡ (b == 1)
 unfolding has
 has-of n i b e = ap (λ m. m == 1) e
 
-mask-test : (from to i : ℕ) → has (2 ^ to - 2 ^ from) i ≡ is_within from i to
+pub mask-test : (from to i : ℕ) → has (2 ^ to - 2 ^ from) i ≡ is_within from i to
 mask-test from to i =
     ⊎_elim
     (λ (lt : i < from). has-of (2 ^ to - 2 ^ from) i 0 (bit_at_mask_below from to i lt) ∙ (let e : false ≡ is_within from i to = grind (arith, nat_tests) in e))

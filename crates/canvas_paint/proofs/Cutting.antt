@@ -173,16 +173,8 @@ last_fill-push (j ∷ xs) i x y =
     ap (λ o. or_else o (fill_at j x y)) (last_fill-push xs i x y)
     ∙ or_else-assoc (fill_at i x y) (last_fill xs x y) (fill_at j x y)
 
-last_fill-more : (xs : List Item) (n : ℕ) (d : Item) (x y : ℤ) → n < length xs → last_fill (take (n + 1) xs) x y ≡ or_else (fill_at (get_or xs n d) x y) (last_fill (take n xs) x y)
+pub last_fill-more : (xs : List Item) (n : ℕ) (d : Item) (x y : ℤ) → n < length xs → last_fill (take (n + 1) xs) x y ≡ or_else (fill_at (get_or xs n d) x y) (last_fill (take n xs) x y)
 last_fill-more xs n d x y lt = ap (λ l. last_fill l x y) (take_more xs n d lt) ∙ last_fill-push (take n xs) (get_or xs n d) x y
-
--- one item more, of which a block may be put in front
-pub cut-more : (items : List Item) (n : ℕ) (i : Item) (x y : ℤ) (old new block : Option Colour) → n < length items → i ≡ get_or items n i → old ≡ last_fill (take n items) x y → block ≡ fill_at i x y → new ≡ or_else block old → new ≡ last_fill (take (n + 1) items) x y
-cut-more items n i x y old new block lt is o h e =
-    e ∙ ap (λ f. or_else f old) h
-    ∙ ap (λ l. or_else (fill_at i x y) l) o
-    ∙ ap (λ z. or_else (fill_at z x y) (last_fill (take n items) x y)) is
-    ∙ sym (last_fill-more items n i x y lt)
 
 columns-out : (from to k : ℕ) → to ≤ from → is_within from k to ≡ false
 columns-out from to k h = grind (arith, nat_tests)

@@ -2,6 +2,7 @@ pub mod Bits
 pub mod Painting
 pub mod Choosing
 pub mod Following
+pub mod Hiding
 pub mod Columns
 pub mod Banding
 pub mod Cutting

@@ -1,5 +1,5 @@
 -- The four words of a row, made one by one.
-use Rattle.std.proofs.Common.{◌≡◌, ℕ, ◌+◌, ◌*◌, ◌/◌, ◌%◌, ◌<◌, ◌≤◌, ◌≢◌, List, [], ◌∷◌, Bool, false, sym, ap, ◌∙◌, arith, length, get_or, set, get_or-set_same, get_or-set_other, length-set, ⊎_elim}
+use Rattle.std.proofs.Common.{◌≡◌, ℕ, ◌+◌, ◌*◌, ◌/◌, ◌%◌, ◌<◌, ◌≤◌, ◌≢◌, List, [], ◌∷◌, Bool, false, refl, sym, ap, ◌∙◌, arith, length, get_or, set, get_or-set_same, get_or-set_other, length-set, ⊎_elim}
 use Rattle.std.proofs.lemmas.Bool.{cases_eq, cases_lt}
 use Rattle.std.proofs.lemmas.Bool.Decides.{nat_tests}
 use Rattle.canvas_shape.specs.Words.{has}
@@ -20,7 +20,7 @@ none-before from to k h = grind (arith, nat_tests)
 none-behind : (from to k : ℕ) → to ≤ k → is_within from k to ≡ false
 none-behind from to k h = grind (arith, nat_tests)
 
-empty-row : (k : ℕ) → k < 256 → row_has (0 ∷ 0 ∷ 0 ∷ 0 ∷ []) k ≡ false
+pub empty-row : (k : ℕ) → k < 256 → row_has (0 ∷ 0 ∷ 0 ∷ 0 ∷ []) k ≡ false
 empty-row k lt = row-of-four (λ k. false) 0 0 0 0 k lt (λ i h. has-zero i) (λ i h. has-zero i) (λ i h. has-zero i) (λ i h. has-zero i)
 
 pub start-row : (from to : ℕ) → IsBegun (0 ∷ 0 ∷ 0 ∷ 0 ∷ []) (λ k. is_within from k to) (from / 64)
@@ -55,3 +55,15 @@ all-words row from to n all h k lt =
     (λ (below : k < 64 * n). h.done k below lt)
     (λ (above : 64 * n ≤ k). h.rest k above lt ∙ sym (none-behind from to k (omega arith)))
     (cases_lt k (64 * n))
+
+word-of : (words : List ℕ) (base n i : ℕ) → base ≡ 64 * n → i < 64 → row_has words (base + i) ≡ has (get_or words n 0) i
+word-of words base n i e lt =
+    let word : (base + i) / 64 ≡ n = omega arith in
+    let bit : (base + i) % 64 ≡ i = omega arith in
+    ap (λ m. has (get_or words m 0) ((base + i) % 64)) word ∙ ap (has (get_or words n 0)) bit
+
+-- four words, each made of those of two rows
+pub rows-of : (f : Bool → Bool → Bool) (a b : List ℕ) (p q r s k : ℕ) → k < 256 → IsWord p (λ i. f (has (get_or a 0 0) i) (has (get_or b 0 0) i)) → IsWord q (λ i. f (has (get_or a 1 0) i) (has (get_or b 1 0) i)) → IsWord r (λ i. f (has (get_or a 2 0) i) (has (get_or b 2 0) i)) → IsWord s (λ i. f (has (get_or a 3 0) i) (has (get_or b 3 0) i)) → row_has (p ∷ q ∷ r ∷ s ∷ []) k ≡ f (row_has a k) (row_has b k)
+rows-of f a b p q r s k lt hp hq hr hs =
+    let at : (base n word : ℕ) → base ≡ 64 * n → IsWord word (λ i. f (has (get_or a n 0) i) (has (get_or b n 0) i)) → IsWord word (λ i. f (row_has a (base + i)) (row_has b (base + i))) = λ base n word e h i low. h i low ∙ sym (ap (λ t. f t (row_has b (base + i))) (word-of a base n i e low) ∙ ap (f (has (get_or a n 0) i)) (word-of b base n i e low)) in
+    row-of-four (λ k. f (row_has a k) (row_has b k)) p q r s k lt (at 0 0 p refl hp) (at 64 1 q refl hq) (at 128 2 r refl hr) (at 192 3 s refl hs)

@@ -12,6 +12,10 @@ use Rattle.canvas_paint.specs.Words.{is_within}
 abbrev pub row_has : List ℕ → ℕ → Bool
 row_has words k = has (slice_index words (k / 64)) (k % 64)
 
+-- the pixel of a column and a row is free: it is among those of the rows
+abbrev pub is_free : List (List ℕ) → ℕ → ℕ → Bool
+is_free rows k j = row_has (slice_index_or rows j []) k
+
 -- the form holds the pixel of a column and a row
 abbrev pub form_holds : Form → ℕ → ℕ → Bool
 form_holds Whole k j = true

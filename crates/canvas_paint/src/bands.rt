@@ -17,10 +17,15 @@ use canvas_code::OutOfMemory;
 use canvas_plane::Window;
 use std::alloc::Global;
 
+/// Up to how many blocks a strip is painted at once. More are gone along band by band.
+const FEW: usize = 128;
+
 /// How many rows a band has at least: fewer would not pay for going along all blocks once more.
 const LEAST: usize = 16;
 
-// The blocks of items in the rows of a window from one up to another, from back to front.
+// The blocks of items in the rows of a window from one up to another, from back to front. They are
+// cut from front to back, each only from the first to the last row in which ellipses and polygons
+// further in front leave pixels of it free.
 fn blocks_of<'a>(
     alloc: Global,
     bump: &'a Bump,
@@ -30,22 +35,33 @@ fn blocks_of<'a>(
     end: usize,
 ) -> Result<Vec<Block<'a>>, OutOfMemory>
     requires { end ≤ window.now.h }
-    ensures { IfOk result (λ blocks. (k j : ℕ) → k < window.now.w → first ≤ j → j < end → last_block_fill blocks.items k j ≡ last_fill items.now (column_shown window.now k) (row_shown window.now j)) }
+    ensures { IfOk result (λ blocks. (k j : ℕ) → k < window.now.w → first ≤ j → j < end
+        → last_block_fill blocks.items k j
+        ≡ last_fill items.now (column_shown window.now k) (row_shown window.now j)) }
 {
     let mut blocks = Vec::with_capacity(alloc, items.len())?;
-    for item in items {
-        match Block::cut(bump, item, window, first, end)? {
+    let mut free = [[u64::MAX; 4]; 256];
+    let mut left = items.len();
+    while left > 0 {
+        let item = &items[left - 1];
+        match Block::cut(bump, item, window, first, end, &mut free)? {
             Some(block) => blocks.push(block)?,
             None => {}
         }
+        left -= 1;
     }
+    blocks.reverse();
     Ok(blocks)
 }
 
-// How many rows a band of blocks has: on average as many as they have, so that most of them meet two bands at most.
+// How many rows a band of blocks has: all where they are few, else on average as many as they have,
+// so that most of them meet two bands at most.
 fn band_height(blocks: &[Block<'_>]) -> usize
     ensures { 0 < result }
 {
+    if blocks.len() <= FEW {
+        return usize::MAX;
+    }
     let mut rows = 0_usize;
     for block in blocks.iter() {
         rows = rows.saturating_add(block.height());
@@ -73,7 +89,8 @@ fn fill<'a>(
 ) -> Result<(), OutOfMemory>
     requires count { length columns.old ≡ 4 }
     ensures new { OnOk result (All IsNew columns.new) }
-    ensures fills { OnOk result ((k j : ℕ) → k < 256 → first ≤ j → j < end → fill_in (blocks_in columns.new) k j ≡ last_block_fill blocks.now k j) }
+    ensures fills { OnOk result ((k j : ℕ) → k < 256 → first ≤ j → j < end
+        → fill_in (blocks_in columns.new) k j ≡ last_block_fill blocks.now k j) }
 {
     clear(columns);
     for block in blocks {
@@ -98,7 +115,8 @@ fn append_bands<'a>(
     requires height { 0 < height }
     requires width { length row.old ≤ 256 }
     requires count { length columns.old ≡ 4 }
-    ensures ok { OnOk result (out.new.items ≡ out.old.items ++ raster_of (shown blocks.now) (length row.old) first (end - first)) }
+    ensures ok { OnOk result (out.new.items
+        ≡ out.old.items ++ raster_of (shown blocks.now) (length row.old) first (end - first)) }
     ensures kept { take (length out.old.items) out.new.items ≡ out.old.items }
 {
     let mut at = first;
@@ -111,7 +129,7 @@ fn append_bands<'a>(
     Ok(())
 }
 
-/// Appends the rows of a picture of many items from one up to another, band by band.
+/// Appends the rows of a picture from one up to another, those of many items band by band.
 pub(crate) fn append_banded(
     alloc: Global,
     items: &[Item<'_>],
@@ -121,12 +139,13 @@ pub(crate) fn append_banded(
     out: &mut Vec<u8>,
 ) -> Result<(), OutOfMemory>
     requires { (first ≤ end) × (end ≤ window.now.h) }
-    ensures ok { OnOk result (out.new.items ≡ out.old.items ++ rows_of (last_colour items.now) window.now first end) }
+    ensures ok { OnOk result
+        (out.new.items ≡ out.old.items ++ rows_of (last_colour items.now) window.now first end) }
     ensures kept { take (length out.old.items) out.new.items ≡ out.old.items }
 {
     let bump = Bump::new(alloc);
     let blocks = blocks_of(alloc, &bump, items, window, first, end)?;
-    let mut columns = new_columns(alloc, 0)?;
+    let mut columns = new_columns(alloc, blocks.len().min(FEW))?;
     let height = band_height(&blocks);
     let width = window.w() as usize;
     let mut row = [WHITE; 256];

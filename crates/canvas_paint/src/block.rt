@@ -1,17 +1,17 @@
 //! Items as a window shows them.
 
-ghost use Rattle.std.specs.Prelude.{◌≡◌, ℕ, ◌+◌, ◌-◌, ◌<◌, ◌≤◌, ◌%◌, ◌&&◌, false, true, IfOk};
+ghost use Rattle.std.specs.Prelude.{◌≡◌, ℕ, ◌+◌, ◌-◌, ◌<◌, ◌≤◌, ◌%◌, ◌&&◌, false, true, IfOk, length};
 ghost use Rattle.canvas_plane.specs.Page.{is_in};
 ghost use Rattle.canvas_plane.specs.Window.{column_shown, row_shown};
 ghost use Rattle.canvas_shape.specs.Leaves.{carried_holds, page_box_of};
 ghost use Rattle.canvas_paint.specs.Items.{fill_at};
-ghost use Rattle.canvas_paint.specs.Blocks.{cut_fill, form_holds};
+ghost use Rattle.canvas_paint.specs.Blocks.{cut_fill, form_holds, is_free};
 ghost use Rattle.canvas_shape.specs.Words.{has};
 ghost use Rattle.canvas_paint.specs.Words.{is_within};
 
 use crate::item::Item;
 use crate::leaf::{RowWords, ellipse_rows, polygon_rows};
-use crate::word::{PIXELS, both};
+use crate::word::{PIXELS, both, row_between, row_both, row_without};
 use bumpalo::Bump;
 use canvas_code::OutOfMemory;
 use canvas_plane::{PageBox, Window};
@@ -53,7 +53,10 @@ fn form_of<'a>(
 ) -> Result<Form<'a>, OutOfMemory>
     requires rows { top < bottom }
     requires bottom { bottom ≤ window.now.h }
-    ensures { IfOk result (λ form. (k j : ℕ) → k < window.now.w → top ≤ j → j < bottom → is_in (page_box_of leaf.now) (column_shown window.now k) (row_shown window.now j) ≡ true → form_holds form k j ≡ carried_holds leaf.now (column_shown window.now k) (row_shown window.now j)) }
+    ensures { IfOk result (λ form. (k j : ℕ) → k < window.now.w → top ≤ j → j < bottom
+        → is_in (page_box_of leaf.now) (column_shown window.now k) (row_shown window.now j) ≡ true
+        → form_holds form k j
+        ≡ carried_holds leaf.now (column_shown window.now k) (row_shown window.now j)) }
 {
     match leaf {
         Carried::Rect(_) => Ok(Form::Whole),
@@ -77,8 +80,11 @@ impl Region {
     // The columns, and the rows from one up to another, that show pixels of a box of the page.
     fn of(sides: &PageBox, window: &Window, first: usize, end: usize) -> Region
         requires { end ≤ window.now.h }
-        ensures exact { (k j : ℕ) → k < window.now.w → first ≤ j → j < end → (is_within result.from k result.to && is_within result.top j result.bottom) ≡ is_in sides.now (column_shown window.now k) (row_shown window.now j) }
+        ensures exact { (k j : ℕ) → k < window.now.w → first ≤ j → j < end
+            → (is_within result.from k result.to && is_within result.top j result.bottom)
+            ≡ is_in sides.now (column_shown window.now k) (row_shown window.now j) }
         ensures bottom { result.bottom ≤ end }
+        ensures right { result.to ≤ 256 }
     {
         Region {
             from: window.columns_before(sides.left),
@@ -89,31 +95,93 @@ impl Region {
     }
 
     fn is_empty(&self) -> bool
-        ensures none { result ≡ true → (k j : ℕ) → (is_within self.now.from k self.now.to && is_within self.now.top j self.now.bottom) ≡ false }
+        ensures none { result ≡ true → (k j : ℕ)
+            → (is_within self.now.from k self.now.to && is_within self.now.top j self.now.bottom)
+            ≡ false }
         ensures rows { result ≡ false → self.now.top < self.now.bottom }
     {
         self.to <= self.from || self.bottom <= self.top
     }
+
+    // The region without the rows at its top and at its bottom in which none of its pixels is free.
+    fn uncovered(self, free: &[[u64; 4]]) -> Region
+        requires right { self.to ≤ 256 }
+        requires bottom { self.bottom ≤ length free.now }
+        ensures exact { (k j : ℕ) → k < 256 → is_free free.now k j ≡ true
+            → (is_within result.from k result.to && is_within result.top j result.bottom)
+            ≡ (is_within self.from k self.to && is_within self.top j self.bottom) }
+        ensures right { result.to ≤ 256 }
+        ensures bottom { result.bottom ≤ self.bottom }
+    {
+        let reach = row_between(self.from, self.to);
+        let mut top = self.top;
+        while top < self.bottom && row_both(free[top], reach) == [0; 4] {
+            top += 1;
+        }
+        let mut bottom = self.bottom;
+        while top < bottom && row_both(free[bottom - 1], reach) == [0; 4] {
+            bottom -= 1;
+        }
+        Region {
+            from: self.from,
+            to: self.to,
+            top,
+            bottom,
+        }
+    }
+
+    // Takes the pixels that a form holds in the region from the free ones. Those of a rectangle
+    // stay free: what rectangles hide, scenes leave out.
+    fn take(&self, form: &Form<'_>, free: &mut [[u64; 4]])
+        requires right { self.now.to ≤ 256 }
+        requires bottom { self.now.bottom ≤ length free.old }
+        ensures { (k j : ℕ) → k < 256 → is_free free.old k j ≡ true
+            → ((is_within self.now.from k self.now.to && is_within self.now.top j self.now.bottom)
+            && form_holds form.now k j)
+            ≡ false
+            → is_free free.new k j ≡ true }
+    {
+        match form {
+            Form::Whole => {}
+            Form::Rows(rows) => {
+                let reach = row_between(self.from, self.to);
+                for j in self.top..self.bottom {
+                    free[j] = row_without(free[j], row_both(rows.row(j), reach));
+                }
+            }
+        }
+    }
 }
 
 impl<'a> Block<'a> {
-    /// An item in the rows of a window from one up to another, if it may hold a pixel there.
+    /// An item in the rows of a window from one up to another, if it may hold a free pixel there.
+    /// Pixels that an ellipse or a polygon holds are free no more.
     pub(crate) fn cut(
         bump: &'a Bump,
         item: &Item<'_>,
         window: &Window,
         first: usize,
         end: usize,
+        free: &mut [[u64; 4]],
     ) -> Result<Option<Block<'a>>, OutOfMemory>
-        requires { end ≤ window.now.h }
-        ensures { IfOk result (λ block. (k j : ℕ) → k < window.now.w → first ≤ j → j < end → cut_fill block k j ≡ fill_at item.now (column_shown window.now k) (row_shown window.now j)) }
+        requires end { end ≤ window.now.h }
+        requires rows { length free.old ≡ 256 }
+        ensures fill { IfOk result (λ block. (k j : ℕ) → k < window.now.w → first ≤ j → j < end
+            → is_free free.old k j ≡ true
+            → cut_fill block k j
+            ≡ fill_at item.now (column_shown window.now k) (row_shown window.now j)) }
+        ensures free { IfOk result (λ block. (k j : ℕ) → k < window.now.w
+            → is_free free.old k j ≡ true → cut_fill block k j ≡ None
+            → is_free free.new k j ≡ true) }
     {
         let page_box = item.leaf.page_box();
         let region = Region::of(&page_box.meet(&item.clip), window, first, end);
+        let region = region.uncovered(free);
         if region.is_empty() {
             return Ok(None);
         }
         let form = form_of(bump, &item.leaf, window, region.top, region.bottom)?;
+        region.take(&form, free);
         Ok(Some(Block {
             from: region.from,
             to: region.to,
@@ -127,14 +195,16 @@ impl<'a> Block<'a> {
     /// Whether the block has a column of the word at a column.
     pub(crate) fn meets(&self, base: usize) -> bool
         requires { base < 256 }
-        ensures { (k : ℕ) → base ≤ k → k < base + 64 → is_within self.now.from k self.now.to ≡ true → result ≡ true }
+        ensures { (k : ℕ) → base ≤ k → k < base + 64 → is_within self.now.from k self.now.to ≡ true
+            → result ≡ true }
     {
         self.from < base + PIXELS && base < self.to
     }
 
     /// Whether the block has a row from one up to another.
     pub(crate) fn meets_rows(&self, first: usize, end: usize) -> bool
-        ensures { (j : ℕ) → first ≤ j → j < end → is_within self.now.top j self.now.bottom ≡ true → result ≡ true }
+        ensures { (j : ℕ) → first ≤ j → j < end → is_within self.now.top j self.now.bottom ≡ true
+            → result ≡ true }
     {
         self.top < end && first < self.bottom
     }
@@ -148,7 +218,8 @@ impl<'a> Block<'a> {
 impl Form<'_> {
     /// The pixels of a word's reach that are held in each row.
     pub(crate) fn covered(&self, reach: u64) -> u64
-        ensures { (i k j : ℕ) → has result i ≡ true → (has reach i && form_holds self.now k j) ≡ true }
+        ensures { (i k j : ℕ) → has result i ≡ true
+            → (has reach i && form_holds self.now k j) ≡ true }
     {
         match self {
             Form::Whole => reach,
@@ -162,7 +233,8 @@ impl Form<'_> {
         requires base { base < 256 }
         requires whole { base % 64 ≡ 0 }
         ensures until { y < result.until }
-        ensures exact { (i z : ℕ) → i < 64 → y ≤ z → z < result.until → has result.word i ≡ (has reach i && form_holds self.now (base + i) z) }
+        ensures exact { (i z : ℕ) → i < 64 → y ≤ z → z < result.until
+            → has result.word i ≡ (has reach i && form_holds self.now (base + i) z) }
     {
         match self {
             Form::Whole => Held {

@@ -30,11 +30,25 @@ impl RowWords<'_> {
     pub(crate) fn word(&self, base: usize, y: usize) -> u64
         requires base { base < 256 }
         requires whole { base % 64 ≡ 0 }
-        ensures { (i : ℕ) → i < 64 → has result i ≡ row_has (slice_index_or self.now.words.now (y - self.now.first) []) (base + i) }
+        ensures { (i : ℕ) → i < 64
+            → has result i
+            ≡ row_has (slice_index_or self.now.words.now (y - self.now.first) []) (base + i) }
     {
         match self.words.get(y.saturating_sub(self.first)) {
             Some(words) => words[base / PIXELS],
             None => 0,
+        }
+    }
+
+    /// The pixels in a row.
+    pub(crate) fn row(&self, y: usize) -> [u64; 4]
+        ensures { (k : ℕ) → k < 256
+            → row_has result k
+            ≡ row_has (slice_index_or self.now.words.now (y - self.now.first) []) k }
+    {
+        match self.words.get(y.saturating_sub(self.first)) {
+            Some(words) => *words,
+            None => [0; 4],
         }
     }
 }
@@ -42,7 +56,9 @@ impl RowWords<'_> {
 // The pixels of an ellipse in a window's row.
 fn ellipse_row(sides: &LeafBox, window: &Window, y: usize) -> [u64; 4]
     requires { y < window.now.h }
-    ensures { (k : ℕ) → k < window.now.w → row_has result k ≡ is_in_ellipse (sides_of sides.now) (column_shown window.now k) (row_shown window.now y) }
+    ensures { (k : ℕ) → k < window.now.w
+        → row_has result k
+        ≡ is_in_ellipse (sides_of sides.now) (column_shown window.now k) (row_shown window.now y) }
 {
     let ends = sides.row_ends(window.row_shown(y));
     let from = window.columns_before(ends.from);
@@ -68,11 +84,13 @@ fn showing(window: &Window, at: i64) -> Option<usize>
     }
 }
 
-// A row of a window in which an ellipse has the same columns: the one that shows the mirror image of a row from top to bottom,
-// or the row itself where none does.
+// A row of a window in which an ellipse has the same columns: the one that shows the mirror image
+// of a row from top to bottom, or the row itself where none does.
 fn mirrored(sides: &LeafBox, window: &Window, y: usize) -> usize
     requires { y < window.now.h }
-    ensures { (x : ℤ) → is_in_ellipse (sides_of sides.now) x (row_shown window.now result) ≡ is_in_ellipse (sides_of sides.now) x (row_shown window.now y) }
+    ensures { (x : ℤ)
+        → is_in_ellipse (sides_of sides.now) x (row_shown window.now result)
+        ≡ is_in_ellipse (sides_of sides.now) x (row_shown window.now y) }
 {
     match showing(window, sides.mirror(window.row_shown(y))) {
         Some(row) => row,
@@ -80,8 +98,8 @@ fn mirrored(sides: &LeafBox, window: &Window, y: usize) -> usize
     }
 }
 
-// The pixels of an ellipse in a row of a window, below rows from `top` on that were made. No root is taken where they have the
-// mirror image of the row.
+// The pixels of an ellipse in a row of a window, below rows from `top` on that were made. No root
+// is taken where they have the mirror image of the row.
 fn next_ellipse_row(
     made: &[[u64; 4]],
     sides: &LeafBox,
@@ -90,8 +108,12 @@ fn next_ellipse_row(
     y: usize,
 ) -> [u64; 4]
     requires y { y < window.now.h }
-    requires made { (k j : ℕ) → k < window.now.w → top ≤ j → j < top + length made.now → row_has (slice_index_or made.now (j - top) []) k ≡ is_in_ellipse (sides_of sides.now) (column_shown window.now k) (row_shown window.now j) }
-    ensures { (k : ℕ) → k < window.now.w → row_has result k ≡ is_in_ellipse (sides_of sides.now) (column_shown window.now k) (row_shown window.now y) }
+    requires made { (k j : ℕ) → k < window.now.w → top ≤ j → j < top + length made.now
+        → row_has (slice_index_or made.now (j - top) []) k
+        ≡ is_in_ellipse (sides_of sides.now) (column_shown window.now k) (row_shown window.now j) }
+    ensures { (k : ℕ) → k < window.now.w
+        → row_has result k
+        ≡ is_in_ellipse (sides_of sides.now) (column_shown window.now k) (row_shown window.now y) }
 {
     let same = mirrored(sides, window, y);
     if top <= same && same - top < made.len() {
@@ -111,7 +133,9 @@ pub(crate) fn ellipse_rows<'a>(
 ) -> Result<RowWords<'a>, OutOfMemory>
     requires rows { top < bottom }
     requires bottom { bottom ≤ window.now.h }
-    ensures { IfOk result (λ rows. (k j : ℕ) → k < window.now.w → top ≤ j → j < bottom → row_has (slice_index_or rows.words.now (j - rows.first) []) k ≡ is_in_ellipse (sides_of sides.now) (column_shown window.now k) (row_shown window.now j)) }
+    ensures { IfOk result (λ rows. (k j : ℕ) → k < window.now.w → top ≤ j → j < bottom
+        → row_has (slice_index_or rows.words.now (j - rows.first) []) k
+        ≡ is_in_ellipse (sides_of sides.now) (column_shown window.now k) (row_shown window.now j)) }
 {
     let words = bump.try_alloc_slice_fill_clone(bottom - top, [0; 4])?;
     for k in 0..words.len() {
@@ -130,7 +154,10 @@ pub(crate) fn polygon_rows<'a>(
 ) -> Result<RowWords<'a>, OutOfMemory>
     requires rows { top < bottom }
     requires bottom { bottom ≤ window.now.h }
-    ensures { IfOk result (λ rows. (k j : ℕ) → k < window.now.w → top ≤ j → j < bottom → row_has (slice_index_or rows.words.now (j - rows.first) []) k ≡ is_in_polygon vertices.now.points.now (column_shown window.now k) (row_shown window.now j)) }
+    ensures { IfOk result (λ rows. (k j : ℕ) → k < window.now.w → top ≤ j → j < bottom
+        → row_has (slice_index_or rows.words.now (j - rows.first) []) k
+        ≡ is_in_polygon vertices.now.points.now (column_shown window.now k)
+        (row_shown window.now j)) }
 {
     let rows = bump.try_alloc_slice_fill_clone(bottom - top, EdgeFlags::none())?;
     vertices.flag_rows(window, top, rows);
@@ -142,7 +169,9 @@ pub(crate) fn polygon_rows<'a>(
 
 // The held pixels of rows of edge flags.
 fn held_rows<'a>(bump: &'a Bump, rows: &[EdgeFlags]) -> Result<&'a [[u64; 4]], OutOfMemory>
-    ensures { IfOk result (λ words. (j k : ℕ) (d : RowFlags) → j < length rows.now → k < 256 → row_has (slice_index_or words.now j []) k ≡ is_held (slice_index_or rows.now j d).words k) }
+    ensures { IfOk result (λ words. (j k : ℕ) (d : RowFlags) → j < length rows.now → k < 256
+        → row_has (slice_index_or words.now j []) k
+        ≡ is_held (slice_index_or rows.now j d).words k) }
 {
     let mut words = Vec::with_capacity(bump, rows.len())?;
     for row in rows {

@@ -1,8 +1,7 @@
 //! Pictures of items, strip by strip.
 
 ghost use Rattle.std.specs.Prelude.{◌≡◌, ℕ, ◌+◌, ◌-◌, ◌*◌, ◌/◌, ◌<◌, ◌≤◌, ◌++◌, List, length, false, slice_index_or, IfErr, IfOk, OnOk, OnErr, take, vec_len, All};
-ghost use Rattle.canvas_plane.specs.Window.{column_shown, row_shown};
-ghost use Rattle.canvas_paint.specs.Items.{last_colour, last_fill};
+ghost use Rattle.canvas_paint.specs.Items.{last_colour};
 ghost use Rattle.canvas_paint.specs.Pictures.{raster_of, rows_of};
 ghost use Rattle.canvas_record.specs.Picture.{or_else};
 ghost use Rattle.canvas_paint.specs.Blocks.{block_fill};
@@ -13,9 +12,8 @@ use crate::bands::append_banded;
 use crate::block::Block;
 use crate::column::Column;
 use crate::item::Item;
-use crate::row::{Pixel, WHITE};
+use crate::row::Pixel;
 use crate::word::PIXELS;
-use bumpalo::Bump;
 use canvas_code::OutOfMemory;
 use canvas_plane::Window;
 use std::alloc::Global;
@@ -23,14 +21,12 @@ use std::alloc::Global;
 /// How many words a row has.
 const WORDS: usize = 4;
 
-/// Up to how many items a strip is painted at once. The blocks of more are gone along band by band.
-const FEW: usize = 128;
-
 /// Four columns of no block, each with room for so many, of which no row was painted.
 pub(crate) fn new_columns<'a>(alloc: Global, room: usize) -> Result<Vec<Column<'a>>, OutOfMemory>
     ensures count { IfOk result (λ columns. vec_len columns ≡ 4) }
     ensures new { IfOk result (λ columns. All IsNew columns.items) }
-    ensures empty { IfOk result (λ columns. (k j : ℕ) → fill_in (blocks_in columns.items) k j ≡ None) }
+    ensures empty { IfOk result
+        (λ columns. (k j : ℕ) → fill_in (blocks_in columns.items) k j ≡ None) }
 {
     let mut columns = Vec::with_capacity(alloc, WORDS)?;
     for _ in 0..WORDS {
@@ -44,36 +40,14 @@ pub(crate) fn add<'a>(block: &Block<'a>, columns: &mut [Column<'a>]) -> Result<(
     requires count { length columns.old ≡ 4 }
     requires new { All IsNew columns.old }
     ensures new { OnOk result (All IsNew columns.new) }
-    ensures front { OnOk result ((k j : ℕ) → k < 256 → fill_in (blocks_in columns.new) k j ≡ or_else (block_fill block.now k j) (fill_in (blocks_in columns.old) k j)) }
+    ensures front { OnOk result ((k j : ℕ) → k < 256
+        → fill_in (blocks_in columns.new) k j
+        ≡ or_else (block_fill block.now k j) (fill_in (blocks_in columns.old) k j)) }
 {
     for (k, column) in columns.iter_mut().enumerate() {
         column.add(block, PIXELS * k)?;
     }
     Ok(())
-}
-
-// The columns of items in the rows of a window from one up to another.
-fn columns_of<'a>(
-    alloc: Global,
-    bump: &'a Bump,
-    items: &[Item<'_>],
-    window: &Window,
-    first: usize,
-    end: usize,
-) -> Result<Vec<Column<'a>>, OutOfMemory>
-    requires { end ≤ window.now.h }
-    ensures count { IfOk result (λ columns. vec_len columns ≡ 4) }
-    ensures new { IfOk result (λ columns. All IsNew columns.items) }
-    ensures fills { IfOk result (λ columns. (k j : ℕ) → k < window.now.w → first ≤ j → j < end → fill_in (blocks_in columns.items) k j ≡ last_fill items.now (column_shown window.now k) (row_shown window.now j)) }
-{
-    let mut columns = new_columns(alloc, items.len())?;
-    for item in items {
-        match Block::cut(bump, item, window, first, end)? {
-            Some(block) => add(&block, columns.as_mut_slice())?,
-            None => {}
-        }
-    }
-    Ok(columns)
 }
 
 // Paints anew the words of a row that have changed at the row `y`.
@@ -84,7 +58,8 @@ fn refresh(y: usize, row: &mut [Pixel], columns: &mut [Column<'_>]) -> Result<()
     requires kept { AreColumns row.old columns.old y }
     ensures blocks { OnOk result (blocks_in columns.new ≡ blocks_in columns.old) }
     ensures kept { OnOk result (AreColumns row.new columns.new y) }
-    ensures fresh { OnOk result ((x : ℕ) (d : List ℕ) → x < length row.old → slice_index_or row.new x d ≡ shown_in (blocks_in columns.old) x y) }
+    ensures fresh { OnOk result ((x : ℕ) (d : List ℕ) → x < length row.old
+        → slice_index_or row.new x d ≡ shown_in (blocks_in columns.old) x y) }
 {
     for (k, column) in columns.iter_mut().enumerate() {
         column.refresh(PIXELS * k, y, row)?;
@@ -104,7 +79,9 @@ pub(crate) fn append_rows(
     requires width { length row.old ≤ 256 }
     requires count { length columns.old ≡ 4 }
     requires new { All IsNew columns.old }
-    ensures ok { OnOk result (out.new.items ≡ out.old.items ++ raster_of (shown_in (blocks_in columns.old)) (length row.old) first (end - first)) }
+    ensures ok { OnOk result (out.new.items
+        ≡ out.old.items
+        ++ raster_of (shown_in (blocks_in columns.old)) (length row.old) first (end - first)) }
     ensures kept { take (length out.old.items) out.new.items ≡ out.old.items }
 {
     for y in first..end {
@@ -112,46 +89,6 @@ pub(crate) fn append_rows(
         out.extend_from_slice(row.as_flattened())?;
     }
     Ok(())
-}
-
-// Appends the rows of a picture of few items from one up to another.
-fn append_unbanded(
-    alloc: Global,
-    items: &[Item<'_>],
-    window: &Window,
-    first: usize,
-    end: usize,
-    out: &mut Vec<u8>,
-) -> Result<(), OutOfMemory>
-    requires { (first ≤ end) × (end ≤ window.now.h) }
-    ensures ok { OnOk result (out.new.items ≡ out.old.items ++ rows_of (last_colour items.now) window.now first end) }
-    ensures kept { take (length out.old.items) out.new.items ≡ out.old.items }
-{
-    let bump = Bump::new(alloc);
-    let mut columns = columns_of(alloc, &bump, items, window, first, end)?;
-    let width = window.w() as usize;
-    let mut row = [WHITE; 256];
-    append_rows(columns.as_mut_slice(), first, end, &mut row[..width], out)
-}
-
-// Appends the rows of a picture from one up to another, those of many items band by band.
-fn append_rows_of(
-    alloc: Global,
-    items: &[Item<'_>],
-    window: &Window,
-    first: usize,
-    end: usize,
-    out: &mut Vec<u8>,
-) -> Result<(), OutOfMemory>
-    requires { (first ≤ end) × (end ≤ window.now.h) }
-    ensures ok { OnOk result (out.new.items ≡ out.old.items ++ rows_of (last_colour items.now) window.now first end) }
-    ensures kept { take (length out.old.items) out.new.items ≡ out.old.items }
-{
-    if items.len() <= FEW {
-        append_unbanded(alloc, items, window, first, end, out)
-    } else {
-        append_banded(alloc, items, window, first, end, out)
-    }
 }
 
 /// Appends the rows of a picture from one up to another: three bytes for each pixel, red, green
@@ -166,7 +103,8 @@ pub fn append_strip(
     out: &mut Vec<u8>,
 ) -> Result<(), OutOfMemory>
     requires { (first ≤ end) × (end ≤ window.now.h) }
-    ensures ok { OnOk result (out.new.items ≡ out.old.items ++ rows_of (last_colour items.now) window.now first end) }
+    ensures ok { OnOk result
+        (out.new.items ≡ out.old.items ++ rows_of (last_colour items.now) window.now first end) }
     ensures err { OnErr result (out.new.items ≡ out.old.items) }
     ensures want { OnErr result (first < end) }
 {
@@ -176,7 +114,7 @@ pub fn append_strip(
     }
     let before = out.len();
     out.reserve(3 * window.w() as usize * (end - first))?;
-    match append_rows_of(alloc, items, window, first, end, out) {
+    match append_banded(alloc, items, window, first, end, out) {
         Ok(()) => Ok(()),
         Err(fault) => {
             out.truncate(before);
@@ -195,7 +133,8 @@ pub fn paint_strip(
     end: u32,
 ) -> Result<Vec<u8>, OutOfMemory>
     requires { (first ≤ end) × (end ≤ window.now.h) }
-    ensures rows { IfOk result (λ bytes. bytes.items ≡ rows_of (last_colour items.now) window.now first end) }
+    ensures rows { IfOk result
+        (λ bytes. bytes.items ≡ rows_of (last_colour items.now) window.now first end) }
     ensures want { IfErr result (λ _. first < end) }
 {
     let mut out = Vec::new(alloc);

@@ -72,6 +72,30 @@ pub(crate) fn without(a: u64, b: u64) -> u64
     a & !b
 }
 
+/// The pixels of both rows.
+pub(crate) fn row_both(a: [u64; 4], b: [u64; 4]) -> [u64; 4]
+    ensures { (k : ℕ) → k < 256 → row_has result k ≡ (row_has a k && row_has b k) }
+{
+    [
+        both(a[0], b[0]),
+        both(a[1], b[1]),
+        both(a[2], b[2]),
+        both(a[3], b[3]),
+    ]
+}
+
+/// The pixels of the one row that are not in the other.
+pub(crate) fn row_without(a: [u64; 4], b: [u64; 4]) -> [u64; 4]
+    ensures { (k : ℕ) → k < 256 → row_has result k ≡ (row_has a k && not (row_has b k)) }
+{
+    [
+        without(a[0], b[0]),
+        without(a[1], b[1]),
+        without(a[2], b[2]),
+        without(a[3], b[3]),
+    ]
+}
+
 /// The pixels of either word.
 pub(crate) fn either(a: u64, b: u64) -> u64
     ensures { IsWord result (λ i. has a i || has b i) }

@@ -1,15 +1,19 @@
 //! The board of a seat that tells how its pictures were answered.
 
-ghost use Rattle.std.specs.Prelude.{◌≡◌, false, IfSome};
+ghost use Rattle.std.specs.Prelude.{◌≡◌, false};
 
 use crate::event::Events;
-use canvas_board::{Board, BoardFault, Dot, LastExport, Picture, Saved, Shared};
+use canvas_board::{Board, BoardFault, Dot, Gallery, LastExport, Picture, Saved, Shared};
 use canvas_doc::Edit;
 use canvas_line::{Edited, Lines, Seat};
 use canvas_plane::Window;
 use std::alloc::Global;
 use std::sync::Wait;
 use std::thread::Threads;
+
+/// After how many changes the one who makes the next has their damage remembered: fewer than a
+/// version tells of.
+const REMEMBERED: u64 = 32;
 
 /// The board of a seat that tells of each picture whether it was painted.
 #[derive(Drop)]
@@ -19,21 +23,18 @@ pub struct Counted<'a, L: Lines, E: Events> {
 }
 
 impl<'a, L: Lines, E: Events> Counted<'a, L, E> {
-    /// A board over a seat, which may keep up to `keep` pictures, 0 to 256, beside others that have the same last export. `None`
-    /// where there are to be more pictures.
+    /// A board over a seat, beside others that have the same gallery and the same last export.
     pub fn new(
         alloc: Global,
         seat: Seat<L>,
-        keep: u32,
+        gallery: Gallery<L>,
         last_export: LastExport<L>,
         events: &'a E,
-    ) -> Option<Counted<'a, L, E>>
-        ensures { IfSome result (λ counted. counted.board.alone ≡ false) }
+    ) -> Counted<'a, L, E>
+        ensures { result.board.alone ≡ false }
     {
-        match Shared::beside(alloc, seat, keep, last_export) {
-            Ok(board) => Some(Counted { board, events }),
-            Err(_) => None,
-        }
+        let board = Shared::beside(alloc, seat, gallery, last_export);
+        Counted { board, events }
     }
 
     /// Gives the seat up.
@@ -47,7 +48,13 @@ impl<'a, L: Lines, E: Events> Board for Counted<'a, L, E> {
     ghost seen = { λ counted. counted.board };
 
     fn edit<H: Wait>(&mut self, rt: &H, edit: &Edit) -> Result<Edited, BoardFault> {
-        self.board.edit(rt, edit)
+        let answer = self.board.edit(rt, edit);
+        if let Ok(edited) = &answer
+            && edited.number % REMEMBERED == 0
+        {
+            self.board.remember();
+        }
+        answer
     }
 
     fn picture<H: Threads + Wait + Sync>(

@@ -9,7 +9,7 @@ use crate::event::{Events, Quiet};
 use crate::house::serve_boards;
 use crate::server_fault::ServerFault;
 use crate::workers::Workers;
-use canvas_board::LastExport;
+use canvas_board::{Gallery, LastExport};
 use canvas_doc::Document;
 use canvas_line::{Line, LineFault, Lines, Opened, Seat};
 use std::alloc::Global;
@@ -26,7 +26,7 @@ pub struct Settings {
     pub seats: u32,
     /// How many changes the document takes, 1 to 1,000,000.
     pub limit: u64,
-    /// How many pictures each seat keeps, 0 to 256.
+    /// How many pictures are kept for each seat, 0 to 256.
     pub keep: u32,
     /// How many threads paint a picture, 1 to 16.
     pub workers: u32,
@@ -52,12 +52,13 @@ impl Settings {
     }
 }
 
-/// Serves a document to the connections that come to a listener, each on a thread of its own with a seat of its own,
-/// and returns after so many connections, when all their sessions have ended.
+/// Serves a document to the connections that come to a listener, each on a thread of its own with a
+/// seat of its own, and returns after so many connections, when all their sessions have ended.
 ///
-/// A connection that finds all seats taken gets the reply `NoSeats` and is closed; one whose thread can't be
-/// started is closed without a reply. `BadSetting` and then `BadWorkers` come before all else; `NoSeats` and `OutOfMemory` before the first connection;
-/// `AcceptFault` where no connection can be accepted any more, after all sessions have ended.
+/// A connection that finds all seats taken gets the reply `NoSeats` and is closed; one whose thread
+/// can't be started is closed without a reply. `BadSetting` and then `BadWorkers` come before all
+/// else; `NoSeats` and `OutOfMemory` before the first connection; `AcceptFault` where no connection
+/// can be accepted any more, after all sessions have ended.
 pub fn serve_connections<H: Threads + Wait + Clock + Sync>(
     rt: &H,
     alloc: Global,
@@ -83,7 +84,8 @@ fn serve_line<L: Lines + Send + Sync, H: Threads + Wait + Clock + Sync>(
     document: Document,
     settings: &Settings,
 ) -> Result<(), ServerFault>
-    requires line { L.line 1 ≡ record { book = opened.head.word.book; opening = document; limit = settings.now.limit } }
+    requires line { L.line 1
+        ≡ record { book = opened.head.word.book; opening = document; limit = settings.now.limit } }
     requires settings { settings_fault settings.now ≡ Ok tt }
     ensures { Ends settings.now result }
 {
@@ -107,23 +109,22 @@ fn serve_line<L: Lines + Send + Sync, H: Threads + Wait + Clock + Sync>(
     ended
 }
 
-/// A board for each seat, which tells of its pictures. They export one text for a version.
+/// A board for each seat, which tells of its pictures. They export one text for a version, and
+/// share up to `keep` pictures a seat, as many as a gallery holds.
 pub fn boards_of<'a, L: Lines, E: Events>(
     alloc: Global,
     seats: Vec<Seat<L>>,
     keep: u32,
     events: &'a E,
 ) -> Result<Vec<Mutex<Counted<'a, L, E>>>, ServerFault>
-    requires { keep ≤ 256 }
     ensures count { IfOk result (λ boards. vec_len boards ≡ vec_len seats) }
     ensures fault { IfErr result (λ fault. fault ≡ OutOfMemory) }
 {
     let last_export = LastExport::new(alloc);
+    let gallery = Gallery::of_many(alloc, seats.len().saturating_mul(keep as usize));
     let mut boards = Vec::with_capacity(alloc, seats.len())?;
     for seat in seats {
-        let Some(board) = Counted::new(alloc, seat, keep, last_export.again(), events) else {
-            return Err(ServerFault::OutOfMemory);
-        };
+        let board = Counted::new(alloc, seat, gallery.again(), last_export.again(), events);
         if boards.push(Mutex::new(board)).is_err() {
             return Err(ServerFault::OutOfMemory);
         }

@@ -1,10 +1,11 @@
-//! Exports of boards that keep one text: one text for a version, another after an edit, and never that of another line.
+//! Exports of boards that keep one text: one text for a version, another after an edit, and never
+//! that of another line.
 
 ghost use Rattle.std.specs.Prelude.{◌≡◌};
 
 use crate::asserts::{equal, holds};
 use crate::boards::{check_edit, square};
-use canvas_board::{Board, LastExport, Shared};
+use canvas_board::{Board, Gallery, LastExport, Shared};
 use canvas_doc::Document;
 use canvas_line::{Line, Lines, Opened, Seat};
 use canvas_saved::import;
@@ -29,8 +30,8 @@ fn boards_beside<B: Lines>(
 ) -> Vec<Shared<B>> {
     let mut boards = Vec::new(alloc);
     for seat in seats {
-        let board = Shared::beside(alloc, seat, 0, last_export.again());
-        let board = board.ok().expect(rt, "a board");
+        let gallery = Gallery::of_many(alloc, 0);
+        let board = Shared::beside(alloc, seat, gallery, last_export.again());
         boards.push(board).expect(rt, "memory");
     }
     boards
@@ -117,7 +118,8 @@ fn apart<B: Lines, H: Wait + Abort>(
     two: Document,
 )
     requires first { B.line 3 ≡ record { book = first.head.word.book; opening = one; limit = 10 } }
-    requires second { B.line 7 ≡ record { book = second.head.word.book; opening = two; limit = 10 } }
+    requires second { B.line 7
+        ≡ record { book = second.head.word.book; opening = two; limit = 10 } }
 {
     let last_export = LastExport::new(alloc);
     let threes = Line::open::<B, H>(rt, alloc, first, 3, one, 1, 10).expect(rt, "a line");

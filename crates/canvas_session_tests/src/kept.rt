@@ -34,8 +34,8 @@ const TEN: Act = Act::Square { side: 10, dx: 0 };
 // A square that no window meets.
 const FAR: Act = Act::Square { side: 1, dx: 500 };
 
-/// An edit before a picture of 16 by 16 at the page's origin, one that is made so often between it and the next picture of
-/// the same window, and how many of the two are answered as kept.
+/// An edit before a picture of 16 by 16 at the page's origin, one that is made so often between it
+/// and the next picture of the same window, and how many of the two are answered as kept.
 type Row = (Act, Act, u32, u64);
 
 /// Two pictures with edits of one board between them.
@@ -249,7 +249,8 @@ impl Play for OfALevel {
     }
 }
 
-// Whether an edit is made, whether the picture of its version is all red, and how many are answered as kept then.
+// Whether an edit is made, whether the picture of its version is all red, and how many are answered
+// as kept then.
 fn red_after<B: Lines, H: Threads + Wait + Sync>(
     rt: &H,
     table: &mut Table<B>,
@@ -358,6 +359,37 @@ impl Play for KeptOn {
 fn what_is_answered_again_counts_as_kept_then(rt: HostRuntime) {
     let alloc = rt.alloc();
     play_at(&rt, alloc, Document::empty(alloc), 1, &KeptOn)
+}
+
+/// Pictures of two windows in turn, asked for after some changes elsewhere each: that one of them
+/// was asked for between does not make the other last for more changes.
+#[derive(Clone, Copy)]
+struct OtherBetween;
+
+impl Play for OtherBetween {
+    fn play<B: Lines, H: Threads + Wait + Abort + Sync>(&self, rt: &H, table: &mut Table<B>) {
+        for wanted in &[
+            (1u64, 0, 0),
+            (40, 64, 0),
+            (40, 0, 0),
+            (40, 64, 0),
+            (24, 0, 1),
+        ] {
+            let (changes, y, hits) = *wanted;
+            for _ in 0..changes {
+                table.check_edit(rt, false, square(1, 500));
+            }
+            let is_shown = table.shows(rt, &window_at(rt, 0, y));
+            let found = (is_shown, table.viewer.hits());
+            equal(rt, "hits in turn", &found, &(true, hits));
+        }
+    }
+}
+
+#[test]
+fn a_picture_lasts_for_64_changes_whatever_else_is_asked(rt: HostRuntime) {
+    let alloc = rt.alloc();
+    play_at(&rt, alloc, Document::empty(alloc), 2, &OtherBetween)
 }
 
 /// A picture by too many workers is refused and changes nothing.

@@ -1,4 +1,5 @@
-//! Tests of boards and sessions, over a document of one's own and over one that many share, and of the numbers, the names and the texts of refusals.
+//! Tests of boards and sessions, over a document of one's own and over one that many share, and of
+//! the numbers, the names and the texts of refusals.
 #![tactic(auto)]
 
 #[cfg(test)]
@@ -13,6 +14,8 @@ mod dice;
 mod exports;
 #[cfg(test)]
 mod fakes;
+#[cfg(test)]
+mod galleries;
 #[cfg(test)]
 mod kept;
 #[cfg(test)]

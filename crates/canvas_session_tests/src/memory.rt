@@ -1,14 +1,15 @@
-//! Boards at one document for which memory may be refused: run with each allocation refused in turn, a call that is refused leaves
-//! the history as it was, and made again it is answered in full.
+//! Boards at one document for which memory may be refused: run with each allocation refused in
+//! turn, a call that is refused leaves the history as it was, and made again it is answered in
+//! full.
 
 ghost use Rattle.std.specs.Prelude.{◌≡◌};
 
 use crate::asserts::{equal, holds};
 use crate::boards::{RED, WHITE, accepted, at, boards, is_painted, origin, square};
 use crate::sessions::saved_squares;
-use canvas_board::{Board, BoardFault, Dot, Edited, Picture, Saved, Shared};
+use canvas_board::{Board, BoardFault, Dot, Edited, Gallery, LastExport, Picture, Saved, Shared};
 use canvas_doc::{Document, Edit};
-use canvas_line::{Lines, Opened};
+use canvas_line::{Line, Lines, Opened, Seat};
 use canvas_plane::Window;
 use canvas_shape::Colour;
 use std::alloc::Global;
@@ -141,4 +142,76 @@ fn check_the_end<B: Lines, R: Abort>(rt: &R, board: &mut Shared<B>) {
     let saved = saved(board).expect(rt, "a saved document");
     equal(rt, "its version", &saved.version, &3);
     holds(rt, "its text", saved.text.as_slice() == saved_squares());
+}
+
+#[test]
+fn two_boards_share_pictures_with_little_memory(rt: HostRuntime) -> Result<(), Fail> {
+    let alloc = rt.alloc();
+    share::<Brand, _>(&rt, alloc, Opened::new(), Document::empty(alloc))
+}
+
+fn share<B: Lines, H: Threads + Wait + Abort + Sync>(
+    rt: &H,
+    alloc: Global,
+    opened: Opened,
+    document: Document,
+) -> Result<(), Fail>
+    requires { B.line 1 ≡ record { book = opened.head.word.book; opening = document; limit = 10 } }
+{
+    let mut seats = Line::open::<B, H>(rt, alloc, opened, 1, document, 2, 10)?;
+    let gallery = Gallery::of_many(alloc, 320);
+    let mut first = sharing(rt, alloc, seats.pop(), &gallery);
+    let mut second = sharing(rt, alloc, seats.pop(), &gallery);
+    check_shared(rt, &mut first, &mut second);
+    // The first picture of a version is painted, and one more may not have been kept.
+    let hits = first.hits().saturating_add(second.hits());
+    holds(rt, "hits", hits <= 9);
+    Ok(())
+}
+
+// The board of a seat, which shares a gallery.
+fn sharing<B: Lines>(
+    rt: &impl Abort,
+    alloc: Global,
+    seat: Option<Seat<B>>,
+    gallery: &Gallery<B>,
+) -> Shared<B> {
+    let seat = seat.expect(rt, "a seat");
+    Shared::beside(alloc, seat, gallery.again(), LastExport::new(alloc))
+}
+
+// Makes a square, makes one elsewhere and moves the first away. After each edit both boards are
+// asked for the picture twice.
+fn check_shared<B: Lines, H: Threads + Wait + Abort + Sync>(
+    rt: &H,
+    first: &mut Shared<B>,
+    second: &mut Shared<B>,
+) {
+    let answer = edited(rt, first, second, 0, square(10, 0));
+    equal(rt, "a square", &answer, &accepted(1, Some(1)));
+    check_both(rt, first, second, 1, RED);
+    let answer = edited(rt, second, first, 1, square(1, 500));
+    equal(rt, "another", &answer, &accepted(2, Some(2)));
+    check_both(rt, first, second, 2, RED);
+    let away = Edit::Pose {
+        id: 1,
+        pose: at(100),
+    };
+    let answer = edited(rt, first, second, 2, away);
+    equal(rt, "away", &answer, &accepted(3, None));
+    check_both(rt, first, second, 3, WHITE);
+}
+
+// Asks both boards for the picture, twice each.
+fn check_both<B: Lines, H: Threads + Wait + Abort + Sync>(
+    rt: &H,
+    first: &mut Shared<B>,
+    second: &mut Shared<B>,
+    version: u64,
+    left: Colour,
+) {
+    check_picture(rt, first, version, left);
+    check_picture(rt, second, version, left);
+    check_picture(rt, second, version, left);
+    check_picture(rt, first, version, left);
 }

@@ -1,4 +1,5 @@
-//! Serving a line that follows a leader: beside the doors one thread goes on as the leader's feed tells, and the boards hand edits on.
+//! Serving a line that follows a leader: beside the doors one thread goes on as the leader's feed
+//! tells, and the boards hand edits on.
 
 ghost use denote.Param.Send.{IsSend, IsSync};
 
@@ -11,7 +12,7 @@ use crate::lanes::Lanes;
 use crate::recent::Own;
 use crate::serving::MOST_EDITS;
 use crate::yard::Yard;
-use canvas_board::{Board, LastExport};
+use canvas_board::{Board, Gallery, LastExport};
 use canvas_feed::Scribe;
 use canvas_follow::{Course, Relayed, Turns};
 use canvas_journal::Device;
@@ -41,7 +42,8 @@ pub struct Follows<'a> {
     pub settings: &'a DoorSettings,
 }
 
-/// Serves a line that follows at doors, and its feed where there is one, until the leader has gone on to another generation.
+/// Serves a line that follows at doors, and its feed where there is one, until the leader has gone
+/// on to another generation.
 pub fn serve_followed<
     'y,
     D: Device + Drop + Send,
@@ -153,11 +155,10 @@ fn boards_of<
     lost: &'a [AtomicBool],
 ) -> Result<Vec<Mutex<Relayed<'a, Counted<'a, L, E>, L, Lanes<'w, H, K>>>>, Fault> {
     let last_export = LastExport::new(alloc);
+    let gallery = Gallery::of_many(alloc, seats.len().saturating_mul(keep as usize));
     let mut boards = Vec::with_capacity(alloc, seats.len())?;
     for (seat, mark) in seats.into_iter().zip(lost) {
-        let Some(board) = Counted::new(alloc, seat, keep, last_export.again(), events) else {
-            return Err(Fault::Memory);
-        };
+        let board = Counted::new(alloc, seat, gallery.again(), last_export.again(), events);
         boards.push(Mutex::new(Relayed::new(alloc, board, turns, lanes, mark)))?;
     }
     Ok(boards)
@@ -228,7 +229,8 @@ fn serve_yard<
         thread::scope_env(),
         rt,
         |scope|
-            requires { IsSync H.row × IsSend B.row × IsSync Y.row × IsSync G.row × IsSync E.row × IsSync K.row }
+            requires { IsSync H.row × IsSend B.row × IsSync Y.row × IsSync G.row × IsSync E.row
+                × IsSync K.row }
         {
             start_threads(rt, scope, led, own);
             let ended = match told {

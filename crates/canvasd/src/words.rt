@@ -55,7 +55,7 @@ pub struct Service<'a> {
     pub seats: u32,
     /// How many edits a generation takes.
     pub limit: u64,
-    /// How many pictures each seat keeps.
+    /// How many pictures are kept for each seat; all seats share them.
     pub keep: u32,
     /// How many threads paint a picture.
     pub workers: u32,
@@ -65,7 +65,8 @@ pub struct Service<'a> {
     pub level: LevelFilter,
 }
 
-/// What the words ask for, of which the first is the program's name. The error may be that help or the version was asked for.
+/// What the words ask for, of which the first is the program's name. The error may be that help or
+/// the version was asked for.
 pub fn read_order<'a>(alloc: Global, words: &'a [&'a str]) -> Result<Order<'a>, Error> {
     let command = whole_command(alloc)?;
     let matches = command.try_get_matches_from(words)?;
@@ -281,7 +282,7 @@ fn with_numbers<'a>(alloc: Global, command: Command<'a>) -> Result<Command<'a>, 
     let keep = number_word(
         alloc,
         "keep",
-        "Pictures that each seat keeps, 0 to 256 [default: 8]",
+        "Pictures kept for each seat, which all share, 0 to 256 [default: 8]",
     )
     .value_parser(value_parser!(u32).range(0..=256));
     let idle = number_word(

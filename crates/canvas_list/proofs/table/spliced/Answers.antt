@@ -1,29 +1,20 @@
-use Rattle.std.proofs.Common.{◌≡◌, ◌∙◌, ◌-◌, ◌++◌, ◌^◌, List, IfOk, ap, subst, length, take, drop}
-use Rattle.std.proofs.lemmas.List.{take_rest}
+use Rattle.std.proofs.Common.{◌≡◌, ◌++◌, ◌^◌, List, IfOk, refl, subst}
 use Rattle.canvas_list.specs.Chunks.{joined}
 use Rattle.canvas_list.proofs.Between.{put-together, small-first, small-last, small-next}
 use Rattle.canvas_list.proofs.table.spliced.Goals as goal
 
 pub and_all-requires : goal.and_all-requires
-and_all-requires g c =
-    small-first c.in_ok-with_room.field-0 (joined (take c.args.part.first c.args.blocks.now)) c.args.new (joined (drop c.args.part.end c.args.blocks.now)) (2 ^ 32) c.in_ok-with_room.ensures c.requires.small
+and_all-requires g c = small-first c.in_ok-with_room.field-0 (joined c.args.front.now) (g.C.Contents.list c.args.contents) (joined c.args.back.now) (2 ^ 32) c.in_ok-with_room.ensures c.requires
 
-pub and_chunks-requires : goal.and_chunks-requires
-and_chunks-requires g c = record {
-  some = c.requires.some;
-  few =
-      small-next c.in_ok-with_room.field-0 (joined (take c.args.part.first c.args.blocks.now)) c.args.new (joined (drop c.args.part.end c.args.blocks.now)) c.in_ok-and_all.field-0 (2 ^ 32) c.in_ok-with_room.ensures c.in_ok-and_all.ensures c.requires.small;
-}
+pub and_contents-requires : goal.and_contents-requires
+and_contents-requires g c = small-next c.in_ok-with_room.field-0 (joined c.args.front.now) (g.C.Contents.list c.args.contents) (joined c.args.back.now) c.in_ok-and_all.field-0 (2 ^ 32) c.in_ok-with_room.ensures c.in_ok-and_all.ensures c.requires
 
 pub and_all-requires-2 : goal.and_all-requires-2
 and_all-requires-2 g c =
-    let rest : List g.row.T.Denot = joined (take (length c.args.blocks.now - c.args.part.end) (drop c.args.part.end c.args.blocks.now)) in
-    small-last c.in_ok-with_room.field-0 (joined (take c.args.part.first c.args.blocks.now)) c.args.new (joined (drop c.args.part.end c.args.blocks.now)) rest c.in_ok-and_all.field-0 c.in_ok-and_chunks.field-0 (2 ^ 32) c.in_ok-with_room.ensures c.in_ok-and_all.ensures c.in_ok-and_chunks.ensures (ap joined (take_rest c.args.blocks.now c.args.part.end)) c.requires.small
+    small-last c.in_ok-with_room.field-0 (joined c.args.front.now) (g.C.Contents.list c.args.contents) (joined c.args.back.now) (joined c.args.back.now) c.in_ok-and_all.field-0 c.in_ok-and_contents.field-0 (2 ^ 32) c.in_ok-with_room.ensures c.in_ok-and_all.ensures c.in_ok-and_contents.ensures refl c.requires
 
 pub returns : goal.returns
 returns g c =
-    let rest : List g.row.T.Denot = joined (take (length c.args.blocks.now - c.args.part.end) (drop c.args.part.end c.args.blocks.now)) in
-    let same : c.in_ok-and_all-2.field-0 ≡ joined (take c.args.part.first c.args.blocks.now) ++ c.args.new ++ joined (drop c.args.part.end c.args.blocks.now) =
-    c.in_ok-and_all-2.ensures
-    ∙ put-together c.in_ok-with_room.field-0 (joined (take c.args.part.first c.args.blocks.now)) c.args.new (joined (drop c.args.part.end c.args.blocks.now)) rest c.in_ok-and_all.field-0 c.in_ok-and_chunks.field-0 c.in_ok-with_room.ensures c.in_ok-and_all.ensures c.in_ok-and_chunks.ensures (ap joined (take_rest c.args.blocks.now c.args.part.end)) in
-    subst (λ (l : List g.row.T.Denot). IfOk c.balanced.result (λ (list : List g.row.T.Denot). list ≡ l)) same c.balanced.ensures
+    let same : c.in_ok-and_contents.field-0 ++ joined c.args.back.now ≡ joined c.args.front.now ++ g.C.Contents.list c.args.contents ++ joined c.args.back.now =
+    put-together c.in_ok-with_room.field-0 (joined c.args.front.now) (g.C.Contents.list c.args.contents) (joined c.args.back.now) (joined c.args.back.now) c.in_ok-and_all.field-0 c.in_ok-and_contents.field-0 c.in_ok-with_room.ensures c.in_ok-and_all.ensures c.in_ok-and_contents.ensures refl in
+    subst (λ (l : List g.row.T.Denot). IfOk c.and_all-2.result (λ (list : List g.row.T.Denot). list ≡ l)) same c.and_all-2.ensures

@@ -1,31 +1,33 @@
-use Rattle.std.proofs.Common.{ap, sym, ◌∙◌}
-use Rattle.std.proofs.lemmas.List.{take_all}
+use Rattle.std.proofs.Common.{◌≤◌, ap, arith, refl, reverse, sym, ◌∙◌}
 use Rattle.canvas_record.specs.Picture.{or_else}
-use Rattle.canvas_paint.specs.Items.{last_fill}
-use Rattle.canvas_plane.specs.Window.{column_shown, row_shown}
-use Rattle.canvas_paint.specs.Blocks.{block_fill, cut_fill, last_block_fill}
-use Rattle.canvas_paint.proofs.Cutting.{cut-more}
-use Rattle.canvas_paint.proofs.Painting.{last-push}
+use Rattle.canvas_paint.specs.Blocks.{cut_fill, last_block_fill}
+use Rattle.canvas_paint.proofs.Hiding.{block-behind, cut-next, no-block-behind, start-cutting}
 use Rattle.canvas_paint.proofs.bands.blocks_of.Goals as goal
 use Rattle.canvas_paint.proofs.bands.blocks_of.Goals.{in-Some+in_ok-push-in-Some, in-None}
 
-pub loop-item-preserved : goal.loop-item-preserved
-loop-item-preserved c = λ k j p q r.
-    let w = c.args.window.now in
-    let n = c.loop-item.item-index in
-    let old = last_block_fill c.loop-item.blocks.items k j in
+pub loop-left-init : goal.loop-left-init
+loop-left-init c =
+    let low : c.args.end ≤ 256 = omega arith in
+    start-cutting c.args.window.now c.args.items.now c.in_ok-blocks.blocks.items _ c.args.first c.args.end c.in_ok-blocks.ensures.items refl c.args.window.now.across.most low
+
+pub loop-left-preserved : goal.loop-left-preserved
+loop-left-preserved c =
+    let old = c.loop-left.blocks.items in
+    let next = cut-next c.args.window.now c.args.items.now old c.match-branch-3.blocks.items c.loop-left.free c.cut.new.free c.loop-left.left c.args.first c.args.end c.index-items-left.result c.in_ok-block.field-0 c.loop-left-test.true c.index-items-left.is c.cut.auto.free in
     elim c.match-branch-3.branch [
       | in-Some+in_ok-push-in-Some u ↦
-          cut-more c.args.items.now n c.item-item.result (column_shown w k) (row_shown w j) old (last_block_fill c.match-branch-3.blocks.items k j) (block_fill u.in-Some.block k j) c.loop-item-test.true c.item-item.is (c.loop-item.invariant k j p q r)
-          (ap (λ o. cut_fill o k j) (sym u.in-Some.is) ∙ c.in_ok-block.ensures k j p q r)
-          (ap (λ v. last_block_fill v.items k j) u.blocks-is
-          ∙ ap (λ l. last_block_fill l k j) u.in_ok-push-in-Some.ensures.items
-          ∙ last-push c.loop-item.blocks.items u.in-Some.block k j)
+          next
+          (λ k j.
+          ap (λ v. last_block_fill (reverse v.items) k j) u.blocks-is
+          ∙ ap (λ l. last_block_fill (reverse l) k j) u.in_ok-push-in-Some.ensures.items
+          ∙ block-behind old u.in-Some.block k j
+          ∙ ap (λ o. or_else (last_block_fill (reverse old) k j) (cut_fill o k j)) (sym u.in-Some.is))
+          c.in_ok-block.ensures.fill c.in_ok-block.ensures.free c.loop-left.invariant
       | in-None u ↦
-          cut-more c.args.items.now n c.item-item.result (column_shown w k) (row_shown w j) old (last_block_fill c.match-branch-3.blocks.items k j) (cut_fill c.in_ok-block.field-0 k j) c.loop-item-test.true c.item-item.is (c.loop-item.invariant k j p q r)
-          (c.in_ok-block.ensures k j p q r)
-          (ap (λ v. last_block_fill v.items k j) u.blocks-is ∙ sym (ap (λ o. or_else (cut_fill o k j) old) u.in-None.is))
+          next
+          (λ k j.
+          ap (λ v. last_block_fill (reverse v.items) k j) u.blocks-is
+          ∙ no-block-behind (last_block_fill (reverse old) k j)
+          ∙ ap (λ o. or_else (last_block_fill (reverse old) k j) (cut_fill o k j)) (sym u.in-None.is))
+          c.in_ok-block.ensures.fill c.in_ok-block.ensures.free c.loop-left.invariant
     ]
-
-pub returns : goal.returns
-returns c = λ k j p q r. c.loop-item.invariant k j p q r ∙ ap (λ l. last_fill l (column_shown c.args.window.now k) (row_shown c.args.window.now j)) (take_all c.loop-item.item-index c.args.items.now c.loop-item-test.false)

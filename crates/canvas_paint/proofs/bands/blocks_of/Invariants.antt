@@ -1,8 +1,8 @@
-use Rattle.std.proofs.Common.{◌≡◌, ℕ, ◌<◌, ◌≤◌, take}
-use Rattle.canvas_paint.specs.Items.{last_fill}
-use Rattle.canvas_plane.specs.Window.{column_shown, row_shown}
-use Rattle.canvas_paint.specs.Blocks.{last_block_fill}
+use Rattle.canvas_paint.proofs.Hiding.{IsCutting}
 use Rattle.canvas_paint.proofs.bands.blocks_of.Given as goal
 
-abbrev pub invariant-loop-item : goal.invariant-loop-item
-invariant-loop-item l = (k j : ℕ) → k < l.window.w → l.first ≤ j → j < l.end → last_block_fill l.blocks.items k j ≡ last_fill (take l.item-index l.items) (column_shown l.window k) (row_shown l.window j)
+abbrev pub invariant-loop-left : goal.invariant-loop-left
+invariant-loop-left l = IsCutting l.window l.items l.blocks.items l.free l.left l.first l.end
+
+abbrev pub decreases-loop-left : goal.decreases-loop-left
+decreases-loop-left l = l.left

@@ -1,6 +1,6 @@
 use Rattle.std.proofs.Common.{◌≡◌, ℕ, List, Option, Some, OnOk, ap, ◌∙◌, sym, subst, rules}
 use Rattle.std.specs.Io.Chain.{chain_remaining}
-use Rattle.std.specs.Io.KnownBytes.{Appends, Consumes, Keeps}
+use Rattle.std.specs.Io.KnownBytes.{Consumes, Keeps}
 use Rattle.canvas_session.specs.Session.{Serves}
 use Rattle.canvas_server.specs.Outlet.{given_to}
 use Rattle.canvas_server.proofs.Reading.{chained, read_web}

@@ -3,9 +3,8 @@ use Rattle.canvas_board.specs.declared.fault.BoardFault.{BoardFault}
 use Rattle.canvas_board.specs.Seen.{Seen}
 use Rattle.canvas_board.specs.Steps.{Edits}
 use Rattle.canvas_board.specs.Shared.{board_at, known_after, told_as}
-use Rattle.canvas_board.specs.Kept.{entries_of}
 use Rattle.canvas_board.proofs.Seats.{edits-seat}
-use Rattle.canvas_board.proofs.Showing.{are-right-on, goes-by-answer, known-within, within-on}
+use Rattle.canvas_board.proofs.Showing.{goes-by-answer, known-within, within-on}
 use Rattle.canvas_board.proofs.shared.SharedBoard.edit.Goals.{in-Ok, in-Err}
 use Rattle.canvas_board.proofs.shared.SharedBoard.edit.Goals as goal
 
@@ -20,7 +19,7 @@ returns g c =
       | in-Err w ↦ w.result-is ∙ ap (λ (f : BoardFault). Err f) w.from.ensures ∙ sym (ap told_as w.in-Err.is)
     ] in
     subst (λ (s : Seen). Edits s c.args.edit.now c.match-answer.result (board_at seat known)) c.self.view_is
-    (edits-seat i.seat seat i.known known c.args.edit.now c.edit-answer.result c.match-answer.result c.self.invariant.0 all c.edit-answer.ensures.accepted c.edit-answer.ensures.refused told)
+    (edits-seat i.seat seat i.known known c.args.edit.now c.edit-answer.result c.match-answer.result c.self.invariant all c.edit-answer.ensures.accepted c.edit-answer.ensures.refused told)
 
 pub invariant_of-self : goal.invariant_of-self
 invariant_of-self g c =
@@ -29,5 +28,5 @@ invariant_of-self g c =
     let answer = c.edit-answer.result in
     let on = goes-by-answer i.seat seat c.args.edit.now answer c.edit-answer.ensures.accepted c.edit-answer.ensures.refused in
     let all : c.known_after-self-inside.result ≡ known_after i.known (length seat.front) answer = c.known_after-self-inside.ensures ∙ ap (λ (n : ℕ). known_after i.known n answer) c.number.ensures in
-    let within : known_after i.known (length seat.front) answer ≤ length seat.front = known-within i.known (length seat.front) answer (within-on i.seat seat i.known on c.self.invariant.0) in
-    (subst (λ (n : ℕ). n ≤ length seat.front) (sym all) within, are-right-on i.seat seat on (entries_of i.kept.cache) c.self.invariant.1)
+    let within : known_after i.known (length seat.front) answer ≤ length seat.front = known-within i.known (length seat.front) answer (within-on i.seat seat i.known on c.self.invariant) in
+    subst (λ (n : ℕ). n ≤ length seat.front) (sym all) within

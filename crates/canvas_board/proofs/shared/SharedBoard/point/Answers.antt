@@ -6,9 +6,8 @@ use Rattle.canvas_line.specs.declared.version.Version.{Version}
 use Rattle.canvas_line.specs.Seats.{Looks}
 use Rattle.canvas_board.specs.Seen.{Seen, Grows, document_of}
 use Rattle.canvas_board.specs.Shared.{board_at}
-use Rattle.canvas_board.specs.Kept.{entries_of}
 use Rattle.canvas_board.proofs.Seats.{looks-grow, looks-document, looks-number}
-use Rattle.canvas_board.proofs.Showing.{are-right-on, board-on, board-told, goes-by-look, goes-nowhere}
+use Rattle.canvas_board.proofs.Showing.{goes-nowhere, told-within, within-on}
 use Rattle.canvas_board.proofs.shared.SharedBoard.point.Goals as goal
 
 pub returns : goal.returns
@@ -26,13 +25,10 @@ returns g c =
 pub invariant_of-self : goal.invariant_of-self
 invariant_of-self g c =
     let i = c.self.inside in
-    board-on i.seat c.look.new.self i.known (entries_of i.kept.cache) (goes-nowhere i.seat c.look.new.self c.in_default.ensures.1) c.self.invariant
+    within-on i.seat c.look.new.self i.known (goes-nowhere i.seat c.look.new.self c.in_default.ensures.1) c.self.invariant
 
 pub invariant_of-self-2 : goal.invariant_of-self-2
 invariant_of-self-2 g c =
-    let i = c.self.inside in
-    let seat = c.look.new.self in
     let version = arc_value c.in-Ok.version in
     let told : c.deref-2.result.now.number ≡ version.number = ap (λ (v : Version). v.number) c.deref-2.ensures in
-    let right = are-right-on i.seat seat (goes-by-look i.seat seat version c.in-Ok.ensures) (entries_of i.kept.cache) c.self.invariant.1 in
-    board-told i.seat seat version c.deref-2.result.now.number (entries_of i.kept.cache) c.in-Ok.ensures told right
+    told-within c.self.inside.seat c.look.new.self version c.deref-2.result.now.number c.in-Ok.ensures told

@@ -8,9 +8,8 @@ use Rattle.canvas_line.specs.Lines.{Sight}
 use Rattle.canvas_line.specs.Seats.{Looks}
 use Rattle.canvas_board.specs.Seen.{Seen, Grows, document_of}
 use Rattle.canvas_board.specs.Shared.{board_at}
-use Rattle.canvas_board.specs.Kept.{entries_of}
 use Rattle.canvas_board.proofs.Seats.{looks-grow, looks-document, looks-number}
-use Rattle.canvas_board.proofs.Showing.{are-right-on, board-on, board-told, front-document, goes-by-look, goes-nowhere}
+use Rattle.canvas_board.proofs.Showing.{front-document, goes-by-look, goes-nowhere, told-within, within-on}
 use Rattle.canvas_board.proofs.shared.SharedBoard.saved.Goals as goal
 
 -- the mark is that of the version that was looked at
@@ -36,19 +35,15 @@ returns-in-Ok-text_at g c =
 pub invariant_of-self : goal.invariant_of-self
 invariant_of-self g c =
     let i = c.self.inside in
-    board-on i.seat c.look.new.self i.known (entries_of i.kept.cache) (goes-nowhere i.seat c.look.new.self c.in_default.ensures.1) c.self.invariant
+    within-on i.seat c.look.new.self i.known (goes-nowhere i.seat c.look.new.self c.in_default.ensures.1) c.self.invariant
 
 pub invariant_of-self-in-Ok-text_at : goal.invariant_of-self-in-Ok-text_at
 invariant_of-self-in-Ok-text_at g c =
-    let i = c.self.inside in
-    let seat = c.look.new.self in
     let version = arc_value c.in-Ok.version in
     let told : c.deref-in-Ok-text_at.result.now.number ≡ version.number = ap (λ (v : Version). v.number) c.deref-in-Ok-text_at.ensures in
-    let right = are-right-on i.seat seat (goes-by-look i.seat seat version c.in-Ok.ensures) (entries_of i.kept.cache) c.self.invariant.1 in
-    board-told i.seat seat version c.deref-in-Ok-text_at.result.now.number (entries_of i.kept.cache) c.in-Ok.ensures told right
+    told-within c.self.inside.seat c.look.new.self version c.deref-in-Ok-text_at.result.now.number c.in-Ok.ensures told
 
 pub invariant_of-self-in-Err : goal.invariant_of-self-in-Err
 invariant_of-self-in-Err g c =
     let i = c.self.inside in
-    let seat = c.look.new.self in
-    board-on i.seat seat i.known (entries_of i.kept.cache) (goes-by-look i.seat seat (arc_value c.in-Ok.version) c.in-Ok.ensures) c.self.invariant
+    within-on i.seat c.look.new.self i.known (goes-by-look i.seat c.look.new.self (arc_value c.in-Ok.version) c.in-Ok.ensures) c.self.invariant

@@ -6,4 +6,4 @@ pub returns : goal.returns
 returns g c =
     λ p by.
     let called = (g.met.P.FnMut.1.post_iff _ _ _).0 c.pred.ensures in
-    answers g.P.Fn _ _ _ _ _ called.1 by ∙ passes-first p c.args.chunk.now c.first.result.now c.first.ensures
+    answers g.P.Fn _ _ _ _ _ called.1 by ∙ passes-first p c.args.part.now c.first.result.now c.first.ensures
