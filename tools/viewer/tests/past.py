@@ -16,7 +16,6 @@ from tests.files import downloaded
 STEPS = 60
 MANY = 100_000
 SECONDS = 8
-TRIES = 3
 BATCH = 1000
 NO_BAR = "document.styleSheets[0].insertRule('#past, .is-past #stage::before { visibility: hidden; }', document.styleSheets[0].cssRules.length)"
 """Hides what lies above the picture."""
@@ -198,9 +197,9 @@ async def visited(desk, server):
 
 
 async def long_past(browser):
-    """A hundred thousand versions: each is shown within seconds, by one of a few desks that come one after another, since a machine may have a slow
-    moment."""
-    with kept() as (server, gateway):
+    """A hundred thousand versions: each is shown within seconds to two desks, each with a gateway of its own, which knows nothing yet. Where a machine
+    has a slow moment, so that one of them waits longer, a third one decides."""
+    with kept() as (server, _):
         with server.connect() as canvas:
             canvas.ask(verb="create", shape={"kind": "frame", "w": 800, "h": 600, "fill": "f0e8d0"})
             for number in range(400):
@@ -211,19 +210,20 @@ async def long_past(browser):
                     canvas.send(verb="pose", id=2 + number % 400, pose={"dx": number * 7 % 780, "dy": number * 3 % 580})
                 for _ in range(count):
                     last, _ = canvas.read()
-        for left in reversed(range(TRIES)):
-            desk = await Desk.open(browser, gateway, server)
-            await desk.settle(last["version"])
-            await desk.tab.value(NO_BAR)
-            times, faults = await visited(desk, server)
-            print(f"versions of {last['version']}: " + ", ".join(f"{it:.2f} s" for it in times))
-            for version, fault in faults.items():
-                yield f"version {version} of {MANY}", fault
-            yield "its console", difference(desk.tab.faults, [])
-            await desk.tab.close()
-            if max(times) <= SECONDS or not left:
-                break
-        yield "each is there within seconds", None if max(times) <= SECONDS else f"{times}"
+        slowest = []
+        while len(slowest) < 2 or len(slowest) == 2 and min(slowest) <= SECONDS < max(slowest):
+            with contextlib.closing(Gateway(server)) as gateway:
+                desk = await Desk.open(browser, gateway, server)
+                await desk.settle(last["version"])
+                await desk.tab.value(NO_BAR)
+                times, faults = await visited(desk, server)
+                slowest.append(max(times))
+                print(f"versions of {last['version']}: " + ", ".join(f"{it:.2f} s" for it in times))
+                for version, fault in faults.items():
+                    yield f"version {version} of {MANY}", fault
+                yield "its console", difference(desk.tab.faults, [])
+                await desk.tab.close()
+        yield "each is there within seconds", None if sorted(slowest)[1] <= SECONDS else f"{slowest}"
 
 
 STAGES = (no_past, looked_back, long_past)
