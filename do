@@ -1,14 +1,14 @@
 #!/usr/bin/env bash
 # What contributors do most, by one word.
 #
-# usage: ./do docs | test | prove CRATE | wrong CRATE [EDIT..] | demo | bench SUBJECT
+# usage: ./do docs | test | prove CRATE | wrong CRATE [EDIT..] | demo | bench SUBJECT | bench all FOLDER
 #
 #   docs    the pages, the lists of wrong bodies and the scripts agree with the sources
 #   test    what users run, on the programs that are built
 #   prove   checks a crate, with its tests if it has some
 #   wrong   tries wrong bodies of a crate
 #   demo    the page to draw on
-#   bench   times a part of the product (bench/time.sh)
+#   bench   times a part of the product (bench/time.sh), or `all FOLDER` of it (bench/all.sh)
 set -euo pipefail
 cd "$(dirname "$0")"
 usage() {
@@ -26,6 +26,11 @@ prove)
     ;;
 wrong) tools/try_wrong_bodies.py "${1:?"of which crate?"}" "${@:2}" ;;
 demo) bin/canvas-demo "$@" ;;
-bench) bench/time.sh "${1:?"which subject?"}" ;;
+bench)
+    case ${1:?"which subject?"} in
+    all) bench/all.sh "${2:?"which folder?"}" ;;
+    *) bench/time.sh "$1" ;;
+    esac
+    ;;
 *) usage ;;
 esac

@@ -14,6 +14,7 @@ usage: tools/check_docs.py [--write]
 - tools/README.md and examples/README.md name each file beside them;
 - docs/PROOFS.md names each crate of the kit that crates.txt has among those that are trusted;
 - each heading that docs/QUESTIONS.md names stands in its page;
+- each number of docs/LIMITS.md stands in the sources that its row names (tools/limits.py);
 - the gate that README.md names is what .ci/run runs (tools/check_program.py runs its example);
 - CHANGELOG.md begins with the version in the file VERSION, and the packages that docs/INSTALL.md names are of that version.
 
@@ -26,6 +27,7 @@ import sys
 from body_lists import faults_of_lists, write_lists
 from excerpts import NoDefinition, as_they_stand, faults_of_excerpts
 from functions import clause_lines
+from limits import faults_of_limits
 from repository import TOP, lines
 from try_wrong_bodies import BadEdit, edited
 
@@ -206,7 +208,7 @@ def main():
             write(page)
         write_lists()
     found = [*faults_of_bodies(), *faults_of_lists(), *faults_of_questions(), *faults_of_trusted(), *faults_of_gate(), *faults_of_version()]
-    found += [*faults_of_lengths(pages), *faults_of_widths()]
+    found += [*faults_of_limits(), *faults_of_lengths(pages), *faults_of_widths()]
     for page in indexes:
         found += faults_of_index(page)
     for page in pages:
