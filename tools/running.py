@@ -95,7 +95,7 @@ def difference(got, wanted):
 
 
 def wait_for(test):
-    for _ in range(2_000):
+    for _ in range(500):
         if test():
             return True
         time.sleep(0.01)
