@@ -96,5 +96,13 @@ def changed_functions(old, new):
 def refused_function(line, texts):
     """The name of the function that a line of the prover refuses, if it refuses one; `texts` has the sources by their paths."""
     goal, answer = GOAL.match(line), ANSWER.match(line)
-    inside = innermost(functions(texts[goal[1]]), int(goal[2])) if goal and goal[1] in texts else None
+    inside = function_at(texts[goal[1]], int(goal[2])) if goal and goal[1] in texts else None
     return inside.name if inside else answer and answer[1]
+
+
+def function_at(text, number):
+    """The function of the goal at this line. That of a whole function stands at the first attribute above it, if it has one."""
+    found = functions(text)
+    if text.split("\n")[number - 1].lstrip().startswith("#["):
+        return min((it for it in found if it.begins > number), key=lambda it: it.begins, default=None)
+    return innermost(found, number)
