@@ -35,7 +35,7 @@ GONE = "./proofs/reader/read/Answers.antt:9:4: error: `returns`: `c` has no fiel
 ABSENT = "src/reader.rt:7:3: error: `side` is not in scope"
 SOURCE = "pub fn read(\n    side: u32,\n) -> u32 {\n    side\n    // a line\n}\n\nfn other() {\n    1\n}\n"
 
-WITH_ATTRIBUTES = SOURCE.replace("fn other", "#[tactic(\n    auto\n)]\n#[inline(always)]\nfn other")
+WITH_ATTRIBUTES = SOURCE.replace("fn other", "#[derive(Drop)]\nstruct Side;\n\n#[tactic(\n    auto\n)]\n#[inline(always)]\nfn other")
 
 # What a check printed, its status, and what that says of the body.
 CASES = (
@@ -65,7 +65,7 @@ def faults_of_parsing():
     for printed, wanted in ((SEARCHED, "read"), (DIFFERS, "read"), (SEARCHED.replace(":5:", ":9:"), "other"), ("help: no place", None)):
         found = [refused_function(it, texts) for it in told(printed.split("\n"))]
         yield None if found == [wanted] * bool(wanted) else f"{printed}: refuses {found}, not {wanted}"
-    for line, wanted in ((8, "other"), (11, "other"), (1, "read")):
+    for line, wanted in ((8, None), (11, "other"), (14, "other"), (15, "other"), (1, "read")):
         found = refused_function(SEARCHED.replace(":5:", f":{line}:"), {"src/reader.rt": WITH_ATTRIBUTES})
         yield None if found == wanted else f"the goal at line {line} refuses {found}, not {wanted}"
     yield None if len(told(f"{TRIVIAL}\nlogic: x\n  set in".split("\n"))[0].split("\n")) == 4 else "a line that is set in goes to the wrong place"

@@ -102,7 +102,8 @@ def refused_function(line, texts):
 
 def function_at(text, number):
     """The function of the goal at this line. That of a whole function stands at the first attribute above it, if it has one."""
-    found = functions(text)
-    if text.split("\n")[number - 1].lstrip().startswith("#["):
-        return min((it for it in found if it.begins > number), key=lambda it: it.begins, default=None)
-    return innermost(found, number)
+    lines, is_open = text.split("\n"), 0
+    while number < len(lines) and (is_open or lines[number - 1].lstrip().startswith("#[")):
+        is_open += lines[number - 1].count("[") - lines[number - 1].count("]")
+        number += 1
+    return innermost(functions(text), number)
