@@ -1,5 +1,5 @@
 -- What is put in is found among what is kept.
-use Rattle.std.proofs.Common.{◌≡◌, ◌-◌, Bool, true, false, List, ◌∷◌, take, Contains, Option, Some, None, Result, Ok, Err, OnOk, OnErr, refl, sym, ap, ◌∙◌, subst, arith}
+use Rattle.std.proofs.Common.{◌≡◌, ◌-◌, Bool, true, false, ◌∷◌, take, Contains, Option, Some, None, Result, Ok, Err, OnOk, refl, sym, ap, ◌∙◌, subst, arith}
 use Rattle.std.specs.Prelude.{◌&&◌, nat_eq}
 use Rattle.std.specs.Ordering.{int_eq}
 use Rattle.canvas_board.specs.contracts.window_key.WindowKeyPartialEq.TheImpl as key_impl
@@ -19,11 +19,6 @@ abbrev pub IsExact : (WindowKey → WindowKey → Bool) → Type 0
 IsExact eq = (a b : WindowKey) → eq a b ≡ true → a ≡ b
 
 module _ (eq : WindowKey → WindowKey → Bool) (exact : IsExact eq) where
-  -- a put leaves room for as many
-  pub put-room : {A E : Type 0} (r : Result A E) (old new : LruCache WindowKey Sight) (es : List (WindowKey × Sight)) → OnOk r (new ≡ lru_cache es old.cap) → OnErr r (new ≡ old) → new.cap ≡ old.cap
-  put-room (Ok a) old new es ok err = ap (λ (c : LruCache WindowKey Sight). c.cap) ok
-  put-room (Err a) old new es ok err = ap (λ (c : LruCache WindowKey Sight). c.cap) err
-
   there-after : (cache : LruCache WindowKey Sight) (window : Window) (key : WindowKey) (seat : Sight) (o : Option (WindowKey × Sight)) → key ≡ key_of window → lookup_entry (eq key) cache.entries ≡ o
       → Contains (option_map_or (λ e. (e.0, seat) ∷ remove_entry (eq key) cache.entries) o ((key, seat) ∷ take (cache.cap - 1) cache.entries)) (key_of window, seat)
   there-after cache window key seat None named found = (0, omega arith, ap (λ (k : WindowKey). (k, seat)) named)

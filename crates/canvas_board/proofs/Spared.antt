@@ -1,5 +1,5 @@
 -- What changes leave as it is: a window that the damage of each misses shows the same picture after them.
-use Rattle.std.proofs.Common.{◌≡◌, ℕ, zero, suc, ◌+◌, ◌-◌, ◌<◌, ◌≤◌, Bool, true, false, ◌&&◌, List, [], ◌∷◌, ◌++◌, length, take, drop, All, refl, sym, ap, ◌∙◌, subst, arith}
+use Rattle.std.proofs.Common.{◌≡◌, ℕ, suc, ◌+◌, ◌-◌, ◌<◌, ◌≤◌, Bool, true, false, ◌&&◌, List, [], ◌∷◌, ◌++◌, length, take, drop, All, refl, sym, ap, ◌∙◌, subst, arith}
 use Rattle.std.specs.Prelude.{ℤ, ◌+ℤ◌, ◌*ℤ◌, pos}
 use Rattle.std.proofs.lemmas.List.{drop_at, take-append-drop}
 use Rattle.canvas_plane.specs.declared.PageBox.{PageBox}
@@ -45,12 +45,6 @@ missed-pixel window area x y m h =
 pub same-file : (d e : Contents) (window : Window) → ((x y : ℤ) → is_in (covered_by window) x y ≡ true → colour e.records x y ≡ colour d.records x y) → file_of e window ≡ file_of d window
 unfolding file_of
 same-file d e window h = ap (p6_of window.w window.h) (joined-picture (colour e.records) (colour d.records) window h)
-
--- a document after changes is well formed
-pub well-after : (d : Contents) (k : ℕ) (cs : List Change) → IsWellFormed d → AllFit d cs → IsWellFormed (replay_of d (take k cs))
-well-after d zero cs w fit = w
-well-after d (suc k) [] w fit = w
-well-after d (suc k) (c ∷ cs) w fit = well-after (effect_of c d) k cs fit.0.left fit.1
 
 -- colours in a window stay over changes whose damage misses it
 pub same-after : DamageKeeps → (window : Window) (k n : ℕ) → k ≤ n → (d : Contents) (cs : List Change) → IsWellFormed d → AllFit d cs → All (λ (e : Damage). k < e.number → misses window e.area ≡ true) (damages_from n d cs)

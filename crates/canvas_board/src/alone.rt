@@ -134,12 +134,9 @@ fn make(alloc: Global, document: &mut Document, edit: &Edit) -> Result<Change, B
     ensures effect { IfOk result (λ change. document.new ≡ effect_of change document.old) }
     ensures same { OnErr result (document.new ≡ document.old) }
 {
-    match document.decide(alloc, edit) {
+    match document.edit(alloc, edit) {
+        Ok(change) => Ok(change),
         Err(Refusal::OutOfMemory) => Err(BoardFault::OutOfMemory),
         Err(why) => Err(BoardFault::Refused(why)),
-        Ok(change) => match document.apply(alloc, &change) {
-            Err(_) => Err(BoardFault::OutOfMemory),
-            Ok(()) => Ok(change),
-        },
     }
 }

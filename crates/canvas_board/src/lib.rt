@@ -12,6 +12,7 @@ mod fault;
 mod gallery;
 mod history;
 mod kept;
+mod kept_pictures;
 mod last_export;
 mod picture;
 mod saving;

@@ -10,8 +10,10 @@ use crate::answers::{Dot, Picture, Saved};
 use crate::board::Board;
 use crate::fault::BoardFault;
 use crate::gallery::Gallery;
+use crate::kept_pictures::KeptPictures;
 use crate::last_export::LastExport;
 use crate::picture::file_of;
+use crate::shelf::Shelf;
 use bumpalo::Bump;
 use canvas_code::OutOfMemory;
 use canvas_doc::Edit;
@@ -35,7 +37,7 @@ pub struct Shared<B: Lines> {
     seat: Seat<B>,
     // How many changes the front has.
     known: u64,
-    gallery: Gallery<B>,
+    pictures: KeptPictures<B>,
     last_export: LastExport<B>,
     // How many pictures were answered from the kept ones.
     hits: u64,
@@ -62,8 +64,8 @@ impl<B: Lines> Shared<B> {
         if keep > MOST_KEPT {
             return Err((BoardFault::BadSetting, seat));
         }
-        let gallery = Gallery::of_one(alloc, keep as usize);
-        Ok(Shared::beside(alloc, seat, gallery, LastExport::new(alloc)))
+        let pictures = KeptPictures::Own(Shelf::new(keep as usize));
+        Ok(Shared::with(alloc, seat, pictures, LastExport::new(alloc)))
     }
 
     /// A board over a seat, beside other boards of the line that have the same gallery and the same
@@ -76,12 +78,23 @@ impl<B: Lines> Shared<B> {
     ) -> Shared<B>
         ensures { result ≡ shared_board seat.opening seat.limit seat.front }
     {
+        Shared::with(alloc, seat, KeptPictures::Common(gallery), last_export)
+    }
+
+    fn with(
+        alloc: Global,
+        seat: Seat<B>,
+        pictures: KeptPictures<B>,
+        last_export: LastExport<B>,
+    ) -> Shared<B>
+        ensures { result ≡ shared_board seat.opening seat.limit seat.front }
+    {
         let known = seat.number();
         Shared {
             alloc,
             seat,
             known,
-            gallery,
+            pictures,
             last_export,
             hits: 0,
         }
@@ -92,13 +105,13 @@ impl<B: Lines> Shared<B> {
         self.hits
     }
 
-    /// Has the gallery remember the damage of the last changes, so that it still tells which
-    /// pictures are right when nobody has asked for one during 64 changes.
+    /// Has the gallery, where boards share one, remember the damage of the last changes, so that it
+    /// still tells which pictures are right when nobody has asked for one during 64 changes.
     pub fn remember(&mut self)
         ensures { self.new ≡ self.old }
     {
         if let Ok(version) = self.seat.look() {
-            self.gallery.remember(self.alloc, &self.seat, &version);
+            self.pictures.remember(self.alloc, &self.seat, &version);
         }
     }
 
@@ -136,7 +149,7 @@ impl<B: Lines> Board for Shared<B> {
         let answer = picture_at(
             rt,
             self.alloc,
-            &self.gallery,
+            &mut self.pictures,
             &self.seat,
             &version,
             window,
@@ -193,7 +206,7 @@ struct Answered {
 fn picture_at<B: Lines, R: Threads + Sync>(
     rt: &R,
     alloc: Global,
-    gallery: &Gallery<B>,
+    pictures: &mut KeptPictures<B>,
     seat: &Seat<B>,
     version: &Version,
     window: &Window,
@@ -203,7 +216,7 @@ fn picture_at<B: Lines, R: Threads + Sync>(
     requires at { IsVersionOf seat.now.opening seat.now.limit seat.now.front version.now }
     ensures { IfOk result (λ answer. ShowsAt version.now window.now answer.picture) }
 {
-    if let Some(bytes) = gallery.answer(alloc, seat, version, window) {
+    if let Some(bytes) = pictures.answer(alloc, seat, version, window) {
         let number = version.number;
         return Ok(Answered {
             picture: Picture {
@@ -218,7 +231,7 @@ fn picture_at<B: Lines, R: Threads + Sync>(
     seat.stop_painting();
     let picture = painted?;
     version.document.well_formed_law();
-    gallery.keep(alloc, seat, version, window, &picture.bytes);
+    pictures.keep(alloc, seat, version, window, &picture.bytes);
     Ok(Answered {
         picture,
         was_kept: false,

@@ -3,6 +3,7 @@
 ghost use Rattle.std.specs.Prelude.{◌≡◌, ◌≤◌, ◌++◌, [], IfSome, length, vec_len};
 ghost use Rattle.std.specs.Arc.{arc_value};
 ghost use Rattle.canvas_record.specs.History.{AllFit};
+ghost use Rattle.canvas_board.specs.declared.shelf.TheConstants.{MOST_OF_SHELF};
 ghost use Rattle.canvas_board.specs.Kept.{document_at, entries_of, key_of, CountsAt, HasRoom, IsEndOf, IsPictureOf};
 
 use crate::asked::Asked;
@@ -22,36 +23,18 @@ pub(crate) struct Shelf<B: Lines> {
     most: usize,
     // There once a picture was kept.
     cache: Option<LruCache<WindowKey, Kept<B>>>,
-    // What was asked for, where a window is kept only from its second asking on.
-    asked: Option<Asked>,
     ghost few: { most ≤ 256 },
     ghost room: { HasRoom most cache },
 }
 
 impl<B: Lines> Shelf<B> {
-    /// No picture yet. A window is kept from its first asking on.
-    pub(crate) fn for_one(most: usize) -> Shelf<B>
-        requires { most ≤ 256 }
-        ensures { result.most ≡ most }
-    {
-        Shelf::new(most, None)
-    }
-
-    /// No picture yet. A window is kept from its second asking on.
-    pub(crate) fn for_many(most: usize) -> Shelf<B>
-        requires { most ≤ 10 }
-        ensures { result.most ≡ most }
-    {
-        Shelf::new(most, Some(Asked::new()))
-    }
-
-    fn new(most: usize, asked: Option<Asked>) -> Shelf<B>
+    /// No picture yet.
+    pub(crate) fn new(most: usize) -> Shelf<B>
         requires { most ≤ 256 }
         ensures none { entries_of result.cache ≡ [] }
         ensures most { result.most ≡ most }
     {
-        let cache = None;
-        Shelf { most, cache, asked }
+        Shelf { most, cache: None }
     }
 
     /// The picture of a window at a mark with so many changes, where the one that is kept is still
@@ -79,20 +62,16 @@ impl<B: Lines> Shelf<B> {
         }
     }
 
-    /// Keeps the picture of a window, unless memory for it can't be had, or windows are kept only
-    /// from their second asking on and this is the first. Gives what goes for it.
+    /// Keeps the picture of a window, if there is room for it and memory for that can be had. Gives
+    /// what goes for it.
     pub(crate) fn keep(
         &mut self,
         alloc: Global,
-        window: &Window,
+        key: WindowKey,
         kept: Kept<B>,
     ) -> Option<(WindowKey, Kept<B>)>
-        ensures most { self.new.most ≡ self.old.most }
+        ensures { self.new.most ≡ self.old.most }
     {
-        let key = key_of(window);
-        if !is_wanted(&mut self.asked, alloc, key) {
-            return Some((key, kept));
-        }
         make_room(&mut self.cache, alloc, self.most);
         match &mut self.cache {
             Some(cache) => put_in(cache, key, kept),
@@ -101,11 +80,45 @@ impl<B: Lines> Shelf<B> {
     }
 }
 
-// Whether a window that is asked for is to be kept.
-fn is_wanted(asked: &mut Option<Asked>, alloc: Global, key: WindowKey) -> bool {
-    match asked {
-        Some(asked) => asked.again(alloc, key),
-        None => true,
+/// How many pictures a shelf for many boards has at most.
+pub(crate) const MOST_OF_SHELF: usize = 10;
+
+/// A shelf for many boards, with few pictures. A window is kept from its second asking on.
+#[derive(Drop)]
+pub(crate) struct CommonShelf<B: Lines> {
+    pub(crate) pictures: Shelf<B>,
+    // The windows that were asked for.
+    asked: Asked,
+    ghost few: { pictures.most ≤ MOST_OF_SHELF },
+}
+
+impl<B: Lines> CommonShelf<B> {
+    /// No picture yet, and up to so many.
+    pub(crate) fn new(most: usize) -> CommonShelf<B>
+        requires { most ≤ MOST_OF_SHELF }
+        ensures { result.pictures.most ≡ most }
+    {
+        CommonShelf {
+            pictures: Shelf::new(most),
+            asked: Asked::new(),
+        }
+    }
+
+    /// Keeps the picture of a window that was asked for before, as `Shelf::keep` does. Gives what
+    /// goes for it.
+    pub(crate) fn keep(
+        &mut self,
+        alloc: Global,
+        key: WindowKey,
+        kept: Kept<B>,
+    ) -> Option<(WindowKey, Kept<B>)>
+        ensures { self.new.pictures.most ≡ self.old.pictures.most }
+    {
+        if self.asked.again(alloc, key) {
+            self.pictures.keep(alloc, key, kept)
+        } else {
+            Some((key, kept))
+        }
     }
 }
 

@@ -7,5 +7,7 @@ pub mod Maps
 pub mod OneChanged
 pub mod Marks
 pub mod DepthAgrees
+pub mod Ways
+pub mod Deep
 pub mod Childless
 pub mod Heights

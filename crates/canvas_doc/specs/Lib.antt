@@ -3,7 +3,10 @@ pub mod PlaceOrder
 pub mod Ends
 pub mod Edges
 pub mod Bounds
+pub mod Slabs
+pub mod Coverage
 pub mod Heights
+pub mod Ways
 pub mod Fitting
 pub mod Deletion
 pub mod Placements

@@ -1,23 +1,22 @@
-//! Paths from a parent up to the page, and the height of a subtree.
+//! The way from a parent up to the page, and the height of a subtree.
 
-ghost use Rattle.std.specs.Prelude.{◌≡◌, ◌≤◌, ◌<◌, ◌+◌, IfOk, Some, length, true};
-ghost use Rattle.canvas_record.specs.declared.records.Record.{Record};
+ghost use Rattle.std.specs.Prelude.{◌≡◌, ◌≤◌, All, Some, true};
 ghost use Rattle.std.specs.Option.{option_copied};
-ghost use Rattle.canvas_record.specs.Contents.{record_of, reaches_page, is_container, AreRising};
-ghost use Rattle.canvas_record.specs.Effect.{is_below};
-ghost use Rattle.canvas_record.specs.Depth.{depth_of, height_of, is_above_32};
-ghost use Rattle.canvas_doc.specs.Heights.{tallest};
 ghost use Rattle.canvas_record.specs.declared.records.Parent.TheVariants.{Shape};
-ghost use Rattle.canvas_record.specs.Decision.{has_shape, has_parent, can_have_children, holds_container, lies_too_deep, put_under, parent_after};
+ghost use Rattle.canvas_record.specs.Contents.{record_of, reaches_page, is_container, AreRising, IsWellFormed};
+ghost use Rattle.canvas_record.specs.Decision.{has_shape, has_parent, can_have_children, holds_container, lies_too_deep};
+ghost use Rattle.canvas_record.specs.Depth.{height_of};
+ghost use Rattle.canvas_record.specs.Tree.{IsInLimits};
+ghost use Rattle.canvas_doc.specs.Heights.{tallest};
+ghost use Rattle.canvas_doc.specs.Ways.{holder_in, IsWay};
 
 use crate::Document;
-use crate::lookup::{find, position_of};
+use crate::lookup::find;
 use crate::place_order::children_range;
 use crate::records::Records;
-use canvas_code::OutOfMemory;
+use canvas_plane::Pose;
 use canvas_record::{Parent, Record};
 use canvas_shape::Kind;
-use std::alloc::Global;
 use std::ops::Range;
 
 /// How many steps up lead from a parent to the page at most.
@@ -71,123 +70,94 @@ pub(crate) fn can_have_children(records: &Records, parent: Parent) -> bool
     }
 }
 
-// Whether a parent is the shape or lies below it.
-#[tactic(auto, using(crate::proofs::tree::Paths::below_rules))]
-pub(crate) fn is_below(records: &Records, steps: u32, id: u32, parent: Parent) -> bool
-    requires { AreRising records.now }
-    ensures { result ≡ is_below steps id records.now parent }
-{
-    let Parent::Shape(at) = parent else {
-        return false;
-    };
-    if steps == 0 {
-        return false;
-    }
-    let Some(shape) = find(records, at) else {
-        return false;
-    };
-    shape.id == id || is_below(records, steps - 1, id, shape.place.parent)
+/// The way from a parent up to the page, for a shape that hangs there or is to.
+#[derive(Clone, Copy)]
+pub(crate) struct Way {
+    /// How many shapes lie on it.
+    pub(crate) depth: u32,
+    /// Whether the shape itself is one of them.
+    pub(crate) has_own: bool,
+    /// Carries the parent's points to the page.
+    pub(crate) pose: Pose,
 }
 
-// Whether following parents reaches the page.
-#[tactic(auto, using(crate::proofs::tree::Paths::reach_rules))]
-pub(crate) fn reaches_page(records: &Records, steps: u32, parent: Parent) -> bool
-    requires { AreRising records.now }
-    ensures { result ≡ reaches_page steps records.now parent }
+// The way up from a parent, at most so many steps of it, for the shape of an id.
+pub(crate) fn way_up(records: &Records, steps: u32, id: u32, parent: Parent) -> Way
+    requires steps { steps ≤ 32 }
+    requires rising { AreRising records.now }
+    requires limits { All IsInLimits records.now }
+    ensures { IsWay records.now id steps parent result }
 {
-    let Parent::Shape(at) = parent else {
+    let mut has_own = false;
+    let mut pose = Pose::STILL;
+    let mut at = parent;
+    for depth in 0..steps {
+        let Some(shape) = holder(records, at) else {
+            return Way {
+                depth,
+                has_own,
+                pose,
+            };
+        };
+        has_own |= shape.id == id;
+        pose = pose.then(&shape.pose);
+        at = shape.place.parent;
+    }
+    Way {
+        depth: steps,
+        has_own,
+        pose,
+    }
+}
+
+// The record of a parent, if it is one that is there.
+fn holder(records: &Records, parent: Parent) -> Option<&Record>
+    requires { AreRising records.now }
+    ensures { option_copied result ≡ holder_in parent records.now }
+{
+    match parent {
+        Parent::Page => None,
+        Parent::Shape(id) => find(records, id),
+    }
+}
+
+// Whether the way up from a parent that can have children leaves room for a shape below it.
+pub(crate) fn is_shallow(document: &Document, parent: Parent) -> bool
+    requires { can_have_children document.now.records parent ≡ true }
+    ensures { result ≡ reaches_page 31 document.now.records parent }
+{
+    let way = way_up(&document.records, STEPS + 1, document.next, parent);
+    way.depth <= STEPS
+}
+
+// Whether a parent can have children and leads to the page, with room for a shape below it.
+pub(crate) fn reaches_page(document: &Document, parent: Parent) -> bool
+    ensures { result ≡ reaches_page 31 document.now.records parent }
+{
+    can_have_children(&document.records, parent) && is_shallow(document, parent)
+}
+
+// Whether some record lies too deep, or leads to no page, once a shape hangs under another parent.
+pub(crate) fn lies_too_deep(document: &Document, id: u32, shape: &Record, under: Parent) -> bool
+    requires { record_of id document.now.records ≡ Some shape.now }
+    ensures { result ≡ lies_too_deep document.now.records id under }
+{
+    let records = &document.records;
+    if !can_have_children(records, under) {
         return true;
-    };
-    if steps == 0 {
-        return false;
     }
-    let Some(shape) = find(records, at) else {
-        return false;
-    };
-    is_container(&shape.kind) && reaches_page(records, steps - 1, shape.place.parent)
+    let way = way_up(records, STEPS + 1, id, under);
+    way.has_own || way.depth + height_of(document, id, shape) > 32
 }
 
-// The parent of a shape once one of them hangs under another.
-fn parent_after(shape: &Record, id: u32, under: Parent) -> Parent
-    ensures { result ≡ parent_after id under shape.now }
-{
-    if shape.id == id {
-        under
-    } else {
-        shape.place.parent
-    }
-}
-
-// Whether following parents reaches the page once a shape hangs under another parent.
-#[tactic(auto, using(crate::proofs::tree::Paths::reach_rules))]
-fn reaches_page_after(records: &Records, steps: u32, id: u32, under: Parent, parent: Parent) -> bool
-    requires { AreRising records.now }
-    ensures { result ≡ reaches_page steps (put_under id under records.now) parent }
-{
-    let Parent::Shape(at) = parent else {
-        return true;
-    };
-    if steps == 0 {
-        return false;
-    }
-    let Some(shape) = find(records, at) else {
-        return false;
-    };
-    let up = parent_after(shape, id, under);
-    is_container(&shape.kind) && reaches_page_after(records, steps - 1, id, under, up)
-}
-
-// Whether some record lies too deep once a shape hangs under another parent.
-pub(crate) fn lies_too_deep(records: &Records, id: u32, under: Parent) -> bool
-    requires { AreRising records.now }
-    ensures { result ≡ lies_too_deep records.now id under }
-{
-    for at in 0..records.len() {
-        let shape = records.at(at).value();
-        let parent = parent_after(shape, id, under);
-        let reaches = reaches_page_after(records, STEPS, id, under, parent);
-        if !reaches {
-            return true;
-        }
-    }
-    false
-}
-
-// How many shapes lie on the path from a parent to the page.
-#[tactic(auto, using(crate::proofs::tree::Paths::depth_rules))]
-fn depth_of(records: &Records, steps: u32, parent: Parent) -> u32
-    requires { AreRising records.now }
-    ensures value { result ≡ depth_of steps records.now parent }
-    ensures small { result ≤ steps }
-{
-    let Parent::Shape(at) = parent else {
-        return 0;
-    };
-    if steps == 0 {
-        return 0;
-    }
-    let Some(shape) = find(records, at) else {
-        return 0;
-    };
-    depth_of(records, steps - 1, shape.place.parent) + 1
-}
-
-// Whether the depth of a parent and the height of a subtree are together above 32.
-pub(crate) fn is_above_32(document: &Document, id: u32, parent: Parent) -> bool
-    ensures { result ≡ is_above_32 document.now.records id parent }
-{
-    depth_of(&document.records, STEPS + 1, parent) + height_of(document, id) > 32
-}
-
-// The height of a subtree: 0 where there is no such shape, and 1 where nothing lies below it.
-fn height_of(document: &Document, id: u32) -> u32
+// The height of the subtree of a shape: 1 where nothing lies below it.
+pub(crate) fn height_of(document: &Document, id: u32, shape: &Record) -> u32
+    requires well_formed { IsWellFormed document.now }
+    requires found { record_of id document.now.records ≡ Some shape.now }
     ensures value { result ≡ height_of id document.now.records }
     ensures small { result ≤ 32 }
 {
-    match find(&document.records, id) {
-        Some(shape) => levels_below(document, STEPS, shape) + 1,
-        None => 0,
-    }
+    levels_below(document, STEPS, shape) + 1
 }
 
 // How many levels lie below a shape of the document, down to so many: one for each child, and the

@@ -3,6 +3,7 @@
 ghost use Rattle.canvas_doc.specs.Edges.{AreEdges};
 
 use crate::corners::{are_near, ends, greater, left_top, lesser, overlaps, right_bottom, spans};
+use crate::slabs::slabs_between;
 use canvas_plane::{PageBox, Point, Pose};
 use canvas_shape::{Kind, bounds};
 
@@ -23,6 +24,7 @@ impl Bounds {
     ghost use Rattle.canvas_shape.specs.Box.{AreSides};
     ghost use Rattle.canvas_shape.specs.Inside.{IsSound};
     ghost use Rattle.canvas_doc.specs.Edges.{AreNearEnds};
+    ghost use Rattle.canvas_doc.specs.Slabs.{HasSlabs};
     ghost use Rattle.canvas_doc.specs.Bounds.{is_empty, is_whole, left_top, right_bottom, HoldsAll, HoldsBetween, HoldsClip, HoldsOwn, IsCarriedWithin, IsWithinBounds, LieApart};
 
     /// A box that holds nothing.
@@ -193,6 +195,22 @@ impl Bounds {
             right: greater(self.right, other.right),
             bottom: greater(self.bottom, other.bottom),
         }
+    }
+
+    /// The columns in which it lies.
+    #[inline(always)]
+    pub(crate) fn columns(&self) -> u64
+        ensures { HasSlabs self.now.left self.now.right result }
+    {
+        slabs_between(self.left, self.right)
+    }
+
+    /// The rows in which it lies.
+    #[inline(always)]
+    pub(crate) fn rows(&self) -> u64
+        ensures { HasSlabs self.now.top self.now.bottom result }
+    {
+        slabs_between(self.top, self.bottom)
     }
 
     fn is_whole(&self) -> bool

@@ -7,7 +7,7 @@ ghost use Rattle.canvas_record.specs.Picture.{answer_among, answer_of, or_else, 
 ghost use Rattle.canvas_record.specs.Tree.{IsInLimits};
 
 use crate::Document;
-use crate::bounds::Bounds;
+use crate::coverage::Coverage;
 use crate::place_order::children_of;
 use canvas_list::FoundRange;
 use canvas_plane::{PageBox, Pose};
@@ -83,7 +83,7 @@ fn answer_among(
         end,
         mut reader,
     } = children_of(&document.order, parent);
-    let area = Bounds::of_clip(out, &at.sides());
+    let area = Coverage::of_clip(out, &at.sides());
     let mut slot = reader.next_meeting(start, end, &area);
     'siblings: while slot < end {
         let shape = reader.at(slot).shape.value();

@@ -2,7 +2,6 @@
 
 ghost use Rattle.std.specs.Prelude.{◌≡◌, ◌≤◌, ◌+◌, ◌*◌, ◌^◌, ℤ, All, Some, false, map};
 ghost use Rattle.std.specs.Int.{int_max, int_min};
-ghost use Rattle.canvas_plane.specs.declared.Point.{Point};
 ghost use Rattle.canvas_plane.specs.Motion.{carry, reach_of};
 ghost use Rattle.canvas_plane.specs.Page.{empty_box, hull_of, is_in};
 ghost use Rattle.canvas_shape.specs.Bounds.{bounds_of, dot_of, grown_to};
@@ -18,7 +17,7 @@ ghost use Rattle.canvas_record.specs.Picture.{colour};
 ghost use Rattle.canvas_record.specs.Tree.{IsInLimits};
 
 use crate::Document;
-use crate::ancestry::{STEPS, is_container};
+use crate::ancestry::{STEPS, is_container, way_up};
 use crate::lookup::find;
 use crate::place_order::children_range;
 use crate::records::Records;
@@ -41,11 +40,12 @@ impl Document {
         let records = &self.records;
         match change {
             Change::Create {
+                id,
                 kind,
                 pose,
                 place,
                 ..
-            } => extent_alone(records, kind, pose, place.parent),
+            } => extent_alone(records, *id, kind, pose, place.parent),
             Change::Move { id, place } => moved_extents(self, *id, place),
             Change::Pose { id, pose } => posed_extents(self, *id, pose),
             Change::Reshape { id, kind } => reshaped_extents(self, *id, kind),
@@ -62,8 +62,8 @@ fn extent_at(document: &Document, id: u32) -> PageBox
 {
     match find(&document.records, id) {
         Some(shape) => {
-            let up = page_pose(&document.records, STEPS, shape.place.parent);
-            extent_of(document, STEPS, shape, &shape.kind, &shape.pose, &up)
+            let up = way_up(&document.records, STEPS, id, shape.place.parent);
+            extent_of(document, STEPS, shape, &shape.kind, &shape.pose, &up.pose)
         }
         None => PageBox::EMPTY,
     }
@@ -77,13 +77,20 @@ fn moved_extents(document: &Document, id: u32, place: &Place) -> PageBox
 {
     match find(&document.records, id) {
         Some(shape) => {
-            let up = page_pose(&document.records, STEPS, shape.place.parent);
-            let before = extent_of(document, STEPS, shape, &shape.kind, &shape.pose, &up);
+            let up = way_up(&document.records, STEPS, id, shape.place.parent);
+            let before = extent_of(document, STEPS, shape, &shape.kind, &shape.pose, &up.pose);
             if shape.place.parent == place.parent {
                 return before;
             }
-            let new_up = page_pose(&document.records, STEPS, place.parent);
-            let moved = extent_of(document, STEPS, shape, &shape.kind, &shape.pose, &new_up);
+            let new_up = way_up(&document.records, STEPS, id, place.parent);
+            let moved = extent_of(
+                document,
+                STEPS,
+                shape,
+                &shape.kind,
+                &shape.pose,
+                &new_up.pose,
+            );
             before.hull(&moved)
         }
         None => PageBox::EMPTY,
@@ -100,9 +107,9 @@ fn posed_extents(document: &Document, id: u32, pose: &Pose) -> PageBox
 {
     match find(&document.records, id) {
         Some(shape) => {
-            let up = page_pose(&document.records, STEPS, shape.place.parent);
-            let before = extent_of(document, STEPS, shape, &shape.kind, &shape.pose, &up);
-            let posed = extent_of(document, STEPS, shape, &shape.kind, pose, &up);
+            let up = way_up(&document.records, STEPS, id, shape.place.parent);
+            let before = extent_of(document, STEPS, shape, &shape.kind, &shape.pose, &up.pose);
+            let posed = extent_of(document, STEPS, shape, &shape.kind, pose, &up.pose);
             before.hull(&posed)
         }
         None => PageBox::EMPTY,
@@ -118,17 +125,17 @@ fn reshaped_extents(document: &Document, id: u32, kind: &Kind) -> PageBox
 {
     match find(&document.records, id) {
         Some(shape) => {
-            let up = page_pose(&document.records, STEPS, shape.place.parent);
-            let before = extent_of(document, STEPS, shape, &shape.kind, &shape.pose, &up);
-            let reshaped = extent_of(document, STEPS, shape, kind, &shape.pose, &up);
+            let up = way_up(&document.records, STEPS, id, shape.place.parent);
+            let before = extent_of(document, STEPS, shape, &shape.kind, &shape.pose, &up.pose);
+            let reshaped = extent_of(document, STEPS, shape, kind, &shape.pose, &up.pose);
             before.hull(&reshaped)
         }
         None => PageBox::EMPTY,
     }
 }
 
-// The extent of a shape of this kind and pose under a parent, with nothing below it.
-fn extent_alone(records: &Records, kind: &Kind, pose: &Pose, parent: Parent) -> PageBox
+// The extent of a new shape of this kind and pose under a parent.
+fn extent_alone(records: &Records, id: u32, kind: &Kind, pose: &Pose, parent: Parent) -> PageBox
     requires rising { AreRising records.now }
     requires limits { All IsInLimits records.now }
     requires sound { IsSound kind.now }
@@ -137,34 +144,9 @@ fn extent_alone(records: &Records, kind: &Kind, pose: &Pose, parent: Parent) -> 
     ensures { result ≡ hull_of
         (own_extent kind.now (λ q. to_page 31 records.now parent (carry pose.now q))) empty_box }
 {
-    let page = pose.then(&page_pose(records, STEPS, parent));
+    let up = way_up(records, STEPS, id, parent);
+    let page = pose.then(&up.pose);
     own_extent(kind, &page).hull(&PageBox::EMPTY)
-}
-
-// Where the points of a parent lie on the page, within so many steps up.
-fn page_pose(records: &Records, steps: u32, parent: Parent) -> Pose
-    requires rising { AreRising records.now }
-    requires limits { All IsInLimits records.now }
-    requires steps { steps ≤ 31 }
-    ensures carries { (q : Point) → carry result q ≡ to_page steps records.now parent q }
-    ensures quarter { result.quarter ≤ 3 }
-    ensures reach { reach_of result ≤ steps * 2 ^ 20 }
-{
-    match parent {
-        Parent::Page => Pose::STILL,
-        Parent::Shape(id) => {
-            if steps == 0 {
-                return Pose::STILL;
-            }
-            match find(records, id) {
-                Some(shape) => {
-                    let up = page_pose(records, steps - 1, shape.place.parent);
-                    shape.pose.then(&up)
-                }
-                None => Pose::STILL,
-            }
-        }
-    }
 }
 
 // The box round the children of a parent and all below them, where `out` carries its points to the page.

@@ -10,7 +10,7 @@ ghost use Rattle.canvas_record.specs.Effect.{Fits, HasKey};
 ghost use Rattle.canvas_record.specs.Decision.{same_variant, move_index, create_index, move_decision, pose_decision, reshape_judgement, reshape_decision, show_decision, delete_decision, respace_decision, decision_of, asks_memory, IsAnswer};
 
 use crate::ancestry::{
-    STEPS, can_have_children, has_parent, has_shape, is_above_32, is_below, reaches_page,
+    STEPS, can_have_children, has_parent, has_shape, height_of, is_shallow, way_up,
 };
 use crate::lookup::find;
 use crate::records::Records;
@@ -105,7 +105,7 @@ fn create_index(
     if !can_have_children(records, parent) {
         return Err(Refusal::NotAContainer);
     }
-    if !reaches_page(records, STEPS, parent) {
+    if !is_shallow(document, parent) {
         return Err(Refusal::TooDeep);
     }
     if records.len() >= MOST_RECORDS {
@@ -144,19 +144,20 @@ fn move_index(document: &Document, id: u32, parent: Parent, spot: &Spot) -> Resu
     ensures key { IfOk result IsKey }
 {
     let records = &document.records;
-    if !has_shape(records, id) {
+    let Some(shape) = find(records, id) else {
         return Err(Refusal::NoSuchShape);
-    }
+    };
     if !has_parent(records, parent) {
         return Err(Refusal::NoSuchParent);
     }
     if !can_have_children(records, parent) {
         return Err(Refusal::NotAContainer);
     }
-    if is_below(records, STEPS + 1, id, parent) {
+    let way = way_up(records, STEPS + 1, id, parent);
+    if way.has_own {
         return Err(Refusal::Cycle);
     }
-    if is_above_32(document, id, parent) {
+    if way.depth + height_of(document, id, shape) > 32 {
         return Err(Refusal::TooDeep);
     }
     index_at(document, id, parent, spot)

@@ -19,14 +19,28 @@ use crate::placed_shapes::PlacedShape;
 use crate::records::ListedRecord;
 use canvas_code::OutOfMemory;
 use canvas_list::ItemChange;
-use canvas_record::{Change, Parent, Record};
+use canvas_record::{Change, Edit, Parent, Record, Refusal};
 use std::alloc::Global;
 
 impl Document {
     ghost use Rattle.std.specs.Prelude.{◌+◌, ℤ, true};
+    ghost use Rattle.canvas_record.specs.Decision.{decision_of, IsAnswer};
     ghost use Rattle.canvas_record.specs.Effect.{changes_one, effect_of, Fits, SpacesOnly};
     ghost use Rattle.canvas_record.specs.declared.edits.Change.TheVariants.{Delete};
     ghost use Rattle.canvas_record.specs.Picture.{colour};
+
+    /// Makes an edit in the document itself: the change that it is, or the first refusal that
+    /// applies, which leaves the document as it was. Out of memory comes only in place of a change.
+    pub fn edit(&mut self, alloc: Global, edit: &Edit) -> Result<Change, Refusal>
+        ensures decision { IsAnswer result (decision_of edit.now self.old) }
+        ensures fits { IfOk result (λ change. Fits change self.old) }
+        ensures effect { IfOk result (λ change. self.new ≡ effect_of change self.old) }
+        ensures same { OnErr result (self.new ≡ self.old) }
+    {
+        let change = self.decide(alloc, edit)?;
+        self.apply(alloc, &change)?;
+        Ok(change)
+    }
 
     /// The document after a change that fits.
     pub fn with(&self, alloc: Global, change: &Change) -> Result<Document, OutOfMemory>

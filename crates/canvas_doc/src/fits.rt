@@ -8,6 +8,7 @@ ghost use Rattle.canvas_doc.specs.Fitting.{creation_test, fits_test, has_no_chil
 
 use crate::ancestry::{has_parent, has_shape, is_container, lies_too_deep, reaches_page};
 use crate::decisions::is_pose;
+use crate::lookup::find;
 use crate::place_order::children_range;
 use crate::spots::is_taken;
 use crate::{Document, MOST_RECORDS};
@@ -74,7 +75,7 @@ fn can_be_created(document: &Document, kind: &Kind, pose: &Pose, place: &Place) 
     if !is_pose(pose) {
         return false;
     }
-    if !reaches_page(&document.records, 31, place.parent) {
+    if !reaches_page(document, place.parent) {
         return false;
     }
     !is_taken(document, document.next, place.parent, &place.index)
@@ -85,10 +86,10 @@ fn can_be_moved(document: &Document, id: u32, place: &Place) -> bool
     ensures value { result ≡ move_test id place.now document.now.records }
     ensures key { IsTrue result → IsKey place.now.index }
 {
-    if !has_shape(&document.records, id) {
+    let Some(shape) = find(&document.records, id) else {
         return false;
-    }
-    if lies_too_deep(&document.records, id, place.parent) {
+    };
+    if lies_too_deep(document, id, shape, place.parent) {
         return false;
     }
     !is_taken(document, id, place.parent, &place.index)

@@ -16,6 +16,7 @@ ghost use Rattle.canvas_record.specs.Tree.{IsInLimits};
 
 use crate::ancestry::STEPS;
 use crate::bounds::Bounds;
+use crate::coverage::Coverage;
 use crate::lookup::find;
 use crate::place_order::{children_range, position_among, position_in};
 use crate::placed_shapes::{PlacedShape, PlacedShapes};
@@ -55,7 +56,8 @@ fn children_hull(order: &PlacedShapes, id: u32) -> Bounds
     order
         .list
         .iter_range(start, end)
-        .summed_with(&Bounds::nowhere())
+        .summed_with(&Coverage::of(&Bounds::nowhere()))
+        .bounds
 }
 
 /// The bounds of a shape that has its place in the order, or is to have one there. Those of the

@@ -11,6 +11,7 @@ mod changed;
 mod colour;
 mod copies;
 mod corners;
+mod coverage;
 mod damage;
 mod decisions;
 mod deletion;
@@ -24,6 +25,7 @@ mod place_order;
 mod placed_shapes;
 mod records;
 mod restored;
+mod slabs;
 mod spots;
 
 pub use canvas_record::{

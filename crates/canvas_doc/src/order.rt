@@ -10,7 +10,7 @@ ghost use Rattle.canvas_doc.specs.PlaceOrder.{comes_first};
 ghost use Rattle.canvas_record.specs.Tree.{IsInLimits};
 
 use crate::Document;
-use crate::bounds::Bounds;
+use crate::coverage::Coverage;
 use crate::place_order::children_of;
 use crate::placed_shapes::PlacedShapes;
 use canvas_code::OutOfMemory;
@@ -62,7 +62,7 @@ impl Document {
             end,
             mut reader,
         } = children_of(&self.order, parent);
-        let area = Bounds::of_clip(out, clip);
+        let area = Coverage::of_clip(out, clip);
         let mut seen = Vec::with_capacity(alloc, ROOM.min(end - start))?;
         let mut at = start;
         'walk: while at < end {

@@ -9,6 +9,7 @@ ghost use Rattle.canvas_list.specs.Changed.{changed_if, IsPositionOf};
 ghost use Rattle.canvas_doc.specs.Placements.{bounds_change, placements_of, shape_change};
 
 use crate::bounds::Bounds;
+use crate::coverage::Coverage;
 use crate::place_order::hint_of_place;
 use crate::records::{ListedRecord, Records};
 use canvas_code::OutOfMemory;
@@ -43,16 +44,18 @@ impl PlacedShape {
     }
 }
 
-// A summary of some shapes is a box that holds all that their bounds hold. A walk seeks those whose
-// bounds meet a box.
+// A summary of some shapes is a coverage of all their bounds. A walk seeks those whose bounds meet
+// a box, given as its coverage.
 impl Share for PlacedShape {
-    ghost use Rattle.canvas_doc.specs.Bounds.{IsWithinBounds, LieApart};
+    ghost use Rattle.canvas_doc.specs.Bounds.{LieApart};
+    ghost use Rattle.canvas_doc.specs.Coverage.{IsCovered};
 
-    type Summary = Bounds;
+    type Summary = Coverage;
 
-    ghost covers = { λ summary placed. IsWithinBounds placed.bounds summary };
+    ghost covers = { λ summary placed. IsCovered placed.bounds summary };
 
-    ghost lies_apart = { λ sought placed. LieApart placed.bounds sought };
+    ghost lies_apart = { λ sought placed. IsCovered sought.bounds sought
+        → LieApart placed.bounds sought.bounds };
 
     #[inline(always)]
     fn share(&self) -> Result<PlacedShape, OutOfMemory> {
@@ -74,17 +77,27 @@ impl Share for PlacedShape {
     }
 
     #[inline(always)]
-    fn summary(&self) -> Bounds {
-        self.bounds
+    fn summary(&self) -> Coverage {
+        Coverage::of(&self.bounds)
     }
 
     #[inline(always)]
-    fn summed(first: &Bounds, second: &Bounds) -> Bounds {
-        first.hull(second)
+    fn summed(first: &Coverage, second: &Coverage) -> Coverage {
+        first.with(second)
     }
 
     #[inline(always)]
-    fn may_meet(summary: &Bounds, sought: &Bounds) -> bool {
+    fn is_covered(&self, summary: &Coverage) -> bool {
+        summary.contains(&self.bounds)
+    }
+
+    #[inline(always)]
+    fn may_have(&self, sought: &Coverage) -> bool {
+        self.bounds.meets(&sought.bounds)
+    }
+
+    #[inline(always)]
+    fn may_meet(summary: &Coverage, sought: &Coverage) -> bool {
         summary.meets(sought)
     }
 }

@@ -13,10 +13,9 @@ use std::process::Abort;
 
 /// Makes an edit of a document itself.
 pub(crate) fn make(alloc: Global, document: &mut Document, edit: &Edit) -> Result<(), Refusal> {
-    let change = document.decide(alloc, edit)?;
-    let made = document.apply(alloc, &change);
+    let change = document.edit(alloc, edit)?;
     drop(change);
-    Ok(made?)
+    Ok(())
 }
 
 // Makes an edit by a new document in the place of the old one.

@@ -1,12 +1,10 @@
 -- The feed of a history that goes on at its end.
-use Rattle.std.proofs.Common.{◌≡◌, ℕ, zero, suc, ◌+◌, ◌-◌, ◌≤◌, List, [], ◌∷◌, ◌++◌, length, take, drop, slice_get, refl, sym, subst, ap, ◌∙◌, arith, append_assoc, append-nil, add-zero, length-append, Option, Some, None}
+use Rattle.std.proofs.Common.{◌≡◌, ℕ, zero, suc, ◌+◌, ◌-◌, ◌≤◌, List, [], ◌∷◌, ◌++◌, length, take, drop, slice_get, refl, sym, subst, ap, ◌∙◌, arith, append_assoc, add-zero, length-append, Option, Some, None}
 use Rattle.std.proofs.Math.Seq.{drop-append_seam, take-append_seam}
 use Rattle.std.proofs.lemmas.List.{take-take, take-append-drop, length-take-le}
 use Rattle.canvas_record.specs.declared.edits.Change.{Change}
 use Rattle.canvas_record.specs.Contents.{Contents}
-use Rattle.canvas_record.specs.Damage.{damage_of}
-use Rattle.canvas_record.specs.Effect.{effect_of, new_id}
-use Rattle.canvas_feed.specs.Feed.{change_told, effect_told, document_after, line_text, line_told, feed_line, feed_text, feed_ends, IsTold, AreTold, Scribing, Tells, opening_line, whole_feed, place_behind}
+use Rattle.canvas_feed.specs.Feed.{change_told, effect_told, document_after, feed_line, feed_text, feed_ends, IsTold, AreTold, Scribing, Tells, opening_line, whole_feed, place_behind}
 use Rattle.std.specs.Io.KnownBytes.{Appends}
 use Rattle.canvas_feed.specs.Sending.{AppendsBeginning, between}
 
@@ -69,37 +67,6 @@ Tells-append a b c xs ys p q =
       ends =
           q.ends ∙ ap (λ t. t ++ feed_ends b.document b.version b.end ys) p.ends ∙ append_assoc a.ends (feed_ends d n a.end xs) (feed_ends b.document b.version b.end ys)
           ∙ ap (λ t. a.ends ++ (feed_ends d n a.end xs ++ t)) ends ∙ ap (λ t. a.ends ++ t) (sym (feed_ends-append d n a.end xs ys));
-    }
-
--- a scribe that has told nothing
-pub Tells-nil : (a : Scribing) → Tells [] a a
-Tells-nil a = record {
-  told = tt;
-  document = refl;
-  version = sym (add-zero a.version);
-  end = sym (add-zero a.end);
-  text = sym (append-nil a.text);
-  ends = sym (append-nil a.ends);
-}
-
--- a scribe tells one line
-pub Tells-one : (a b : Scribing) (line : List ℕ) (c : Change) → change_told a.document line ≡ Some c → b.document ≡ effect_of c a.document → b.version ≡ a.version + 1
-    → b.text ≡ a.text ++ line_text (damage_of c a.document) line (new_id c) (a.version + 1) → b.end ≡ a.end + (length b.text - length a.text) → b.ends ≡ a.ends ++ b.end ∷ []
-    → Tells (line ∷ []) a b
-Tells-one a b line c told document version text end ends =
-    let d = a.document in
-    let is : feed_line d (a.version + 1) line ≡ line_text (damage_of c d) line (new_id c) (a.version + 1) = ap (line_told d line (a.version + 1)) told in
-    let whole : a.text ++ line_text (damage_of c d) line (new_id c) (a.version + 1) ≡ a.text ++ (feed_line d (a.version + 1) line ++ []) = ap (λ t. a.text ++ t) (sym is ∙ sym (append-nil (feed_line d (a.version + 1) line))) in
-    let longer : length b.text ≡ length a.text + length (feed_line d (a.version + 1) line) =
-    ap length text ∙ length-append a.text (line_text (damage_of c d) line (new_id c) (a.version + 1)) ∙ ap (λ t. length a.text + length t) (sym is) in
-    let at : b.end ≡ a.end + length (feed_line d (a.version + 1) line) = omega (arith, end, longer) in
-    record {
-      told = subst (λ o. IsTold o (Unit {0})) (sym told) tt;
-      document = document ∙ sym (ap (effect_told d) told);
-      version = version;
-      end = at ∙ ap (λ t. a.end + length t) (sym (append-nil (feed_line d (a.version + 1) line)));
-      text = text ∙ whole;
-      ends = ends ∙ ap (λ k. a.ends ++ k ∷ []) at;
     }
 
 -- each line has its end

@@ -1,10 +1,10 @@
 -- What a writer was handed, piece by piece.
-use Rattle.std.proofs.Common.{◌≡◌, ℕ, ◌+◌, ◌-◌, ◌<◌, ◌≤◌, ◌⊎◌, inl, inr, List, [], ◌++◌, Option, length, take, drop, refl, sym, subst, ap, ◌∙◌, arith}
-use Rattle.std.proofs.KnownBytes.{Appends-nil, Appends-trans, Appends-kept}
+use Rattle.std.proofs.Common.{◌≡◌, ℕ, ◌+◌, ◌-◌, ◌<◌, ◌≤◌, ◌⊎◌, inl, inr, List, ◌++◌, Option, take, drop, sym, subst, ap, ◌∙◌, arith}
+use Rattle.std.proofs.KnownBytes.{Appends-trans}
 use Rattle.std.proofs.Math.Seq.{take-add}
 use Rattle.std.proofs.lemmas.Bool.{cases_lt}
-use Rattle.std.proofs.lemmas.List.{take-take, take_all, drop_all, drop-drop, length-take-le, length-take}
-use Rattle.std.specs.Io.KnownBytes.{Appends, Keeps}
+use Rattle.std.proofs.lemmas.List.{take-take, take_all, drop-drop, length-take}
+use Rattle.std.specs.Io.KnownBytes.{Appends}
 use Rattle.canvas_feed.specs.Sending.{AppendsBeginning, between}
 
 -- some more of the bytes were handed over
@@ -23,14 +23,6 @@ taken_by k m bytes (inr more) = record { count = m; within = omega arith; same =
 
 taken : (k m : ℕ) (bytes : List ℕ) → Taken k m bytes
 taken k m bytes = taken_by k m bytes (cases_lt k m)
-
--- a beginning of so many bytes there is one of all between two places
-pub part_sent : (b c : Option (List ℕ)) (bytes piece : List ℕ) (at to count : ℕ) → piece ≡ take count (drop at bytes) → at + count ≤ to → AppendsBeginning b c piece → AppendsBeginning b c (between at to bytes)
-part_sent b c bytes piece at to count is within (k, sent) =
-    let t = taken k count (drop at bytes) in
-    let same : take k piece ≡ take t.count (drop at bytes) = ap (take k) is ∙ t.same in
-    let less : t.count ≤ to - at = omega (arith, t.within) in
-    (t.count, subst (λ (l : List ℕ). Appends b c l) (same ∙ sym (take-take t.count (to - at) (drop at bytes) less)) sent)
 
 -- some bytes, and then a beginning of those that are left
 pub sent_then_part : (a b c : Option (List ℕ)) (bytes : List ℕ) (from at to : ℕ) → from ≤ at → at ≤ to → Appends a b (take (at - from) (drop from bytes)) → AppendsBeginning b c (between at to bytes)

@@ -1,6 +1,6 @@
 -- Lines that tell a history, longer and shorter ones.
 use Rattle.std.proofs.Common.{◌≡◌, ℕ, suc, ◌+◌, ◌-◌, ◌<◌, ◌≤◌, List, [], ◌∷◌, ◌++◌, length, take, map, Ok, Some, refl, ap, sym, ◌∙◌, subst, arith, append_assoc, length-append}
-use Rattle.std.proofs.lemmas.List.{map-append, append-nil, take_more, take-map, take_all}
+use Rattle.std.proofs.lemmas.List.{map-append, take_more, take-map, take_all}
 use Rattle.std.proofs.lemmas.Option.{slice_get-map, slice_get_read}
 use Rattle.std.specs.Prelude.{option_map, get_or}
 use mathlib.Core.List.{IsPrefix}
@@ -84,9 +84,6 @@ replays_from s t ls ms cs told more =
 
 pub replays_more : (s m t : Sight) (ls ms : List (List ℕ)) → Replays s ls m → Replays m ms t → Replays s (ls ++ ms) t
 replays_more s m t ls ms r more = replays_from s t ls ms r.0 r.1 (subst (λ (x : Sight). Replays x ms t) r.2 more)
-
-pub replays_none : (s : Sight) → Replays s [] s
-replays_none s = ([], tt, ap (with_front s) (sym (append-nil s.front)))
 
 -- one element more, seen through f
 map_next : {V T : Type 0} (f : V → T) (xs : List V) (k : ℕ) (x : V) (y : T) → k < length xs → x ≡ get_or xs k x → y ≡ f x → map f (take (k + 1) xs) ≡ map f (take k xs) ++ y ∷ []

@@ -1,8 +1,10 @@
 -- How many items there are after a change, and what a call made.
-use Rattle.std.proofs.Common.{◌≡◌, ◌<◌, ◌^◌, ℕ, List, Result, Ok, Err, OnOk, OnErr, cond, arith, length}
+use Rattle.std.proofs.Common.{◌≡◌, ◌<◌, ◌^◌, ◌∷◌, ℕ, suc, take, drop, All, List, Result, Ok, Err, OnOk, OnErr, cond, arith, length}
 use Rattle.std.specs.Result.{is_ok}
 use Rattle.std.proofs.lemmas.List.{length-set}
 use Rattle.std.proofs.lemmas.List.Edits.{length-insert, length-remove}
+use Rattle.std.proofs.lemmas.List.Elements.{All-append, All-cons, All-drop, All-take}
+use Rattle.std.specs.List.{insert, remove}
 use Rattle.canvas_list.specs.Changed.{changed, IsPositionOf}
 use Rattle.canvas_list.specs.declared.in_place.ItemChange.{ItemChange}
 use Rattle.canvas_list.specs.declared.in_place.ItemChange.TheVariants.{Replace, Remove, Insert}
@@ -17,3 +19,9 @@ few-changed (Insert item) at xs place few = omega (arith, length-insert xs at it
 pub if-made : {X T E : Type 0} (r : Result T E) (new after before : X) → OnOk r (new ≡ after) → OnErr r (new ≡ before) → new ≡ cond (is_ok r) after before
 if-made (Ok t) new after before made same = made
 if-made (Err e) new after before made same = same
+
+-- what holds of all items holds of them after a move
+pub all-moved : {X : Type 0} (P : X → Type 0) (xs : List X) (from to : ℕ) (x : X) → All P xs → P x → All P (insert (remove xs from) to x)
+all-moved P xs from to x all here =
+    let rest : All P (remove xs from) = All-append P (take from xs) (drop (suc from) xs) (All-take P from xs all) (All-drop P (suc from) xs all) in
+    All-append P (take to (remove xs from)) (x ∷ drop to (remove xs from)) (All-take P to (remove xs from) rest) (All-cons P x (drop to (remove xs from)) here (All-drop P to (remove xs from) rest))

@@ -13,4 +13,5 @@ pub mod Parted
 pub mod Ranges
 pub mod Runs
 pub mod Spliced
+pub mod Stretches
 pub mod Visited

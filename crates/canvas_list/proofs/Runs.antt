@@ -6,8 +6,7 @@ use Rattle.std.proofs.lemmas.Bool.{cases_lt}
 use Rattle.std.proofs.lemmas.List.{get_or-append-add, get_or-drop, get_or-take, get_or_append_left, length-append, length-drop, length-take, take-append-drop, take_rest}
 use Rattle.std.proofs.lemmas.Option.{slice_get-get_or}
 use Rattle.canvas_list.specs.Chunks.{joined, IsEnd, IsRun}
-use Rattle.std.specs.List.{sum_by}
-use Rattle.canvas_list.proofs.Joined.{chunk-read, joined-append, split_at, start-read, take-fewer, IsFound}
+use Rattle.canvas_list.proofs.Joined.{chunk-read, joined-append, split_at, take-fewer, IsFound}
 
 -- the items of a chunk, where it starts
 pub run-of-part : {X : Type 0} (cs : List (List X)) (xs : List X) (k s : ℕ) (c items : List X) → k < length cs → s ≡ length (joined (take k cs)) → joined cs ≡ xs → c ≡ get_or cs k c → items ≡ c → IsRun xs items s
@@ -25,17 +24,10 @@ run-of-part {X} cs xs k s c items within start all is same =
           ∙ ap (λ l. get_or l (s + i) x) (sym parts ∙ all);
     }
 
-pub run-of-chunk : {X : Type 0} (cs : List (List X)) (xs : List X) (n k s at : ℕ) (c items : List X) → IsFound cs n k s at → joined cs ≡ xs → c ≡ get_or cs k c → items ≡ c → IsRun xs items s
-run-of-chunk cs xs n k s at c items f all is same = run-of-part cs xs k s c items f.within f.start all is same
-
 -- a position stands in the items of its chunk
 pub chunk-holds : {X : Type 0} (cs : List (List X)) (n k s at : ℕ) (c items : List X) → IsFound cs n k s at → c ≡ get_or cs k c → items ≡ c → at < n → at < s + length items
 chunk-holds cs n k s at c items f is same h =
     omega (arith, f.start, f.before, chunk-read cs k c items f.within is same)
-
--- the items of a chunk that was found by how many items stand before it
-pub run-near : {X : Type 0} (cs ds : List (List X)) (xs : List X) (k s : ℕ) (c items : List X) → ds ≡ cs → k < length ds → s ≡ sum_by length (take k ds) → joined cs ≡ xs → c ≡ get_or cs k c → items ≡ c → IsRun xs items s
-run-near cs ds xs k s c items e within is all here same = run-of-part cs xs k s c items (omega (arith, ap length e)) (start-read cs ds k s e is) all here same
 
 -- a part of a part
 pub run-of-run : {X : Type 0} (xs block items : List X) (s t : ℕ) → IsRun xs block s → IsRun block items t → IsRun xs items (s + t)
@@ -102,10 +94,6 @@ run-behind {X} cs xs k s c items within start all is same =
 -- the items of all chunks from one on, as a slice of them has it
 pub rest-joined : {X : Type 0} (cs ds : List (List X)) (k : ℕ) → ds ≡ cs → joined (take (length ds - k) (drop k ds)) ≡ joined (drop k cs)
 rest-joined cs ds k e = ap joined (take_rest ds k) ∙ ap (λ l. joined (drop k l)) e
-
--- the same of a chunk that was found by how many items stand before it
-pub near-behind : {X : Type 0} (cs ds : List (List X)) (xs : List X) (k s : ℕ) (c items : List X) → ds ≡ cs → k < length ds → s ≡ sum_by length (take k ds) → joined cs ≡ xs → c ≡ get_or cs k c → items ≡ c → IsRun xs (joined (drop (k + 1) cs)) (s + length items)
-near-behind cs ds xs k s c items e within is all here same = run-behind cs xs k s c items (omega (arith, ap length e)) (start-read cs ds k s e is) all here same
 
 -- no items, where a list ends or before
 pub run-none : {X : Type 0} (xs : List X) (s : ℕ) → s ≤ length xs → IsRun xs [] s

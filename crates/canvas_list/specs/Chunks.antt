@@ -45,6 +45,12 @@ pub record IsRun {X : Type 0} (xs items : List X) (start : ℕ) : Type 0 where
   pub within : start + length items ≤ length xs
   pub same : (i : ℕ) (x : X) → i < length items → slice_index_or items i x ≡ slice_index_or xs (start + i) x
 
+-- items of a list, others right behind them, and others from a place on
+pub record IsStretch {X : Type 0} (xs items behind others : List X) (start next : ℕ) : Type 0 where
+  pub run : IsRun xs items start
+  pub rest : IsRun xs behind (start + length items)
+  pub more : IsRun xs others next
+
 -- something holds of each item of a list from a position on, up to another
 abbrev pub AllBetween : {X : Type 0} → (X → Type 0) → List X → ℕ → ℕ → Type 0
 AllBetween {X} P xs from end = (i : ℕ) (x : X) → from ≤ i → i < end → P (slice_index_or xs i x)

@@ -75,10 +75,15 @@ pub(crate) fn spot_near<P: Counted>(parts: &[P], hint: Hint) -> Spot
     Spot { chunk, start }
 }
 
-/// The hint of a part, if there is one of that number.
+/// Whether the first of some parts begins with an item that most likely comes before a hint.
 #[inline(always)]
-pub(crate) fn hint_at<P: Counted>(parts: &[P], part: usize) -> Option<Hint> {
-    Some(parts.get(part)?.hint())
+pub(crate) fn begin_before<P: Counted>(parts: &[P], hint: Hint) -> bool
+    ensures { result ≡ true → 0 < length parts.now }
+{
+    match parts.first() {
+        Some(first) => first.hint().is_before(hint),
+        None => false,
+    }
 }
 
 /// How many items some parts have.

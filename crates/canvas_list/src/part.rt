@@ -1,11 +1,11 @@
 //! The parts of a list, shared by all lists that have them.
 
-ghost use Rattle.std.specs.Prelude.{◌≡◌, ◌<◌, ◌≤◌, ◌+◌, ◌^◌, ◌++◌, All, IfOk, OnErr, OnOk, cond, length, take};
+ghost use Rattle.std.specs.Prelude.{ℕ, ◌≡◌, ◌<◌, ◌≤◌, ◌+◌, ◌^◌, List, All, IfOk, IfSome, OnErr, OnOk, cond, length};
 ghost use Rattle.std.specs.Arc.{arc_value};
 ghost use Rattle.std.specs.List.{insert, remove, slice_get};
 ghost use Rattle.std.specs.Result.{is_ok};
 ghost use Rattle.canvas_list.specs.Chunks.{joined};
-ghost use Rattle.canvas_list.specs.Changed.{changed_if, IsKept, IsPositionOf};
+ghost use Rattle.canvas_list.specs.Changed.{changed, changed_if, IsKept, IsPositionOf};
 
 use crate::also::Also;
 use crate::contents::Contents;
@@ -107,9 +107,10 @@ impl<T: Share, C: Contents<T>> Part<T, C> {
         let Some(contents) = Arc::get_mut(&mut self.contents) else {
             return Err(OutOfMemory);
         };
+        let summary = summary_after(&self.summary, &change);
         contents.change(alloc, at, change, sizes, other, also)?;
         self.noted = noted_after(self.noted, contents, at);
-        self.summary = contents.summary();
+        self.summary = summary_or(summary, contents);
         Ok(())
     }
 
@@ -131,9 +132,10 @@ impl<T: Share, C: Contents<T>> Part<T, C> {
         let Some(contents) = Arc::get_mut(&mut self.contents) else {
             return Err(OutOfMemory);
         };
+        let summary = summary_covering(&self.summary, &item);
         contents.shift(alloc, from, to, item, sizes)?;
         self.noted = noted_after(self.noted, contents, 0);
-        self.summary = contents.summary();
+        self.summary = summary_or(summary, contents);
         Ok(())
     }
 
@@ -216,6 +218,46 @@ fn noted_after<T: Share, C: Contents<T>>(before: Noted, contents: &C, at: usize)
         before.hint()
     };
     Noted::new(contents.count() as u32, hint)
+}
+
+// A summary of items after a change, made from the one before alone. It may still tell of an item
+// that was replaced. None where an item goes, or one that it does not tell of takes a place.
+#[inline(always)]
+fn summary_after<T: Share>(summary: &T::Summary, change: &ItemChange<T>) -> Option<T::Summary>
+    ensures { IfSome result (λ after. (items : List T) (at : ℕ) → All (T.covers summary.now) items
+        → All (T.covers after) (changed change.now at items)) }
+{
+    match change {
+        ItemChange::Insert(item) => Some(T::summed(summary, &item.summary())),
+        ItemChange::Replace(item) => summary_covering(summary, item),
+        ItemChange::Remove => None,
+    }
+}
+
+// A summary, if it tells of an item.
+#[inline(always)]
+fn summary_covering<T: Share>(summary: &T::Summary, item: &T) -> Option<T::Summary>
+    ensures same { IfSome result (λ same. same ≡ summary.now) }
+    ensures item { IfSome result (λ same. T.covers same item.now) }
+{
+    if item.is_covered(summary) {
+        Some(*summary)
+    } else {
+        None
+    }
+}
+
+// A summary of contents, if there is one, or else one that is made anew.
+#[inline(always)]
+fn summary_or<T: Share, C: Contents<T>>(summary: Option<T::Summary>, contents: &C) -> T::Summary
+    requires some { 0 < length (C.list contents.now) }
+    requires all { IfSome summary (λ given. All (T.covers given) (C.list contents.now)) }
+    ensures { All (T.covers result) (C.list contents.now) }
+{
+    match summary {
+        Some(given) => given,
+        None => contents.summary(),
+    }
 }
 
 /// A summary of what another tells of, and of all items of some parts.

@@ -1,40 +1,37 @@
 //! Reading a list at positions that often stand side by side.
 
-ghost use Rattle.std.specs.Prelude.{◌≡◌, ◌<◌, ◌≤◌, ◌+◌, ◌^◌, IfSome, length, slice_index_or, false, true};
-ghost use Rattle.canvas_list.specs.Chunks.{joined, AllBetween, IsRun};
+ghost use Rattle.std.specs.Prelude.{◌≡◌, ◌<◌, ◌≤◌, ◌+◌, ◌^◌, IfSome, List, length, slice_index_or, take, false, true};
+ghost use Rattle.canvas_list.specs.Chunks.{joined, AllBetween, IsRun, IsStretch};
 
-use crate::counted::{Counted, hint_at, spot_near, spot_of};
+use crate::contents::Contents;
+use crate::counted::{Counted, Spot, begin_before, spot_near, spot_of};
 use crate::hint::Hint;
-use crate::part::{Block, Chunk};
+use crate::part::{Block, Chunk, Part};
 use crate::share::Share;
 use crate::table::{Chunks, SharedList};
 use std::marker::Model;
 
 /// A reader of a list, seen as that list. It holds the chunk of the item that it gave last, that a
 /// walk came to, or to which the hint of a range's start led, if there was one. Of this it gives
-/// another item without a search, as it does of the next chunk of the same block.
+/// another item without a search, as it does of the next chunk of the same block. From the end of
+/// the block a walk goes on with the blocks beyond it.
 #[derive(Drop)]
 pub struct Reader<'a, T: Share> {
     list: &'a SharedList<T>,
-    items: &'a [T],
-    // Where the items that it holds start.
-    start: usize,
-    // The chunks of their block behind them.
-    behind: &'a [Chunk<T>],
+    held: Stretch<'a, T>,
 }
 
 impl<'a, T: Share> Model for Reader<'a, T> {
-    ghost use Rattle.std.specs.Prelude.{List, length, ◌<◌, ◌+◌, ◌^◌};
-    ghost use Rattle.canvas_list.specs.Chunks.{joined, IsRun};
+    ghost use Rattle.std.specs.Prelude.{List, length, ◌<◌, ◌^◌};
+    ghost use Rattle.canvas_list.specs.Chunks.{joined, IsStretch};
 
     ghost Value = { List T };
 
     ghost view = { λ reader. reader.list.now };
 
     ghost invariant = { λ reader. length reader.list.now < 2 ^ 32
-        × IsRun reader.list.now reader.items.now reader.start
-        × IsRun reader.list.now (joined reader.behind.now)
-        (reader.start + length reader.items.now) };
+        × IsStretch reader.list.now reader.held.items.now (joined reader.held.behind.now)
+        (joined reader.held.beyond.now) reader.held.start reader.held.beyond_start };
 }
 
 impl<'a, T: Share> Reader<'a, T> {
@@ -52,13 +49,10 @@ impl<'a, T: Share> Reader<'a, T> {
         ensures item { result.now ≡ slice_index_or self.old at result.now }
         ensures same { self.new ≡ self.old }
     {
-        if at < self.start || at - self.start >= self.items.len() {
-            let found = self.stretch_at(at);
-            self.items = found.items;
-            self.start = found.start;
-            self.behind = found.behind;
+        if at < self.held.start || at - self.held.start >= self.held.items.len() {
+            self.held = self.stretch_at(at);
         }
-        &self.items[at - self.start]
+        &self.held.items[at - self.held.start]
     }
 
     /// The position of the first item from `from` on that may meet what is sought, or `end` where
@@ -94,43 +88,51 @@ impl<'a, T: Share> Reader<'a, T> {
         ensures apart { AllBetween (T.lies_apart sought.now) self.old at result.at }
         ensures same { self.new ≡ self.old }
     {
-        if at < self.start || at - self.start >= self.items.len() {
-            let found = self.stretch_meeting(at, end, sought);
-            self.items = found.items;
-            self.start = found.start;
-            self.behind = found.behind;
+        if at < self.held.start || at - self.held.start >= self.held.items.len() {
+            self.held = self.stretch_meeting(at, end, sought);
         }
-        let from = at.max(self.start);
-        let upto = end.min(self.start + self.items.len());
+        let from = at.max(self.held.start);
+        let upto = end.min(self.held.start + self.held.items.len());
         if from >= upto {
             return Seen {
                 at: from,
                 meets: false,
             };
         }
-        let first = from - self.start;
-        let last = upto - self.start;
-        let place = from + place_meeting(&self.items[first..last], sought);
+        let first = from - self.held.start;
+        let last = upto - self.held.start;
+        let place = from + place_meeting(&self.held.items[first..last], sought);
         Seen {
             at: place,
             meets: place < upto,
         }
     }
 
-    // The items of the chunk of a position, or of one behind it, or none; what stands between lies apart.
+    // The items of the chunk of a position, or of one behind it, or none; what stands between lies
+    // apart.
     fn stretch_meeting(&self, at: usize, end: usize, sought: &T::Summary) -> Stretch<'a, T>
         requires within { at < end }
         requires end { end ≤ length self.now }
-        ensures run { IsRun self.now result.items.now result.start }
-        ensures behind { IsRun self.now (joined result.behind.now)
-            (result.start + length result.items.now) }
+        ensures held { IsStretch self.now result.items.now (joined result.behind.now)
+            (joined result.beyond.now) result.start result.beyond_start }
         ensures on { at < result.start + length result.items.now }
         ensures apart { AllBetween (T.lies_apart sought.now) self.now at result.start }
     {
-        if at >= self.start && at - self.start == self.items.len() && !self.behind.is_empty() {
-            let found = chunk_meeting(self.behind, end - at, sought);
+        let held = &self.held;
+        if at >= held.start && at - held.start == held.items.len() && !held.behind.is_empty() {
+            let found = chunk_meeting(held.behind, end - at, sought);
             return Stretch {
                 start: at + found.start,
+                beyond: held.beyond,
+                beyond_start: held.beyond_start,
+                ..found
+            };
+        }
+        if at == held.beyond_start && !held.beyond.is_empty() {
+            let found = block_meeting(held.beyond, end - at, sought);
+            return Stretch {
+                start: at + found.start,
+                beyond_start: at + found.beyond_start,
                 ..found
             };
         }
@@ -140,18 +142,20 @@ impl<'a, T: Share> Reader<'a, T> {
     // The items of the chunk of a position, most often the next one of the block.
     fn stretch_at(&self, at: usize) -> Stretch<'a, T>
         requires { at < length self.now }
-        ensures run { IsRun self.now result.items.now result.start }
-        ensures behind { IsRun self.now (joined result.behind.now)
-            (result.start + length result.items.now) }
+        ensures held { IsStretch self.now result.items.now (joined result.behind.now)
+            (joined result.beyond.now) result.start result.beyond_start }
         ensures from { result.start ≤ at }
         ensures upto { at < result.start + length result.items.now }
     {
-        if at >= self.start && at - self.start == self.items.len() {
-            if let Some((next, behind)) = self.behind.split_first() {
+        let held = &self.held;
+        if at >= held.start && at - held.start == held.items.len() {
+            if let Some((next, behind)) = held.behind.split_first() {
                 return Stretch {
                     items: next.items(),
                     start: at,
                     behind,
+                    beyond: held.beyond,
+                    beyond_start: held.beyond_start,
                 };
             }
         }
@@ -166,16 +170,19 @@ struct Seen {
     meets: bool,
 }
 
-/// The items of a chunk, or none, where they start, and the chunks of its block behind it.
+/// The items of a chunk, or none, where they start, the chunks of their block behind them, and
+/// blocks beyond that one, or none, and where they start.
 #[derive(Drop)]
 struct Stretch<'a, T: Share> {
     items: &'a [T],
     start: usize,
     behind: &'a [Chunk<T>],
+    beyond: &'a [Block<T>],
+    beyond_start: usize,
 }
 
-/// The items of a chunk to be searched, where they start, its hint, the chunks of its block behind
-/// it, and the hint of the next block.
+/// A stretch that is searched by hints: the items of a chunk, where they start, its hint, the
+/// chunks of its block behind it, and the blocks beyond that one, and where they start.
 #[derive(Drop)]
 pub(crate) struct Run<'a, T: Share> {
     pub(crate) items: &'a [T],
@@ -183,8 +190,24 @@ pub(crate) struct Run<'a, T: Share> {
     // What the table notes of the first one.
     pub(crate) hint: Hint,
     pub(crate) behind: &'a [Chunk<T>],
-    // What the list notes of the first item of the next block, if there is one and the list was asked.
-    pub(crate) next: Option<Hint>,
+    pub(crate) beyond: &'a [Block<T>],
+    pub(crate) beyond_start: usize,
+}
+
+// No items, where a search came to.
+fn nothing<'a, T: Share>(start: usize) -> Stretch<'a, T>
+    ensures start { result.start ≡ start }
+    ensures held { (xs : List T) → start ≤ length xs
+        → IsStretch xs result.items.now (joined result.behind.now) (joined result.beyond.now)
+        result.start result.beyond_start }
+{
+    Stretch {
+        items: &[],
+        start,
+        behind: &[],
+        beyond: &[],
+        beyond_start: 0,
+    }
 }
 
 // How many items come before the first that may meet what is sought, or all.
@@ -193,66 +216,94 @@ fn place_meeting<T: Share>(items: &[T], sought: &T::Summary) -> usize
     ensures apart { AllBetween (T.lies_apart sought.now) items.now 0 result }
 {
     for (place, item) in items.iter().enumerate() {
-        if T::may_meet(&item.summary(), sought) {
+        if item.may_have(sought) {
             return place;
         }
     }
     items.len()
 }
 
+// The first of some parts that may meet what is sought, or the end of them all, and how many items
+// come before it. It stops once there are so many.
+fn part_meeting<T: Share, C: Contents<T>>(
+    parts: &[Part<T, C>],
+    room: usize,
+    sought: &T::Summary,
+) -> Spot
+    requires { length (joined parts.now) < 2 ^ 32 }
+    ensures within { result.chunk ≤ length parts.now }
+    ensures start { result.start ≡ length (joined (take result.chunk parts.now)) }
+    ensures on { 0 < result.chunk → 0 < result.start }
+    ensures apart { AllBetween (T.lies_apart sought.now) (joined parts.now) 0 result.start }
+{
+    let mut start = 0;
+    for (chunk, part) in parts.iter().enumerate() {
+        if start >= room || T::may_meet(part.summary(), sought) {
+            return Spot { chunk, start };
+        }
+        start += part.count();
+    }
+    Spot {
+        chunk: parts.len(),
+        start,
+    }
+}
+
 // The first of some chunks that may meet what is sought, and those behind it. Where none of the
-// first so many items stands in one that may: no items, where the search ended.
+// first `room` items stands in one that may: the chunk at which the search stopped, or no items at
+// the end of all.
 fn chunk_meeting<'a, T: Share>(
     chunks: &'a [Chunk<T>],
     room: usize,
     sought: &T::Summary,
 ) -> Stretch<'a, T>
     requires some { 0 < length chunks.now }
-    requires room { 0 < room }
     requires few { length (joined chunks.now) < 2 ^ 32 }
-    ensures run { IsRun (joined chunks.now) result.items.now result.start }
-    ensures behind { IsRun (joined chunks.now) (joined result.behind.now)
-        (result.start + length result.items.now) }
+    ensures held { IsStretch (joined chunks.now) result.items.now (joined result.behind.now)
+        (joined result.beyond.now) result.start result.beyond_start }
     ensures on { 0 < result.start + length result.items.now }
     ensures apart { AllBetween (T.lies_apart sought.now) (joined chunks.now) 0 result.start }
 {
-    let mut start = 0;
-    for (place, chunk) in chunks.iter().enumerate() {
-        if start >= room {
-            break;
-        }
-        if T::may_meet(chunk.summary(), sought) {
-            let next = place + 1;
-            return Stretch {
-                items: chunk.items(),
-                start,
-                behind: &chunks[next..],
-            };
-        }
-        start += chunk.count();
+    let spot = part_meeting(chunks, room, sought);
+    if spot.chunk == chunks.len() {
+        return nothing(spot.start);
     }
     Stretch {
-        items: &[],
-        start,
-        behind: &[],
+        items: chunks[spot.chunk].items(),
+        start: spot.start,
+        behind: &chunks[spot.chunk + 1..],
+        beyond: &[],
+        beyond_start: 0,
     }
 }
 
-// How many items the first of some blocks have that lie apart from what is sought. It stops once
-// there are so many.
-fn count_apart<T: Share>(blocks: &[Block<T>], room: usize, sought: &T::Summary) -> usize
-    requires { length (joined blocks.now) < 2 ^ 32 }
-    ensures within { result ≤ length (joined blocks.now) }
-    ensures apart { AllBetween (T.lies_apart sought.now) (joined blocks.now) 0 result }
+// The same of some blocks: of the first that may meet what is sought.
+fn block_meeting<'a, T: Share>(
+    blocks: &'a [Block<T>],
+    room: usize,
+    sought: &T::Summary,
+) -> Stretch<'a, T>
+    requires some { 0 < length blocks.now }
+    requires few { length (joined blocks.now) < 2 ^ 32 }
+    ensures held { IsStretch (joined blocks.now) result.items.now (joined result.behind.now)
+        (joined result.beyond.now) result.start result.beyond_start }
+    ensures on { 0 < result.start + length result.items.now }
+    ensures apart { AllBetween (T.lies_apart sought.now) (joined blocks.now) 0 result.start }
 {
-    let mut count = 0;
-    for block in blocks {
-        if count >= room || T::may_meet(block.summary(), sought) {
-            break;
-        }
-        count += block.count();
+    let spot = part_meeting(blocks, room, sought);
+    if spot.chunk == blocks.len() {
+        return nothing(spot.start);
     }
-    count
+    let block = &blocks[spot.chunk];
+    let found = block
+        .contents()
+        .chunk_meeting(room.saturating_sub(spot.start), sought);
+    Stretch {
+        start: spot.start + found.start,
+        beyond: &blocks[spot.chunk + 1..],
+        beyond_start: spot.start + block.count(),
+        ..found
+    }
 }
 
 impl<T: Share> SharedList<T> {
@@ -263,47 +314,52 @@ impl<T: Share> SharedList<T> {
         // It holds no items, where the list ends: from its length a proof knows that all positions are small.
         Reader {
             list: self,
-            items: &[],
-            start: self.len(),
-            behind: &[],
+            held: nothing(self.len()),
         }
     }
 
-    /// Of a chunk and those behind it in its block, the one in which the items that come before a
-    /// hint end, most likely.
+    /// Of a chunk, those behind it and those of the blocks beyond, the one in which the items that
+    /// come before a hint end, most likely.
     #[inline(always)]
     pub(crate) fn run_from<'a>(&'a self, run: &Run<'a, T>, hint: Hint) -> Run<'a, T>
-        requires run { IsRun self.now run.now.items.now run.now.start }
-        requires behind { IsRun self.now (joined run.now.behind.now)
-            (run.now.start + length run.now.items.now) }
+        requires held { IsStretch self.now run.now.items.now (joined run.now.behind.now)
+            (joined run.now.beyond.now) run.now.start run.now.beyond_start }
         requires small { length self.now < 2 ^ 32 }
         ensures run { IsRun self.now result.items.now result.start }
         ensures few { result.start + length result.items.now < 2 ^ 32 }
     {
-        match run.behind.first() {
-            Some(first) if first.hint().is_before(hint) => {
-                let found = run_in(run.behind, hint);
-                Run {
-                    start: run.start + run.items.len() + found.start,
-                    ..found
-                }
-            }
-            _ => Run { ..*run },
+        if begin_before(run.beyond, hint) {
+            let found = run_over(run.beyond, hint);
+            return Run {
+                start: run.beyond_start + found.start,
+                ..found
+            };
         }
+        if begin_before(run.behind, hint) {
+            let found = run_in(run.behind, hint);
+            return Run {
+                start: run.start + run.items.len() + found.start,
+                ..found
+            };
+        }
+        Run { ..*run }
     }
 
     /// A reader of the list that holds a chunk from the start.
     #[inline(always)]
     pub(crate) fn reader_of<'a>(&'a self, run: Run<'a, T>) -> Reader<'a, T>
-        requires run { IsRun self.now run.items.now run.start }
-        requires behind { IsRun self.now (joined run.behind.now)
-            (run.start + length run.items.now) }
+        requires { IsStretch self.now run.items.now (joined run.behind.now)
+            (joined run.beyond.now) run.start run.beyond_start }
         ensures { result ≡ self.now }
     {
         Reader {
-            items: run.items,
-            start: run.start,
-            behind: run.behind,
+            held: Stretch {
+                items: run.items,
+                start: run.start,
+                behind: run.behind,
+                beyond: run.beyond,
+                beyond_start: run.beyond_start,
+            },
             ..self.reader()
         }
     }
@@ -311,18 +367,19 @@ impl<T: Share> SharedList<T> {
     // The items of the chunk of a position.
     fn stretch_at(&self, at: usize) -> Stretch<'_, T>
         requires { at < length self.now }
-        ensures run { IsRun self.now result.items.now result.start }
-        ensures behind { IsRun self.now (joined result.behind.now)
-            (result.start + length result.items.now) }
+        ensures held { IsStretch self.now result.items.now (joined result.behind.now)
+            (joined result.beyond.now) result.start result.beyond_start }
         ensures from { result.start ≤ at }
         ensures upto { at < result.start + length result.items.now }
     {
         let spot = spot_of(&self.parts, at);
-        let found = self.parts[spot.chunk]
-            .contents()
-            .stretch_at(at - spot.start);
+        let block = &self.parts[spot.chunk];
+        let found = block.contents().stretch_at(at - spot.start);
+        let next = spot.chunk + 1;
         Stretch {
             start: spot.start + found.start,
+            beyond: &self.parts[next..],
+            beyond_start: spot.start + block.count(),
             ..found
         }
     }
@@ -332,44 +389,32 @@ impl<T: Share> SharedList<T> {
     fn stretch_meeting(&self, at: usize, end: usize, sought: &T::Summary) -> Stretch<'_, T>
         requires within { at < end }
         requires end { end ≤ length self.now }
-        ensures run { IsRun self.now result.items.now result.start }
-        ensures behind { IsRun self.now (joined result.behind.now)
-            (result.start + length result.items.now) }
+        ensures held { IsStretch self.now result.items.now (joined result.behind.now)
+            (joined result.beyond.now) result.start result.beyond_start }
         ensures on { at < result.start + length result.items.now }
         ensures apart { AllBetween (T.lies_apart sought.now) self.now at result.start }
     {
         let spot = spot_of(&self.parts, at);
-        let start = spot.start + count_apart(&self.parts[spot.chunk..], end - spot.start, sought);
+        let found = part_meeting(&self.parts[spot.chunk..], end - spot.start, sought);
+        let start = spot.start + found.start;
         if start <= at {
             return self.stretch_at(at);
         }
-        Stretch {
-            items: &[],
-            start,
-            behind: &[],
-        }
+        nothing(start)
     }
 
     /// The items of the chunk in which those that come before a hint end, most likely, if there is an item.
     #[inline(always)]
     pub(crate) fn run_near(&self, hint: Hint) -> Option<Run<'_, T>>
-        ensures run { IfSome result (λ run. IsRun self.now run.items.now run.start) }
+        ensures held { IfSome result (λ run. IsStretch self.now run.items.now
+            (joined run.behind.now) (joined run.beyond.now) run.start run.beyond_start) }
         ensures few { IfSome result (λ run. run.start + length run.items.now < 2 ^ 32) }
-        ensures behind { IfSome result
-            (λ run. IsRun self.now (joined run.behind.now) (run.start + length run.items.now)) }
         ensures small { length self.now < 2 ^ 32 }
     {
         if self.parts.is_empty() {
             return None;
         }
-        let spot = spot_near(&self.parts, hint);
-        let run = self.parts[spot.chunk].contents().run_near(hint);
-        Some(Run {
-            items: run.items,
-            start: spot.start + run.start,
-            next: hint_at(&self.parts, spot.chunk + 1),
-            ..run
-        })
+        Some(run_over(&self.parts, hint))
     }
 }
 
@@ -377,9 +422,8 @@ impl<T: Share> Chunks<T> {
     // The items of the chunk of a position.
     fn stretch_at(&self, at: usize) -> Stretch<'_, T>
         requires { at < length self.now }
-        ensures run { IsRun self.now result.items.now result.start }
-        ensures behind { IsRun self.now (joined result.behind.now)
-            (result.start + length result.items.now) }
+        ensures held { IsStretch self.now result.items.now (joined result.behind.now)
+            (joined result.beyond.now) result.start result.beyond_start }
         ensures from { result.start ≤ at }
         ensures upto { at < result.start + length result.items.now }
     {
@@ -389,16 +433,28 @@ impl<T: Share> Chunks<T> {
             items: self.parts[spot.chunk].items(),
             start: spot.start,
             behind: &self.parts[next..],
+            beyond: &[],
+            beyond_start: 0,
         }
+    }
+
+    // As the function of that name, over all its chunks.
+    fn chunk_meeting(&self, room: usize, sought: &T::Summary) -> Stretch<'_, T>
+        requires { 0 < length self.now }
+        ensures held { IsStretch self.now result.items.now (joined result.behind.now)
+            (joined result.beyond.now) result.start result.beyond_start }
+        ensures on { 0 < result.start + length result.items.now }
+        ensures apart { AllBetween (T.lies_apart sought.now) self.now 0 result.start }
+    {
+        chunk_meeting(&self.parts, room, sought)
     }
 
     // The items of the chunk in which those that come before a hint end, most likely.
     #[inline(always)]
     fn run_near(&self, hint: Hint) -> Run<'_, T>
         requires { 0 < length self.now }
-        ensures run { IsRun self.now result.items.now result.start }
-        ensures behind { IsRun self.now (joined result.behind.now)
-            (result.start + length result.items.now) }
+        ensures { IsStretch self.now result.items.now (joined result.behind.now)
+            (joined result.beyond.now) result.start result.beyond_start }
     {
         run_in(&self.parts, hint)
     }
@@ -409,9 +465,8 @@ impl<T: Share> Chunks<T> {
 fn run_in<T: Share>(chunks: &[Chunk<T>], hint: Hint) -> Run<'_, T>
     requires some { 0 < length chunks.now }
     requires few { length (joined chunks.now) < 2 ^ 32 }
-    ensures run { IsRun (joined chunks.now) result.items.now result.start }
-    ensures behind { IsRun (joined chunks.now) (joined result.behind.now)
-        (result.start + length result.items.now) }
+    ensures { IsStretch (joined chunks.now) result.items.now (joined result.behind.now)
+        (joined result.beyond.now) result.start result.beyond_start }
 {
     let spot = spot_near(chunks, hint);
     let behind = &chunks[spot.chunk + 1..];
@@ -420,6 +475,26 @@ fn run_in<T: Share>(chunks: &[Chunk<T>], hint: Hint) -> Run<'_, T>
         start: spot.start,
         hint: chunks[spot.chunk].hint(),
         behind,
-        next: None,
+        beyond: &[],
+        beyond_start: 0,
+    }
+}
+
+// Of some blocks the chunk in which the items that come before a hint end, most likely.
+#[inline(always)]
+fn run_over<T: Share>(blocks: &[Block<T>], hint: Hint) -> Run<'_, T>
+    requires some { 0 < length blocks.now }
+    requires few { length (joined blocks.now) < 2 ^ 32 }
+    ensures { IsStretch (joined blocks.now) result.items.now (joined result.behind.now)
+        (joined result.beyond.now) result.start result.beyond_start }
+{
+    let spot = spot_near(blocks, hint);
+    let block = &blocks[spot.chunk];
+    let run = block.contents().run_near(hint);
+    Run {
+        start: spot.start + run.start,
+        beyond: &blocks[spot.chunk + 1..],
+        beyond_start: spot.start + block.count(),
+        ..run
     }
 }

@@ -90,8 +90,8 @@ pub struct FoundRange<'a, T: Share> {
 
 impl<T: Share> SharedList<T> {
     /// From where the items end that pass a first test up to where those end that pass a second
-    /// one, each as by `partition_point_near`. Where both ends stand in one block this is quicker
-    /// than two searches.
+    /// one, each as by `partition_point_near`. The second search goes on from where the first one
+    /// ended, so this is quicker than two.
     pub fn range_near<P: Fn(&T) -> bool, Q: Fn(&T) -> bool>(
         &self,
         from: Hint,
@@ -117,11 +117,7 @@ impl<T: Share> SharedList<T> {
             };
         };
         let start = self.partition_point_by(&run, from, before);
-        let end = if run.ends_before_next(to) {
-            self.partition_point_by(&self.run_from(&run, to), to, within)
-        } else {
-            self.partition_point_near(to, within)
-        };
+        let end = self.partition_point_by(&self.run_from(&run, to), to, within);
         FoundRange {
             start,
             end,
@@ -254,16 +250,6 @@ impl<T: Share> Run<'_, T> {
 }
 
 impl<T: Share> Run<'_, T> {
-    // Whether the items that come before a hint most likely end in its block: the next one does not
-    // begin with such an item.
-    #[inline(always)]
-    fn ends_before_next(&self, hint: Hint) -> bool {
-        match self.next {
-            Some(next) => !next.is_before(hint),
-            None => true,
-        }
-    }
-
     // How many of its items come before a hint by their own: as many as the majors are apart, if
     // that is so, as where they are numbers with no gap. Else they are counted.
     #[inline(always)]

@@ -1,6 +1,6 @@
 //! What a list asks of its items; values with several owners.
 
-ghost use Rattle.std.specs.Prelude.{◌≡◌, IfOk, false, ⊤};
+ghost use Rattle.std.specs.Prelude.{◌≡◌, IfOk, false, true, ⊤};
 
 use crate::hint::{Hint, Hinted, ShortHint};
 use canvas_code::OutOfMemory;
@@ -45,6 +45,22 @@ pub trait Share: Drop {
     fn may_meet(summary: &Self::Summary, sought: &Self::Summary) -> bool
         ensures { result ≡ false → (item : Self) → covers summary.now item
             → lies_apart sought.now item };
+
+    /// Whether a summary is known to tell of this item. It is no, unless a type says better: a list
+    /// then makes its summaries anew where an item takes the place of another.
+    fn is_covered(&self, _summary: &Self::Summary) -> bool
+        ensures { result ≡ true → covers _summary.now self.now }
+    {
+        false
+    }
+
+    /// Whether this item may have something of what a walk seeks. It goes by the item's summary,
+    /// unless a type says better.
+    fn may_have(&self, sought: &Self::Summary) -> bool
+        ensures { result ≡ false → lies_apart sought.now self.now }
+    {
+        Self::may_meet(&self.summary(), sought)
+    }
 }
 
 /// A value that lies in one place for all its owners, seen as that value.

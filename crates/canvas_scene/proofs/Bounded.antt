@@ -76,9 +76,6 @@ down from to a x b d h k f t = (omega (arith, ints), omega (arith, ints))
 twice : (from to a x b d : ℤ) → a ≤ℤ x → x ≤ℤ b → from ≤ℤ (neg_ℤ (neg_ℤ a) +ℤ d) → (neg_ℤ (neg_ℤ b) +ℤ d) ≤ℤ to → (from ≤ℤ (neg_ℤ (neg_ℤ x) +ℤ d)) × ((neg_ℤ (neg_ℤ x) +ℤ d) ≤ℤ to)
 twice from to a x b d h k f t = (omega (arith, ints), omega (arith, ints))
 
-thrice : (from to a x b d : ℤ) → a ≤ℤ x → x ≤ℤ b → from ≤ℤ (neg_ℤ (neg_ℤ (neg_ℤ b)) +ℤ d) → (neg_ℤ (neg_ℤ (neg_ℤ a)) +ℤ d) ≤ℤ to → (from ≤ℤ (neg_ℤ (neg_ℤ (neg_ℤ x)) +ℤ d)) × ((neg_ℤ (neg_ℤ (neg_ℤ x)) +ℤ d) ≤ℤ to)
-thrice from to a x b d h k f t = (omega (arith, ints), omega (arith, ints))
-
 sides-have : (box : PageBox) (p : Point) → (box.left ≤ℤ p.x) × (p.x ≤ℤ box.right) → (box.top ≤ℤ p.y) × (p.y ≤ℤ box.bottom) → IsAmong box p
 sides-have box p h k = record { left = h.0; right = h.1; top = k.0; bottom = k.1 }
 

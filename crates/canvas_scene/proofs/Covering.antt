@@ -3,7 +3,7 @@ use Rattle.std.proofs.Common.{◌≡◌, List, [], ◌∷◌, ◌++◌, Bool, tr
 use Rattle.std.proofs.lemmas.List.{reverse-append}
 use Rattle.std.proofs.lemmas.List.Elements.{All-weaker}
 use Rattle.canvas_plane.specs.declared.PageBox.{PageBox}
-use Rattle.canvas_plane.specs.Page.{is_in, IsWithin}
+use Rattle.canvas_plane.specs.Page.{is_in}
 use Rattle.canvas_shape.specs.declared.Colour.{Colour}
 use Rattle.canvas_shape.specs.declared.Carried.{Carried}
 use Rattle.canvas_shape.specs.declared.Carried.TheVariants.{Rect}
@@ -84,17 +84,6 @@ cut-by-box held box clip common answer o x y has m e =
     ∙ ap (λ b. seen b (seen (held x y) o)) (m x y)
     ∙ cut-twice (held x y) (is_in box x y) (is_in clip x y) o (has x y)
     ∙ ap (seen (is_in clip x y)) (sym e)
-
--- a leaf is not seen where its box and its clip have a hidden box in common
-pub hidden-leaf : (items : List Item) (held : ℤ → ℤ → Bool) (box clip common : PageBox) (o : Option Colour) (x y : ℤ) → ((x y : ℤ) → held x y ≡ true → is_in box x y ≡ true) → ((x y : ℤ) → is_in common x y ≡ (is_in box x y && is_in clip x y)) → IsHidden items common → first_fill items x y ≡ or_else (first_fill items x y) (seen (is_in clip x y) (seen (held x y) o))
-hidden-leaf items held box clip common o x y has m h =
-    hidden-box items common (seen (held x y) o) x y h
-    ∙ ap (λ b. or_else (first_fill items x y) (seen b (seen (held x y) o))) (m x y)
-    ∙ ap (or_else (first_fill items x y)) (cut-twice (held x y) (is_in box x y) (is_in clip x y) o (has x y))
-
--- a box within a hidden one is hidden
-pub hidden-within : (items : List Item) (inner outer : PageBox) → IsWithin inner outer → IsHidden items outer → IsHidden items inner
-hidden-within items inner outer w h = λ x y e. h x y (w x y e)
 
 hidden-more : (items more : List Item) (box : PageBox) → IsHidden items box → IsHidden (items ++ more) box
 hidden-more items more box h = λ x y e.

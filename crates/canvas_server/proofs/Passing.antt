@@ -1,14 +1,10 @@
 -- What a writer behind a gate has handed on, after a write.
-use Rattle.std.proofs.Common.{◌≡◌, ℕ, ◌+◌, ◌≤◌, List, [], ◌++◌, Option, Result, Ok, Err, OnOk, length, take, refl, sym, subst, ap, ◌∙◌, arith, inl, inr}
-use Rattle.std.proofs.KnownBytes.{Appends-nil, Appends-trans, Appends-kept}
+use Rattle.std.proofs.Common.{◌≡◌, ℕ, ◌+◌, ◌≤◌, List, ◌++◌, Option, Result, Ok, Err, OnOk, length, take, subst, ap, ◌∙◌, arith, inr}
+use Rattle.std.proofs.KnownBytes.{Appends-trans, Appends-kept}
 use Rattle.std.proofs.Math.Logic.{∥∥₁_elim, ∥∥₁_map, ∥∥₁_prop}
 use Rattle.std.proofs.lemmas.List.{length-append, length-take-le}
 use Rattle.std.specs.Io.KnownBytes.{Appends, Keeps}
 use Rattle.canvas_server.specs.Gate.{HasPassed}
-
--- nothing was handed on
-pub passed_none : (settled : ℕ → Type 0) (begun now : Option (List ℕ)) → begun ≡ now → HasPassed settled begun now 0
-passed_none settled begun now same = ([], rw (sym same) (Appends-nil begun), refl, inl refl)
 
 -- the writer kept its bytes
 pub passed_same : (settled : ℕ → Type 0) (begun old new : Option (List ℕ)) (n : ℕ) → ∥ HasPassed settled begun old n ∥₁ → Keeps old new → ∥ HasPassed settled begun new n ∥₁

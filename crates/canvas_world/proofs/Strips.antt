@@ -75,13 +75,6 @@ rows-more g w k n old new band above o b e =
     strip-more (bytes_at g w) w.w (strip_start w.h k n) (strip_start w.h (k + 1) n) old new band (start-rises w.h k n above) (o ∙ from-top g w (strip_start w.h k n)) b e
     ∙ sym (from-top g w (strip_start w.h (k + 1) n))
 
--- no strip yet
-pub rows-none : (g : ℤ → ℤ → Colour) (w : Window) (n : ℕ) → 0 < n → [] ≡ rows_of g w 0 (strip_start w.h 0 n)
-rows-none g w n above =
-    let e : 0 * w.h ≡ n * 0 = omega arith in
-    let f : strip_start w.h 0 n ≡ 0 = ap (λ m. m / n) e ∙ mul-div_cancel_left 0 above in
-    sym (ap (rows_of g w 0) f)
-
 -- all strips
 pub whole : (g : ℤ → ℤ → Colour) (w : Window) (k n : ℕ) (cuts : List Cut) (bytes raster : List ℕ) → 0 < n → k ≡ n → has_below k n cuts ≡ true → bytes ≡ rows_of g w 0 (strip_start w.h k n)
     → raster ≡ bytes → Some raster ≡ (if has_below n n cuts then Some (picture_of g w) else None)

@@ -25,7 +25,7 @@ use Rattle.canvas_doc.proofs.extents.Shown.{polygon-between}
 abbrev pub holds_at : Bounds → ℤ → ℤ → Bool
 holds_at b u v = holds_on_page (λ r. r) b u v
 
-on-page : (out : Pose) (b : Bounds) (x y : ℤ) → holds_on_page (carry out) b x y ≡ holds_at b (pulled out x y).u (pulled out x y).v
+pub on-page : (out : Pose) (b : Bounds) (x y : ℤ) → holds_on_page (carry out) b x y ≡ holds_at b (pulled out x y).u (pulled out x y).v
 on-page out b x y = ap (λ t. is_whole b || t) ((pulled out x y).same (left_top b) (right_bottom b))
 
 -- ---- one within another

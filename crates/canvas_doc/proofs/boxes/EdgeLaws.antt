@@ -140,7 +140,7 @@ pub record AreNumbers (l t r b : ℤ) : Type 0 where
   pub right : r ≤ℤ pos (2 ^ 31 - 1)
   pub bottom : b ≤ℤ pos (2 ^ 31 - 1)
 
-numbers : (l t r b : ℤ) → AreEdges l t r b → AreNumbers l t r b
+pub numbers : (l t r b : ℤ) → AreEdges l t r b → AreNumbers l t r b
 numbers l t r b e = by_lt_z (neg_ℤ (pos (2 ^ 31))) l
     (λ h. let n : AreNear l t r b = e.near h in record { left = omega (arith, ints); top = omega (arith, ints); right = omega (arith, ints); bottom = omega (arith, ints) })
     (λ h. let w : AreWidest l t r b = e.widest h in record { left = omega (arith, ints); top = omega (arith, ints); right = omega (arith, ints); bottom = omega (arith, ints) })

@@ -10,10 +10,11 @@ use Rattle.canvas_plane.specs.Motion.{carry}
 use Rattle.canvas_plane.specs.Page.{is_in}
 use Rattle.canvas_shape.specs.declared.Colour.{Colour}
 use Rattle.canvas_list.specs.Chunks.{AllBetween}
-use Rattle.canvas_doc.specs.declared.bounds.Bounds.{Bounds}
 use Rattle.canvas_doc.specs.declared.placed_shapes.PlacedShape.{PlacedShape}
 use Rattle.canvas_record.specs.declared.records.Record.{Record}
+use Rattle.canvas_doc.specs.declared.coverage.Coverage.{Coverage}
 use Rattle.canvas_doc.specs.Bounds.{HoldsClip, LieApart}
+use Rattle.canvas_doc.specs.Coverage.{IsCovered}
 use Rattle.canvas_record.specs.Contents.{Contents}
 use Rattle.canvas_record.specs.Picture.{answer_of, first_answer}
 use Rattle.canvas_doc.specs.Placements.{Placements, placements_of}
@@ -62,7 +63,7 @@ many-silent f order end from (suc n) low within silent =
     subst (λ (m : ℕ). first_answer f (take (end - m) (drop m order)) ≡ first_answer f (take (end - from) (drop from order))) next
     (silent-rest f r (take (end - (at + 1)) (drop (at + 1) order)) (take (end - at) (drop at order)) (take (end - from) (drop from order)) (first-and-rest order at end r r (omega arith) within reads) none before)
 
-module _ (d : Contents) (all read : List PlacedShape) (p : Placements) (is : placements_of all ≡ p) (same : read ≡ all) (kept : IsKeptInOrder d p.shapes p.bounds) (out : Pose) (clip : PageBox) (area : Bounds) (quarter : out.quarter ≤ 3) (clipped : HoldsClip out clip area) (from to : ℕ) (order : from ≤ to) (within : to ≤ length p.shapes) (apart : AllBetween (λ placed. LieApart placed.bounds area) read from to) where
+module _ (d : Contents) (all read : List PlacedShape) (p : Placements) (is : placements_of all ≡ p) (same : read ≡ all) (kept : IsKeptInOrder d p.shapes p.bounds) (out : Pose) (clip : PageBox) (area : Coverage) (covered : IsCovered area.bounds area) (quarter : out.quarter ≤ 3) (clipped : HoldsClip out clip area.bounds) (from to : ℕ) (order : from ≤ to) (within : to ≤ length p.shapes) (apart : AllBetween (λ placed. IsCovered area.bounds area → LieApart placed.bounds area.bounds) read from to) where
   -- a record between, whose bounds lie apart from what the walk seeks
   passed-at : (i : ℕ) (r : Record) → from ≤ i → i < to → slice_get p.shapes i ≡ Some r → IsOutOfSight d.records out clip r
   passed-at i r low high e =
@@ -70,9 +71,9 @@ module _ (d : Contents) (all read : List PlacedShape) (p : Placements) (is : pla
       let x : PlacedShape = some-in all i here in
       let y : PlacedShape = get_or all i x in
       let reads : y ≡ get_or all i y = get_or_default all i x y here in
-      let far : LieApart y.bounds area = subst (λ (l : List PlacedShape). LieApart (get_or l i x).bounds area) same (apart i x low high) in
+      let far : LieApart y.bounds area.bounds = subst (λ (l : List PlacedShape). LieApart (get_or l i x).bounds area.bounds) same (apart i x low high covered) in
       let box : slice_get p.bounds i ≡ Some y.bounds = slice_get_read p.bounds (length p.bounds) i y.bounds refl (omega (arith, long-bounds all p is)) (bounds-at all p is i y reads) in
-      out-of-sight d p.shapes p.bounds kept out clip area y.bounds i r quarter clipped e box far
+      out-of-sight d p.shapes p.bounds kept out clip area.bounds y.bounds i r quarter clipped e box far
 
   -- what is seen stays in sight as the walk goes on
   pub sight-kept : (seen : List Record) (start : ℕ) → start ≤ from → AreInSight d.records out clip seen (take (from - start) (drop start p.shapes)) → AreInSight d.records out clip seen (take (to - start) (drop start p.shapes))

@@ -15,7 +15,7 @@ use Rattle.canvas_doc.specs.declared.bounds.Bounds.{Bounds}
 use Rattle.canvas_record.specs.declared.records.Parent.{Parent}
 use Rattle.canvas_record.specs.declared.records.Parent.TheVariants.{Page, Shape}
 use Rattle.canvas_record.specs.declared.records.Record.{Record}
-use Rattle.canvas_doc.specs.Bounds.{holds_on_page, is_empty, is_group, is_whole, left_top, right_bottom, AreBounds, AreBoundsBut, AreWithin, HoldChildren, HoldChildrenBut, HoldsOwn, IsCarriedWithin, IsGroupAt, IsGroupPosition, IsHeldAbove, IsWithinBounds}
+use Rattle.canvas_doc.specs.Bounds.{holds_on_page, is_empty, is_group, is_whole, left_top, right_bottom, AreBounds, AreWithin, HoldChildren, HoldChildrenBut, HoldsOwn, IsCarriedWithin, IsGroupAt, IsGroupPosition, IsHeldAbove, IsWithinBounds}
 use Rattle.canvas_record.specs.Children.{is_child}
 use Rattle.canvas_record.specs.Contents.{AreRising, reaches_page, record_of}
 use Rattle.canvas_doc.specs.PlaceOrder.{IsInPlaceOrder, IsPlaceOf}
@@ -92,11 +92,6 @@ within-set bounds k b w e h = record {
 
 abbrev pub HoldOwn : List Record → List Bounds → Type 0
 HoldOwn order bounds = (k : ℕ) (r : Record) (b : Bounds) → slice_get order k ≡ Some r → slice_get bounds k ≡ Some b → r.hidden ≡ false → HoldsOwn r.kind r.pose b
-
-pub own-kept : (order : List Record) (bounds after : List Bounds) → HoldOwn order bounds → AreWithin bounds after → HoldOwn order after
-own-kept order bounds after own wider = λ k r c e f shown.
-    let old = item-in after bounds k c (sym wider.long) f in
-    own-within r.kind r.pose old.0 c (own k r old.0 e old.1 shown) (wider.each k old.0 c old.1 f)
 
 pub within-steps : (bounds between after : List Bounds) → AreWithin bounds between → AreWithin between after → AreWithin bounds after
 within-steps bounds between after h k = record {
@@ -332,17 +327,7 @@ module _ (order rs : List Record) (o : IsInPlaceOrder order rs) (rising : AreRis
         quarter = (group-limits s.place.parent g limits group).quarter;
       }
 
-  pub step-from : (bounds : List Bounds) (at k : ℕ) (s v g : Record) (c h : Bounds) → All IsInLimits rs → length bounds ≡ length order → at < length order → s ≡ get_or order at s → v ≡ s → IsGroupAt v.place.parent rs g → IsPlaceOf g.place order k → c ≡ get_or bounds at c → h ≡ get_or bounds k h → IsStep order rs bounds at k v g c h
-  step-from bounds at k s v g c h limits long within here same group place e f =
-      step-read bounds at k v g c h limits long (slice_get_read order (length order) at s refl within here ∙ ap Some (sym same)) (group-at v.place.parent g k group place) group e f
-
 -- ---- bounds of all records
-
-pub but-children : (at : ℕ) (order : List Record) (bounds : List Bounds) → AreBoundsBut at order bounds → HoldChildrenBut at order bounds
-but-children at order bounds but = record { long = but.long; below = but.below }
 
 pub all-bounds : (order : List Record) (bounds : List Bounds) → HoldOwn order bounds → HoldChildren order bounds → AreBounds order bounds
 all-bounds order bounds own children = record { long = children.long; own = own; below = children.below }
-
-pub all-but : (at : ℕ) (order : List Record) (bounds : List Bounds) → HoldOwn order bounds → HoldChildrenBut at order bounds → AreBoundsBut at order bounds
-all-but at order bounds own children = record { long = children.long; own = own; below = children.below }

@@ -1,11 +1,11 @@
 -- A document's lists after a change in place.
-use Rattle.std.proofs.Common.{◌≡◌, ◌∙◌, ℕ, Bool, true, false, cond, Some, ◌+◌, ◌^◌, ◌<◌, List, [], ◌∷◌, ◌++◌, refl, sym, ap, subst, arith, length, get_or, set, ◌≤◌, filter, not, Fits}
+use Rattle.std.proofs.Common.{◌≡◌, ◌∙◌, ℕ, Bool, true, false, cond, Some, ◌+◌, ◌<◌, List, [], ◌∷◌, ◌++◌, refl, sym, ap, subst, arith, length, get_or, set, ◌≤◌, filter, not, Fits}
 use Rattle.std.specs.List.{Contains, insert, remove, slice_get}
 use Rattle.std.proofs.Math.ListN.{length-set}
 use Rattle.std.specs.Int.{w64}
 use Rattle.std.proofs.Math.Facts.{Fits-of_lt}
 use Rattle.std.proofs.lemmas.List.{get_or_default, get_or-set_same}
-use Rattle.std.proofs.lemmas.List.Edits.{insert_end, length-insert}
+use Rattle.std.proofs.lemmas.List.Edits.{insert_end}
 use Rattle.std.proofs.lemmas.List.Elements.{Contains-push}
 use Rattle.canvas_list.specs.declared.in_place.ItemChange.TheVariants.{Replace, Remove, Insert}
 use Rattle.canvas_list.specs.Changed.{changed_if}
@@ -180,14 +180,8 @@ widened-kept d order bounds kept made boxes e bounded =
 
 -- ---- room for one more record
 
-pub room-within : (order rs : List Record) (at : ℕ) → length order ≡ length rs → length rs ≤ most_records → at ≤ length order → (at ≤ length order) × (length order + 1 < 2 ^ 32)
-room-within order rs at long few bound = (bound, omega arith)
-
 pub room-next : (order rs : List Record) (at end : ℕ) → length order ≡ length rs → length rs ≤ most_records → end ≤ length order → at < end → Fits w64 (at + 1)
 room-next order rs at end long few bound within = Fits-of_lt (omega arith)
-
-pub room-behind : (rs : List Record) (last : ℕ) → length rs ≤ most_records → last ≡ length rs → (last ≤ length rs) × (length rs + 1 < 2 ^ 32)
-room-behind rs last few end = (omega arith, omega arith)
 
 -- ---- a shape below which nothing lies
 
@@ -202,10 +196,6 @@ deleted-leaf id at d now r same well standing leaf = deleted-childless id at d n
 
 pub deleted-one : (id at : ℕ) (d now : Contents) (order : List Record) (low high : ℕ) → d ≡ now → IsWellFormed d → IsInPlaceOrder order d.records → StandsAt d.records id at → AreChildrenWithin (Shape id) order low high → high ≤ low → effect_of (Delete id) now ≡ record { records = remove now.records at; next = now.next }
 deleted-one id at d now order low high same well o there within none = deleted-childless id at d now same well there (childless-from_range id order d.records low high o within none)
-
--- a position where a record was put in is one of the list
-pub within-after : (made order : List Record) (k : ℕ) (r : Record) → made ≡ insert order k r → k ≤ length order → k < length made
-within-after made order k r e bound = omega (arith, ap length e, length-insert order k r bound)
 
 -- no more than so many stand between two positions of an order
 pub few-within : (order rs : List Record) (low high : ℕ) → length order ≡ length rs → length rs ≤ most_records → high ≤ length order → high ≤ low + most_records

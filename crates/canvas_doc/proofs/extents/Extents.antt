@@ -1,5 +1,5 @@
 -- The steps of a walk for extents against the definition.
-use Rattle.std.proofs.Common.{◌≡◌, ◌+ℤ◌, ℕ, zero, suc, ◌+◌, ◌-◌, ◌<◌, ◌≤◌, ℤ, pos, List, [], ◌∷◌, Bool, true, false, cond, Option, Some, None, refl, sym, ap, subst, ◌∙◌, arith, length, get_or, take, drop, map}
+use Rattle.std.proofs.Common.{◌≡◌, ◌+ℤ◌, ℕ, zero, suc, ◌+◌, ◌-◌, ◌<◌, ◌≤◌, ℤ, pos, List, [], ◌∷◌, Bool, true, false, cond, Option, Some, refl, sym, ap, subst, ◌∙◌, arith, length, get_or, take, drop, map}
 use Rattle.std.specs.Prelude.{int_le}
 use Rattle.std.specs.List.{Contains}
 use Rattle.std.proofs.lemmas.List.{get_or-map, length-map}
@@ -108,20 +108,6 @@ still = record { dx = pos 0; dy = pos 0; quarter = 0; flip = false }
 
 pub still-carries : (q : Point) → carry still q ≡ q
 still-carries q = λ k. record { x = plus-none q.x k; y = plus-none q.y k }
-
--- from the page itself no step is made
-pub still-page : (steps : ℕ) (rs : List Record) (p : Parent) (q : Point) → p ≡ Page → carry still q ≡ to_page steps rs p q
-still-page steps rs p q h = still-carries q ∙ sym (to_page-page steps rs q) ∙ ap (λ x. to_page steps rs x q) (sym h)
-
-pub still-none : (steps id : ℕ) (rs : List Record) (p : Parent) (q : Point) → p ≡ Shape id → steps ≡ 0 → carry still q ≡ to_page steps rs p q
-still-none steps id rs p q h e = still-carries q ∙ sym (to_page-none steps id rs q e) ∙ ap (λ x. to_page steps rs x q) (sym h)
-
-pub still-nowhere : (steps id : ℕ) (rs : List Record) (p : Parent) (q : Point) → 0 < steps → p ≡ Shape id → None ≡ record_of id rs → carry still q ≡ to_page steps rs p q
-still-nowhere steps id rs p q l h e = still-carries q ∙ sym (to_page-step steps id rs None q l e) ∙ ap (λ x. to_page steps rs x q) (sym h)
-
--- a step up from the record of a parent
-pub step-up : (steps id : ℕ) (rs : List Record) (p : Parent) (r : Record) (up : Point → Point) (q moved : Point) → 0 < steps → p ≡ Shape id → Some r ≡ record_of id rs → moved ≡ up (carry r.pose q) → ((x : Point) → up x ≡ to_page (steps - 1) rs r.place.parent x) → moved ≡ to_page steps rs p q
-step-up steps id rs p r up q moved l h e m k = m ∙ k (carry r.pose q) ∙ sym (to_page-step steps id rs (Some r) q l e) ∙ ap (λ x. to_page steps rs x q) (sym h)
 
 -- a box that grew by one vertex more
 grown-next : (b : PageBox) (points : List Point) (i : ℕ) (d : Point) (all : PageBox) → i < length points → grown_along b (drop i points) ≡ all → grown_along (grown_to b (get_or points i d)) (drop (i + 1) points) ≡ all

@@ -85,7 +85,7 @@ found-all P q (x ∷ rs) r a h = elim (cases_Bool (x.id == q)) [
 ]
 
 -- what can have children reaches the page
-parent-reaches : (d : Contents) → IsWellFormed d → (p : Parent) → can_have_children d.records p ≡ true → reaches_page 32 d.records p ≡ true
+pub parent-reaches : (d : Contents) → IsWellFormed d → (p : Parent) → can_have_children d.records p ≡ true → reaches_page 32 d.records p ≡ true
 parent-reaches d w Page h = reaches-page 32 d.records
 parent-reaches d w (Shape q) h =
     let s = container-there (record_of q d.records) h in

@@ -14,12 +14,12 @@ use Rattle.std.proofs.lemmas.List.{get_or_append_left, get_or_at, get_or_default
 use Rattle.std.proofs.lemmas.List.Edits.{get_or-insert_above, get_or-insert_at, get_or-insert_below, get_or-remove_above, get_or-remove_below, length-insert, length-remove}
 use Rattle.std.proofs.lemmas.List.Elements.{All-contains, All-contains_itself, All-filter, All-from_recursion, Contains-append_left, Contains-get_or, Contains-push, Contains-push_cases}
 use Rattle.std.proofs.lemmas.Map.Keys.{Less-from_sorted}
-use Rattle.std.proofs.lemmas.Option.{get_or_from_slice_get, slice_get_read, slice_get_within}
+use Rattle.std.proofs.lemmas.Option.{slice_get_read}
 use Rattle.std.proofs.lemmas.Map.Lookups.{exact_bytes}
 use Rattle.canvas_record.specs.declared.records.Place.{Place}
 use Rattle.canvas_record.specs.declared.records.Record.{Record}
 use Rattle.canvas_record.specs.Children.{same_parent}
-use Rattle.canvas_record.specs.Contents.{record_of, reaches_page, AreRising}
+use Rattle.canvas_record.specs.Contents.{record_of, AreRising}
 use Rattle.canvas_doc.specs.PlaceOrder.{by_parent, by_place, comes_first, IsInPlaceOrder, IsPlaceOf}
 use Rattle.canvas_record.specs.Tree.{HavePlaces, IsElsewhere}
 use Rattle.canvas_doc.proofs.places.ByPlace.{comes_first-total, sorted-from}
@@ -365,54 +365,6 @@ found-in (x ∷ xs) id s e = elim (cases_Bool (x.id == id)) [
   | inr f ↦ (let c = found-in xs id s (ap (λ b. cond b (Some x) (record_of id xs)) (sym f) ∙ e) in (suc c.0, (let b : c.0 < length xs = c.1 in omega arith), c.2))
 ]
 
--- a record of which the document has another version, and where that version goes
-pub record IsMoved (order rs after : List Record) (r s : Record) (at k to : ℕ) : Type 0 where
-  pub listed : IsListedAt order rs r at k
-  pub one : after ≡ set rs at s
-  pub place : IsPlaceOf s.place (remove order k) to
-
-pub moved-from : (order rs now after : List Record) (r v s w : Record) (at k to : ℕ) → IsInPlaceOrder order rs → rs ≡ now → at < length now → r ≡ get_or rs at r → v ≡ r → IsPlaceOf v.place order k
-    → ((x : Record) → after ≡ set now at (get_or after at x)) → s ≡ get_or after at s → w ≡ s → IsPlaceOf w.place (remove order k) to → IsMoved order rs after r s at k to
-moved-from order rs now after r v s w at k to o e b is same p one there alike q = record {
-  listed = seen-at order rs now r v at k o e b is same p;
-  one = one s ∙ ap (set now at) (sym there) ∙ ap (λ (l : List Record). set l at s) (sym e);
-  place = subst (λ (x : Record). IsPlaceOf x.place (remove order k) to) alike q;
-}
-
-pub moved-in_order : (order rs after made : List Record) (r s : Record) (at k to : ℕ) → AreRising rs → AreRising after → HavePlaces after → IsInPlaceOrder order rs → IsMoved order rs after r s at k to → made ≡ insert (remove order k) to s → IsInPlaceOrder made after
-moved-in_order order rs after made r s at k to up rising places o m e =
-    subst (λ l. IsInPlaceOrder l after) (sym e)
-    (subst (IsInPlaceOrder (insert (remove order k) to s)) (sym m.one)
-    (moved-well order rs r s at k to up (subst AreRising m.one rising) (subst HavePlaces m.one places) o m.listed m.place))
-
--- a record of the order leads to the page
-pub leads-up : (made after : List Record) (at : ℕ) (q : Record) → IsInPlaceOrder made after → All (λ r. reaches_page 31 after r.place.parent ≡ true) after → slice_get made at ≡ Some q → reaches_page 31 after q.place.parent ≡ true
-leads-up made after at q o g e =
-    All-contains (λ r. reaches_page 31 after r.place.parent ≡ true) after q g
-    (subst (Contains after) (get_or_from_slice_get made at q q e) (o.listed at q (slice_get_within made at q e)))
-
 -- what stands at a position is found there
 pub read-at : {X : Type 0} (xs : List X) (k : ℕ) (x : X) → k < length xs → get_or xs k x ≡ x → slice_get xs k ≡ Some x
 read-at xs k x b e = slice_get_read xs (length xs) k x refl b (sym e)
-
--- a record of which the document has another version at the same place
-pub record IsReplaced (order rs after : List Record) (r s : Record) (at k : ℕ) : Type 0 where
-  pub listed : IsListedAt order rs r at k
-  pub one : after ≡ set rs at s
-  pub place : r.place ≡ s.place
-
-pub replaced-from : (order rs now after : List Record) (r v s : Record) (at k : ℕ) → IsInPlaceOrder order rs → rs ≡ now → at < length now → r ≡ get_or rs at r → v ≡ r → IsPlaceOf v.place order k
-    → ((x : Record) → after ≡ set now at (get_or after at x)) → s ≡ get_or after at s → ((x : Record) → (get_or now at x).place ≡ (get_or after at x).place) → IsReplaced order rs after r s at k
-replaced-from order rs now after r v s at k o e b is same p one there place = record {
-  listed = seen-at order rs now r v at k o e b is same p;
-  one = one s ∙ ap (set now at) (sym there) ∙ ap (λ (l : List Record). set l at s) (sym e);
-  place =
-      ap (λ (x : Record). x.place) (is ∙ ap (λ (l : List Record). get_or l at r) e) ∙ place r
-      ∙ ap (λ (x : Record). x.place) (get_or_default after at r s (let n : length after ≡ length now = ap length (one r) ∙ length-set now at (get_or after at r) in omega arith) ∙ sym there);
-}
-
-pub replaced-in_order : (order rs after made : List Record) (r s : Record) (at k : ℕ) → AreRising rs → IsInPlaceOrder order rs → IsReplaced order rs after r s at k → made ≡ set order k s → IsInPlaceOrder made after
-replaced-in_order order rs after made r s at k up o m e =
-    subst (λ l. IsInPlaceOrder l after) (sym e)
-    (subst (IsInPlaceOrder (set order k s)) (sym m.one)
-    (replaced order rs r s at k up o m.listed.there m.listed.here m.listed.within m.listed.is m.place))

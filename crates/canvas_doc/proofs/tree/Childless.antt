@@ -1,5 +1,5 @@
 -- Shapes under which nothing hangs.
-use Rattle.std.proofs.Common.{◌≡◌, ℕ, zero, suc, ◌+◌, ◌-◌, ◌<◌, ◌≤◌, ◌==◌, List, [], ◌∷◌, Bool, true, false, cond, not, ◌||◌, Option, Some, None, refl, sym, ap, ◌∙◌, arith, inl, inr, subst, All, length, get_or, filter, take, drop, max}
+use Rattle.std.proofs.Common.{◌≡◌, ℕ, zero, suc, ◌+◌, ◌-◌, ◌<◌, ◌≤◌, ◌==◌, List, [], ◌∷◌, Bool, true, false, not, ◌||◌, Some, refl, sym, ap, ◌∙◌, arith, inl, inr, subst, All, length, get_or, filter, take, drop}
 use Rattle.std.specs.List.{AllByRecursion, Contains, remove}
 use Rattle.std.proofs.lemmas.Bool.{cases_Bool, eq-eqb, eqb-true, or_from}
 use Rattle.std.proofs.lemmas.Bool.Decides.{nat_tests}
@@ -11,8 +11,6 @@ use Rattle.canvas_record.specs.declared.records.Parent.TheVariants.{Page, Shape}
 use Rattle.canvas_record.specs.declared.records.Record.{Record}
 use Rattle.canvas_record.specs.Children.{same_parent, is_child}
 use Rattle.canvas_record.specs.Contents.{record_of, AreRising, StandsAt}
-use Rattle.canvas_record.specs.Decision.{has_shape}
-use Rattle.canvas_record.specs.Depth.{levels_to, levels_from, levels_of, height_of, greatest, one_more}
 use Rattle.canvas_record.specs.Effect.{is_below, is_in_subtree}
 use Rattle.canvas_doc.specs.Fitting.{has_no_child}
 use Rattle.canvas_doc.specs.PlaceOrder.{AreChildrenWithin, IsInPlaceOrder}
@@ -41,23 +39,6 @@ below-childless (suc n) id rs (Shape p) a h =
     below-from id (λ q. is_below n id rs q) (record_of p rs)
     (λ r e. or_from (r.id == id) (is_below n id rs r.place.parent) (other-found id p rs r h e)
     (below-childless n id rs r.place.parent a (found-all (λ (s : Record). is_child (Shape id) s ≡ false) p rs r a e)))
-
-levels-none : (b : Bool) (n : ℕ) → b ≡ false → n ≡ 0 → cond b 1 (one_more n) ≡ 0
-levels-none b n h k = rw (h, k) refl
-
-levels-from : (id : ℕ) (up : Parent → ℕ) (o : Option Record) → ((r : Record) → o ≡ Some r → cond (r.id == id) 1 (one_more (up r.place.parent)) ≡ 0) → levels_from id up o ≡ 0
-levels-from id up None k = refl
-levels-from id up (Some r) k = k r refl
-
-pub levels-childless : (n id : ℕ) (rs : List Record) (q : Parent) → IsChildless id rs → same_parent q (Shape id) ≡ false → levels_to n id rs q ≡ 0
-unfolding levels_to
-levels-childless zero id rs Page a h = refl
-levels-childless zero id rs (Shape p) a h = refl
-levels-childless (suc n) id rs Page a h = refl
-levels-childless (suc n) id rs (Shape p) a h =
-    levels-from id (λ q. levels_to n id rs q) (record_of p rs)
-    (λ r e. levels-none (r.id == id) (levels_to n id rs r.place.parent) (other-found id p rs r h e)
-    (levels-childless n id rs r.place.parent a (found-all (λ (s : Record). is_child (Shape id) s ≡ false) p rs r a e)))
 
 kept-head : (t : Record → Bool) (r : Record) (xs ys : List Record) → t r ≡ true → filter t xs ≡ ys → filter t (r ∷ xs) ≡ r ∷ ys
 kept-head t r xs ys h e = rw h (ap (λ l. r ∷ l) e)
@@ -110,40 +91,6 @@ childless-deleted id at (x ∷ rs) w s a =
     let there : (get_or all at x).id ≡ id = eqb-true (get_or all at x).id id (found-has id all (get_or all at x) (s.1 x)) in
     filter-same (λ r. not (is_in_subtree id all r)) (λ r. not (r.id == id)) all (λ i d l. subtree-alone id all (get_or all i d) a (a i d l))
     ∙ one-removed id at all x w s.0 there
-
--- one level for the shape's record, and none for others
-level-alone : (id : ℕ) (rs : List Record) (r : Record) → IsChildless id rs → is_child (Shape id) r ≡ false → levels_of id rs r ≡ cond (r.id == id) 1 0
-level-alone id rs r a h = ap (λ n. cond (r.id == id) 1 (one_more n)) (levels-childless 31 id rs r.place.parent a h)
-
-greatest-same : (f g : Record → ℕ) (rs : List Record) → All (λ (r : Record). f r ≡ g r) rs → greatest f rs ≡ greatest g rs
-greatest-same f g [] a = refl
-greatest-same f g (r ∷ rs) a =
-    let here : f r ≡ g r = All-head (λ (s : Record). f s ≡ g s) r rs a in
-    let rest : greatest f rs ≡ greatest g rs = greatest-same f g rs (All-tail (λ (s : Record). f s ≡ g s) r rs a) in
-    rw (here, rest) refl
-
-max-of_one : (b : Bool) → max 1 (cond b 1 0) ≡ 1
-max-of_one true = refl
-max-of_one false = refl
-
-max-of_zero : (b : Bool) → max 0 (cond b 1 0) ≡ cond b 1 0
-max-of_zero true = refl
-max-of_zero false = refl
-
-one-level : (id : ℕ) (rs : List Record) → greatest (λ r. cond (r.id == id) 1 0) rs ≡ cond (has_shape rs id) 1 0
-one-level id [] = refl
-one-level id (r ∷ rs) =
-    let rest : greatest (λ s. cond (s.id == id) 1 0) rs ≡ cond (has_shape rs id) 1 0 = one-level id rs in
-    elim (cases_Bool (r.id == id)) [
-      | inl t ↦ rw (t, rest) (max-of_one (has_shape rs id))
-      | inr f ↦ rw (f, rest) (max-of_zero (has_shape rs id))
-    ]
-
--- such a shape has height 1, where it is there
-pub height-childless : (id : ℕ) (rs : List Record) → IsChildless id rs → height_of id rs ≡ cond (has_shape rs id) 1 0
-height-childless id rs a =
-    greatest-same (levels_of id rs) (λ r. cond (r.id == id) 1 0) rs (λ i d l. level-alone id rs (get_or rs i d) a (a i d l))
-    ∙ one-level id rs
 
 none-kept : (t : Record → Bool) (rs : List Record) → filter t rs ≡ [] → All (λ (r : Record). t r ≡ false) rs
 none-kept t [] e = All-nil (λ (r : Record). t r ≡ false)

@@ -24,7 +24,7 @@ both-suc : (a n : ℕ) → nat_le a n ≡ nat_le (suc a) (suc n)
 both-suc a n = grind (arith, nat_tests)
 
 -- a path reaches the page within n steps exactly where its depth is at most n
-reaches-depth : (k n : ℕ) (rs : List Record) (q : Parent) → reaches_page k rs q ≡ true → reaches_page n rs q ≡ nat_le (depth_of k rs q) n
+pub reaches-depth : (k n : ℕ) (rs : List Record) (q : Parent) → reaches_page k rs q ≡ true → reaches_page n rs q ≡ nat_le (depth_of k rs q) n
 unfolding reaches_page depth_of
 reaches-depth zero n rs Page h = reaches-page n rs ∙ sym (le-zero n)
 reaches-depth zero n rs (Shape p) h = cc

@@ -1,7 +1,6 @@
 -- The height of a subtree is what the walk down from its root finds.
 use Rattle.std.proofs.Common.{◌≡◌, ℕ, zero, suc, ◌+◌, ◌-◌, ◌<◌, ◌≤◌, ◌==◌, List, [], ◌∷◌, Bool, true, false, cond, ◌&&◌, Option, Some, None, refl, sym, ap, ◌∙◌, arith, inl, inr, subst, All, length, get_or, filter, max, take, drop}
 use Rattle.std.specs.List.{Contains}
-use Rattle.std.specs.Option.{is_some}
 use Rattle.std.proofs.lemmas.Bool.{cases_Bool, eqb-true, true≢false}
 use Rattle.std.proofs.lemmas.List.Elements.{All-contains, All-filter, All-head, All-tail, filter_passes, All-contains_itself}
 use Rattle.canvas_record.specs.declared.records.Parent.{Parent}
@@ -12,7 +11,7 @@ use Rattle.canvas_record.specs.Contents.{record_of, is_container, reaches_page, 
 use Rattle.canvas_record.specs.Depth.{levels_to, levels_from, levels_of, one_more, greatest, height_of}
 use Rattle.canvas_doc.specs.Heights.{tallest}
 use Rattle.canvas_doc.specs.PlaceOrder.{AreChildrenWithin, IsInPlaceOrder}
-use Rattle.canvas_doc.proofs.tree.Childless.{IsChildless, height-childless}
+use Rattle.canvas_doc.proofs.tree.Childless.{IsChildless}
 use Rattle.canvas_doc.proofs.tree.Found.{found-at, other-id, found-has}
 use Rattle.canvas_doc.proofs.tree.Marks.{level-below, levels-most, levels-up, reaches-more, reaches-up}
 use Rattle.canvas_doc.proofs.tree.Paths.{levels-page, reaches-none, reaches-step}
@@ -218,12 +217,6 @@ tallest-childless (suc n) id rs a = ap (greatest (λ s. suc (tallest n rs (Shape
 -- nothing lies below a shape that is no container
 pub tallest-leaf : (n : ℕ) (rs : List Record) (r : Record) → AllGrounded rs → record_of r.id rs ≡ Some r → is_container r.kind ≡ false → 0 ≡ tallest n rs (Shape r.id)
 tallest-leaf n rs r g e h = sym (tallest-childless n r.id rs (nothing-under r.id rs g (leaf-blocked r.id rs r e h)))
-
--- no shape, no height
-pub height-none : (id : ℕ) (rs : List Record) → AllGrounded rs → record_of id rs ≡ None → height_of id rs ≡ 0
-height-none id rs g e =
-    height-childless id rs (nothing-under id rs g (reaches-step 31 id rs None (omega arith) (sym e)))
-    ∙ ap (λ (o : Option Record). cond (is_some o) 1 0) e
 
 -- what was found by one id has it
 pub found-own : (id : ℕ) (rs : List Record) (r : Record) → record_of id rs ≡ Some r → record_of r.id rs ≡ Some r

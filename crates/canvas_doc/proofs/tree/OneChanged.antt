@@ -10,7 +10,6 @@ use Rattle.canvas_record.specs.declared.records.Place.{Place}
 use Rattle.canvas_record.specs.declared.records.Record.{Record}
 use Rattle.canvas_record.specs.declared.edits.Change.{Change}
 use Rattle.canvas_record.specs.declared.edits.Change.TheVariants as change
-use Rattle.canvas_doc.specs.Bounds.{HaveOneShape}
 use Rattle.canvas_record.specs.Contents.{Contents, record_of, AreRising, IsStanding, StandsAt}
 use Rattle.canvas_record.specs.Effect.{effect_of, changes_one, changed_by, Replaces, ReplacesAt}
 use Rattle.canvas_doc.proofs.tree.Found.{other-id, rising-at, found-has}
@@ -113,11 +112,3 @@ place-kept (change.Respace p) n r = refl
 -- the document with these records
 pub whole-is : (ch : Change) (inside now : Contents) (made : List Record) → inside ≡ now → changes_one ch ≡ true → made ≡ map (changed_by ch) inside.records → record { records = made; next = inside.next } ≡ effect_of ch now
 whole-is ch inside now made v one m = ap (λ (l : List Record). record { records = l; next = inside.next }) m ∙ sym (one-effect ch inside one) ∙ ap (effect_of ch) v
-
--- a move changes nothing but the place
-shape-if : (b : Bool) (r : Record) (place : Place) → HaveOneShape r (cond b (record r { place = place }) r)
-shape-if true r place = record { id = refl; kind = refl; pose = refl; hidden = refl }
-shape-if false r place = record { id = refl; kind = refl; pose = refl; hidden = refl }
-
-pub shape-kept : (id : ℕ) (place : Place) (r : Record) → HaveOneShape r (changed_by (change.Move id place) r)
-shape-kept id place r = shape-if (r.id == id) r place

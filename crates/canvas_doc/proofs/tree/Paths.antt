@@ -71,14 +71,6 @@ pub reaches-nowhere_after : (n id p : ℕ) (u : Parent) (rs : List Record) → 0
 reaches-nowhere_after n id p u rs h e =
     reaches-step n p (put_under id u rs) None h (ap (changed id (λ s. record s { place = record s.place { parent = u } })) e ∙ sym (found-after id p (λ s. record s { place = record s.place { parent = u } }) (λ s. refl) rs))
 
-pub reaches-by_after : (n id p : ℕ) (u q up : Parent) (rs : List Record) (r : Record) (result : Bool) → 0 < n → q ≡ Shape p → Some r ≡ record_of p rs → is_container r.kind ≡ true → up ≡ parent_after id u r → result ≡ reaches_page (n - 1) (put_under id u rs) up → result ≡ reaches_page n (put_under id u rs) q
-reaches-by_after n id p u q up rs r result h e f g k m =
-    m ∙ ap (reaches_page (n - 1) (put_under id u rs)) k ∙ sym (reaches-step_after n id p u rs r h f ∙ rw g refl) ∙ ap (reaches_page n (put_under id u rs)) (sym e)
-
-pub reaches-leaf_after : (n id p : ℕ) (u q : Parent) (rs : List Record) (r : Record) → 0 < n → q ≡ Shape p → Some r ≡ record_of p rs → is_container r.kind ≡ false → false ≡ reaches_page n (put_under id u rs) q
-reaches-leaf_after n id p u q rs r h e f g =
-    sym (reaches-step_after n id p u rs r h f ∙ rw g refl) ∙ ap (reaches_page n (put_under id u rs)) (sym e)
-
 all-after : (n id : ℕ) (u : Parent) (all rs : List Record) → list_all (λ r. reaches_page n all r.place.parent) (put_under id u rs) ≡ list_all (λ r. reaches_page n all (parent_after id u r)) rs
 all-after n id u all [] = refl
 all-after n id u all (r ∷ rs) = elim (cases_Bool (r.id == id)) [
@@ -96,9 +88,6 @@ deep-at rs id u parent i r result h e f g k =
     let t : Record → Bool = λ s. reaches_page 31 (put_under id u rs) (parent_after id u s) in
     let fails : t (get_or rs i r) ≡ false = ap t (sym e) ∙ ap (reaches_page 31 (put_under id u rs)) (sym f) ∙ sym g ∙ k in
     sym (deep-after rs id u ∙ ap not (list_all_at t rs i r h fails))
-
-pub deep-none : (rs : List Record) (id : ℕ) (u : Parent) → list_all (λ r. reaches_page 31 (put_under id u rs) (parent_after id u r)) rs ≡ true → false ≡ lies_too_deep rs id u
-deep-none rs id u h = sym (deep-after rs id u ∙ ap not h)
 
 pub depth-page : (n : ℕ) (rs : List Record) → depth_of n rs Page ≡ 0
 unfolding depth_of
@@ -121,9 +110,3 @@ pub levels-step : (n id p : ℕ) (rs : List Record) (o : Option Record) → 0 < 
 unfolding levels_to
 levels-step zero id p rs o h e = absurd (omega arith)
 levels-step (suc n) id p rs o h e = let m : suc n - 1 ≡ n = omega arith in rw (m, e) refl
-
-pub ruleset depth_rules = (depth-page, depth-none, depth-step)
-
-pub ruleset below_rules = (below-page, below-none, below-step)
-
-pub ruleset reach_rules = (reaches-page, reaches-none, reaches-step, reaches-step_after, reaches-nowhere_after)

@@ -49,7 +49,7 @@ walk-preserved g c =
     let keeps : IsKeptInOrder now order bounds = subst (λ (d : Contents). IsKeptInOrder d order bounds) c.self.view_is c.self.invariant in
     let shapes : map shape_of c.children_of-start.result.reader ≡ order = ap (λ (p : Placements). p.shapes) c.children_of-start.ensures.reader in
     let gone : AreInSight now.records c.args.out.now c.args.clip.now seen (take (next - start) (drop start order)) =
-    sight-kept now c.children_of-start.result.reader c.walk.reader c.self.inside.order c.children_of-start.ensures.reader c.walk.invariant.reader keeps c.args.out.now c.args.clip.now c.of_clip-area.result c.requires.quarter c.of_clip-area.ensures
+    sight-kept now c.children_of-start.result.reader c.walk.reader c.self.inside.order c.children_of-start.ensures.reader c.walk.invariant.reader keeps c.args.out.now c.args.clip.now c.of_clip-area.result c.of_clip-area.ensures.covered c.requires.quarter c.of_clip-area.ensures.clip
     at next c.next_meeting-at.ensures.from (omega (arith, c.next_meeting-at.ensures.upto, c.children_of-start.ensures.children.bound)) c.next_meeting-at.ensures.apart seen start c.walk.invariant.from
     (subst (λ (l : List Record). AreInSight now.records c.args.out.now c.args.clip.now seen (take (at - start) (drop start l))) shapes c.walk.invariant.seen) in
     record {
@@ -71,7 +71,7 @@ walk-preserved-then-at-end g c =
     let keeps : IsKeptInOrder now order bounds = subst (λ (d : Contents). IsKeptInOrder d order bounds) c.self.view_is c.self.invariant in
     let shapes : map shape_of c.children_of-start.result.reader ≡ order = ap (λ (p : Placements). p.shapes) c.children_of-start.ensures.reader in
     let gone : AreInSight now.records c.args.out.now c.args.clip.now seen (take (next - start) (drop start order)) =
-    sight-kept now c.children_of-start.result.reader c.walk.reader c.self.inside.order c.children_of-start.ensures.reader c.walk.invariant.reader keeps c.args.out.now c.args.clip.now c.of_clip-area.result c.requires.quarter c.of_clip-area.ensures
+    sight-kept now c.children_of-start.result.reader c.walk.reader c.self.inside.order c.children_of-start.ensures.reader c.walk.invariant.reader keeps c.args.out.now c.args.clip.now c.of_clip-area.result c.of_clip-area.ensures.covered c.requires.quarter c.of_clip-area.ensures.clip
     at next c.next_meeting-at.ensures.from (omega (arith, c.next_meeting-at.ensures.upto, c.children_of-start.ensures.children.bound)) c.next_meeting-at.ensures.apart seen start c.walk.invariant.from
     (subst (λ (l : List Record). AreInSight now.records c.args.out.now c.args.clip.now seen (take (at - start) (drop start l))) shapes c.walk.invariant.seen) in
     let x : PlacedShape = c.at.result.now in

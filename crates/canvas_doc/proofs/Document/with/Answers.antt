@@ -1,4 +1,4 @@
-use Rattle.std.proofs.Common.{◌≡◌, ◌∙◌, ℤ, ap, subst}
+use Rattle.std.proofs.Common.{◌∙◌, ap}
 use Rattle.canvas_record.specs.Contents.{Contents}
 use Rattle.canvas_record.specs.Effect.{effect_of}
 use Rattle.canvas_record.specs.Picture.{colour}

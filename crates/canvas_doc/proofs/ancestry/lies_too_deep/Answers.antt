@@ -1,32 +1,29 @@
-use Rattle.std.proofs.Common.{◌≡◌, ◌<◌, ◌+◌, ◌∙◌, ◌&&◌, ℕ, Bool, List, arith, length, get_or, subst, sym, ap, take, true}
-use Rattle.std.specs.List.{list_all}
-use Rattle.std.proofs.lemmas.List.{take_all}
-use Rattle.std.proofs.lemmas.List.Folds.{list_all_more}
-use Rattle.canvas_record.specs.declared.records.Record.{Record}
-use Rattle.canvas_record.specs.Contents.{reaches_page}
-use Rattle.canvas_record.specs.Decision.{put_under, parent_after}
-use Rattle.canvas_doc.proofs.tree.Paths.{deep-at, deep-none}
+use Rattle.std.proofs.Common.{◌∙◌, sym, ap, subst}
+use Rattle.canvas_record.specs.Contents.{Contents, IsWellFormed}
+use Rattle.canvas_record.specs.Decision.{can_have_children}
+use Rattle.canvas_record.specs.Depth.{depth_of}
+use Rattle.canvas_record.specs.Effect.{is_below}
+use Rattle.canvas_doc.proofs.tree.Deep.{deep-cycle, deep-is, deep-leaf}
 use Rattle.canvas_doc.proofs.ancestry.lies_too_deep.Goals as goal
 
-reaches-more : (t : Record → Bool) (rs : List Record) (i : ℕ) (r : Record) → i < length rs → r ≡ get_or rs i r → t r ≡ true → list_all t (take i rs) ≡ true → list_all t (take (i + 1) rs) ≡ true
-reaches-more t rs i r h e is all =
-    list_all_more t rs i r h ∙ ap (λ b. b && t (get_or rs i r)) all ∙ ap (λ (x : Record). true && t x) (sym e) ∙ ap (λ b. true && b) is
+pub returns-then-not-can_have_children : goal.returns-then-not-can_have_children
+returns-then-not-can_have_children c =
+    deep-leaf c.args.document.now.records c.args.id c.args.under c.args.shape.now c.requires
+    (sym (c.can_have_children.ensures ∙ ap (λ (d : Contents). can_have_children d.records c.args.under) c.document.view_is) ∙ c.if-not-can_have_children.true)
 
-pub returns-then-not-reaches : goal.returns-then-not-reaches
-returns-then-not-reaches c =
-    let within : c.loop-at.at < length c.args.records.now = subst (λ n. c.loop-at.at < n) c.len-at-end.ensures.len c.loop-at-test.true in
-    let here : c.value-shape.result.now ≡ get_or c.args.records.now c.loop-at.at c.value-shape.result.now = subst (λ (r : Record). r ≡ get_or c.args.records.now c.loop-at.at r) (sym c.value-shape.ensures) c.at.ensures in
-    deep-at c.args.records.now c.args.id c.args.under c.parent_after-parent.result c.loop-at.at c.value-shape.result.now c.reaches_page_after-reaches.result within here c.parent_after-parent.ensures c.reaches_page_after-reaches.ensures c.if-not-reaches.true
+pub returns-then-way : goal.returns-then-way
+returns-then-way c =
+    c.if-way.true
+    ∙ deep-cycle c.args.document.now.records c.args.id c.args.under c.args.shape.now c.requires
+    (sym (c.way_up-way.ensures.own ∙ ap (λ (d : Contents). is_below 32 c.args.id d.records c.args.under) c.document.view_is) ∙ c.if-way.true)
 
-pub returns : goal.returns
-returns c =
-    deep-none c.args.records.now c.args.id c.args.under
-    (ap (list_all (λ r. reaches_page 31 (put_under c.args.id c.args.under c.args.records.now) (parent_after c.args.id c.args.under r))) (sym (take_all c.loop-at.at c.args.records.now (omega arith))) ∙ c.loop-at.invariant)
+pub returns-else-way : goal.returns-else-way
+returns-else-way c =
+    deep-is c.args.document.now (subst IsWellFormed c.document.view_is c.document.invariant.well_formed) c.args.id c.args.under c.way_up-way.result.depth c.height_of.result
+    (sym (c.can_have_children.ensures ∙ ap (λ (d : Contents). can_have_children d.records c.args.under) c.document.view_is) ∙ c.if-not-can_have_children.false)
+    (sym (c.way_up-way.ensures.own ∙ ap (λ (d : Contents). is_below 32 c.args.id d.records c.args.under) c.document.view_is) ∙ c.if-way.false)
+    (c.way_up-way.ensures.depth ∙ ap (λ (d : Contents). depth_of 32 d.records c.args.under) c.document.view_is)
+    c.height_of.ensures.value
 
-pub loop-at-preserved : goal.loop-at-preserved
-loop-at-preserved c =
-    let rs = c.args.records.now in
-    let up = parent_after c.args.id c.args.under in
-    let reached = reaches_page 31 (put_under c.args.id c.args.under rs) in
-    reaches-more (λ r. reached (up r)) rs c.loop-at.at c.at.result.now (subst (λ n. c.loop-at.at < n) c.len-at-end.ensures.len c.loop-at-test.true) c.at.ensures
-    (ap reached (ap up (sym c.value-shape.ensures) ∙ sym c.parent_after-parent.ensures) ∙ sym c.reaches_page_after-reaches.ensures ∙ c.if-not-reaches.false) c.loop-at.invariant
+pub height_of-requires-clause-well_formed : goal.height_of-requires-clause-well_formed
+height_of-requires-clause-well_formed c = subst IsWellFormed c.document.view_is c.document.invariant.well_formed

@@ -50,7 +50,7 @@ answer_among-siblings-init t c =
     let keeps : IsKeptInOrder c.args.document.now order bounds = subst (λ d. IsKeptInOrder d order bounds) c.document.view_is c.document.invariant in
     let shapes : map shape_of c.next_meeting-slot.new.self ≡ order = ap (map shape_of) c.next_meeting-slot.ensures.same ∙ shapes-are c.children_of-start.result.reader c.document.inside.order c.children_of-start.ensures.reader in
     let kept : first_answer f (take (end - slot) (drop slot order)) ≡ first_answer f (take (end - start) (drop start order)) =
-    answer-kept c.args.document.now c.children_of-start.result.reader c.children_of-start.result.reader c.document.inside.order c.children_of-start.ensures.reader refl keeps c.args.out.now c.sides.result c.of_clip-area.result c.requires.quarter c.of_clip-area.ensures
+    answer-kept c.args.document.now c.children_of-start.result.reader c.children_of-start.result.reader c.document.inside.order c.children_of-start.ensures.reader refl keeps c.args.out.now c.sides.result c.of_clip-area.result c.of_clip-area.ensures.covered c.requires.quarter c.of_clip-area.ensures.clip
     start slot c.next_meeting-slot.ensures.from (omega (arith, c.next_meeting-slot.ensures.upto, c.children_of-start.ensures.children.bound)) c.next_meeting-slot.ensures.apart
     (c.args.levels - 1) c.args.at.x c.args.at.y end (pixel-held c.sides.result c.args.at.x c.args.at.y c.sides.ensures) c.next_meeting-slot.ensures.upto c.children_of-start.ensures.children.bound in
     record {
@@ -93,7 +93,7 @@ answer_among-siblings-preserved t c =
     (first-and-rest order slot end r r c.siblings-test.true c.children_of-start.ensures.children.bound (sym (get_or_from_slice_get order slot r r here.shape)))
     silent before in
     let kept : first_answer f (take (end - next) (drop next order)) ≡ first_answer f (take (end - (slot + 1)) (drop (slot + 1) order)) =
-    answer-kept c.args.document.now c.children_of-start.result.reader c.at.new.self c.document.inside.order c.children_of-start.ensures.reader (c.at.ensures.same ∙ same) keeps c.args.out.now c.sides.result c.of_clip-area.result c.requires.quarter c.of_clip-area.ensures
+    answer-kept c.args.document.now c.children_of-start.result.reader c.at.new.self c.document.inside.order c.children_of-start.ensures.reader (c.at.ensures.same ∙ same) keeps c.args.out.now c.sides.result c.of_clip-area.result c.of_clip-area.ensures.covered c.requires.quarter c.of_clip-area.ensures.clip
     (slot + 1) next c.next_meeting-slot-in-siblings.ensures.from (omega (arith, c.next_meeting-slot-in-siblings.ensures.upto, c.children_of-start.ensures.children.bound)) c.next_meeting-slot-in-siblings.ensures.apart
     (c.args.levels - 1) c.args.at.x c.args.at.y end (pixel-held c.sides.result c.args.at.x c.args.at.y c.sides.ensures) c.next_meeting-slot-in-siblings.ensures.upto c.children_of-start.ensures.children.bound in
     record {

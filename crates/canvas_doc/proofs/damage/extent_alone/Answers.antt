@@ -7,4 +7,4 @@ use Rattle.canvas_doc.proofs.damage.extent_alone.Goals as goal
 pub returns : goal.returns
 returns c =
     alone-by (to_page 31 c.args.records.now c.args.parent) c.args.kind.now c.args.pose.now c.then-page.result c.own_extent.result c.hull.result
-    (λ q. c.then-page.ensures.carries q ∙ c.page_pose.ensures.carries (carry c.args.pose.now q)) c.own_extent.ensures c.hull.ensures.value
+    (λ q. c.then-page.ensures.carries q ∙ c.way_up-up.ensures.carries (carry c.args.pose.now q)) c.own_extent.ensures c.hull.ensures.value

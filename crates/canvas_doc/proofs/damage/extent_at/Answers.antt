@@ -15,5 +15,5 @@ extent_of-requires-clause-limits c = found-all IsInLimits c.args.id c.document.i
 
 pub returns-in-Some : goal.returns-in-Some
 returns-in-Some c =
-    on-page c.args.document.now.records c.document.inside.records c.in-Some.shape.now c.page_pose-up.result c.extent_of.result (ap (λ (d : Contents). d.records) c.document.view_is) c.page_pose-up.ensures.carries c.extent_of.ensures
+    on-page c.args.document.now.records c.document.inside.records c.in-Some.shape.now c.way_up-up.result.pose c.extent_of.result (ap (λ (d : Contents). d.records) c.document.view_is) c.way_up-up.ensures.carries c.extent_of.ensures
     ∙ ap (extent_on_page c.args.document.now.records) (c.in-Some.ensures ∙ ap (λ (d : Contents). record_of c.args.id d.records) c.document.view_is)

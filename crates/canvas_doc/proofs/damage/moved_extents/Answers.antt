@@ -27,8 +27,8 @@ returns-else-eq c =
     let shape : Record = c.in-Some.shape.now in
     let all : c.document.inside.records ≡ rs = ap (λ (d : Contents). d.records) c.document.view_is in
     round-both _ c.args.document.now c.document.view_is c.args.id (λ r. record r { place = c.args.place.now }) shape c.in-Some.ensures c.extent_of-before.result c.extent_of-moved.result _
-    (on-page rs c.document.inside.records shape c.page_pose-up.result c.extent_of-before.result all c.page_pose-up.ensures.carries c.extent_of-before.ensures)
-    (on-page rs c.document.inside.records (record shape { place = c.args.place.now }) c.page_pose-new_up.result c.extent_of-moved.result all c.page_pose-new_up.ensures.carries c.extent_of-moved.ensures)
+    (on-page rs c.document.inside.records shape c.way_up-up.result.pose c.extent_of-before.result all c.way_up-up.ensures.carries c.extent_of-before.ensures)
+    (on-page rs c.document.inside.records (record shape { place = c.args.place.now }) c.way_up-new_up.result.pose c.extent_of-moved.result all c.way_up-new_up.ensures.carries c.extent_of-moved.ensures)
     c.hull.ensures.value
 
 pub returns-then-eq : goal.returns-then-eq
@@ -38,5 +38,5 @@ returns-then-eq c = λ r e.
     let found : Some shape ≡ record_of c.args.id rs = c.in-Some.ensures ∙ ap (λ (d : Contents). record_of c.args.id d.records) c.document.view_is in
     let same : shape ≡ r = same_Some shape r (found ∙ e) in
     let parent : shape.place.parent ≡ c.args.place.now.parent = search rules in
-    on-page rs c.document.inside.records shape c.page_pose-up.result c.extent_of-before.result (ap (λ (d : Contents). d.records) c.document.view_is) c.page_pose-up.ensures.carries c.extent_of-before.ensures ∙ ap (extent_on_page rs) found
+    on-page rs c.document.inside.records shape c.way_up-up.result.pose c.extent_of-before.result (ap (λ (d : Contents). d.records) c.document.view_is) c.way_up-up.ensures.carries c.extent_of-before.ensures ∙ ap (extent_on_page rs) found
     ∙ same-place c.args.id rs r c.args.place.now e (ap (λ (s : Record). s.place.parent) (sym same) ∙ parent)

@@ -27,6 +27,6 @@ returns-in-Some c =
     let shape : Record = c.in-Some.shape.now in
     let all : c.document.inside.records ≡ rs = ap (λ (d : Contents). d.records) c.document.view_is in
     round-both _ c.args.document.now c.document.view_is c.args.id (λ r. record r { pose = c.args.pose.now }) shape c.in-Some.ensures c.extent_of-before.result c.extent_of-posed.result _
-    (on-page rs c.document.inside.records shape c.page_pose-up.result c.extent_of-before.result all c.page_pose-up.ensures.carries c.extent_of-before.ensures)
-    (on-page rs c.document.inside.records (record shape { pose = c.args.pose.now }) c.page_pose-up.result c.extent_of-posed.result all c.page_pose-up.ensures.carries c.extent_of-posed.ensures)
+    (on-page rs c.document.inside.records shape c.way_up-up.result.pose c.extent_of-before.result all c.way_up-up.ensures.carries c.extent_of-before.ensures)
+    (on-page rs c.document.inside.records (record shape { pose = c.args.pose.now }) c.way_up-up.result.pose c.extent_of-posed.result all c.way_up-up.ensures.carries c.extent_of-posed.ensures)
     c.hull.ensures.value

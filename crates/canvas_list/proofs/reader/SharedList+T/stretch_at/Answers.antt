@@ -1,35 +1,33 @@
-use Rattle.std.proofs.Common.{◌≡◌, ◌+◌, ℕ, arith, length, subst}
-use Rattle.canvas_list.specs.Chunks.{joined, IsRun}
+use Rattle.std.proofs.Common.{◌+◌, ◌-◌, ℕ, List, arith, drop, length, subst, sym, take}
+use Rattle.canvas_list.specs.Chunks.{joined, IsStretch}
 use Rattle.canvas_list.proofs.Joined.{found, has-chunk, offset-in, search-some, IsFound}
-use Rattle.canvas_list.proofs.Runs.{run-of-chunk, run-of-run}
+use Rattle.canvas_list.proofs.Stretches.{stretch-of-block}
 use Rattle.canvas_list.proofs.reader.SharedList+T.stretch_at.Goals as goal
 
 pub spot_of-spot-requires : goal.spot_of-spot-requires
 spot_of-spot-requires g c =
     search-some c.self.inside.parts.items c.deref.result.now c.deref.ensures.value (has-chunk c.self.inside.parts.items c.args.self.now c.args.at c.self.view_is c.requires)
 
-pub index-requires : goal.index-requires
-index-requires g c =
+pub index-block-requires : goal.index-block-requires
+index-block-requires g c =
     let f : IsFound c.self.inside.parts.items c.self.inside.count c.spot_of-spot.result.chunk c.spot_of-spot.result.start c.args.at = found c.self.inside.parts.items c.deref.result.now c.self.inside.count c.spot_of-spot.result.chunk c.spot_of-spot.result.start c.args.at c.self.invariant c.deref.ensures.value c.spot_of-spot.ensures in
     omega (arith, f.within)
 
 pub stretch_at-found-requires : goal.stretch_at-found-requires
 stretch_at-found-requires g c =
     let f : IsFound c.self.inside.parts.items c.self.inside.count c.spot_of-spot.result.chunk c.spot_of-spot.result.start c.args.at = found c.self.inside.parts.items c.deref.result.now c.self.inside.count c.spot_of-spot.result.chunk c.spot_of-spot.result.start c.args.at c.self.invariant c.deref.ensures.value c.spot_of-spot.ensures in
-    offset-in c.self.inside.parts.items c.args.self.now c.self.inside.count c.spot_of-spot.result.chunk c.spot_of-spot.result.start c.args.at c.index.result.now c.contents.result.now c.self.invariant f c.self.view_is c.index.ensures c.contents.ensures.same c.requires
+    offset-in c.self.inside.parts.items c.args.self.now c.self.inside.count c.spot_of-spot.result.chunk c.spot_of-spot.result.start c.args.at c.index-block.result.now c.contents.result.now c.self.invariant f c.self.view_is c.index-block.ensures c.contents.ensures.same c.requires
 
-pub returns-clause-run : goal.returns-clause-run
-returns-clause-run g c =
+pub returns-clause-held : goal.returns-clause-held
+returns-clause-held g c =
     let f : IsFound c.self.inside.parts.items c.self.inside.count c.spot_of-spot.result.chunk c.spot_of-spot.result.start c.args.at = found c.self.inside.parts.items c.deref.result.now c.self.inside.count c.spot_of-spot.result.chunk c.spot_of-spot.result.start c.args.at c.self.invariant c.deref.ensures.value c.spot_of-spot.ensures in
-    run-of-run c.args.self.now c.contents.result.now c.stretch_at-found.result.items.now c.spot_of-spot.result.start c.stretch_at-found.result.start
-    (run-of-chunk c.self.inside.parts.items c.args.self.now c.self.inside.count c.spot_of-spot.result.chunk c.spot_of-spot.result.start c.args.at c.index.result.now c.contents.result.now f c.self.view_is c.index.ensures c.contents.ensures.same)
-    c.stretch_at-found.ensures.run
-
-pub returns-clause-behind : goal.returns-clause-behind
-returns-clause-behind g c =
-    let f : IsFound c.self.inside.parts.items c.self.inside.count c.spot_of-spot.result.chunk c.spot_of-spot.result.start c.args.at = found c.self.inside.parts.items c.deref.result.now c.self.inside.count c.spot_of-spot.result.chunk c.spot_of-spot.result.start c.args.at c.self.invariant c.deref.ensures.value c.spot_of-spot.ensures in
-    let place : c.spot_of-spot.result.start + (c.stretch_at-found.result.start + length c.stretch_at-found.result.items.now) ≡ c.spot_of-spot.result.start + c.stretch_at-found.result.start + length c.stretch_at-found.result.items.now = omega arith in
-    subst (λ (n : ℕ). IsRun c.args.self.now (joined c.stretch_at-found.result.behind.now) n) place
-    (run-of-run c.args.self.now c.contents.result.now (joined c.stretch_at-found.result.behind.now) c.spot_of-spot.result.start (c.stretch_at-found.result.start + length c.stretch_at-found.result.items.now)
-    (run-of-chunk c.self.inside.parts.items c.args.self.now c.self.inside.count c.spot_of-spot.result.chunk c.spot_of-spot.result.start c.args.at c.index.result.now c.contents.result.now f c.self.view_is c.index.ensures c.contents.ensures.same)
-    c.stretch_at-found.ensures.behind)
+    let blocks : List (List g.row.T.Denot) = c.self.inside.parts.items in
+    let items : List g.row.T.Denot = c.stretch_at-found.result.items.now in
+    let behind : List g.row.T.Denot = joined c.stretch_at-found.result.behind.now in
+    let start : ℕ = c.spot_of-spot.result.start + c.stretch_at-found.result.start in
+    let ends : ℕ = c.spot_of-spot.result.start + c.count.result in
+    let next : ℕ = c.spot_of-spot.result.chunk + 1 in
+    subst (λ (ds : List (List g.row.T.Denot)). IsStretch c.args.self.now items behind (joined (take (length ds - next) (drop next ds))) start ends) (sym c.deref-2.ensures.value)
+    (subst (λ (l : List g.row.T.Denot). IsStretch l items behind (joined (take (length blocks - next) (drop next blocks))) start ends) c.self.view_is
+    (stretch-of-block blocks c.spot_of-spot.result.chunk c.spot_of-spot.result.start c.stretch_at-found.result.start c.count.result c.stretch_at-found.result.beyond_start c.index-block.result.now c.contents.result.now items behind (joined c.stretch_at-found.result.beyond.now)
+    f.within f.start c.index-block.ensures c.contents.ensures.same c.count.ensures.count c.stretch_at-found.ensures.held))

@@ -1,4 +1,0 @@
-use Rattle.canvas_doc.proofs.ancestry.+depth_of.Given as goal
-
-abbrev pub decreases-depth_of : goal.decreases-depth_of
-decreases-depth_of l = l.steps
