@@ -90,8 +90,8 @@ pub struct FoundRange<'a, T: Share> {
 
 impl<T: Share> SharedList<T> {
     /// From where the items end that pass a first test up to where those end that pass a second
-    /// one, each as by `partition_point_near`. The second search goes on from where the first one
-    /// ended, so this is quicker than two.
+    /// one, each as by `partition_point_near`. The second search goes on from the part that the first
+    /// hint leads to, so this is quicker than two.
     pub fn range_near<P: Fn(&T) -> bool, Q: Fn(&T) -> bool>(
         &self,
         from: Hint,
