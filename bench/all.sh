@@ -1,5 +1,5 @@
 #!/usr/bin/env bash
-# Measures all that docs/SPEED.md has figures of, one after the other, and keeps what each says.
+# Measures what docs/SPEED.md has figures of, one after the other, and keeps what each says. (bench/programs.py compares programs: run it by hand.)
 #
 # usage: bench/all.sh FOLDER
 #

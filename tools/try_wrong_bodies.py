@@ -14,7 +14,7 @@ edit that it says nothing of there, or that changes anything else, is tried by i
 Each edit has a line 'refused', 'PROVED' or 'not judged' with the reason; the last line is 'N refused, M proved, K not judged'. The
 status is 0 only where all are refused, and 2 where the crate itself is not proved.
 
---record tries the bodies of these crates, or of all, and writes crates/NAME/wrong-bodies/verdicts, a body at a time. It leaves out those of which
+--record tries the bodies of these crates, or of all, and writes crates/NAME/wrong-bodies/verdicts, group by group. It leaves out those of which
 a record of these sources says that they are refused, so it can be stopped and begun again. --dry-run only says what it would try.
 
 --check compares the records with the sources. Where a record is of others, it tries the crate's bodies, lowest first, and begins no check after
@@ -31,7 +31,7 @@ import subprocess
 import sys
 import tempfile
 import time
-from concurrent.futures import ThreadPoolExecutor
+from concurrent.futures import ThreadPoolExecutor, as_completed
 from contextlib import contextmanager
 from itertools import chain
 from pathlib import Path
@@ -255,10 +255,14 @@ def try_all(name, edits, given, room, deadline=None, keep=lambda _: None):
 
         found = {}
         with ThreadPoolExecutor(jobs) as pool:
-            for edit, said, why in chain.from_iterable(pool.map(work, groups)):
-                found[edit.stem] = said
-                keep(found)
-                print(f"{edit.stem}: {said}{': ' + why.splitlines()[0][:200] if why else ''}", flush=True)
+            begun = [pool.submit(work, it) for it in groups]
+            try:
+                for edit, said, why in chain.from_iterable(it.result() for it in as_completed(begun)):
+                    found[edit.stem] = said
+                    keep(found)
+                    print(f"{edit.stem}: {said}{': ' + why.splitlines()[0][:200] if why else ''}", flush=True)
+            finally:
+                pool.shutdown(cancel_futures=True)
         return found
 
 
