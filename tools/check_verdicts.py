@@ -6,7 +6,12 @@ usage: tools/check_verdicts.py
 Prints what is wrong, and a last line 'N passed, M failed'; the status is 1 where something failed.
 """
 
+import json
+import shutil
+import subprocess
 import sys
+import tempfile
+from pathlib import Path
 
 import verdicts
 from body_lists import place_in
@@ -116,11 +121,142 @@ def faults_of_places():
 def faults_of_records():
     """As faults_of_parsing."""
     said = {"b": "refused", "a": "PROVED", "c": "not judged"}
-    text = verdicts.written("12ab", said)
-    yield None if text == "sources: 12ab\na: PROVED\nb: refused\nc: not judged\n" else f"a record reads {text!r}"
-    yield None if verdicts.read(text) == ("12ab", said) else "a record is not read as it was written"
-    for bad in ("", "a: refused\n", "sources: 1\na\n", "sources: 1\na: refused\na: PROVED\n"):
+    text = verdicts.written(dict.fromkeys(said, "12ab"), said)
+    yield None if text == "a: 12ab PROVED\nb: 12ab refused\nc: 12ab not judged\n" else f"a record reads {text!r}"
+    yield None if verdicts.read(text) == {it: ("12ab", said[it]) for it in said} else "a record is not read as it was written"
+    for bad in ("", "a refused\n", "a: refused\n", "a: 1 refused\na: 1 PROVED\n"):
         yield None if verdicts.read(bad) is None else f"{bad!r} is read as a record"
+
+
+# A repository of three crates, by its files. `top` names `mid` alone, and `mid` names `low`.
+SMALL = {
+    "HANDLES": "Handles allowed: none.\n",
+    "crates.txt": "low:\nmid: low\ntop: mid\n",
+    "crates/low/src/lib.rt": """/// A list.
+pub struct List {
+    items: Vec<u8>,
+}
+
+impl Model for List {
+    ghost Value = { Listed };
+
+    ghost invariant = { λ it. IsSmall it };
+}
+
+/// A mark.
+pub enum Mark {
+    Red,
+}
+
+/// A size.
+pub fn size(list: &List) -> usize
+    ensures { result ≡ 1 }
+{
+    1
+}
+""",
+    "crates/low/specs/Marks.antt": "abbrev pub marked : ℕ\n",
+    "crates/low/specs/Sizes.antt": "abbrev pub sized : ℕ\n",
+    "crates/mid/src/lib.rt": """ghost use Rattle.low.specs.Marks.{marked};
+ghost use Rattle.low.specs.Sizes.{sized};
+
+use low::{List, Mark};
+
+/// A page.
+pub struct Page {
+    list: List,
+}
+
+impl Model for Page {
+    ghost Value = { Marked };
+}
+
+impl Page {
+    /// Its mark.
+    pub fn mark(&self) -> Mark
+        ensures { result ≡ marked self }
+    {
+        self.inner()
+    }
+
+    fn inner(&self) -> Mark
+        ensures { result ≡ sized self }
+    {
+        Mark::Red
+    }
+}
+""",
+    "crates/mid/specs/Pages.antt": "abbrev pub paged : ℕ\n",
+    "crates/top/src/lib.rt": """use mid::Page;
+
+/// Shows a page.
+pub fn show(page: &Page) -> u8
+    ensures { result ≡ 1 }
+{
+    let shown = 1;
+    shown
+}
+
+fn other() -> u8 {
+    let shown = 2;
+    shown
+}
+""",
+    "crates/top/proofs/show/Answers.antt": "answer = 1\n",
+    "crates/top/proofs/other/Answers.antt": "answer = 2\n",
+    "crates/top/wrong-bodies/shows_none.edit": "file: src/lib.rt\nold: let shown = 1;\nnew: let shown = 0;\n",
+    "crates/top/wrong-bodies/promises_less.edit": "file: src/lib.rt\nold: result ≡ 1\nnew: result ≡ result\n",
+}
+BODY, CONTRACT = "shows_none", "promises_less"
+# What is changed: a file, a text there, the new text, and which of the two records then go stale.
+CHANGES = (
+    ("a comment below", "low/src/lib.rt", "/// A size.", "/// Its size.", set()),
+    ("a public contract of a crate that is not named", "low/src/lib.rt", "result ≡ 1", "result ≡ 2", set()),
+    ("a private contract below", "mid/src/lib.rt", "sized self", "sized result", set()),
+    ("a body below", "mid/src/lib.rt", "self.inner()", "Mark::Red", set()),
+    ("a field of a type with a model", "mid/src/lib.rt", "list: List", "list: Vec<List>", set()),
+    ("a type that only such a field names", "low/src/lib.rt", "items: Vec<u8>", "items: [u8]", set()),
+    ("what the model of a type means that only such a field names", "low/src/lib.rt", "IsSmall it", "IsLarge it", set()),
+    ("a definition that only a private contract cites", "low/specs/Sizes.antt", "ℕ", "ℤ", set()),
+    ("a definition that nothing cites", "mid/specs/Pages.antt", "ℕ", "ℤ", set()),
+    ("a public contract", "mid/src/lib.rt", "marked self", "marked result", {BODY, CONTRACT}),
+    ("what clauses see of a type", "mid/src/lib.rt", "{ Marked }", "{ Listed }", {BODY, CONTRACT}),
+    ("a type that a public contract names", "low/src/lib.rt", "    Red,", "    Red,\n    Blue,", {BODY, CONTRACT}),
+    ("a definition that a public contract cites", "low/specs/Marks.antt", "ℕ", "ℤ", {BODY, CONTRACT}),
+    ("a public field", "mid/src/lib.rt", "    list: List", "    pub list: List", {BODY, CONTRACT}),
+    ("the crate's own contract", "top/src/lib.rt", "result ≡ 1", "result ≡ 1 + 0", {BODY, CONTRACT}),
+    ("the function's own body", "top/src/lib.rt", "    shown\n}\n\nfn other", "    { shown }\n}\n\nfn other", {BODY, CONTRACT}),
+    ("another function's body", "top/src/lib.rt", "let shown = 2", "let shown = 3", {CONTRACT}),
+    ("what proves the function", "top/proofs/show/Answers.antt", "1", "3", {BODY, CONTRACT}),
+    ("what proves another function", "top/proofs/other/Answers.antt", "2", "3", {CONTRACT}),
+)
+
+
+def checksums_of(folder):
+    """The checksums of the wrong bodies of `top`, as the tools of a small repository find them."""
+    words = [sys.executable, "-c", "import json, verdicts; print(json.dumps(verdicts.checksums('top')))"]
+    return json.loads(subprocess.run(words, cwd=folder / "tools", stdout=subprocess.PIPE, text=True, check=True).stdout)
+
+
+def faults_of_staleness():
+    """As faults_of_parsing: which records go stale by which change."""
+    with tempfile.TemporaryDirectory() as room:
+        folder = Path(room)
+        (folder / "tools").mkdir()
+        for name in ("edits", "functions", "repository", "statements", "verdicts"):
+            shutil.copy2(Path(__file__).parent / f"{name}.py", folder / "tools")
+        for path, text in SMALL.items():
+            (folder / path).parent.mkdir(parents=True, exist_ok=True)
+            (folder / path).write_text(text)
+        before = checksums_of(folder)
+        for what, path, old, new, wanted in CHANGES:
+            place = folder / "crates" / path
+            was = place.read_text()
+            place.write_text(was.replace(old, new, 1))
+            after = checksums_of(folder)
+            stale = {it for it in before if before[it] != after.get(it)}
+            place.write_text(was)
+            yield None if old in was and stale == wanted else f"{what}: stale are {stale}, not {wanted}"
 
 
 def faults_of_samples():
@@ -140,7 +276,7 @@ def faults_of_samples():
 
 
 def main():
-    found = [*faults_of_parsing(), *faults_of_contracts(), *faults_of_layout(), *faults_of_places(), *faults_of_records(), *faults_of_samples()]
+    found = [*faults_of_parsing(), *faults_of_contracts(), *faults_of_layout(), *faults_of_places(), *faults_of_records(), *faults_of_staleness(), *faults_of_samples()]
     failures = [it for it in found if it]
     print(*failures, sep="\n", end="\n" if failures else "")
     print(f"{len(found) - len(failures)} passed, {len(failures)} failed")

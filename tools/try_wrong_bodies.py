@@ -38,7 +38,8 @@ from pathlib import Path
 from queue import Queue
 
 import verdicts
-from functions import changed_functions, refused_function
+from edits import BadEdit, edited, functions_of
+from functions import refused_function
 from repository import TOP, below, copy_again, copy_for, stamp_libraries
 
 # A goal or an import of a proof that names what the edit took away.
@@ -49,30 +50,6 @@ NO_LONGER_FITS = re.compile(r"(?:\./)?proofs/\S+: error(?s:.*)expected type:? `?
 PLACE = re.compile(r"(note: )?\S+:\d+:\d+:")
 # A text that cannot be read at all, rather than a goal that is not proved.
 UNREAD = re.compile(r"is not in scope|has no field|is no name|operand is missing|expected the end|cannot continue")
-
-
-class BadEdit(Exception):
-    """The edit cannot be applied, for the reason given."""
-
-
-def edited(text, crate):
-    """The files that an edit changes, with their new texts."""
-    path, old, texts = None, None, {}
-    for line in text.splitlines():
-        if line.startswith("file: "):
-            path = line[len("file: "):].strip()
-        elif line.startswith("old: "):
-            old = line[len("old: "):]
-        elif line.startswith("new:"):
-            if not path or not old or not (crate / path).is_file():
-                raise BadEdit("a 'new:' line has no 'old:' line or no file")
-            found = texts.setdefault(path, (crate / path).read_text())
-            if found.count(old) != 1:
-                raise BadEdit(f"an 'old:' text stands in {path} {found.count(old)} times")
-            texts[path], old = found.replace(old, line[len("new:"):].removeprefix(" ")), None
-    if not texts:
-        raise BadEdit("it has no pair of 'old:' and 'new:'")
-    return texts
 
 
 def check(crate, jobs=1):
@@ -149,16 +126,6 @@ def tried(edit, crate):
             return "not judged", str(why)
         write(texts)
         return judged(*check(crate), texts)
-
-
-def functions_of(edit, crate):
-    """The names of the functions whose bodies an edit changes, or None where it changes anything else."""
-    try:
-        texts = edited(edit.read_text(), crate)
-    except BadEdit:
-        return None
-    found = [path.startswith("src/") and changed_functions((crate / path).read_text(), text) for path, text in texts.items()]
-    return set().union(*found) if all(found) else None
 
 
 def in_groups(edits, crate, most):
@@ -301,12 +268,12 @@ class Changed(Exception):
 
 def record_crate(name, edits, given, room):
     """Tries these bodies of a crate, writes each verdict into its record as soon as it is there, and gives whether all are refused."""
-    begun, total, known = time.monotonic(), verdicts.checksum(name), verdicts.begun(name)
+    begun, state, known = time.monotonic(), verdicts.state(name), verdicts.begun(name)
 
     def keep(found):
-        if verdicts.checksum(name) != total:
+        if verdicts.state(name) != state:
             raise Changed
-        verdicts.place_of(name).write_text(verdicts.written(total, known | found))
+        verdicts.place_of(name).write_text(verdicts.written(verdicts.checksums(name), known | found))
 
     try:
         found = try_all(name, edits, given, room, keep=keep)

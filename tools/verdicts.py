@@ -1,19 +1,18 @@
 """The record of a crate's wrong bodies: crates/NAME/wrong-bodies/verdicts.
 
-Its first line has the checksum of all that the verdicts rest on. Each other line has a body and its verdict, in the order of their names.
+Each line has a body, the checksum of all that its verdict rests on, and its verdict, in the order of their names.
 """
 
 import hashlib
 import subprocess
 from functools import cache
 
-from functions import without_bodies, without_layout
+from edits import edited, functions_of
+from functions import functions, without_layout
 from repository import SOURCES, TOP, below, lines
+from statements import OF_ONE_FUNCTION, files, own_statements, seen_below
 
 REFUSED = "refused"
-HEAD = "sources: "
-OF_ONE_FUNCTION = {"Answers.antt", "Invariants.antt", "Proof.antt"}
-"""The files of proofs/ that belong to one function's body."""
 
 
 @cache
@@ -33,30 +32,43 @@ def crates_with_bodies():
     return [it for it in lines() if edits_of(it)]
 
 
-def seen_from_above(crate):
-    """The files of a crate on which the proofs of the crates above rest, and their texts: types and contracts, definitions, and lemmas, which
-    proofs above may name. Bodies of functions and what proves them are left out: no proof above rests on them."""
-    for part in SOURCES:
-        for path in sorted((TOP / "crates" / crate / part).rglob("*")):
-            if path.is_file() and not (part == "proofs" and path.name in OF_ONE_FUNCTION):
-                yield path, without_bodies(path.read_text()) if path.suffix == ".rt" else path.read_text()
+def under_all(name):
+    """What the verdicts of all wrong bodies of a crate rest on: the kit's logic, the crate's line and handles, what the crate itself states, and what it
+    sees of the crates below."""
+    return (logic(), lines()[name], (TOP / "HANDLES").read_text(), own_statements(name), seen_below(name))
 
 
-def all_of(crate):
-    """The files of a crate's sources, and their texts."""
-    for part in SOURCES:
-        yield from ((it, it.read_text()) for it in sorted((TOP / "crates" / crate / part).rglob("*")) if it.is_file())
+def under_body(edit, crate):
+    """What the verdict of one wrong body rests on beside that: the functions with their new bodies and what proves them. No proof rests on another
+    function's body. Of an edit that changes anything else it is all that the crate has."""
+    names = functions_of(edit, crate)
+    if names is None:
+        return edit.read_text(), [pair for part in SOURCES for pair in files(crate.name, part)]
+    bodies = [(path, it) for path, text in edited(edit.read_text(), crate).items() for it in texts_of(text, names)]
+    return bodies, [(path, text) for path, text in files(crate.name, "proofs") if path.split("/")[-1] in OF_ONE_FUNCTION and names & set(path.split("/"))]
 
 
-def checksum(name):
-    """The checksum of what the verdicts of a crate's wrong bodies rest on: all of its sources, the edits, and what it sees of the crates below.
-    How a source is laid out is left out: a clause may be broken at another place."""
-    known, under = lines(), below(name)
-    found = hashlib.sha256(repr([logic(), [known[it] for it in [*under, name]], (TOP / "HANDLES").read_text()]).encode())
-    texts = [*((it, it.read_text()) for it in edits_of(name)), *all_of(name), *(pair for it in under for pair in seen_from_above(it))]
-    for path, text in texts:
-        found.update(repr((str(path.relative_to(TOP)), without_layout(text) if path.suffix == ".rt" else text)).encode())
-    return found.hexdigest()
+def texts_of(source, names):
+    """The texts of the functions of a source with these names."""
+    rows = source.split("\n")
+    return [without_layout("\n".join(rows[it.begins - 1:it.ends])) for it in functions(source) if it.name in names]
+
+
+@cache
+def checksums(name):
+    """For each wrong body of a crate the checksum of what its verdict rests on. How a source is laid out is left out: a clause may be broken at another
+    place."""
+    crate, under = TOP / "crates" / name, hashlib.sha256(repr(under_all(name)).encode()).hexdigest()
+    return {it.stem: hashlib.sha256(repr((under, it.stem, under_body(it, crate))).encode()).hexdigest()[:32] for it in edits_of(name)}
+
+
+def state(name):
+    """The sum of all sources of a crate, of its edits and of the crates below: while it stays the same, so do the checksums."""
+    found = hashlib.sha256()
+    for crate in [*below(name), name]:
+        for path in sorted(it for part in (*SOURCES, "wrong-bodies") for it in (TOP / "crates" / crate / part).rglob("*") if it.is_file() and it.name != "verdicts"):
+            found.update(path.read_bytes())
+    return found.digest()
 
 
 def place_of(name):
@@ -65,30 +77,27 @@ def place_of(name):
 
 
 def read(text):
-    """The checksum that a record names, and its verdicts by the names of the bodies; None where it is no record."""
-    head, *rows = text.splitlines() or [""]
-    pairs = [it.partition(": ")[::2] for it in rows]
-    if not head.startswith(HEAD) or not all(name and said for name, said in pairs) or len(dict(pairs)) != len(pairs):
+    """The checksums and verdicts that a record has, by the names of the bodies; None where it is no record."""
+    rows = [it.split(" ", 2) for it in text.splitlines()]
+    if not rows or any(len(it) != 3 or not it[0].endswith(":") for it in rows) or len({it[0] for it in rows}) != len(rows):
         return None
-    return head.removeprefix(HEAD), dict(pairs)
+    return {name[:-1]: (total, said) for name, total, said in rows}
 
 
-def written(total, verdicts):
-    """The text of a record."""
-    return "".join(f"{it}\n" for it in [HEAD + total, *(f"{name}: {verdicts[name]}" for name in sorted(verdicts))])
+def written(totals, said):
+    """The text of a record of these verdicts."""
+    return "".join(f"{name}: {totals[name]} {said[name]}\n" for name in sorted(said))
 
 
 def begun(name):
-    """The verdicts of a crate's record that are of these sources, of these bodies: it may have been stopped before all were tried."""
-    place, known = place_of(name), {it.stem for it in edits_of(name)}
+    """The verdicts of a crate's record that rest on what is there now: others went stale, or were never given."""
+    place, totals = place_of(name), checksums(name)
     found = read(place.read_text()) if place.is_file() else None
-    if not found or found[0] != checksum(name):
-        return {}
-    return {it: said for it, said in found[1].items() if it in known}
+    return {it: said for it, (total, said) in (found or {}).items() if totals.get(it) == total}
 
 
 def recorded(name):
-    """The verdicts of a crate's record, or None where there is none of these sources and of all its bodies."""
+    """The verdicts of a crate's record, or None where one of its bodies has none that stands."""
     found = begun(name)
     return found if len(found) == len(edits_of(name)) else None
 
@@ -101,7 +110,7 @@ def seed():
             return done.stdout.strip()
     except OSError:
         pass
-    return hashlib.sha256("".join(checksum(it) for it in crates_with_bodies()).encode()).hexdigest()
+    return hashlib.sha256(repr([checksums(it) for it in crates_with_bodies()]).encode()).hexdigest()
 
 
 def sample(begin, records, under, count=24, most=3):
