@@ -2,7 +2,7 @@
 
 A list has a heading for each promise that refuses bodies of the crate, in the words of a table of docs/PROOFS.md, and a row for each of these bodies.
 Headings, which bodies stand below them, and remarks are written by hand. The rest is made from the edits: what each changes, the order of the
-rows, and which bodies the crate's edit in must-fail/ makes at once.
+rows, and which bodies stand in must-fail/ too.
 """
 
 import re
@@ -83,16 +83,14 @@ def rows_of(text):
 
 
 def gate_line(crate):
-    """What the crate's edit in must-fail/ makes at once."""
-    for name, path in bodies_of(crate, "must-fail").items():
-        names = re.findall(r"^-- (\w+)$", path.read_text(), re.M)
-        what = f"makes at once: {', '.join(f'`{it}`' for it in names)}" if names else f"changes {changes_of(path, crate)}"
-        yield f"\nThe gate tries `must-fail/{name}.edit`, which {what}.\n"
+    """Which of the crate's bodies the gate tries beside its proof."""
+    names = bodies_of(crate, "must-fail")
+    return [f"\nThe gate tries {' and '.join(f'`{it}`' for it in names)} in each run.\n"] if names else []
 
 
 def as_it_stands(crate):
     """The list of a crate as its edits are now; bodies of which it does not say what refuses them stand below a heading of their own."""
-    place, there = place_of(crate), {**bodies_of(crate), **bodies_of(crate, "must-fail")}
+    place, there = place_of(crate), bodies_of(crate)
     rows = [it for it in rows_of(place.read_text() if place.is_file() else "") if it[1] in there]
     listed = {name for _, name, _ in rows}
     rows += [(UNKNOWN, name, "") for name in bodies_of(crate) if name not in listed]
@@ -132,6 +130,10 @@ def faults_of_lists():
         now = as_it_stands(crate)
         is_same = place.is_file() and place.read_text() == now
         yield None if is_same else f"{inside}: not as the edits are (tools/check_docs.py --write writes it as they are)"
+        bodies = bodies_of(crate)
+        for name, path in bodies_of(crate, "must-fail").items():
+            is_body = name in bodies and path.read_text() == bodies[name].read_text()
+            yield None if is_body else f"{path.relative_to(TOP)}: it is not the body of that name in wrong-bodies/"
         for promise in dict.fromkeys(it for it, _, _ in rows_of(now)):
             yield None if promise in known.get(crate, ()) else f"{inside}: docs/PROOFS.md has no promise '{promise}' in a section of {crate}"
 

@@ -263,16 +263,17 @@ def faults_of_samples():
     """As faults_of_parsing."""
     records = {name: {f"{name}{number}": "refused" for number in range(size)} for name, size in (("low", 30), ("mid", 5), ("top", 40), ("side", 50))}
     under = {"low": [], "mid": ["low"], "top": ["low", "mid"], "side": []}
-    firsts = set()
+    firsts = []
     for begin in map(str, range(40)):
-        found = verdicts.sample(begin, records, under)
+        found = verdicts.sample(begin, records, under, {"mid"})
         chosen = [it for names in found.values() for it in names]
         good = len(chosen) == len(set(chosen)) == 24 and len(found) <= 3 and all(it in records[name] for name, names in found.items() for it in names)
         yield None if good else f"the sample of {begin} is {found}"
-        yield None if found == verdicts.sample(begin, records, under) else f"the sample of {begin} is another the second time"
-        firsts |= set(found)
-    yield None if firsts == set(records) else f"samples are of {firsts} alone"
-    yield None if verdicts.sample("1", {}, under) == {} else "a sample of nothing"
+        yield None if found == verdicts.sample(begin, records, under, {"mid"}) else f"the sample of {begin} is another the second time"
+        firsts.append(next(iter(found)))
+    yield None if set(firsts) == set(records) else f"samples begin with {set(firsts)} alone"
+    yield None if 12 <= firsts.count("mid") <= 28 else f"{firsts.count('mid')} of 40 samples begin with the crate that has no edit"
+    yield None if verdicts.sample("1", {}, under, set()) == {} else "a sample of nothing"
 
 
 def main():

@@ -48,6 +48,24 @@ def opening(lines, at, indent):
     return None
 
 
+# The head of an impl: the trait, what it is given, and the type.
+OF_IMPL = re.compile(r"impl(?:<.*>)? (?:(\w+)(?:<(.*?)>)? for )?&?(\w+)(?:<.*>)? \{$")
+
+
+def prover_names(path, text):
+    """Where the prover's names for the functions of a source end, each with the function's own: in the type whose impl it stands in, with the trait behind
+    it, or else in the module, and its name."""
+    module, impl = path.removesuffix(".rt").removeprefix("src/").rsplit("/", 1)[-1], None
+    for line in text.split("\n"):
+        if line and not line.startswith(" "):
+            impl = OF_IMPL.match(line)
+        head = HEAD.match(line)
+        if head and head[1] == "    " and impl:
+            yield head[2], f"{impl[3]}{impl[1] or ''}{impl[2] if impl[1] == 'From' else ''}::{head[2]}"
+        elif head and not head[1]:
+            yield head[2], head[2] if module in ("lib", "main") else f"{module}::{head[2]}"
+
+
 def innermost(found, number):
     """The function that has this line and none of those inside it has."""
     inside = [it for it in found if it.begins <= number <= it.ends]

@@ -1,15 +1,14 @@
 #!/usr/bin/env python3
 """Tries the wrong bodies of a crate: the check must refuse each.
 
-usage: tools/try_wrong_bodies.py NAME [EDIT..] [--all] [--jobs N] [--together N]
-       tools/try_wrong_bodies.py --record [--dry-run] [NAME..] [--jobs N] [--together N]
+usage: tools/try_wrong_bodies.py NAME [EDIT..] [--jobs N] [--together N]
+       tools/try_wrong_bodies.py --record [--dry-run] [--proved] [NAME..] [--jobs N] [--together N]
        tools/try_wrong_bodies.py --check [--built] [--minutes N] [--jobs N] [--together N]
 
-A wrong body is an edit of crates/NAME/wrong-bodies/ (with --all or by its name also of must-fail/): a line 'file: src/..', and
-pairs of lines 'old: TEXT' and 'new: TEXT', where TEXT stands once in the file. Each is applied to a copy of the crate and
-checked over what earlier checks kept in its out/, which itself is left as it is. A check tries several that change bodies of functions
-with different names: no proof rests on another function's body, so what the prover says of a function is said of its wrong body alone. An
-edit that it says nothing of there, or that changes anything else, is tried by itself.
+A wrong body is an edit of crates/NAME/wrong-bodies/: a line 'file: src/..', and pairs of lines 'old: TEXT' and 'new: TEXT', where TEXT stands once in the
+file. Each is applied to a copy of the crate and checked over what earlier checks kept in its out/, which itself is left as it is. One that changes bodies of
+functions is judged by these alone: no proof rests on another function's body. A check tries several that change functions with different names. An edit
+that the prover says nothing of there, or that changes anything else, is tried by itself.
 
 Each edit has a line 'refused', 'PROVED' or 'not judged' with the reason; the last line is 'N refused, M proved, K not judged'. The
 status is 0 only where all are refused, and 2 where the crate itself is not proved.
@@ -39,23 +38,27 @@ from queue import Queue
 
 import verdicts
 from edits import BadEdit, edited, functions_of
-from functions import refused_function
+from functions import prover_names, refused_function
 from repository import TOP, below, copy_again, copy_for, stamp_libraries
 
 # A goal or an import of a proof that names what the edit took away.
 NAMES_WHAT_IS_GONE = re.compile(r"(\./)?proofs/.*(has no field|is not in scope|has no `|was not admitted)")
 # An answer that was kept for a goal that holds by itself with this body: nothing is wrong with the body there.
 NO_LONGER_FITS = re.compile(r"(?:\./)?proofs/\S+: error(?s:.*)expected type:? `?Unit \{0\}`?\s*$", re.M)
+# The status of a check that was called wrongly, as where a name fits no function or several.
+MISCALLED = 2
 # A place in a file.
 PLACE = re.compile(r"(note: )?\S+:\d+:\d+:")
 # A text that cannot be read at all, rather than a goal that is not proved.
 UNREAD = re.compile(r"is not in scope|has no field|is no name|operand is missing|expected the end|cannot continue")
 
 
-def check(crate, jobs=1):
-    """The status of a check, and the lines that it printed."""
-    done = subprocess.run(["rt", "check", "--jobs", str(jobs)], cwd=crate, stdin=subprocess.DEVNULL, stdout=subprocess.PIPE,
-                          stderr=subprocess.STDOUT, errors="replace")
+def check(crate, jobs=1, only=()):
+    """The status of a check, and the lines that it printed. It is of these functions alone, if some are given and the prover knows them by these names."""
+    words = ["rt", "check", "--jobs", str(jobs), *(word for name in only for word in ("--only", name))]
+    done = subprocess.run(words, cwd=crate, stdin=subprocess.DEVNULL, stdout=subprocess.PIPE, stderr=subprocess.STDOUT, errors="replace")
+    if only and done.returncode == MISCALLED:
+        return check(crate, jobs)
     return done.returncode, done.stdout.rstrip("\n").split("\n")
 
 
@@ -73,9 +76,9 @@ def judged(status, lines, changed):
     if unread:
         return "not judged", f"the edited text cannot be read: {unread}"
     if status == 0:
-        return "PROVED", "the crate is proved with this body"
+        return "PROVED", "it is proved with this body"
     said = told(lines)
-    if status != 1 or not any(it.startswith("logic=not-proved") for it in lines):
+    if status != 1 or not any(it.startswith(("logic=not-proved", "only=")) for it in lines):
         return "not judged", f"it did not come to the prover: {' / '.join(said[:2] or lines[-3:])}"
     first = next((it for it in said if not of_proof_alone(it)), None)
     if said and not first:
@@ -124,8 +127,14 @@ def tried(edit, crate):
             texts = edited(edit.read_text(), crate)
         except BadEdit as why:
             return "not judged", str(why)
+        names = functions_of(edit, crate)
         write(texts)
-        return judged(*check(crate), texts)
+        return judged(*check(crate, only=paths_of(names or (), texts)), texts)
+
+
+def paths_of(names, texts):
+    """What the prover is told to check for functions with these names in these files."""
+    return sorted({end for path, text in texts.items() for name, end in prover_names(path, text) if name in names})
 
 
 def in_groups(edits, crate, most):
@@ -151,7 +160,7 @@ def refused_together(group, crate):
             except BadEdit:
                 return {}
             write(texts)
-        status, lines = check(crate)
+        status, lines = check(crate, only=paths_of(set().union(*group.values()), texts))
     if judged(status, lines, texts)[0] != "refused":
         return {}
     found = {}
@@ -169,32 +178,28 @@ def tried_together(group, crate):
     return [(it, "refused", found[it]) if it in found else (it, *tried(it, crate)) for it in group]
 
 
-def chosen(name, words, with_all):
-    """The edits to try."""
-    found = {}
-    for folder in ("must-fail", "wrong-bodies"):
-        for edit in sorted((TOP / "crates" / name / folder).glob("*.edit")):
-            if edit.stem in words or not words and (with_all or folder == "wrong-bodies"):
-                found[edit.stem] = edit
+def chosen(name, words):
+    """The edits with these names, or all."""
+    found = {it.stem: it for it in verdicts.edits_of(name)}
     unknown = set(words) - set(found)
     if unknown:
         sys.exit(f"{name} has no wrong body {', '.join(sorted(unknown))}")
-    return [found[it] for it in sorted(found)]
+    return [found[it] for it in sorted(words or found)]
 
 
 class NotProved(Exception):
     """The crate itself is not proved, so no wrong body was tried."""
 
 
-def proved_copy(name, room, jobs, built=False):
+def proved_copy(name, room, given):
     """A repository of the crate in which it is proved, which is made in the room where that has none. While it stands there, `rt` takes
-    the libraries that it built for those of other crates."""
+    the libraries that it built for those of other crates. A crate that is known to be proved is not checked again."""
     folder = room / name
     if not folder.is_dir():
         crate = copy_for(name, folder)
-        if built:
+        if given.built:
             stamp_libraries(folder)
-        status, lines = check(crate, jobs)
+        status, lines = (0, []) if given.proved else check(crate, given.jobs)
         if status != 0:
             shutil.rmtree(folder)
             raise NotProved("\n".join([*lines[-20:], f"{name} itself is not proved, so no wrong body was tried"]))
@@ -205,7 +210,7 @@ def try_all(name, edits, given, room, deadline=None, keep=lambda _: None):
     """Tries the edits in groups of up to `given.together`, `given.jobs` groups side by side, each in a copy of its own that later ones use again. Gives what
     is said of each edit by its name, and leaves out those whose check would begin after the deadline. `keep` is given what is known after each edit."""
     jobs = given.jobs
-    proved = proved_copy(name, room, jobs, given.built)
+    proved = proved_copy(name, room, given)
     groups = in_groups(edits, proved / "crates" / name, given.together)
     with tempfile.TemporaryDirectory(dir=room) as copies:
         crates = Queue()
@@ -306,8 +311,8 @@ def check_records(given, room):
     current = {it: found for it, found in records.items() if found is not None}
     faults = [f"{name}: {it} is recorded as {said}" for name, found in current.items() for it, said in found.items() if said != verdicts.REFUSED]
     passed = sum(map(all_refused, current.values()))
-    again = verdicts.sample(verdicts.seed(), current, {it: below(it) for it in names})
-    work = [(f"{name}: {len(words)} recorded bodies again", name, chosen(name, words, False), None) for name, words in again.items()]
+    again = verdicts.sample(verdicts.seed(), current, {it: below(it) for it in names}, verdicts.without_edit(names))
+    work = [(f"{name}: {len(words)} recorded bodies again", name, chosen(name, words), None) for name, words in again.items()]
     work += [(f"{name}: no whole record of these sources", name, left_to_try(name), deadline) for name in names if name not in current]
     for why, name, edits, until in work:
         print(f"== {why}", flush=True)
@@ -322,7 +327,7 @@ def try_named(given, room):
     if not given.names:
         sys.exit("of which crate?")
     name, *words = given.names
-    edits = chosen(name, [it.removesuffix(".edit") for it in words], given.all)
+    edits = chosen(name, [it.removesuffix(".edit") for it in words])
     try:
         found = try_all(name, edits, given, room) if edits else {}
     except NotProved as why:
@@ -335,11 +340,11 @@ def try_named(given, room):
 def main():
     asked = argparse.ArgumentParser(description=__doc__.split("\n\n")[0])
     asked.add_argument("names", nargs="*", metavar="NAME", help="the crate and edits of it, without .edit (none: all of wrong-bodies/); with --record crates")
-    asked.add_argument("--all", action="store_true", help="the edits of must-fail/ too")
     asked.add_argument("--record", action="store_true", help="write the records of these crates, or of all")
     asked.add_argument("--dry-run", action="store_true", help="with --record: say only what would be tried")
     asked.add_argument("--check", action="store_true", help="check the records of all crates")
     asked.add_argument("--built", action="store_true", help="with --check: the libraries in out/ are of these sources, though they have no stamp")
+    asked.add_argument("--proved", action="store_true", help="the crates are known to be proved: only what the changed functions call is checked")
     asked.add_argument("--minutes", type=int, default=60, metavar="N", help="with --check: begin no check of a crate with no record after so many minutes (60)")
     asked.add_argument("--jobs", type=int, metavar="N", help="checks that run side by side (1, with --check one for each processor)")
     asked.add_argument("--together", type=int, default=8, metavar="N", help="edits that one check tries at most (8)")
