@@ -137,7 +137,7 @@ impl<T: Share> SharedList<T> {
         ensures { IfOk result (λ list. list ≡ self.now) }
     {
         let chunks = merged(alloc, self.blocks(), sizes)?;
-        SharedList::of_chunks(alloc, chunks, sizes)
+        SharedList::empty(alloc).and_chunks(alloc, chunks, sizes)
     }
 }
 

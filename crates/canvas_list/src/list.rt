@@ -1,7 +1,7 @@
 //! The list, as a table of its blocks. A call of that table's own functions is proved from what blocks
 //! are. Each is called in one place, so that callers of a list need not know it.
 
-ghost use Rattle.std.specs.Prelude.{◌≡◌, ◌↔◌, ◌<◌, ◌^◌, [], IfOk, IsTrue, length, slice_index_or};
+ghost use Rattle.std.specs.Prelude.{◌≡◌, ◌↔◌, ◌<◌, ◌+◌, ◌^◌, ◌++◌, [], IfOk, IsTrue, length, slice_index_or};
 ghost use Rattle.std.specs.List.{slice_get};
 ghost use Rattle.std.specs.Option.{option_copied};
 ghost use Rattle.canvas_list.specs.Chunks.{joined};
@@ -16,7 +16,6 @@ use std::marker::Model;
 
 /// Items in order, seen as the list of them. A call that answers want of memory leaves the list as it
 /// was.
-#[derive(Drop)]
 pub struct SharedList<T: Share> {
     pub(crate) table: Blocks<T>,
 }
@@ -27,6 +26,14 @@ impl<T: Share> Model for SharedList<T> {
     ghost Value = { List T };
 
     ghost view = { λ list. list.table };
+}
+
+// Written out, so that a drop of a list is a call, and needs no more than that its items can be shared.
+impl<T: Share> Drop for SharedList<T> {
+    #[inline(always)]
+    fn drop(self) {
+        let SharedList { table: _table } = self;
+    }
 }
 
 impl<T: Share> SharedList<T> {
@@ -86,18 +93,19 @@ impl<T: Share> SharedList<T> {
         })
     }
 
-    /// The items of some chunks, in blocks.
-    pub(crate) fn of_chunks(
+    /// The items of some chunks behind these, in as many blocks as they need.
+    pub(crate) fn and_chunks(
+        self,
         alloc: Global,
         chunks: Chunks<T>,
         sizes: PartSizes,
     ) -> Result<SharedList<T>, OutOfMemory>
-        requires { length chunks < 2 ^ 32 }
-        ensures { IfOk result (λ list. list ≡ chunks) }
+        requires { length self + length chunks < 2 ^ 32 }
+        ensures { IfOk result (λ list. list ≡ self ++ chunks) }
     {
-        let none = SharedList::empty(alloc);
+        let SharedList { table } = self;
         Ok(SharedList {
-            table: none.table.and_contents(alloc, chunks, 0, sizes)?,
+            table: table.and_contents(alloc, chunks, 0, sizes)?,
         })
     }
 

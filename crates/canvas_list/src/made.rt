@@ -18,7 +18,7 @@ impl<T: Share> SharedList<T> {
     {
         let sizes = PartSizes::of(items.len());
         let chunks = full_chunks(alloc, items, sizes)?;
-        SharedList::of_chunks(alloc, chunks, sizes)
+        SharedList::empty(alloc).and_chunks(alloc, chunks, sizes)
     }
 }
 
