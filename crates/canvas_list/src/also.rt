@@ -5,11 +5,11 @@ ghost use Rattle.canvas_list.specs.Changed.{changed, list_changed, IsKept, IsPos
 
 use crate::contents::Contents;
 use crate::in_place::ItemChange;
+use crate::list::SharedList;
 use crate::moves::ListChange;
 use crate::part::Part;
 use crate::share::Share;
 use crate::sizes::PartSizes;
-use crate::table::SharedList;
 use canvas_code::OutOfMemory;
 use std::alloc::Global;
 

@@ -8,11 +8,11 @@ ghost use Rattle.canvas_list.specs.Changed.{changed, changed_if, list_changed, I
 
 use crate::also::{Alone, Also};
 use crate::contents::Contents;
+use crate::list::SharedList;
 use crate::moves::ListChange;
 use crate::part::{Block, merged};
 use crate::share::Share;
 use crate::sizes::PartSizes;
-use crate::table::SharedList;
 use canvas_code::OutOfMemory;
 use std::alloc::Global;
 use std::marker::Model;
@@ -111,8 +111,8 @@ impl<T: Share> SharedList<T> {
         ensures same { OnErr result (other.new ≡ other.old) }
     {
         let sizes = PartSizes::of(self.len());
-        let blocks = self.parts.len();
-        Contents::change(self, alloc, at, change, sizes, other, also)?;
+        let blocks = self.blocks().len();
+        Contents::change(&mut self.table, alloc, at, change, sizes, other, also)?;
         self.balance_beyond(alloc, blocks, sizes);
         Ok(())
     }
@@ -124,7 +124,7 @@ impl<T: Share> SharedList<T> {
     pub(crate) fn balance_beyond(&mut self, alloc: Global, blocks: usize, sizes: PartSizes)
         ensures { self.new ≡ self.old }
     {
-        if self.parts.len() <= blocks || !have_few_chunks(&self.parts, sizes.per_block) {
+        if self.blocks().len() <= blocks || !have_few_chunks(self.blocks(), sizes.per_block) {
             return;
         }
         if let Ok(list) = self.balanced(alloc, sizes) {
@@ -136,8 +136,8 @@ impl<T: Share> SharedList<T> {
     fn balanced(&self, alloc: Global, sizes: PartSizes) -> Result<SharedList<T>, OutOfMemory>
         ensures { IfOk result (λ list. list ≡ self.now) }
     {
-        let chunks = merged(alloc, &self.parts, sizes)?;
-        SharedList::empty(alloc).and_contents(alloc, chunks, 0, sizes)
+        let chunks = merged(alloc, self.blocks(), sizes)?;
+        SharedList::empty(alloc).and_chunks(alloc, chunks, sizes)
     }
 }
 
@@ -150,7 +150,7 @@ fn have_few_chunks<T: Share>(blocks: &[Block<T>], per_block: usize) -> bool {
     }
     let mut chunks: usize = 0;
     for block in blocks {
-        chunks = chunks.saturating_add(block.contents().parts.len());
+        chunks = chunks.saturating_add(block.table().parts.len());
     }
     chunks / blocks.len().max(1) < per_block.saturating_mul(7) / 8
 }

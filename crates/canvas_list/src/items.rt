@@ -4,9 +4,9 @@ ghost use Rattle.std.specs.Prelude.{◌≡◌, ◌<◌, ◌≤◌, ◌-◌, ◌^
 ghost use Rattle.std.specs.Iterator.{YieldsFirstRef, YieldsLastRef, item_count};
 
 use crate::contents::Contents;
+use crate::list::SharedList;
 use crate::reader::Reader;
 use crate::share::Share;
-use crate::table::SharedList;
 use std::marker::Model;
 
 /// The items of a list that are left to go over, in order, seen as the list of them.
@@ -34,7 +34,8 @@ impl<'a, T: Share> Items<'a, T> {
         ensures items { All (T.covers result) self.now }
         ensures other { (item : T) → T.covers other.now item → T.covers result item }
     {
-        self.reader.list().summed(self.from, self.end, other)
+        let list = self.reader.list();
+        list.table.summed(self.from, self.end, other)
     }
 }
 

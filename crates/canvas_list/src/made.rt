@@ -2,10 +2,11 @@
 
 ghost use Rattle.std.specs.Prelude.{◌≡◌, ◌<◌, ◌^◌, IfOk, length};
 
+use crate::list::SharedList;
 use crate::part::Chunk;
 use crate::share::Share;
 use crate::sizes::PartSizes;
-use crate::table::{Chunks, SharedList};
+use crate::table::Chunks;
 use canvas_code::OutOfMemory;
 use std::alloc::Global;
 
@@ -17,7 +18,7 @@ impl<T: Share> SharedList<T> {
     {
         let sizes = PartSizes::of(items.len());
         let chunks = full_chunks(alloc, items, sizes)?;
-        SharedList::empty(alloc).and_contents(alloc, chunks, 0, sizes)
+        SharedList::empty(alloc).and_chunks(alloc, chunks, sizes)
     }
 }
 

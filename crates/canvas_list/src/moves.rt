@@ -9,9 +9,9 @@ ghost use Rattle.canvas_list.specs.Chunks.{IsSpot};
 use crate::contents::Contents;
 use crate::counted::{Counted, Spot, keeps_parts, spot_of};
 use crate::in_place::ItemChange;
+use crate::list::SharedList;
 use crate::share::Share;
 use crate::sizes::PartSizes;
-use crate::table::SharedList;
 use canvas_code::OutOfMemory;
 use std::alloc::Global;
 use std::marker::Model;
@@ -42,8 +42,8 @@ impl<T: Share> SharedList<T> {
         ensures same { OnErr result (self.new ≡ self.old) }
     {
         let sizes = PartSizes::of(self.len());
-        let blocks = self.parts.len();
-        Contents::shift(self, alloc, from, to, item, sizes)?;
+        let blocks = self.blocks().len();
+        Contents::shift(&mut self.table, alloc, from, to, item, sizes)?;
         self.balance_beyond(alloc, blocks, sizes);
         Ok(())
     }

@@ -167,6 +167,27 @@ impl<T: Share> Chunk<T> {
     }
 }
 
+impl<T: Share> Block<T> {
+    /// How many items there are.
+    #[inline(always)]
+    pub(crate) fn count(&self) -> usize
+        ensures count { result ≡ length self.now }
+        ensures some { 0 < length self.now }
+        ensures few { result < 2 ^ 32 }
+    {
+        Counted::count(self)
+    }
+
+    /// Its chunks.
+    #[inline(always)]
+    pub(crate) fn table(&self) -> &Table<T, Vec<T>>
+        ensures same { result.now ≡ self.now }
+        ensures some { 0 < length self.now }
+    {
+        self.contents()
+    }
+}
+
 impl<T: Share, C: Contents<T>> Counted for Part<T, C> {
     ghost size = { λ part. length part };
 

@@ -1,14 +1,15 @@
 //! Reading a list at positions that often stand side by side.
 
 ghost use Rattle.std.specs.Prelude.{◌≡◌, ◌<◌, ◌≤◌, ◌+◌, ◌^◌, IfSome, List, length, slice_index_or, take, false, true};
-ghost use Rattle.canvas_list.specs.Chunks.{joined, AllBetween, IsRun, IsStretch};
+ghost use Rattle.canvas_list.specs.Chunks.{joined, AllBetween, IsRun, IsSpot, IsStretch};
 
 use crate::contents::Contents;
 use crate::counted::{Counted, Spot, begin_before, spot_near, spot_of};
 use crate::hint::Hint;
+use crate::list::SharedList;
 use crate::part::{Block, Chunk, Part};
 use crate::share::Share;
-use crate::table::{Chunks, SharedList};
+use crate::table::{Blocks, Chunks};
 use std::marker::Model;
 
 /// A reader of a list, seen as that list. It holds the chunk of the item that it gave last, that a
@@ -136,7 +137,8 @@ impl<'a, T: Share> Reader<'a, T> {
                 ..found
             };
         }
-        self.list.stretch_meeting(at, end, sought)
+        let list = self.list;
+        list.table.stretch_meeting(at, end, sought)
     }
 
     // The items of the chunk of a position, most often the next one of the block.
@@ -159,7 +161,8 @@ impl<'a, T: Share> Reader<'a, T> {
                 };
             }
         }
-        self.list.stretch_at(at)
+        let list = self.list;
+        list.table.stretch_at(at)
     }
 }
 
@@ -249,6 +252,27 @@ fn part_meeting<T: Share, C: Contents<T>>(
     }
 }
 
+// The same of blocks.
+#[inline(always)]
+fn meeting_block<T: Share>(blocks: &[Block<T>], room: usize, sought: &T::Summary) -> Spot
+    requires { length (joined blocks.now) < 2 ^ 32 }
+    ensures within { result.chunk ≤ length blocks.now }
+    ensures start { result.start ≡ length (joined (take result.chunk blocks.now)) }
+    ensures on { 0 < result.chunk → 0 < result.start }
+    ensures apart { AllBetween (T.lies_apart sought.now) (joined blocks.now) 0 result.start }
+{
+    part_meeting(blocks, room, sought)
+}
+
+// The block that has a position, or the last one.
+#[inline(always)]
+fn block_of<T: Share>(blocks: &[Block<T>], at: usize) -> Spot
+    requires { 0 < length blocks.now }
+    ensures { IsSpot length blocks.now at result.chunk result.start }
+{
+    spot_of(blocks, at)
+}
+
 // The first of some chunks that may meet what is sought, and those behind it. Where none of the
 // first `room` items stands in one that may: the chunk at which the search stopped, or no items at
 // the end of all.
@@ -290,13 +314,13 @@ fn block_meeting<'a, T: Share>(
     ensures on { 0 < result.start + length result.items.now }
     ensures apart { AllBetween (T.lies_apart sought.now) (joined blocks.now) 0 result.start }
 {
-    let spot = part_meeting(blocks, room, sought);
+    let spot = meeting_block(blocks, room, sought);
     if spot.chunk == blocks.len() {
         return nothing(spot.start);
     }
     let block = &blocks[spot.chunk];
     let found = block
-        .contents()
+        .table()
         .chunk_meeting(room.saturating_sub(spot.start), sought);
     Stretch {
         start: spot.start + found.start,
@@ -364,6 +388,23 @@ impl<T: Share> SharedList<T> {
         }
     }
 
+    /// The items of the chunk in which those that come before a hint end, most likely, if there is an item.
+    #[inline(always)]
+    pub(crate) fn run_near(&self, hint: Hint) -> Option<Run<'_, T>>
+        ensures held { IfSome result (λ run. IsStretch self.now run.items.now
+            (joined run.behind.now) (joined run.beyond.now) run.start run.beyond_start) }
+        ensures few { IfSome result (λ run. run.start + length run.items.now < 2 ^ 32) }
+        ensures small { length self.now < 2 ^ 32 }
+    {
+        let blocks = self.blocks();
+        if blocks.is_empty() {
+            return None;
+        }
+        Some(run_over(blocks, hint))
+    }
+}
+
+impl<T: Share> Blocks<T> {
     // The items of the chunk of a position.
     fn stretch_at(&self, at: usize) -> Stretch<'_, T>
         requires { at < length self.now }
@@ -372,9 +413,9 @@ impl<T: Share> SharedList<T> {
         ensures from { result.start ≤ at }
         ensures upto { at < result.start + length result.items.now }
     {
-        let spot = spot_of(&self.parts, at);
+        let spot = block_of(&self.parts, at);
         let block = &self.parts[spot.chunk];
-        let found = block.contents().stretch_at(at - spot.start);
+        let found = block.table().stretch_at(at - spot.start);
         let next = spot.chunk + 1;
         Stretch {
             start: spot.start + found.start,
@@ -394,27 +435,13 @@ impl<T: Share> SharedList<T> {
         ensures on { at < result.start + length result.items.now }
         ensures apart { AllBetween (T.lies_apart sought.now) self.now at result.start }
     {
-        let spot = spot_of(&self.parts, at);
-        let found = part_meeting(&self.parts[spot.chunk..], end - spot.start, sought);
+        let spot = block_of(&self.parts, at);
+        let found = meeting_block(&self.parts[spot.chunk..], end - spot.start, sought);
         let start = spot.start + found.start;
         if start <= at {
             return self.stretch_at(at);
         }
         nothing(start)
-    }
-
-    /// The items of the chunk in which those that come before a hint end, most likely, if there is an item.
-    #[inline(always)]
-    pub(crate) fn run_near(&self, hint: Hint) -> Option<Run<'_, T>>
-        ensures held { IfSome result (λ run. IsStretch self.now run.items.now
-            (joined run.behind.now) (joined run.beyond.now) run.start run.beyond_start) }
-        ensures few { IfSome result (λ run. run.start + length run.items.now < 2 ^ 32) }
-        ensures small { length self.now < 2 ^ 32 }
-    {
-        if self.parts.is_empty() {
-            return None;
-        }
-        Some(run_over(&self.parts, hint))
     }
 }
 
@@ -490,7 +517,7 @@ fn run_over<T: Share>(blocks: &[Block<T>], hint: Hint) -> Run<'_, T>
 {
     let spot = spot_near(blocks, hint);
     let block = &blocks[spot.chunk];
-    let run = block.contents().run_near(hint);
+    let run = block.table().run_near(hint);
     Run {
         start: spot.start + run.start,
         beyond: &blocks[spot.chunk + 1..],

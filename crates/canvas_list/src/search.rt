@@ -9,10 +9,10 @@ ghost use Rattle.canvas_list.specs.Chunks.{first_passes, IsEnd, IsRun};
 
 use crate::contents::Contents;
 use crate::hint::{Hint, ShortHint};
+use crate::list::SharedList;
 use crate::part::Part;
 use crate::reader::{Reader, Run};
 use crate::share::Share;
-use crate::table::SharedList;
 use std::marker::Model;
 
 impl<T: Share> SharedList<T> {
@@ -25,7 +25,7 @@ impl<T: Share> SharedList<T> {
             → IsPartitionedBy p self.now
             → IsPartitionPoint (λ y. p y ≡ true) (λ y. p y ≡ false) self.now result }
     {
-        self.passed(&pred)
+        self.table.passed(&pred)
     }
 }
 

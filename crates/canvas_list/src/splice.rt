@@ -3,11 +3,37 @@
 ghost use Rattle.std.specs.Prelude.{◌≡◌, ◌<◌, ◌≤◌, ◌+◌, ◌^◌, ◌++◌, IfOk, take, drop, length};
 
 use crate::contents::Contents;
+use crate::list::SharedList;
 use crate::share::Share;
 use crate::sizes::PartSizes;
-use crate::table::SharedList;
 use canvas_code::OutOfMemory;
 use std::alloc::Global;
+
+// The items of a list up to a position, others, and those of a list from a position on.
+#[inline(always)]
+fn between<T: Share>(
+    alloc: Global,
+    before: &SharedList<T>,
+    upto: usize,
+    items: Vec<T>,
+    behind: &SharedList<T>,
+    from: usize,
+    sizes: PartSizes,
+) -> Result<SharedList<T>, OutOfMemory>
+    requires upto { upto ≤ length before.now }
+    requires from { from ≤ length behind.now }
+    requires before { 0 < length before.now }
+    requires behind { 0 < length behind.now }
+    requires small { length (take upto before.now) + length items.items
+        + length (drop from behind.now)
+        < 2 ^ 32 }
+    ensures { IfOk result
+        (λ all. all ≡ take upto before.now ++ items.items ++ drop from behind.now) }
+{
+    let (front, back) = (&before.table, &behind.table);
+    let table = Contents::between(alloc, front, upto, items, back, from, sizes)?;
+    Ok(SharedList { table })
+}
 
 impl<T: Share> SharedList<T> {
     /// The list with other items in place of those from `first` up to `end`, which itself stays.
@@ -29,12 +55,12 @@ impl<T: Share> SharedList<T> {
         }
         let sizes = PartSizes::of(self.len() - (end - first) + items.len());
         if items.len() / 2 <= sizes.per_chunk {
-            return Contents::between(alloc, self, first, items, self, end, sizes);
+            return between(alloc, self, first, items, self, end, sizes);
         }
         let more = items.len();
         let middle = SharedList::from_vec(alloc, items)?;
-        let front = Contents::between(alloc, self, first, Vec::new(alloc), &middle, 0, sizes)?;
-        Contents::between(
+        let front = between(alloc, self, first, Vec::new(alloc), &middle, 0, sizes)?;
+        between(
             alloc,
             &front,
             first + more,

@@ -1,8 +1,6 @@
-//! Tables of parts, on either level, and the list, as a table of its blocks.
+//! Tables of parts, on either level.
 
-ghost use Rattle.std.specs.Prelude.{◌≡◌, ◌↔◌, ◌<◌, ◌≤◌, ◌+◌, ◌^◌, ◌++◌, [], IfOk, IsTrue, length, slice_index_or};
-ghost use Rattle.std.specs.List.{slice_get};
-ghost use Rattle.std.specs.Option.{option_copied};
+ghost use Rattle.std.specs.Prelude.{◌≡◌, ◌<◌, ◌≤◌, ◌+◌, ◌^◌, ◌++◌, [], IfOk, length, slice_index_or};
 ghost use Rattle.canvas_list.specs.Chunks.{joined};
 
 use crate::contents::Contents;
@@ -24,9 +22,8 @@ pub struct Table<T: Share, C: Contents<T>> {
 /// What a block holds: chunks.
 pub type Chunks<T> = Table<T, Vec<T>>;
 
-/// Items in order, seen as the list of them. A call that answers want of memory leaves the list as it
-/// was.
-pub type SharedList<T> = Table<T, Chunks<T>>;
+/// What a list holds: blocks.
+pub type Blocks<T> = Table<T, Chunks<T>>;
 
 impl<T: Share, C: Contents<T>> Model for Table<T, C> {
     ghost use Rattle.std.specs.Prelude.{List};
@@ -41,7 +38,7 @@ impl<T: Share, C: Contents<T>> Model for Table<T, C> {
 
 impl<T: Share, C: Contents<T>> Table<T, C> {
     /// No items.
-    pub fn empty(alloc: Global) -> Table<T, C>
+    pub(crate) fn empty(alloc: Global) -> Table<T, C>
         ensures { result ≡ [] }
     {
         Table {
@@ -52,23 +49,16 @@ impl<T: Share, C: Contents<T>> Table<T, C> {
 
     /// How many items there are.
     #[inline(always)]
-    pub fn len(&self) -> usize
+    pub(crate) fn len(&self) -> usize
         ensures len { result ≡ length self.now }
         ensures few { result < 2 ^ 32 }
     {
         self.count
     }
 
-    /// Whether there are none.
-    pub fn is_empty(&self) -> bool
-        ensures { IsTrue result ↔ (self.now ≡ []) }
-    {
-        self.len() == 0
-    }
-
     /// The item at a position.
     #[inline(always)]
-    pub fn at(&self, at: usize) -> &T
+    pub(crate) fn at(&self, at: usize) -> &T
         requires { at < length self.now }
         ensures { result.now ≡ slice_index_or self.now at result.now }
     {
@@ -76,20 +66,8 @@ impl<T: Share, C: Contents<T>> Table<T, C> {
         self.parts[spot.chunk].contents().item(at - spot.start)
     }
 
-    /// The item at a position, if there is one.
-    #[inline(always)]
-    pub fn get(&self, at: usize) -> Option<&T>
-        ensures { option_copied result ≡ slice_get self.now at }
-    {
-        if at < self.len() {
-            Some(self.at(at))
-        } else {
-            None
-        }
-    }
-
     /// The same items, in the same parts.
-    pub fn try_clone(&self, alloc: Global) -> Result<Table<T, C>, OutOfMemory>
+    pub(crate) fn try_clone(&self, alloc: Global) -> Result<Table<T, C>, OutOfMemory>
         ensures { IfOk result (λ list. list ≡ self.now) }
     {
         Table::with_room(alloc, self.parts.len())?.and_all(&self.parts)

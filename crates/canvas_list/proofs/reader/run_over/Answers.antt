@@ -16,7 +16,7 @@ overflow_add-result g c =
       c.requires.few,
       c.run_near-run.ensures.run.within,
       take-fewer c.args.blocks.now (c.spot_near-spot.result.chunk + 1),
-      chunk-read c.args.blocks.now c.spot_near-spot.result.chunk c.index-blocks-spot.result c.contents.result.now c.spot_near-spot.ensures.within c.index-blocks-spot.is c.contents.ensures.same,
+      chunk-read c.args.blocks.now c.spot_near-spot.result.chunk c.index-blocks-spot.result c.table.result.now c.spot_near-spot.ensures.within c.index-blocks-spot.is c.table.ensures.same,
     )
 
 pub overflow_add-result-3 : goal.overflow_add-result-3
@@ -26,5 +26,5 @@ overflow_add-result-3 g c =
 
 pub returns : goal.returns
 returns g c =
-    stretch-of-block c.args.blocks.now c.spot_near-spot.result.chunk c.spot_near-spot.result.start c.run_near-run.result.start c.count.result c.run_near-run.result.beyond_start c.index-blocks-spot.result c.contents.result.now c.run_near-run.result.items.now (joined c.run_near-run.result.behind.now) (joined c.run_near-run.result.beyond.now)
-    c.spot_near-spot.ensures.within (start-read c.args.blocks.now c.args.blocks.now c.spot_near-spot.result.chunk c.spot_near-spot.result.start refl c.spot_near-spot.ensures.start) c.index-blocks-spot.is c.contents.ensures.same c.count.ensures.count c.run_near-run.ensures
+    stretch-of-block c.args.blocks.now c.spot_near-spot.result.chunk c.spot_near-spot.result.start c.run_near-run.result.start c.count.result c.run_near-run.result.beyond_start c.index-blocks-spot.result c.table.result.now c.run_near-run.result.items.now (joined c.run_near-run.result.behind.now) (joined c.run_near-run.result.beyond.now)
+    c.spot_near-spot.ensures.within (start-read c.args.blocks.now c.args.blocks.now c.spot_near-spot.result.chunk c.spot_near-spot.result.start refl c.spot_near-spot.ensures.start) c.index-blocks-spot.is c.table.ensures.same c.count.ensures.count c.run_near-run.ensures

@@ -1,4 +1,4 @@
-use Rattle.std.proofs.Common.{◌≤◌, ℕ, List, arith, subst}
+use Rattle.std.proofs.Common.{◌≤◌, ◌∙◌, ℕ, List, arith, subst}
 use Rattle.canvas_list.specs.Chunks.{joined, IsRun}
 use Rattle.canvas_list.proofs.Held.{run-chunk, run-first, run-next, some-here}
 use Rattle.canvas_list.proofs.Runs.{run-rest}
@@ -26,7 +26,7 @@ returns-in-Some g c =
 pub returns : goal.returns
 returns g c = record {
   held =
-      stretch-same c.self.inside.list.now c.args.self.now c.stretch_at.result.items.now (joined c.stretch_at.result.behind.now) (joined c.stretch_at.result.beyond.now) c.stretch_at.result.start c.stretch_at.result.beyond_start c.self.view_is c.stretch_at.ensures.held;
+      stretch-same c.list.inside.table c.args.self.now c.stretch_at.result.items.now (joined c.stretch_at.result.behind.now) (joined c.stretch_at.result.beyond.now) c.stretch_at.result.start c.stretch_at.result.beyond_start (c.list.view_is ∙ c.self.view_is) c.stretch_at.ensures.held;
   from = c.stretch_at.ensures.from;
   upto = c.stretch_at.ensures.upto;
 }

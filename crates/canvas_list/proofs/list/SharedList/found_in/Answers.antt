@@ -4,7 +4,7 @@ use Rattle.std.specs.List.Sorted.{IsPartitionPoint, IsPartitionedBy}
 use Rattle.canvas_list.specs.Chunks.{IsEnd}
 use Rattle.canvas_list.proofs.Parted.{if-both, point-is}
 use Rattle.canvas_list.proofs.Runs.{parted-run}
-use Rattle.canvas_list.proofs.search.SharedList+T.found_in.Goals as goal
+use Rattle.canvas_list.proofs.list.SharedList.found_in.Goals as goal
 
 pub returns-clause-partitioned : goal.returns-clause-partitioned
 returns-clause-partitioned g c =

@@ -1,5 +1,5 @@
 use Rattle.std.proofs.Common.{arith}
-use Rattle.canvas_list.proofs.reader.SharedList+T.reader.Goals as goal
+use Rattle.canvas_list.proofs.list.SharedList.reader.Goals as goal
 
 pub invariant_of-result : goal.invariant_of-result
 invariant_of-result g c = (

@@ -1,6 +1,6 @@
 use Rattle.std.proofs.Common.{◌≡◌, ◌∙◌, ◌+◌, ◌≤◌, ◌++◌, List, IfOk, arith, drop, length, subst, take}
 use Rattle.canvas_list.proofs.Ranges.{in-two-steps}
-use Rattle.canvas_list.proofs.splice.SharedList+T.with_spliced.Goals as goal
+use Rattle.canvas_list.proofs.list.SharedList.with_spliced.Goals as goal
 
 pub returns : goal.returns
 returns g c =

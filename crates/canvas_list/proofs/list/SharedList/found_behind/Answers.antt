@@ -1,8 +1,8 @@
 use Rattle.std.proofs.Common.{◌≡◌, ◌∙◌, ◌+◌, ◌<◌, None, Some, ap, sym, arith, get_or, length}
 use Rattle.std.proofs.lemmas.Option.{get_or_from_slice_get, slice_get-get_or}
 use Rattle.canvas_list.proofs.Runs.{end-of-run, read-run}
-use Rattle.canvas_list.proofs.search.SharedList+T.found_behind.Goals as goal
-use Rattle.canvas_list.proofs.search.SharedList+T.found_behind.Goals.{in_default-via-in-Some+else-passes, in_default-via-in_default, else-passed-eq0-via-then-passed-eq0+else-at-gt0, else-passed-eq0-via-else-passed-eq0}
+use Rattle.canvas_list.proofs.list.SharedList.found_behind.Goals as goal
+use Rattle.canvas_list.proofs.list.SharedList.found_behind.Goals.{in_default-via-in-Some+else-passes, in_default-via-in_default, else-passed-eq0-via-then-passed-eq0+else-at-gt0, else-passed-eq0-via-else-passed-eq0}
 
 pub returns-then-passed-run-clause-item : goal.returns-then-passed-run-clause-item
 returns-then-passed-run-clause-item g c = read-run c.args.self.now c.args.run.now.items.now c.args.run.now.start c.args.passed c.index-run-passed.result c.requires.run c.if-passed-run.true
