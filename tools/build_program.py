@@ -3,14 +3,13 @@
 
 usage: tools/build_program.py canvas|canvasd [COMMAND [WORD..]]     where it is built, the command runs in the place of this one
 
-Libraries that do not wait for each other are built side by side, at most as many as there are processors, each in a copy of what
-it needs; what is built goes to the crate's out/, and beside the program what it was made from (tools/made_from.sh). On a terminal one
-line is written again and again, elsewhere one each minute. The status is 4 where the build failed. Ctrl-C, SIGTERM and SIGHUP end
-all that the build started, and then the build.
+Libraries that do not wait for each other are built side by side, the longest chain first, which gets the processors that stand idle
+(tools/build_times.py), each in a copy of what it needs; what is built goes to the crate's out/, and beside the program what it was made
+from (tools/made_from.sh). On a terminal one line is written again and again, elsewhere one each minute. The status is 4 where the build
+failed. Ctrl-C, SIGTERM and SIGHUP end all that the build started, and then the build.
 """
 
 import contextlib
-import fcntl
 import os
 import shutil
 import signal
@@ -22,14 +21,14 @@ import time
 from concurrent.futures import FIRST_COMPLETED, ThreadPoolExecutor, wait
 from pathlib import Path
 
-from repository import SOURCES, TOP, below, copy_for, uses
+from build_times import chains, minutes, processors, to_begin
+from repository import FIRST_RUNS, TOP, alone, below, copy_for, sources, take_over, taken, uses
 
-FIRST_RUNS = {"canvas": ["script", "1"], "canvasd": ["--version"]}
-"""The words of a run that ends by itself, with nothing on standard input."""
 PROGRAM = sys.argv[1] if sys.argv[1:] and sys.argv[1] in FIRST_RUNS else sys.exit("usage: build_program.py canvas|canvasd [COMMAND [WORD..]]")
 OUT = TOP / "crates" / PROGRAM / "out"
-# What a check beside others should find free, in bytes.
+# What a check beside others should find free, in bytes, and what each further job takes.
 ENOUGH = 4_000_000_000
+FURTHER_JOB = 1_500_000_000
 # The signals that end a build.
 ENDING = (signal.SIGINT, signal.SIGTERM, signal.SIGHUP)
 
@@ -104,31 +103,11 @@ def free_memory():
     return 0
 
 
-def sources(name):
-    """The source files of a crate."""
-    folder = TOP / "crates" / name
-    return [it for part in SOURCES for it in (folder / part).rglob("*") if it.is_file()]
-
-
-def size(name):
-    """How many lines a crate's sources have."""
-    return sum(it.read_bytes().count(b"\n") for it in sources(name))
-
-
 def seems_built(name):
     """Whether a library was built after all that it is made from was written; `rt run` compares what these files hold."""
     stamp = TOP / "crates" / name / "out" / "rlib" / "stamp"
     made_from = [it for crate in [*below(name), name] for it in sources(crate)] + [TOP / "crates.txt"]
     return stamp.is_file() and all(it.stat().st_mtime < stamp.stat().st_mtime for it in made_from)
-
-
-def work_behind(names, used):
-    """For each crate the lines of the longest chain of crates that begins with it."""
-    found = {}
-    for name in reversed(names):
-        above = [found[it] for it in found if name in used[it]]
-        found[name] = size(name) + max(above, default=0)
-    return found
 
 
 class Progress:
@@ -163,34 +142,19 @@ def call(words, folder, room):
         raise NotBuilt(folder.name, said)
 
 
-def take_over(made, kept):
-    """Puts what was built in a copy in the place of what the crate has, while no run of `rt` works there."""
-    kept.mkdir(exist_ok=True)
-    folder = os.open(kept.parent, os.O_RDONLY)
-    try:
-        fcntl.flock(folder, fcntl.LOCK_EX)
-        for part in ("rlib", "incremental"):
-            if (made / part).is_dir():
-                shutil.rmtree(kept / part, ignore_errors=True)
-                shutil.move(made / part, kept / part)
-    finally:
-        os.close(folder)
-
-
-def build_library(name, is_first):
-    """Builds a library in a copy. The first in line has as many jobs as `rt` chooses for it, any other has one."""
-    if seems_built(name):
-        return
+def build_library(name, jobs):
+    """Builds a library in a copy."""
     with tempfile.TemporaryDirectory(prefix="canvas-build-") as room:
-        crate = copy_for(name, Path(room, "copy"))
-        call(["rt", "lib"] + ([] if is_first else ["--jobs", "1"]), crate, room)
+        crate = copy_for(name, Path(room, "copy"), with_taken=True)
+        call(["rt", "lib", "--jobs", str(jobs)], crate, room)
         take_over(crate / "out", TOP / "crates" / name / "out")
 
 
 def build_program():
     """Builds the program over its libraries, and runs it once."""
     with tempfile.TemporaryDirectory(prefix="canvas-build-") as room:
-        call(["rt", "run", "--", *FIRST_RUNS[PROGRAM]], TOP / "crates" / PROGRAM, room)
+        jobs = with_memory({PROGRAM: processors()}, False)[PROGRAM]
+        call(["rt", "run", "--jobs", str(jobs), "--", *FIRST_RUNS[PROGRAM]], TOP / "crates" / PROGRAM, room)
 
 
 def made_from():
@@ -199,32 +163,65 @@ def made_from():
     return done.stdout.splitlines()
 
 
-def build_all(progress, pool):
-    """Builds each crate once those that it uses are built, and first the one with the most work behind it."""
-    used, names = uses(), below(PROGRAM)
-    behind = work_behind([*names, PROGRAM], used)
-    left, running, done = sorted(names, key=lambda it: -behind[it]), {}, set()
+def with_memory(begun, is_beside):
+    """What is to be begun and its jobs, as far as there is memory for it: beside others a check wants ENOUGH, alone it is begun in any case."""
+    found, free = {}, free_memory()
+    for name, jobs in begun.items():
+        if (is_beside or found) and free < ENOUGH:
+            break
+        found[name] = max(min(jobs, 1 + (free - ENOUGH) // FURTHER_JOB), 1)
+        free -= found[name] * FURTHER_JOB
+    return found
+
+
+def build_libraries(progress, pool, chain):
+    """Builds each library once those that it uses are built, and first the one with the longest chain behind it."""
+    used, done = uses(), set(filter(seems_built, below(PROGRAM)))
+    left, running = sorted(set(below(PROGRAM)) - done, key=lambda it: -chain[it]), {}
     while left or running:
         ready = [it for it in left if done.issuperset(used[it])]
-        for name in ready:
-            if running and (len(running) >= (os.cpu_count() or 1) or free_memory() < ENOUGH):
-                break
-            is_first = all(behind[it] <= behind[name] for it in running.values())
-            running[pool.submit(build_library, name, is_first)] = name
+        begun = to_begin(ready, {it for it, _ in running.values()}, chain, processors() - sum(jobs for _, jobs in running.values()))
+        for name, jobs in with_memory(begun, bool(running)).items():
+            running[pool.submit(build_library, name, jobs)] = name, jobs
             left.remove(name)
-        progress.show(len(done), running.values())
+        progress.show(len(done), [it for it, _ in running.values()])
         for it in wait(running, timeout=1, return_when=FIRST_COMPLETED).done:
-            done.add(running.pop(it))
+            done.add(running.pop(it)[0])
             it.result()
+
+
+def build_all(progress, pool):
+    build_libraries(progress, pool, chains([*below(PROGRAM), PROGRAM], uses()))
     last = pool.submit(build_program)
     while not wait([last], timeout=1).done:
-        progress.show(len(done), [PROGRAM])
+        progress.show(len(below(PROGRAM)), [PROGRAM])
     last.result()
+
+
+def has_kept(name):
+    """Whether earlier checks of a crate left what a build begins with."""
+    return any((TOP / "crates" / name / "out" / "incremental").glob("*"))
+
+
+def say_what_comes():
+    """Says how long the build takes at most, and what would take less."""
+    names = below(PROGRAM)
+    built = [it for it in names if seems_built(it)]
+    say(f"building the program, which proves all of it: about {minutes(PROGRAM, built):.0f} minutes on {processors()} processors, twice that if they are slow")
+    if any(has_kept(it) for it in [*names, PROGRAM] if it not in built):
+        say("it takes less, since it goes on from what earlier checks kept")
+    if len(built) < len(names):
+        say(f"the program of a release runs at once; over a release's libraries a build takes about {minutes(PROGRAM, names):.0f} minutes (docs/INSTALL.md)")
+
+
+def not_proved_here():
+    count = len(taken(PROGRAM))
+    return f"; {count} of its libraries were taken from a release, and nothing here proved them" if count else ""
 
 
 def build(pool):
     """Builds all, and notes what the program was made from as it was when that began."""
-    say("building the program, which proves all of it; README.md says how long a first build takes")
+    say_what_comes()
     progress = Progress(len(below(PROGRAM)) + 1)
     sources_before = made_from()[1]
     try:
@@ -232,7 +229,7 @@ def build(pool):
         (OUT / f"{PROGRAM}.made-from").write_text(f"{made_from()[0]}\n{sources_before}\n")
     finally:
         progress.end()
-    say(f"built, in {progress.passed()}")
+    say(f"built, in {progress.passed()}{not_proved_here()}")
 
 
 def fail(fault):
@@ -264,11 +261,9 @@ def run_instead(words):
 
 
 def build_in_turn(pool):
-    """Builds once no other build works here, of either program, since they share libraries: this file has the lock. Where a crate fails the others that
-    are being built go on to their end."""
+    """Builds once no other build works here. Where a crate fails the others that are being built go on to their end."""
     OUT.mkdir(exist_ok=True)
-    with open(__file__) as lock:
-        fcntl.flock(lock, fcntl.LOCK_EX)
+    with alone():
         try:
             build(pool)
         except NotBuilt:
@@ -280,7 +275,7 @@ def main():
     for number in ENDING:
         if signal.getsignal(number) is not signal.SIG_IGN:
             signal.signal(number, stop)
-    pool = ThreadPoolExecutor(os.cpu_count() or 1)
+    pool = ThreadPoolExecutor(processors())
     try:
         build_in_turn(pool)
     except NotBuilt as fault:

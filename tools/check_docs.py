@@ -16,7 +16,8 @@ usage: tools/check_docs.py [--write]
 - each heading that docs/QUESTIONS.md names stands in its page;
 - each number of docs/LIMITS.md stands in the sources that its row names (tools/limits.py);
 - the gate that README.md names is what .ci/run runs (tools/check_program.py runs its example);
-- CHANGELOG.md begins with the version in the file VERSION, and the packages that docs/INSTALL.md names are of that version.
+- CHANGELOG.md begins with the version in the file VERSION, and the packages that README.md and docs/INSTALL.md name are of that version;
+- the minutes of a first build that README.md names are at most FACTOR from what tools/build_times.py gives for four processors.
 
 Prints what is wrong, and a last line 'N passed, M failed'; the status is 1 where something failed.
 """
@@ -25,10 +26,11 @@ import re
 import sys
 
 from body_lists import faults_of_lists, write_lists
+from build_times import minutes
 from excerpts import NoDefinition, as_they_stand, faults_of_excerpts
 from functions import clause_lines
 from limits import faults_of_limits
-from repository import TOP, lines
+from repository import PROGRAMS, TOP, below, lines
 from try_wrong_bodies import BadEdit, edited
 
 CRATES = TOP / "crates"
@@ -44,6 +46,8 @@ MOST = {"README.md": 1_000, "docs/ARCHITECTURE.md": 1_500, "docs/DECISIONS.md": 
 MOST_OF_ALL = 30_000
 """How many words README.md, docs/ and the READMEs of crates, tools, the viewer and examples may have together."""
 
+FACTOR = 1.5
+"""How far the minutes that README.md names may be from those that are reckoned."""
 MOST_WIDE = {100: 60, 150: 0}
 """How many lines of clauses may be wider than so many columns."""
 
@@ -181,8 +185,22 @@ def faults_of_version():
     version = (TOP / "VERSION").read_text().strip()
     newest = re.search(r"^## (\S+) \(\d{4}-\d\d-\d\d\)$", (TOP / "CHANGELOG.md").read_text(), re.M)
     yield None if newest and newest[1] == version else f"CHANGELOG.md: the first version is not {version}"
-    for other in re.findall(r"canvas[-_](\d+\.\d+\.\d+)", (TOP / "docs" / "INSTALL.md").read_text()):
-        yield None if other == version else f"docs/INSTALL.md: {other} is not the version {version}"
+    for page in ("README.md", "docs/INSTALL.md"):
+        for other in re.findall(r"canvas[-_](\d+\.\d+\.\d+)", (TOP / page).read_text()):
+            yield None if other == version else f"{page}: {other} is not the version {version}"
+
+
+def faults_of_times():
+    """As faults_of_bodies, for the minutes of a build that README.md names."""
+    told = re.search(r"of `canvas` takes some (\d+) minutes on four cores, of `canvasd` some (\d+); over the libraries of a release, (\d+) and (\d+)\.",
+                     " ".join((TOP / "README.md").read_text().split()))
+    wanted = [minutes(program, below(program) if is_over else (), 4) for is_over in (False, True) for program in PROGRAMS]
+    if not told:
+        yield "README.md: it does not say how many minutes a first build takes"
+        return
+    for found, count in zip(map(int, told.groups()), wanted):
+        is_near = count / FACTOR <= found <= count * FACTOR
+        yield None if is_near else f"README.md: a build of {found} minutes, and tools/build_times.py says {count:.0f}"
 
 
 def write(page):
@@ -208,7 +226,7 @@ def main():
             write(page)
         write_lists()
     found = [*faults_of_bodies(), *faults_of_lists(), *faults_of_questions(), *faults_of_trusted(), *faults_of_gate(), *faults_of_version()]
-    found += [*faults_of_limits(), *faults_of_lengths(pages), *faults_of_widths()]
+    found += [*faults_of_times(), *faults_of_limits(), *faults_of_lengths(pages), *faults_of_widths()]
     for page in indexes:
         found += faults_of_index(page)
     for page in pages:

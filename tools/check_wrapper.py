@@ -6,6 +6,9 @@ usage: tools/check_wrapper.py
 - bin/canvas and bin/canvasd answer --help and --version with nothing built;
 - they build where the program is missing or was made from other sources, whatever the times of the files are, and else need no `rt`;
 - a signal during a build ends all that it started, and leaves no temporary folder;
+- before a build they say how long it takes, by the table of tools/build_times.py, which has each crate; the longest chain has what stands idle;
+- a release's libraries are taken where they are of this toolchain and of these sources; of others a line says why not, of a torn file nothing is taken;
+- with --unproved they run a program that was built with no proof, or say why there is none;
 - before it serves bin/canvas says what is wrong with the address or the file;
 - bin/canvas-demo, over the program that CANVASD names or that bin/canvasd builds, keeps its drawing, and ends with status 1 when one of its programs ends.
 
@@ -19,33 +22,57 @@ import signal
 import socket
 import subprocess
 import sys
+import tarfile
 import tempfile
 import time
 from contextlib import contextmanager, suppress
 from pathlib import Path
 
+import build_times
 from canvas_client import Canvas
 from repository import BUILT_KEEPER, TOP
 from running import build, build_keeper
 
 SECONDS = 60
 VERSION = (TOP / "VERSION").read_text().strip()
-PARTS = ("VERSION", "HANDLES", "bin/canvas", "bin/canvasd", "bin/canvas-demo", "tools/program.sh", "tools/build_program.py", "tools/repository.py", "tools/made_from.sh",
+PARTS = ("VERSION", "HANDLES", "bin/canvas", "bin/canvasd", "bin/canvas-demo", "tools/program.sh", "tools/build_program.py", "tools/build_times.py",
+         "tools/build_times.txt", "tools/build_unproved.py", "tools/libraries.py", "tools/records.py", "tools/repository.py", "tools/made_from.sh",
          "tools/before_serve.py", "tools/canvas.help", "tools/canvasd.help", "tools/canvas_client.py", "examples")
 """What of the repository a small tree has."""
 
 RT = """#!/bin/bash
+[ "$1" != version ] || { echo "${STUB_KIT:-stub-kit logic 12ab}"; exit; }
 echo "$1 in ${PWD##*/}" >>"$STUB_LOG"
 case $STUB_DOES in
 fail) echo "no proof"; exit 1 ;;
 hang) mktemp -d >/dev/null; mkdir -p out/rt-work-$$-1; (trap "" TERM; sleep 600) & echo "started $! $$" >>"$STUB_LOG"; sleep 600 ;;
 esac
 mkdir -p out
-if [ "$1" = run ]; then
-    cp src/main.rt "out/${PWD##*/}" && chmod +x "out/${PWD##*/}"
-else
-    mkdir -p out/rlib && echo built >out/rlib/stamp
-fi
+case $1 in
+run) cp src/main.rt "out/${PWD##*/}" && chmod +x "out/${PWD##*/}" ;;
+try)
+    cp src/main.rt "$TMPDIR/module.bc"
+    [ "$STUB_DOES" = elsewhere ] || "$(dirname "$0")/../toolchain/bin/clang" -x ir "$TMPDIR/module.bc" -o "$TMPDIR/module.o" -O0 -fsanitize=address
+    ;;
+*) mkdir -p "out/rlib/${PWD##*/}.rlib" && cat src/*.rt >"out/rlib/${PWD##*/}.rlib/format" && printf %s "${STUB_STAMP-stamp}" >out/rlib/stamp ;;
+esac
+"""
+RTLIB = """import os
+class Crate:
+    def __init__(self, name):
+        self.name = name
+    def stamp(self):
+        return os.environ.get("STUB_STAMP", "stamp")
+def crates_below(top):
+    return [Crate(it) for it in sorted(os.listdir(top + "/crates"))]
+"""
+CLANG = """#!/bin/bash
+[ "$6" = -O1 ] && cp "$3" "$5"
+"""
+LINK = """#!/bin/bash
+[ "$STUB_DOES" != unlinked ] || { echo "no link"; exit 1; }
+while [ "$1" != -o ]; do shift; done
+cp "$3" "$2" && chmod +x "$2"
 """
 MAIN = """#!/bin/bash
 echo "first program: $*"
@@ -62,7 +89,7 @@ class Tree:
 
     def __init__(self, folder, name):
         self.name = name
-        self.top, self.stubs, self.log, self.temporary = folder / "tree", folder / "stubs", folder / "log", folder / "temporary"
+        self.top, self.kit, self.log, self.temporary = folder / "tree", folder / "kit", folder / "log", folder / "temporary"
         for part in PARTS:
             target = self.top / part
             target.parent.mkdir(parents=True, exist_ok=True)
@@ -71,9 +98,8 @@ class Tree:
         self.write("crates/low/src/lib.rt", "low\n")
         self.write(f"crates/{name}/src/main.rt", MAIN)
         self.write("tools/viewer/gateway.py", FAKE_GATEWAY).chmod(0o755)
-        self.stubs.mkdir()
-        (self.stubs / "rt").write_text(RT)
-        (self.stubs / "rt").chmod(0o755)
+        for name, text in (("bin/rt", RT), ("bin/rattle-link", LINK), ("bin/rtlib.py", RTLIB), ("toolchain/bin/clang", CLANG)):
+            self.write(self.kit / name, text).chmod(0o755)
         self.temporary.mkdir()
 
     def write(self, name, text):
@@ -82,15 +108,15 @@ class Tree:
         path.write_text(text)
         return path
 
-    def environment(self, has_rt=True, does=""):
+    def environment(self, has_rt=True, does="", **more):
         found = {name: value for name, value in os.environ.items() if name != "CANVAS"}
-        path = f"{self.stubs}:/usr/bin:/bin" if has_rt else "/usr/bin:/bin"
-        return {**found, "PATH": path, "TMPDIR": str(self.temporary), "STUB_LOG": str(self.log), "STUB_DOES": does}
+        path = f"{self.kit}/bin:/usr/bin:/bin" if has_rt else "/usr/bin:/bin"
+        return {**found, "PATH": path, "TMPDIR": str(self.temporary), "STUB_LOG": str(self.log), "STUB_DOES": does, **more}
 
-    def run(self, *words, has_rt=True, does="", top=None, **how):
-        """What the program's script writes to standard output and standard error, and its status."""
-        done = subprocess.run([str((top or self.top) / "bin" / self.name), *words], env=self.environment(has_rt, does), text=True,
-                              stdin=subprocess.DEVNULL, capture_output=True, timeout=SECONDS, **how)
+    def run(self, *words, command=None, has_rt=True, does="", top=None, stub=None, **how):
+        """What the program's script, or another command of the tree, writes to standard output and standard error, and its status."""
+        done = subprocess.run([str((top or self.top) / (command or f"bin/{self.name}")), *words], env=self.environment(has_rt, does, **(stub or {})),
+                              text=True, stdin=subprocess.DEVNULL, capture_output=True, timeout=SECONDS, **how)
         return done.stdout, done.stderr, done.returncode
 
     def calls(self):
@@ -216,6 +242,175 @@ def failing_builds():
         yield "a build that fails", (out, "no proof\n" in said, "low was not built" in said, status), ("", True, True, 4)
         yield "its temporary folders", os.listdir(made.temporary), []
 
+
+# -- how long it takes -------------------------------------------------------------------------------------------------
+
+CHAIN = {"long": 9, "middle": 5, "short": 2, "other": 1}
+"""The lengths of four chains."""
+
+
+def times():
+    with tree() as made:
+        said = made.run("script")[1]
+        found = re.search(r"about (\d+) minutes on (\d+) processors", said)
+        yield "what is said before a first build", (bool(found), "release" in said, "docs/INSTALL.md" in said), (True, True, True)
+        yield "how many processors", found and int(found[2]), len(os.sched_getaffinity(0))
+        yield "what is said behind it", re.search("built, in 0 min .*", said)[0][-2:], " s"
+        made.write("crates/canvas/src/main.rt", MAIN.replace("first", "second"))
+        yield "over built libraries no release is offered", "release" in made.run("script")[1], False
+    yield "each crate of the programs has a line in the table", [it for it in build_times.crates() if it not in build_times.read_table()], []
+    yield "each line of the table is of such a crate", [it for it in build_times.read_table() if it not in build_times.crates()], []
+    for ready, running, idle, wanted in (
+        ([], [], 4, {}), (["long"], [], 4, {"long": 4}), (["long", "middle"], [], 2, {"long": 1, "middle": 1}), (["long", "middle"], [], 4, {"long": 3, "middle": 1}),
+        (["long", "middle", "short", "other"], [], 4, {"long": 2, "middle": 1, "short": 1}), (["short", "other"], ["long"], 2, {"short": 1, "other": 1}),
+        (["short"], ["long"], 3, {"short": 3}), (["short"], ["long"], 0, {}), (["short"], ["long"], -1, {}), (["long"], ["short"], 1, {"long": 1})):
+        yield f"begun of {ready} beside {running} on {idle}", build_times.to_begin(ready, running, CHAIN, idle), wanted
+
+
+# -- a release's libraries ---------------------------------------------------------------------------------------------
+
+KIT = "stub-kit logic 12ab"
+LIBRARIES = "canvas 0 libraries.tar"
+
+
+@contextmanager
+def packed():
+    """A tree of both programs and two libraries that are built, with a file of these."""
+    with tree() as made:
+        made.write("crates.txt", "low:\nmiddle: low\ncanvas: middle\ncanvasd: low\n")
+        made.write("crates/middle/src/lib.rt", "middle\n")
+        made.write("crates/canvasd/src/main.rt", MAIN)
+        made.run("script")
+        made.run("pack", str(made.top.parent / LIBRARIES), command="tools/libraries.py")
+        made.calls()
+        yield made
+
+
+def unbuilt(made, name):
+    """A copy of a tree's sources alone."""
+    return shutil.copytree(made.top, made.top.parent / name, ignore=shutil.ignore_patterns("out"))
+
+
+def take(made, top, file=None, **how):
+    """What is said where a tree takes libraries and builds over them, the status, how `rt` was called, and which libraries there are then."""
+    out, said, status = made.run("--libraries", str(file or made.top.parent / LIBRARIES), top=top, **how)
+    told = [it.removeprefix("libraries: ") for it in said.splitlines() if it.startswith("libraries: ")]
+    return told, status, made.calls(), sorted(it.parts[-4] for it in top.glob("crates/*/out/rlib/stamp"))
+
+
+TAKEN = "2 of 2 are taken, of release VERSION. That they are proved is the release's word; nothing here checks it".replace("VERSION", VERSION)
+BUILT = ["lib in low", "lib in middle", "run in canvas"]
+
+
+def libraries():
+    with packed() as made:
+        top = unbuilt(made, "taking")
+        yield "libraries that are taken", take(made, top), ([TAKEN], 0, ["run in canvas"], ["low", "middle"])
+        yield "what is in them", [(top / f"crates/{it}/out/rlib/{it}.rlib/format").read_text() for it in ("low", "middle")], ["low\n", "middle\n"]
+        yield "the same again", take(made, top), ([TAKEN], 0, [], ["low", "middle"])
+        yield "the program over them", made.run("script", "2", top=top, has_rt=False)[::2], FIRST
+        made.write(top / "crates/canvas/src/main.rt", MAIN.replace("first", "second"))
+        said = made.run("script", top=top)[1]
+        yield "a build over them says so", "2 of its libraries were taken from a release, and nothing here proved them" in said, True
+        made.calls()
+        again = made.run("pack", "/nowhere/at.tar", command="tools/libraries.py", top=top)
+        yield "they are not packed again", again, ("", "libraries: the library low rests on low, which was taken from a release; bin/canvasd builds it\n", 4)
+        yield "what is left in out/", [it for it in top.glob("crates/*/out/taking-*")], []
+        yield from libraries_of_others(made)
+        yield from bad_libraries(made)
+        yield from packing(made)
+
+
+def libraries_of_others(made):
+    other = {"STUB_KIT": "stub-kit logic 34cd"}
+    why = f"none is taken, since they were made by {KIT}, and here is stub-kit logic 34cd"
+    yield "libraries of another toolchain", take(made, unbuilt(made, "toolchain"), stub=other), ([why], 0, BUILT, ["low", "middle"])
+    top = unbuilt(made, "changed")
+    made.write(top / "crates/middle/proofs/new.antt", "new\n")
+    why = ["middle is not taken: it was made of other sources", TAKEN.replace("2 of", "1 of", 1)]
+    yield "a library of other sources", take(made, top), (why, 0, BUILT[1:], ["low", "middle"])
+    top = unbuilt(made, "below")
+    made.write(top / "crates/low/src/lib.rt", "lower\n")
+    why = ["low is not taken: it was made of other sources", "middle is not taken: it was made over other sources of low", TAKEN.replace("2 of", "0 of", 1)]
+    yield "a library over one of other sources", take(made, top), (why, 0, BUILT, ["low", "middle"])
+    top = unbuilt(made, "line")
+    made.write(top / "crates.txt", "low may_wait=1:\ncanvas: low\ncanvasd: low\n")
+    why = ["low is not taken: it was made of other sources", "middle is not taken: there is no such crate here", TAKEN.replace("2 of", "0 of", 1)]
+    yield "other lines of crates.txt", take(made, top), (why, 0, [BUILT[0], BUILT[2]], ["low"])
+    top = unbuilt(made, "stamps")
+    why = ["low is not taken: rt takes it for another", "middle is not taken: rt takes it for another", TAKEN.replace("2 of", "0 of", 1)]
+    yield "a library with another stamp", take(made, top, stub={"STUB_STAMP": "another"}), (why, 0, BUILT, ["low", "middle"])
+
+
+def bad_libraries(made):
+    whole, torn = (made.top.parent / LIBRARIES).read_bytes(), made.top.parent / "torn.tar"
+    with tarfile.open(made.top.parent / LIBRARIES) as archive:
+        entries = archive.getmembers()
+    top = unbuilt(made, "torn")
+    for length in (0, 100, 700, *(it.offset_data + part for it in entries for part in (0, it.size // 2, it.size - 1))):
+        torn.write_bytes(whole[:length])
+        told, *rest = take(made, top, torn)
+        yield f"a file that is torn after {length} bytes", (len(told), told[0].startswith(f"{torn} is torn, or no file of libraries: "), *rest), (1, True, 4, [], [])
+    for entry in entries:
+        at = entry.offset_data + entry.size // 2
+        torn.write_bytes(whole[:at] + bytes([whole[at] ^ 1]) + whole[at + 1 :])
+        yield f"{entry.name} with another byte", take(made, top, torn)[1:], (4, [], [])
+    yield "what is left of them", [*top.glob("crates/*/out/*")], []
+    yield "no file", take(made, top, "/nowhere/at.tar"), (["/nowhere/at.tar can't be used: No such file or directory"], 4, [], [])
+    yield "no word", made.run("--libraries", top=top), ("", "canvas: --libraries takes the file of a release's libraries (docs/INSTALL.md)\n", 2)
+    yield "no rt", made.run("--libraries", "x", top=top, has_rt=False)[::2], ("", 4)
+
+
+def packing(made):
+    stamp, target = made.top / "crates/low/out/rlib/stamp", made.top.parent / "again.tar"
+
+    def pack(*words):
+        return made.run("pack", str(target), *words, command="tools/libraries.py")[1:]
+
+    yield "libraries, packed again", (pack(), target.read_bytes() == (made.top.parent / LIBRARIES).read_bytes()), (("", 0), True)
+    stamp.write_text("another")
+    refused = "libraries: the library low is not built of these sources, by its stamp; bin/canvasd builds it\n", 4
+    yield "a library with another stamp", pack(), refused
+    stamp.unlink()
+    yield "a library without a stamp", pack(), refused
+    yield "one without a stamp beside one with it", pack("--built"), refused
+    (made.top / "crates/middle/out/rlib/stamp").unlink()
+    yield "libraries of rt ci", (pack("--built"), target.read_bytes() == (made.top.parent / LIBRARIES).read_bytes()), (("", 0), True)
+    shutil.rmtree(stamp.parent)
+    yield "a library that is not built", pack("--built"), ("libraries: the library low is not built; bin/canvasd builds it\n", 4)
+
+
+# -- with nothing proved -----------------------------------------------------------------------------------------------
+
+UNPROVED = MAIN.replace("echo", "case $* in 'script 1' | --version) exit ;; esac\necho", 1)
+"""A program whose first words end well."""
+
+
+def unproved():
+    for name in ("canvas", "canvasd"):
+        with tree(name=name) as made:
+            made.write(f"crates/{name}/src/main.rt", UNPROVED)
+            yield f"{name} --unproved without rt", made.run("--unproved", "script", has_rt=False)[::2], ("", 4)
+            out, said, status = made.run("--unproved", "script", "2")
+            yield f"{name} --unproved", (out, said.splitlines()[-1], status), (FIRST[0], f"{name}: nothing is proved in this run; the program was compiled with checks of its memory", 7)
+            yield "how it was built", (made.calls(), (made.top / f"crates/{name}/out/{name}").exists()), ([f"try in {name}"], False)
+            yield "again, without rt", (made.run("--unproved", "script", "2", has_rt=False)[::2], made.calls()), (FIRST, [])
+            made.write("crates/low/src/lib.rt", "changed\n")
+            yield "with other sources", (made.run("--unproved", "script", "2")[::2], made.calls()), (FIRST, [f"try in {name}"])
+            for does, why in (("fail", "rt try failed"), ("elsewhere", "rt try of this toolchain compiles in another way"), ("unlinked", "what rt try compiled can't be linked")):
+                made.write("crates/low/src/lib.rt", does)
+                out, said, status = made.run("--unproved", "script", does=does)
+                wanted = f"{why}, so nothing can be run unproved; bin/{name} without --unproved builds the proved program"
+                yield f"a build without proof: {why}", (out, said.splitlines()[-1].removeprefix(f"{name}: "), status), ("", wanted, 4)
+            made.write(f"crates/{name}/src/main.rt", MAIN)
+            yield "a program that fails at its first words", "what was built ends with status 7" in made.run("--unproved", "script")[1], True
+            yield "what is left", os.listdir(made.temporary), []
+    with tree() as made:
+        out, said, status = made.run("--unproved", "serve", "127.0.0.1:0", "/nowhere/at.json")
+        yield "canvas --unproved looks before it serves", (said, status, made.calls()), ("canvas: there is no file /nowhere/at.json\n", 4, [])
+
+
+# -- signals -----------------------------------------------------------------------------------------------------------
 
 def signals():
     for number in (signal.SIGTERM, signal.SIGINT, signal.SIGHUP):
@@ -369,7 +564,7 @@ def main():
     build()
     build_keeper()
     passed = failed = 0
-    for cases in (words, builds, changes, built_by_rt_alone, failing_builds, signals, servings, demos):
+    for cases in (words, builds, changes, built_by_rt_alone, failing_builds, times, libraries, unproved, signals, servings, demos):
         for name, got, wanted in cases():
             passed += got == wanted
             failed += got != wanted

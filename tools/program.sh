@@ -42,14 +42,33 @@ has_toolchain() {
     return 1
 }
 
-run_unproved() {
-    has_toolchain || exit 4
-    echo "$name: nothing is proved in this run; the program is compiled with checks, its output comes when it has ended" >&2
-    cd "$top/crates/$name" && exec rt try -- "$@"
-    exit 4
+has_sources() {
+    [ -d "$top/crates" ] && return
+    echo "$name: $1, and there are no sources here (docs/INSTALL.md)" >&2
+    return 1
 }
 
-# Ends where the words ask for help, for the version, or for a run with nothing proved.
+# Runs a program of the same sources with nothing proved, which is built where it is missing or was made from others.
+run_unproved() {
+    local file=$name-unproved
+    has_sources "--unproved builds the program" || exit 4
+    if [ "$("$top/tools/made_from.sh" "$name" "$file" 2>/dev/null)" != "$(cat "$program-unproved.made-from" 2>/dev/null)" ]; then
+        has_toolchain || exit 4
+        "$top/tools/build_unproved.py" "$name" || exit 4
+    fi
+    echo "$name: nothing is proved in this run; the program was compiled with checks of its memory" >&2
+    exec "$program-unproved" "$@"
+}
+
+# Takes the built libraries of a release; then the program is built over them.
+take_libraries() {
+    [ $# = 1 ] || { echo "$name: --libraries takes the file of a release's libraries (docs/INSTALL.md)" >&2 && exit 2; }
+    has_sources "--libraries builds the program" || exit 4
+    has_toolchain || exit 4
+    "$top/tools/libraries.py" take "$1" || exit 4
+}
+
+# Ends where the words ask for help, for the version, for libraries, or for a run with nothing proved.
 answer_first() {
     case ${1-} in
     --help | -h)
@@ -64,13 +83,19 @@ answer_first() {
         shift
         run_unproved "$@"
         ;;
+    --libraries)
+        shift
+        take_libraries "$@"
+        is_current || exec python3 "$top/tools/build_program.py" "$name"
+        exit
+        ;;
     esac
 }
 
 # Runs the program in the place of the script.
 run() {
     is_current && exec "$program" "$@"
-    [ -d "$top/crates" ] || { echo "$name: $program is missing" >&2 && exit 4; }
+    has_sources "$program is missing" || exit 4
     has_toolchain || exit 4
     exec python3 "$top/tools/build_program.py" "$name" "$program" "$@"
 }

@@ -1,8 +1,10 @@
 #!/usr/bin/env python3
-"""Makes a release from the two built programs: a tarball, a Debian package, and a file with their checksums.
+"""Makes a release from the two built programs and the built libraries: a tarball, a Debian package, a file of the libraries for those who
+change the program (tools/libraries.py), and a file with their checksums.
 
-usage: tools/release.py [--canvas crates/canvas/out/canvas] [--canvasd crates/canvasd/out/canvasd] [--to dist]
+usage: tools/release.py [--canvas crates/canvas/out/canvas] [--canvasd crates/canvasd/out/canvasd] [--to dist] [--built | --programs-alone]
 
+With --built the libraries need no stamp, as just after `rt ci`; with --programs-alone they are left out.
 The same programs and files give the same bytes: times are the day of the version in CHANGELOG.md, owners are root, and names are in order.
 The texts of the man pages are tools/canvas.help and tools/canvasd.help. Prints the names of the files that it made.
 """
@@ -21,7 +23,8 @@ import tempfile
 from datetime import datetime, timezone
 from pathlib import Path
 
-from repository import TOP
+from libraries import NoLibraries, pack, plain
+from repository import PROGRAMS, TOP
 
 VERSION = (TOP / "VERSION").read_text().strip()
 SHARED = ("README.md", "CHANGELOG.md", "VERSION", "bin/canvas-demo", "docs/*.md", "docs/pictures/*.png", "examples/*.json*", "examples/visit.py",
@@ -41,7 +44,6 @@ if [ "$1" = configure ] && command -v systemd-sysusers >/dev/null; then
     [ ! -d /run/systemd/system ] || systemctl daemon-reload
 fi
 """
-PROGRAMS = ("canvas", "canvasd")
 OF_SCRIPTS = ("bin/canvas", "bin/canvasd", "tools/program.sh", "tools/canvas.help", "tools/canvasd.help", "tools/before_serve.py")
 """What bin/canvas and bin/canvasd are, which the tarball has over the programs."""
 CONTROL = f"""Package: canvas
@@ -156,16 +158,9 @@ def fill_package(folder, programs, pages):
 
 def tarball(folder, top, seconds):
     """The compressed tar file of a folder, under the name of its top."""
-    def plain(entry):
-        entry.uid = entry.gid = 0
-        entry.uname = entry.gname = "root"
-        entry.mtime = seconds
-        entry.mode = 0o755 if entry.isdir() or entry.mode & 0o100 else 0o644
-        return entry
-
     out = io.BytesIO()
     with tarfile.open(fileobj=out, mode="w", format=tarfile.GNU_FORMAT) as archive:
-        archive.add(folder, top, filter=plain)  # (it adds what a folder has by the order of names)
+        archive.add(folder, top, filter=lambda it: plain(it, seconds))  # (it adds what a folder has by the order of names)
     return gzip.compress(out.getvalue(), mtime=0)
 
 
@@ -179,7 +174,7 @@ def make_package(folder, target, seconds):
     subprocess.run(words, env={**os.environ, "SOURCE_DATE_EPOCH": str(seconds)}, stdout=subprocess.DEVNULL, check=True)
 
 
-def make(files, to):
+def make(files, to, with_libraries, built):
     """Makes the release of the programs in these files, and gives the names of its own."""
     day = day_of_version()
     seconds = int(datetime.fromisoformat(day).replace(tzinfo=timezone.utc).timestamp())
@@ -188,6 +183,9 @@ def make(files, to):
     top = f"canvas-{VERSION}-x86_64-linux"
     names = [f"{top}.tar.gz", f"canvas_{VERSION}_amd64.deb"]
     to.mkdir(parents=True, exist_ok=True)
+    if with_libraries:
+        names.append(f"canvas-{VERSION}-libraries.tar")
+        pack(to / names[-1], built)
     with tempfile.TemporaryDirectory(prefix="canvas-release-") as room:
         fill_tarball(Path(room, top), programs, pages)
         (to / names[0]).write_bytes(tarball(Path(room, top), top, seconds))
@@ -202,6 +200,9 @@ def main():
     for name in PROGRAMS:
         words.add_argument(f"--{name}", type=Path, default=TOP / "crates" / name / "out" / name, metavar="FILE", help=f"the built program {name}")
     words.add_argument("--to", type=Path, default=TOP / "dist", metavar="FOLDER", help="where the release is put")
+    libraries = words.add_mutually_exclusive_group()
+    libraries.add_argument("--built", action="store_true", help="the libraries are of these sources, though they have no stamp")
+    libraries.add_argument("--programs-alone", action="store_true", help="leave the libraries out")
     given = words.parse_args()
     files = {name: getattr(given, name) for name in PROGRAMS}
     for name, file in files.items():
@@ -209,7 +210,11 @@ def main():
             sys.exit(f"release.py: there is no program {file}; bin/{name} builds it")
     if not shutil.which("dpkg-deb"):
         sys.exit("release.py: there is no dpkg-deb, which Debian's package dpkg has")
-    for name in make(files, given.to):
+    try:
+        names = make(files, given.to, not given.programs_alone, given.built)
+    except NoLibraries as why:
+        sys.exit(f"release.py: {why}; --programs-alone makes a release without")
+    for name in names:
         print(given.to / name)
 
 

@@ -12,33 +12,18 @@ Each line has the steps, the module and the goal; the last line is the sum of al
 """
 
 import argparse
-import json
-import re
 
-from repository import TOP, lines
-
-# A list of what was counted of one declaration, in a kept module.
-COUNTED = re.compile(rb'\[\{"aux":.*?\}\]', re.S)
-
-
-def counted(module):
-    """The names of the declarations of a kept module, each with its steps."""
-    for found in COUNTED.finditer(module.read_bytes()):
-        try:
-            declarations = json.loads(found.group(0))
-        except ValueError:
-            continue
-        for it in declarations:
-            yield it["name"], sum(it["steps"][:2])
+from records import counted, modules
+from repository import lines
 
 
 def steps_of(name, kind):
-    """Steps, module and declaration of a crate's kept modules of a kind, the most first."""
-    modules = (TOP / "crates" / name / "out").glob(f"incremental/*/records/*-proofs.*.{kind}.decls.oantt")
+    """Steps, function and declaration of a crate's kept modules of a kind, the most first."""
     found = []
-    for module in modules:
-        function = module.name.removesuffix(f".{kind}.decls.oantt").removeprefix(f"Rattle-{name}-proofs.")
-        found += [(steps, function, declaration) for declaration, steps in counted(module)]
+    for module, file in modules(name):
+        function, _, ending = module.rpartition(".")
+        if ending == kind and function.startswith("proofs."):
+            found += [(search + kernel, function.removeprefix("proofs."), declaration) for declaration, search, kernel in counted(file)]
     return sorted(found, reverse=True)
 
 
