@@ -4,18 +4,21 @@
 usage: tools/check_sessions.py [FILE..]
        CANVAS_SERVER=canvasd tools/check_sessions.py      over connections to canvasd (tools/running.py)
 
-Each case is held twice with the program that the environment's CANVAS names, or else bin/canvas: as it stands, and with a CR before each LF. It is a
-run of `canvas script`, or one connection to a server of the document that it begins with. The plain models (tools/plain_session.py) have to give
-the same replies.
+Each case is held with the program that the environment's CANVAS names, or else bin/canvas: as it stands, and with a CR before each LF. It is a run of
+`canvas script`, which is then held twice more with one byte a read, or one connection to a server of the document that it begins with. The plain
+models (tools/plain_session.py) have to give the same replies.
 
 Prints each case that differs with its file, line and name, and a last line 'N passed, M failed'; the status is 1 where something failed.
 """
 
 import os
+import socket
 import subprocess
 import sys
 import tempfile
+import threading
 from concurrent.futures import ProcessPoolExecutor
+from contextlib import suppress
 from pathlib import Path
 
 from canvas_client import PROGRAM, TOP
@@ -29,13 +32,38 @@ FOLDER = TOP / "tests" / "sessions"
 
 # -- who answers -------------------------------------------------------------------------------------------------------
 
+def ended(out, said, status):
+    """What `canvas script` wrote, and the fault that it ended with, or None."""
+    if (status, said) == (0, b""):
+        return out, None
+    fault = said.decode().removeprefix("canvas: ").removesuffix("\n")
+    return out, fault if status == 4 else f"{fault} with status {status}"
+
+
 def script(data):
-    """What `canvas script` writes for these bytes, and the fault that it ends with, or None."""
+    """What `canvas script` writes for these bytes, and its fault."""
     done = subprocess.run([str(PROGRAM), "script"], input=data, capture_output=True, timeout=SECONDS)
-    if (done.returncode, done.stderr) == (0, b""):
-        return done.stdout, None
-    fault = done.stderr.decode().removeprefix("canvas: ").removesuffix("\n")
-    return done.stdout, fault if done.returncode == 4 else f"{fault} with status {done.returncode}"
+    return ended(done.stdout, done.stderr, done.returncode)
+
+
+def dripped(data):
+    """The same where each read gives one byte: each byte is a packet of a socket."""
+    given, taken = socket.socketpair(socket.AF_UNIX, socket.SOCK_SEQPACKET)
+    with given:
+        with taken:
+            run = subprocess.Popen([str(PROGRAM), "script"], stdin=taken, stdout=subprocess.PIPE, stderr=subprocess.PIPE)
+        sender = threading.Thread(target=drip, args=(given, data))
+        sender.start()
+        out, said = run.communicate(timeout=SECONDS)
+        sender.join()
+    return ended(out, said, run.returncode)
+
+
+def drip(given, data):
+    with suppress(BrokenPipeError):  # (a session may end before it has read all)
+        for byte in data:
+            given.send(bytes([byte]))
+        given.shutdown(socket.SHUT_WR)
 
 
 def served(document, data, wanted):
@@ -75,20 +103,22 @@ def named(code):
     return f"{code} {NAMES[code]}"
 
 
+def runs_of(case):
+    """Who is asked, and the function that tells what it writes and its fault."""
+    lines, with_crs = case.data, case.data.replace(b"\n", b"\r\n")
+    found = {"the program": lambda: program(case, lines), "the program, with CRs": lambda: program(case, with_crs)}
+    if case.document is None and not IS_KEPT:
+        found |= {"the program, byte by byte": lambda: dripped(lines), "the program, byte by byte and with CRs": lambda: dripped(with_crs)}
+    return found | {"the plain model": lambda: models(case, lines)}
+
+
 # -- cases -------------------------------------------------------------------------------------------------------------
-
-RUNS = {
-    "the program": lambda case: program(case, case.data),
-    "the program, with CRs": lambda case: program(case, case.data.replace(b"\n", b"\r\n")),
-    "the plain model": lambda case: models(case, case.data),
-}
-
 
 def faults_of(case):
     """What is wrong with a case, a line for each run that differs."""
     found = []
-    for who, run in RUNS.items():
-        out, fault = run(case)
+    for who, run in runs_of(case).items():
+        out, fault = run()
         number, words = case.difference(out) or (case.number, None)
         if words is None and fault != case.fault:
             words = f"it ends with {fault or 'no fault'}, and not {case.fault or 'with none'}"

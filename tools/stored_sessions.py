@@ -17,6 +17,7 @@ Behind `=%` and `>%` stand such lines in which %ff is a byte, and %25 the sign %
     a P6 file of 4 by 9 pixels: 8 rows of 4 red; 4 white        the same
     a P6 file of 256 by 256 pixels with the SHA-256 0123..      the checksum of the whole body
     a text with the SHA-256 0123..                              the same
+    the same as before                                          the last body that was named
 
 where a colour is red, green, blue, white, black, or six hexadecimal digits.
 """
@@ -35,6 +36,7 @@ PICTURE = re.compile(r"a P6 file of (\d+) by (\d+)(?: (\w+))? pixels(?:: (.*))?"
 CHECKSUM = re.compile(r"(?:a text|a P6 file of (\d+) by (\d+) pixels) with the SHA-256 ([0-9a-f]{64})")
 ROWS = re.compile(r"(?:(\d+) rows of )?(.*)", re.S)
 PIXELS = re.compile(r"(?:(\d+) )?(\w+)")
+AGAIN = "(the same as before)"
 
 
 class BadLine(Exception):
@@ -123,6 +125,10 @@ class Case:
     def data(self):
         return b"".join(line + b"\n" for line in self.sent)
 
+    @property
+    def last_body(self):
+        return next((it.body for it in reversed(self.replies) if it.body is not None), None)
+
     def check(self):
         """Raises BadLine where it is no whole case."""
         if self.fault is None and len(self.sent) != len(self.replies):
@@ -176,7 +182,7 @@ def take_line(case, number, line):
     if case.fault is not None:
         raise BadLine(number, "the case has ended")
     if line.startswith("(") and case.replies and case.replies[-1].body is None:
-        case.replies[-1].body = line[1:-1]
+        case.replies[-1].body = case.last_body if line == AGAIN else line[1:-1]
     elif sign in (">", ">%"):
         case.sent.append(line_of(sign, rest))
     elif sign == "<":
