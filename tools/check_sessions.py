@@ -5,8 +5,8 @@ usage: tools/check_sessions.py [FILE..]
        CANVAS_SERVER=canvasd tools/check_sessions.py      over connections to canvasd (tools/running.py)
 
 Each case is held with the program that the environment's CANVAS names, or else bin/canvas: as it stands, and with a CR before each LF. It is a run of
-`canvas script`, which is then held twice more with one byte a read, or one connection to a server of the document that it begins with. The plain
-models (tools/plain_session.py) have to give the same replies.
+`canvas script`, which is then held twice more with one byte a read, and each time with other workers; or one connection to a server of the document
+that it begins with. The plain models (tools/plain_session.py) have to give the same replies.
 
 Prints each case that differs with its file, line and name, and a last line 'N passed, M failed'; the status is 1 where something failed.
 """
@@ -40,18 +40,18 @@ def ended(out, said, status):
     return out, fault if status == 4 else f"{fault} with status {status}"
 
 
-def script(data):
+def script(data, workers):
     """What `canvas script` writes for these bytes, and its fault."""
-    done = subprocess.run([str(PROGRAM), "script"], input=data, capture_output=True, timeout=SECONDS)
+    done = subprocess.run([str(PROGRAM), "script", workers], input=data, capture_output=True, timeout=SECONDS)
     return ended(done.stdout, done.stderr, done.returncode)
 
 
-def dripped(data):
+def dripped(data, workers):
     """The same where each read gives one byte: each byte is a packet of a socket."""
     given, taken = socket.socketpair(socket.AF_UNIX, socket.SOCK_SEQPACKET)
     with given:
         with taken:
-            run = subprocess.Popen([str(PROGRAM), "script"], stdin=taken, stdout=subprocess.PIPE, stderr=subprocess.PIPE)
+            run = subprocess.Popen([str(PROGRAM), "script", workers], stdin=taken, stdout=subprocess.PIPE, stderr=subprocess.PIPE)
         sender = threading.Thread(target=drip, args=(given, data))
         sender.start()
         out, said = run.communicate(timeout=SECONDS)
@@ -67,7 +67,7 @@ def drip(given, data):
 
 
 def served(document, data, wanted):
-    """What a server of a saved document writes for these bytes, and the fault that keeps it from opening, or None."""
+    """What a server of a saved document writes for these bytes, and the fault that keeps it from opening, or None. (A connection's end tells none.)"""
     with tempfile.TemporaryDirectory() as room:
         file = Path(room, "document.json")
         file.write_bytes(document)
@@ -76,16 +76,14 @@ def served(document, data, wanted):
                 is_so = wanted is not None and is_refusal(run, wanted.encode())
                 return b"", wanted if is_so else run.errors().decode()
             with run.socket() as sock:
-                return talk(sock, data), None
+                return talk(sock, data), wanted if data else None
 
 
-def program(case, data):
-    """What the program writes for these bytes in the session of a case, and its fault. (A connection tells none.)"""
+def connected(case, data):
+    """The same in the session of a case."""
     if case.document is not None:
         return served(case.document, data, case.fault)
-    if IS_KEPT:
-        return answers_to(data)[0], case.fault
-    return script(data)
+    return answers_to(data)[0], case.fault
 
 
 def models(case, data):
@@ -106,10 +104,15 @@ def named(code):
 def runs_of(case):
     """Who is asked, and the function that tells what it writes and its fault."""
     lines, with_crs = case.data, case.data.replace(b"\n", b"\r\n")
-    found = {"the program": lambda: program(case, lines), "the program, with CRs": lambda: program(case, with_crs)}
-    if case.document is None and not IS_KEPT:
-        found |= {"the program, byte by byte": lambda: dripped(lines), "the program, byte by byte and with CRs": lambda: dripped(with_crs)}
-    return found | {"the plain model": lambda: models(case, lines)}
+    found = {"the plain model": lambda: models(case, lines)}
+    if case.document is not None or IS_KEPT:
+        return found | {"the server": lambda: connected(case, lines), "the server, with CRs": lambda: connected(case, with_crs)}
+    return found | {
+        "the program": lambda: script(lines, "2"),
+        "the program, with CRs": lambda: script(with_crs, "1"),
+        "the program, byte by byte": lambda: dripped(lines, "16"),
+        "the program, byte by byte and with CRs": lambda: dripped(with_crs, "3"),
+    }
 
 
 # -- cases -------------------------------------------------------------------------------------------------------------
