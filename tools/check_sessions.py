@@ -74,7 +74,7 @@ def served(document, data, wanted):
         with serve(file, room) as run:
             if run.port is None:
                 is_so = wanted is not None and is_refusal(run, wanted.encode())
-                return b"", wanted if is_so else run.errors().decode()
+                return b"", wanted if is_so else run.errors().decode().strip()
             with run.socket() as sock:
                 return talk(sock, data), wanted if data else None
 
@@ -140,7 +140,9 @@ def all_cases(paths):
                     raise BadLine(case.number, f"the case '{case.name}' is in {found[case.name].file} too")
                 found[case.name] = case
         except BadLine as fault:
-            raise SystemExit(f"{path.relative_to(TOP)}:{fault.number}: {fault}") from None
+            raise SystemExit(f"{os.path.relpath(path, TOP)}:{fault.number}: {fault}") from None
+        except OSError as fault:
+            raise SystemExit(f"{os.path.relpath(path, TOP)}: {fault}") from None
     return [*found.values()]
 
 

@@ -24,6 +24,7 @@ where a colour is red, green, blue, white, black, or six hexadecimal digits.
 
 import hashlib
 import json
+import os
 import re
 from dataclasses import dataclass, field
 from typing import Optional
@@ -131,6 +132,8 @@ class Case:
 
     def check(self):
         """Raises BadLine where it is no whole case."""
+        if not self.sent and self.fault is None:
+            raise BadLine(self.number, "nothing is sent")
         if self.fault is None and len(self.sent) != len(self.replies):
             raise BadLine(self.number, f"{len(self.sent)} lines are sent, and {len(self.replies)} replies are wanted")
         for reply in self.replies:
@@ -226,7 +229,7 @@ def cases_of(path):
     cases = []
     for number, line in whole_lines(path.read_text().split("\n"), 1):
         if line.startswith("== "):
-            cases.append(Case(number, line[3:], str(path.relative_to(TOP))))
+            cases.append(Case(number, line[3:], os.path.relpath(path, TOP)))
         elif cases:
             take_line(cases[-1], number, line)
         else:
