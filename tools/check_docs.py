@@ -35,7 +35,7 @@ from try_wrong_bodies import BadEdit, edited
 
 CRATES = TOP / "crates"
 FOLDERS = ("must-fail", "wrong-bodies")
-PLACES = ("crates", "docs", "tools", "bin", "bench", "examples", "packaging", ".ci")
+PLACES = ("crates", "docs", "tools", "tests", "bin", "bench", "examples", "packaging", ".ci")
 PARTS = ("src", "specs", "proofs", "must-fail", "wrong-bodies")
 VERBS = "all check ci doc expand fmt lemma lib must-fail new plant run seed test tidy try verdict version".split()
 

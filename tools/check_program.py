@@ -39,8 +39,9 @@ def run(words, given=b"", sink=subprocess.PIPE):
 
 
 def usage_faults():
-    for words in [[], ["paint"], ["script", "0"], ["script", "17"], ["script", "02"], ["script", "+2"], ["script", "2", "3"],
-                  ["script", "two"], ["script", ""], ["serve"], ["serve", "a"], ["Script"]]:
+    numbers = ["0", "17", "02", "+2", "-1", "", " 2", "2 ", "two", "100", "4294967298"]
+    for words in [[], ["paint"], *(["script", it] for it in numbers), ["script", "2", "3"], ["Script"], ["Script", "", ""], ["serve"], ["serve", "a"],
+                  ["serve", "a", "b", "0"], ["serve", "a", "b", "3", "4"], ["Serve", "a", "b"]]:
         yield f"usage at {words}", run(words, CREATE), (b"", USAGE, 2)
     yield "a word that is not UTF-8", run([b"script", b"\xff"], CREATE), (b"", USAGE, 2)
 
@@ -49,7 +50,6 @@ def sessions():
     yield "nothing read", run(["script"]), (b"", b"", 0)
     yield "a red rectangle", run(["script", "1"], CREATE + PATCH), (CREATED + PAINTED, b"", 0)
     yield "sixteen workers", run(["script", "16"], CREATE + PATCH), (CREATED + PAINTED, b"", 0)
-    yield "a line that the input cuts", run(["script"], CREATE + PATCH[:-1]), (CREATED, b"canvas: 74 CutLine\n", 4)
     yield "a line of 65,536 bytes", run(["script"], b" " * 65536 + b"\n" + CREATE), (refused(50, b"BadJson") + CREATED, b"", 0)
     yield "a line of 65,537 bytes", run(["script"], CREATE + b" " * 65537 + b"\n" + CREATE), (
         CREATED + refused(70, b"LineTooLong"), b"canvas: 70 LineTooLong\n", 4)
@@ -58,6 +58,15 @@ def sessions():
     with open("/dev/full", "wb") as full:
         out = run(["script"], CREATE + PATCH, full)
     yield "a full device", out, (None, b"canvas: 72 WriteFault\n", 4)
+
+
+def cuts():
+    """An input that ends at each byte of two lines: the whole lines are answered."""
+    given, answers = CREATE + PATCH, {0: b"", 1: CREATED, 2: CREATED + PAINTED}
+    for end in range(len(given) + 1):
+        is_whole = end == 0 or given[:end].endswith(b"\n")
+        wanted = (b"", 0) if is_whole else (b"canvas: 74 CutLine\n", 4)
+        yield f"an input that is cut at {end}", run(["script"], given[:end]), (answers[given[:end].count(b"\n")], *wanted)
 
 
 def requests(*lines):
@@ -154,17 +163,35 @@ def exports():
 
 
 def most_records():
-    """16,384 groups: one more is refused until one is deleted; new indexes go up to the key of rank 16,383."""
+    """16,384 groups: one more is refused, and changes nothing, until one is deleted; new indexes go up to the key of rank 16,383."""
     group = '{"verb":"create","shape":{"kind":"group"}}'
-    given = [group] * 16_385 + ['{"verb":"respace","parent":null}', EXPORT, '{"verb":"delete","id":1}', group]
+    given = [group] * 16_384 + [EXPORT, group, EXPORT, '{"verb":"respace","parent":null}', EXPORT, '{"verb":"delete","id":1}', group]
     out, said, status = run(["script"], requests(*given))
-    made, rest = out[: (at := out.index(refused(7, b"TooMany")))], out[at:]
-    yield "16,384 records", made, b"".join(create(number, number) for number in range(1, 16_385))
+    groups = b"".join(create(number, number) for number in range(1, 16_385))
+    made, before, rest = out[: len(groups)], *out[len(groups) :].split(refused(7, b"TooMany"), 1)
+    yield "16,384 records", made, groups
+    yield "16,384 records, exported", (before.startswith(b'{"body":'), rest.startswith(before)), (True, True)
+    rest = rest.removeprefix(before)
     foremost = ('{"hidden":false,"id":16384,"place":{"index":"c3FF","parent":null},' + STILL + ',"shape":{"kind":"group"}}]}').encode()
     changed = b'{"body":0,"ok":true,"version":%d}\n'
-    yield "one more, and new indexes", b"".join(rest.splitlines(True)[:2]), refused(7, b"TooMany") + changed % 16_385
+    yield "new indexes", rest.splitlines(True)[0], changed % 16_385
     end = foremost + changed % 16_386 + create(16_385, 16_387)
     yield "the foremost, and a new one for one", (rest[-len(end):], said, status), (end, b"", 0)
+
+
+AT, OVER = '{"verb":"create","shape":{"kind":"group"},"spot":{"at":"%s"}}', '{"verb":"create","shape":{"kind":"group"},"spot":{"over":%d}}'
+
+
+def most_keys():
+    """Groups between a0 and a1, each at a key below that of the last one, above it, or in turn, until there is no room (tools/key_rows.py)."""
+    for side, count in {"below": 756, "above": 630, "in turn": 756}.items():
+        low, given = 1, [AT % "a0", AT % "a1"]
+        for number in range(count + 1):
+            given.append(OVER % low)
+            if side == "above" or (side == "in turn" and number % 2 == 1):
+                low = number + 3
+        wanted = b"".join(create(number, number) for number in range(1, count + 3)) + refused(13, b"NoRoom")
+        yield f"keys {side}, until there is no room", run(["script"], requests(*given)), (wanted, b"", 0)
 
 
 def most_versions():
@@ -229,8 +256,8 @@ def waiting_client():
 def main():
     subprocess.run([str(PROGRAM), "script"], stdin=subprocess.DEVNULL, check=True)  # builds it where it is not built
     passed = failed = 0
-    stages = (usage_faults, sessions, levels, windows, exports, most_records, most_versions, read_fault, waiting_client, readme_command,
-              examples)
+    stages = (usage_faults, sessions, cuts, levels, windows, exports, most_records, most_keys, most_versions, read_fault,
+              waiting_client, readme_command, examples)
     for cases in stages:
         for name, got, wanted in cases():
             if got == wanted:

@@ -1,24 +1,14 @@
-//! Worked keys between keys, texts that are keys, fresh keys, and random insertions.
+//! Texts that are no keys, fresh keys, and random insertions.
 
 ghost use Rattle.std.specs.Prelude.{◌≡◌, ◌<◌, ◌≤◌, ◌↔◌, IsTrue, vec_len};
 
 use crate::asserts::{holds, holds_for};
-use crate::key_rows::{
-    carries, ends, fresh_numbers, heads, long_texts, midpoints, prefixes, read_heads, read_long,
-    read_parts, whole_parts,
-};
+use crate::key_rows::{bad_heads, bad_long, bad_parts, fresh_numbers, keys};
 use canvas_code::Coded;
 use canvas_key::{Key, KeyFault, between, first_fresh, fresh};
 use std::process::Abort;
 
-// The key between two texts, of which one that is no key is left out. Ends that are not in order get a
-// refusal that `between` never gives.
-fn between_texts(low: &str, high: &str) -> Result<Key, KeyFault> {
-    let low = Key::read(low.as_bytes()).ok();
-    let high = Key::read(high.as_bytes()).ok();
-    between_ends(low.as_ref(), high.as_ref())
-}
-
+// The key between two ends. Ends that are not in order get a refusal that `between` never gives.
 fn between_ends(low: Option<&Key>, high: Option<&Key>) -> Result<Key, KeyFault> {
     match (low, high) {
         (Some(low), Some(high)) => {
@@ -34,14 +24,6 @@ fn between_ends(low: Option<&Key>, high: Option<&Key>) -> Result<Key, KeyFault> 
     }
 }
 
-// Whether an answer is the key with a text, or the fault with a name.
-fn is_answer(answer: &Result<Key, KeyFault>, want: &str) -> bool {
-    match answer {
-        Ok(key) => key.bytes() == want.as_bytes(),
-        Err(fault) => fault.name() == want,
-    }
-}
-
 // What `==` says to callers.
 fn is_same(a: &Key, b: &Key) -> bool
     ensures { IsTrue result ↔ (a.now ≡ b.now) }
@@ -49,45 +31,27 @@ fn is_same(a: &Key, b: &Key) -> bool
     a == b
 }
 
-// Each row has two ends, and the key between them or the fault.
-fn assert_between(rt: &impl Abort, rows: &[[&str; 3]]) {
-    for row in rows {
-        let [low, high, want] = *row;
-        let is_right = is_answer(&between_texts(low, high), want);
-        holds_for(rt, "above a text of bytes:", low.len(), is_right);
+// Whether a text is no key, with this fault.
+fn is_refused(text: &str, fault: &str) -> bool {
+    match Key::read(text.as_bytes()) {
+        Ok(_) => false,
+        Err(found) => found.name() == fault,
     }
 }
 
-#[test]
-fn keys_between(rt: HostRuntime) {
-    assert_between(&rt, whole_parts());
-    assert_between(&rt, carries());
-    assert_between(&rt, heads());
-    assert_between(&rt, midpoints());
-    assert_between(&rt, prefixes());
-    assert_between(&rt, ends());
-    assert_between(&rt, long_texts());
-}
-
-// Whether a text is read as a key of its bytes, or has the fault.
-fn is_read(text: &str, fault: &str) -> bool {
-    let want = if fault.is_empty() { text } else { fault };
-    is_answer(&Key::read(text.as_bytes()), want)
-}
-
-fn assert_read(rt: &impl Abort, what: &str, rows: &[[&str; 2]]) {
+fn assert_refused(rt: &impl Abort, what: &str, rows: &[[&str; 2]]) {
     let mut number: usize = 0;
     for [text, fault] in rows {
-        holds_for(rt, what, number, is_read(text, fault));
+        holds_for(rt, what, number, is_refused(text, fault));
         number = number.saturating_add(1);
     }
 }
 
 #[test]
-fn texts_read(rt: HostRuntime) {
-    assert_read(&rt, "heads, row", read_heads());
-    assert_read(&rt, "whole parts, row", read_parts());
-    assert_read(&rt, "long texts, row", read_long());
+fn texts_that_are_no_keys(rt: HostRuntime) {
+    assert_refused(&rt, "heads, row", bad_heads());
+    assert_refused(&rt, "whole parts, row", bad_parts());
+    assert_refused(&rt, "long texts, row", bad_long());
 }
 
 // Whether a fresh key and its copy have a text.
@@ -113,11 +77,11 @@ fn is_made(key: &mut Key, n: u32, want: &str) -> bool {
     key.bytes() == want.as_bytes()
 }
 
-// The same of a text, where it is a key.
+// The same of a key with a text.
 fn is_made_fresh(text: &str, n: u32, want: &str) -> bool {
     match Key::read(text.as_bytes()) {
         Ok(mut key) => is_made(&mut key, n, want),
-        Err(_) => true,
+        Err(_) => false,
     }
 }
 
@@ -125,18 +89,16 @@ fn assert_made_fresh(rt: &impl Abort, text: &str, n: u32, want: &str) {
     assert!(rt; is_made_fresh(text, n, want), "{n} over {text}");
 }
 
-fn assert_made_over(rt: &impl Abort, texts: &[[&str; 2]], n: u32, want: &str) {
-    for [text, _fault] in texts {
+fn assert_made_over(rt: &impl Abort, texts: &[&str], n: u32, want: &str) {
+    for text in texts {
         assert_made_fresh(rt, text, n, want);
     }
 }
 
 // Over keys of 2 to 128 bytes.
-fn assert_made_over_texts(rt: &impl Abort, rows: &[(u32, &str)]) {
+fn assert_made_over_keys(rt: &impl Abort, rows: &[(u32, &str)]) {
     for (n, want) in rows {
-        assert_made_over(rt, read_heads(), *n, want);
-        assert_made_over(rt, read_parts(), *n, want);
-        assert_made_over(rt, read_long(), *n, want);
+        assert_made_over(rt, keys(), *n, want);
     }
 }
 
@@ -155,41 +117,8 @@ fn is_first(text: &str) -> bool {
 #[test]
 fn keys_made_fresh(rt: HostRuntime) {
     holds(&rt, "the first", is_first("a0"));
-    assert_made_over_texts(&rt, fresh_numbers());
+    assert_made_over_keys(&rt, fresh_numbers());
     assert_made_in_turn(&rt, fresh_numbers());
-}
-
-// Where the next key goes: below the last one, above it, or in turn.
-#[derive(Clone, Copy)]
-enum Side {
-    Below,
-    Above,
-    InTurn,
-}
-
-// How many keys come between `a0` and `a1` until there is no room.
-fn insertions(side: Side) -> Option<u32> {
-    let mut low = fresh(0);
-    let mut high = fresh(1);
-    for made in 0..10_000u32 {
-        match between_ends(Some(&low), Some(&high)) {
-            Ok(key) => match side {
-                Side::Above => low = key,
-                Side::InTurn if made % 2 == 1 => low = key,
-                _ => high = key,
-            },
-            Err(KeyFault::NoRoom) => return Some(made),
-            Err(_) => return None,
-        }
-    }
-    None
-}
-
-#[test]
-fn until_there_is_no_room(rt: HostRuntime) {
-    holds(&rt, "below", insertions(Side::Below) == Some(756));
-    holds(&rt, "above", insertions(Side::Above) == Some(630));
-    holds(&rt, "in turn", insertions(Side::InTurn) == Some(756));
 }
 
 // Numbers in no order that a reader would guess, by a linear congruence.

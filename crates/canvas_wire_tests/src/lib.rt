@@ -18,6 +18,6 @@ mod plane;
 #[cfg(test)]
 mod random_leaves;
 #[cfg(test)]
-mod requests;
+mod replies;
 #[cfg(test)]
 mod shapes;

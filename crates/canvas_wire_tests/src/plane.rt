@@ -1,8 +1,7 @@
 //! Worked poses, windows and boxes.
 
 use crate::asserts::{holds, holds_at};
-use canvas_code::Coded;
-use canvas_plane::{PageBox, Point, Pose, PoseFault, Window, WindowFault};
+use canvas_plane::{PageBox, Point, Pose, Window};
 use std::process::Abort;
 
 fn at(x: i64, y: i64) -> Point {
@@ -63,102 +62,12 @@ fn flips_come_before_turns(rt: HostRuntime) {
     holds(&rt, "inverse", turned.inverse() == turned);
 }
 
-const BAD_POSE: Option<PoseFault> = Some(PoseFault::BadPose);
-
-// Parts of poses, and the fault of each.
-const POSES: [(&str, i64, i64, u8, bool, Option<PoseFault>); 4] = [
-    ("farthest", 1_048_576, -1_048_576, 3, true, None),
-    ("right", 1_048_577, 0, 0, false, BAD_POSE),
-    ("up", 0, -1_048_577, 0, false, BAD_POSE),
-    ("quarter", 0, 0, 4, false, BAD_POSE),
-];
-
-#[test]
-fn poses_have_limits(rt: HostRuntime) {
-    for (what, dx, dy, quarter, flip, fault) in &POSES {
-        let made = Pose::new(*dx, *dy, *quarter, *flip);
-        holds(&rt, what, made.err() == *fault);
-    }
-    holds(&rt, "still", Pose::STILL.check() == Ok(()));
-    holds(&rt, "code", PoseFault::BadPose.code() == 9);
-}
-
-// Ends the test with these words unless this is the fault, or there is none.
-fn assert_fault(
-    rt: &impl Abort,
-    what: &str,
-    made: Result<Window, WindowFault>,
-    fault: Option<WindowFault>,
-) {
-    holds(rt, what, made.err() == fault);
-}
-
-const BAD_WINDOW: Option<WindowFault> = Some(WindowFault::BadWindow);
-
-const BAD_LEVEL: Option<WindowFault> = Some(WindowFault::BadLevel);
-
-// Columns and rows of tiles, and the fault of each.
-const TILES: [(&str, i32, i32, Option<WindowFault>); 5] = [
-    ("last column", 8191, 0, None),
-    ("first column", -8192, 0, None),
-    ("right", 8192, 0, BAD_WINDOW),
-    ("left", -8193, 0, BAD_WINDOW),
-    ("far", i32::MAX, i32::MIN, BAD_WINDOW),
-];
-
-// Places and sizes of windows, and the fault of each.
-const WINDOWS: [(&str, i32, i32, u32, u32, Option<WindowFault>); 4] = [
-    ("wide", 0, 0, 257, 1, BAD_WINDOW),
-    ("flat", 0, 0, 1, 0, BAD_WINDOW),
-    ("edge", 2_097_151, -2_097_152, 1, 256, None),
-    ("over", 2_097_151, 0, 2, 1, BAD_WINDOW),
-];
-
-#[test]
-fn windows_have_limits(rt: HostRuntime) {
-    for (what, column, row, fault) in &TILES {
-        assert_fault(&rt, what, Window::tile(*column, *row), *fault);
-    }
-    for (what, x, y, w, h, fault) in &WINDOWS {
-        assert_fault(&rt, what, Window::new(*x, *y, *w, *h), *fault);
-    }
-    holds(&rt, "code", WindowFault::BadWindow.code() == 30);
-}
-
 #[test]
 fn windows_have_their_place(rt: HostRuntime) {
     let tile = Window::tile(-1, 2).expect(&rt, "a tile");
     let sides = (tile.x(), tile.y(), tile.w(), tile.h());
     holds(&rt, "sides", sides == (-256, 512, 256, 256));
     holds(&rt, "box", tile.covered() == page_box(-256, 512, 0, 768));
-}
-
-// Levels, columns and rows of tiles, and the fault of each.
-const TILES_OF_LEVELS: [(&str, u8, i32, i32, Option<WindowFault>); 4] = [
-    ("last column", 6, 127, 0, None),
-    ("first column", 6, -128, 0, None),
-    ("right", 6, 128, 0, BAD_WINDOW),
-    ("level 7", 7, 128, 0, BAD_LEVEL),
-];
-
-// Levels, places and sizes of windows, and the fault of each.
-const WINDOWS_OF_LEVELS: [(&str, u8, i32, i32, u32, u32, Option<WindowFault>); 4] = [
-    ("level 255", 255, 0, 0, 0, 0, BAD_LEVEL),
-    ("edge", 1, 1_048_575, -1_048_576, 1, 256, None),
-    ("over", 1, 1_048_575, 0, 2, 1, BAD_WINDOW),
-    ("above", 1, 0, -1_048_577, 1, 1, BAD_WINDOW),
-];
-
-#[test]
-fn windows_of_levels_have_limits(rt: HostRuntime) {
-    for (what, level, column, row, fault) in &TILES_OF_LEVELS {
-        assert_fault(&rt, what, Window::tile_at(*level, *column, *row), *fault);
-    }
-    for (what, level, x, y, w, h, fault) in &WINDOWS_OF_LEVELS {
-        assert_fault(&rt, what, Window::at_level(*level, *x, *y, *w, *h), *fault);
-    }
-    holds(&rt, "code", WindowFault::BadLevel.code() == 34);
-    holds(&rt, "name", WindowFault::BadLevel.name() == "BadLevel");
 }
 
 #[test]
