@@ -412,7 +412,7 @@ class Fake(unittest.TestCase):
                 give_up = time.monotonic() + 5
                 while not ends and time.monotonic() < give_up:
                     time.sleep(0.01)
-        self.assertEqual(ends, [b""])
+                self.assertEqual(ends, [b""])
 
     def test_the_end_of_a_feed(self):
         came = []
