@@ -182,10 +182,10 @@ class Host:
         text = subprocess.run(["curl", "-sf", f"{WATCH}/{name}/metrics"], check=True, capture_output=True, text=True).stdout
         return float(re.search(rf"^{what} (\S+)$", text, re.M)[1])
 
-    def web(self, name="", user="ann", word=None):
-        """A client of the site, with the password of a document."""
+    def web(self, name="", user="ann", word=None, address="127.0.0.1"):
+        """A client of the site at an address, with the password of a document."""
         auth = aiohttp.BasicAuth(user, word or f"{user} of {name}") if name else None
-        return aiohttp.ClientSession(auth=auth, connector=aiohttp.TCPConnector(ssl=self.keys.context(), limit=0))
+        return aiohttp.ClientSession(auth=auth, connector=aiohttp.TCPConnector(ssl=self.keys.context(), limit=0, local_addr=(address, 0)))
 
     async def raw(self, name, certificate="ann"):
         return await Raw.open(self.keys.context(certificate), f"{name}.canvas.example")
@@ -451,25 +451,21 @@ async def headers(host):
 
 async def guesses(host):
     """Many passwords from one address."""
-    count, judged, begin = 150, [], time.monotonic()
-    connector = aiohttp.TCPConnector(ssl=host.keys.context(), limit=0, local_addr=("127.0.0.2", 0))
+    judged, begin = [], time.monotonic()
 
     async def guess(client, number):
         with contextlib.suppress(*FAULTS):
             async with client.get(page("ours"), auth=aiohttp.BasicAuth("ann", f"guess {number}")) as response:
-                judged.append((time.monotonic() - begin, response.status))
+                judged.append(response.status)
 
-    async with aiohttp.ClientSession(connector=connector) as client, host.web("ours") as other:
-        work = [asyncio.create_task(guess(client, number)) for number in range(count)]
-        await asyncio.sleep(3)
-        took = -time.monotonic()
-        status = await status_of(other, page("ours"))
-        took += time.monotonic()
-        yield "another address is not kept waiting meanwhile", None if (status, took < 2) == (200, True) else f"{status} after {took:.1f} s"
-        await asyncio.sleep(max(0, begin + 5 - time.monotonic()))
-        early = [status for seconds, status in judged if seconds < 5]
-        yield f"of {count} passwords of one address few are judged in five seconds", None if 60 <= len(early) <= 60 + 5 * 5 + 2 else f"{len(early)}"
-        yield "all of these are wrong", difference({*early}, {401})
+    async with host.web(address="127.0.0.2") as client, host.web("ours") as other:
+        work = [asyncio.create_task(guess(client, number)) for number in range(300)]
+        await until(lambda: len(judged) > 30)
+        most = 20 + 5 * (time.monotonic() - begin) + 2
+        yield "of 300 passwords of one address few are judged at once", None if len(judged) <= most else f"{len(judged)}, where {most:.0f} may be"
+        yield "all of these are wrong", difference({*judged}, {401})
+        count, status = len(judged), await status_of(other, page("ours"))
+        yield "another address is answered meanwhile", difference((status, len(judged) - count < 100), (200, True))
         for it in work:
             it.cancel()
 
@@ -588,8 +584,9 @@ async def viewers(host):
     """More tabs than a server has seats, of which some edit, and raw sessions beside."""
     await host.create(["crowd"])
     seconds, over = (60 if host.is_long else 10), asyncio.Event()
-    async with host.web("crowd") as client:
-        tabs = await asyncio.gather(*(Tab.open(client, page("crowd")) for _ in range(TABS)), return_exceptions=True)
+    async with contextlib.AsyncExitStack() as stack:
+        clients = [await stack.enter_async_context(host.web("crowd", address=f"127.0.1.{number + 1}")) for number in range(TABS // 10)]
+        tabs = await asyncio.gather(*(Tab.open(client, page("crowd")) for client in clients for _ in range(10)), return_exceptions=True)
         yield "each tab is served", difference([repr(it) for it in tabs if not isinstance(it, Tab)], [])
         tabs = [it for it in tabs if isinstance(it, Tab)]
         editors = [Editor(host, "crowd", is_raw=number < EDITORS // 2, pause=0.1) for number in range(EDITORS)]
@@ -616,7 +613,7 @@ async def viewers(host):
         yield "no tab was told of an older version", difference([tab.fault for tab in tabs if tab.fault], [])
         newest = max(max(it.made, default=0) for it in editors)
         yield "each tab was told of the edits", difference([tab.seen for tab in tabs if tab.seen < newest // 2], [])
-        yield "they share few sessions", None if sessions <= 16 + EDITORS // 2 else f"{sessions} sessions"
+        yield "they share few sessions, and the gateway has its own", None if sessions <= 16 + EDITORS // 2 + 1 else f"{sessions} sessions"
         for editor in editors:
             await editor.stop()
         yield "no editor lost its connection", difference([it.breaks for it in editors], [0] * EDITORS)
