@@ -308,6 +308,10 @@ async def trust(hosts):
             yield f"no password of {host} is read by {user}", difference(done.stdout, "")
             done = machine.run(*words[:4], "sh", "-c", "cat /proc/[0-9]*/environ /etc/canvas/*.pem /etc/canvas/*.key")
             yield f"nor by {user} of {host} in the environment of others, nor a key", difference([it for it in [*hosts.passwords, "PRIVATE"] if it in done.stdout], [])
+        door = "/run/canvas-store/door"
+        for user, wanted in (("www-data", False), ("canvas", True)):
+            done = machine.run("setpriv", f"--reuid={user}", "--regid=canvas", "--init-groups", "test", "-w", door)
+            yield f"{user} of {host} at the store's door", difference(done.returncode == 0, wanted)
         found = listeners(machine)
         yield f"{host} listens where the hosts are alone", difference({port: found.get(port) for port in (2379, 2380, 8008, 5432, 9465)}, dict.fromkeys(
             (2379, 2380, 8008, 5432, 9465), {f"10.77.0.{number}"}))

@@ -534,8 +534,11 @@ WRONG = {
         "fences", "        WHERE id = %(id)s AND epoch = %(epoch)s AND generation = %(generation)s AND turn = %(turn)s",
         "        WHERE id = %(id)s AND %(epoch)s > 0 AND generation = %(generation)s AND turn = %(turn)s"),
     "an answer before the commit": (
-        "killed_agent", "            await (holding.begin(int(first), data) if word else holding.sync())\n            writer.write(b\"ok\\n\")",
+        "killed_agent", "            await (holding.begin(int(first), data) if word else holding.sync())\n"
+        "            writer.write(b\"\" if holding.is_told else b\"ok\\n\")",
         "            writer.write(b\"ok\\n\")\n            await (holding.begin(int(first), data) if word else holding.sync())"),
+    "it does not look at its own clock": ("fences", "agent.beat(), agent.watch(),", "agent.beat(),"),
+    "it takes no care of names": ("names", "if re.fullmatch(NAME, name)]", "]"),
     "what is on its way when the database ends counts as kept": (
         "killed_database", "            if found[0] == after:\n                break", "            break")}
 """Agents that are wrong, each with the part that tells so, a text of the agent and what stands in its place."""
