@@ -379,7 +379,9 @@ class Feed:
         return edits
 
     def close(self):
-        """Ends the feed."""
+        """Ends the feed: the server is told so at once, even if another process has the socket too."""
+        with suppress(OSError):  # the other side is gone already
+            self._socket.shutdown(socket.SHUT_RDWR)
         self._socket.close()
         self._rest.clear()
 

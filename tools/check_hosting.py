@@ -6,6 +6,8 @@ usage: tools/check_hosting.py [--long] [PART ..]      the parts are the function
 - the units are read by systemd-analyze; the commands of docs/RUNNING.md are run as they stand;
 - `canvas-admin` makes, lists, renames and removes documents, and refuses bad names, those that are there or not there, and documents that are served;
 - pages and raw sessions are there for those who may have them, and for nobody else: passwords, certificates, other documents, HTTP at the raw port;
+- passwords are judged a few at a time, no site shows the page in its own, and one address can't take all seats of a server, nor all others together
+  that of the gateway;
 - 200 tabs and some editors at one document: nobody is refused, and no tab is told of an older version than before;
 - what floods, is slow or sends what is no message is refused and told in a log, while others are answered;
 - kill -9 of servers, of the gateway and of nginx, while each document is edited: each answered edit is there afterwards, and no other document's sessions end;
@@ -40,7 +42,7 @@ import aiohttp  # noqa: E402
 import machine as machines  # noqa: E402
 import release  # noqa: E402
 from browser import Browser, Fault  # noqa: E402
-from canvas_client import Canvas, connected, line_of  # noqa: E402
+from canvas_client import Canvas, Refused, connected, line_of  # noqa: E402
 from repository import BUILT, BUILT_KEEPER, TOP  # noqa: E402
 from running import build, build_keeper, difference, talk, tell  # noqa: E402
 from tab import PATIENCE, Tab  # noqa: E402
@@ -73,14 +75,14 @@ def commands_of(begin):
 
 
 class Keys:
-    """Certificates: one of the site, one that signs those of clients, and clients: ann and ben, and a stranger whom another one signed."""
+    """Certificates: one of the site, one that signs those of clients, and clients: ann, ann lee and ben, and a stranger whom another one signed."""
 
     def __init__(self, folder):
         self._folder = Path(folder)
         self._call("req", "-x509", "-days", "2", "-subj", "/CN=127.0.0.1", "-addext", "subjectAltName=IP:127.0.0.1,DNS:*.canvas.example", *self._new("tls"))
         for name in ("clients", "others"):
             self._call("req", "-x509", "-days", "2", "-subj", f"/CN={name}", *self._new(name))
-        for name, signer in (("ann", "clients"), ("ben", "clients"), ("stranger", "others")):
+        for name, signer in (("ann", "clients"), ("ann lee", "clients"), ("ben", "clients"), ("stranger", "others")):
             self._call("req", "-subj", f"/CN={name}", *self._new(name, ".csr"))
             self._call("x509", "-req", "-days", "2", "-in", self.file(f"{name}.csr"), "-CA", self.file(f"{signer}.crt"), "-CAkey", self.file(f"{signer}.key"),
                        "-CAcreateserial", "-out", self.file(f"{name}.crt"))
@@ -180,10 +182,10 @@ class Host:
         text = subprocess.run(["curl", "-sf", f"{WATCH}/{name}/metrics"], check=True, capture_output=True, text=True).stdout
         return float(re.search(rf"^{what} (\S+)$", text, re.M)[1])
 
-    def web(self, name="", user="ann", word=None):
-        """A client of the site, with the password of a document."""
+    def web(self, name="", user="ann", word=None, address="127.0.0.1"):
+        """A client of the site at an address, with the password of a document."""
         auth = aiohttp.BasicAuth(user, word or f"{user} of {name}") if name else None
-        return aiohttp.ClientSession(auth=auth, connector=aiohttp.TCPConnector(ssl=self.keys.context(), limit=0))
+        return aiohttp.ClientSession(auth=auth, connector=aiohttp.TCPConnector(ssl=self.keys.context(), limit=0, local_addr=(address, 0)))
 
     async def raw(self, name, certificate="ann"):
         return await Raw.open(self.keys.context(certificate), f"{name}.canvas.example")
@@ -405,6 +407,10 @@ async def doors(host):
             yield f"a session {name}", difference(found, len(TILES) + 1 if wanted == 200 else 401)
     async for case in addresses(host):
         yield case
+    async for case in headers(host):
+        yield case
+    async for case in guesses(host):
+        yield case
     async for case in pictures(host):
         yield case
     async for case in raw_sessions(host):
@@ -430,6 +436,38 @@ async def addresses(host):
             yield "a page of another site", "it was let in"
         except aiohttp.WSServerHandshakeError as fault:
             yield "a page of another site", difference(fault.status, 403)
+
+
+async def headers(host):
+    """What a browser is told to do with what it gets."""
+    async with host.web("ours") as client:
+        for path in ("/d/ours/", "/page/main.js", "/d/ours/none"):
+            async with client.get(f"{SITE}{path}") as response:
+                found = response.headers
+            yield f"who may show {path} in a page", None if "frame-ancestors 'none'" in found.get("Content-Security-Policy", "") else str(found)
+            yield f"what {path} is", difference(found.get("X-Content-Type-Options"), "nosniff")
+            yield f"that {path} is asked for by TLS", difference(found.get("Strict-Transport-Security"), "max-age=31536000")
+
+
+async def guesses(host):
+    """Many passwords from one address."""
+    judged, begin = [], time.monotonic()
+
+    async def guess(client, number):
+        with contextlib.suppress(*FAULTS):
+            async with client.get(page("ours"), auth=aiohttp.BasicAuth("ann", f"guess {number}")) as response:
+                judged.append(response.status)
+
+    async with host.web(address="127.0.0.2") as client, host.web("ours") as other:
+        work = [asyncio.create_task(guess(client, number)) for number in range(300)]
+        await until(lambda: len(judged) > 30)
+        most = 20 + 5 * (time.monotonic() - begin) + 2
+        yield "of 300 passwords of one address few are judged at once", None if len(judged) <= most else f"{len(judged)}, where {most:.0f} may be"
+        yield "all of these are wrong", difference({*judged}, {401})
+        count, status = len(judged), await status_of(other, page("ours"))
+        yield "another address is answered meanwhile", difference((status, len(judged) - count < 100), (200, True))
+        for it in work:
+            it.cancel()
 
 
 async def pictures(host):
@@ -481,6 +519,18 @@ async def raw_sessions(host):
     yield "HTTP at the raw port", None if b'"code":50' in http and http.count(b"\n") == 1 else http
     with host.session("ours") as canvas:
         yield "none of them has made an edit", difference(canvas.ask(**POINT)[0]["version"], version)
+    editors = host.machine.path("/etc/canvas/editors")
+    before = editors.read_text()
+    for_all = re.search(r'`("~\^CN=ann .*?" 1;)`', (TOP / "packaging" / "nginx" / "canvas-sessions.conf").read_text())[1]
+    editors.write_text(f"{before}{for_all}\n".replace('"CN=ann theirs" 1;\n', ""))
+    host.machine.must("systemctl", "reload", "nginx")
+    await asyncio.sleep(1)
+    for name, wanted in (("ann", True), ("ann lee", False), ("ben", False)):
+        found = await answer_to(context(name), "theirs.canvas.example", line_of(POINT))
+        yield f"CN={name}, where CN=ann may edit all documents", difference(b'"ok":true' in found, wanted)
+    editors.write_text(before)
+    host.machine.must("systemctl", "reload", "nginx")
+    await asyncio.sleep(1)
     with tempfile.TemporaryDirectory() as folder:
         words = f"OPENSSL:{RAW[0]}:{RAW[1]},snihost=ours.canvas.example,cert={host.keys.file('ann.crt')},key={host.keys.file('ann.key')},cafile={host.keys.file('tls.crt')}"
         process = subprocess.Popen(["socat", f"UNIX-LISTEN:{folder}/door,fork", words], stderr=subprocess.DEVNULL)
@@ -534,8 +584,9 @@ async def viewers(host):
     """More tabs than a server has seats, of which some edit, and raw sessions beside."""
     await host.create(["crowd"])
     seconds, over = (60 if host.is_long else 10), asyncio.Event()
-    async with host.web("crowd") as client:
-        tabs = await asyncio.gather(*(Tab.open(client, page("crowd")) for _ in range(TABS)), return_exceptions=True)
+    async with contextlib.AsyncExitStack() as stack:
+        clients = [await stack.enter_async_context(host.web("crowd", address=f"127.0.1.{number + 1}")) for number in range(TABS // 10)]
+        tabs = await asyncio.gather(*(Tab.open(client, page("crowd")) for client in clients for _ in range(10)), return_exceptions=True)
         yield "each tab is served", difference([repr(it) for it in tabs if not isinstance(it, Tab)], [])
         tabs = [it for it in tabs if isinstance(it, Tab)]
         editors = [Editor(host, "crowd", is_raw=number < EDITORS // 2, pause=0.1) for number in range(EDITORS)]
@@ -562,7 +613,7 @@ async def viewers(host):
         yield "no tab was told of an older version", difference([tab.fault for tab in tabs if tab.fault], [])
         newest = max(max(it.made, default=0) for it in editors)
         yield "each tab was told of the edits", difference([tab.seen for tab in tabs if tab.seen < newest // 2], [])
-        yield "they share few sessions", None if sessions <= 16 + EDITORS // 2 else f"{sessions} sessions"
+        yield "they share few sessions, and the gateway has its own", None if sessions <= 16 + EDITORS // 2 + 1 else f"{sessions} sessions"
         for editor in editors:
             await editor.stop()
         yield "no editor lost its connection", difference([it.breaks for it in editors], [0] * EDITORS)
@@ -572,14 +623,14 @@ async def viewers(host):
         host.figures.append(f"{TABS} tabs that ask for 12 tiles a second after each answer, beside {newest / seconds:.0f} edits a second: {sessions:.0f} sessions, {quantiles(times)}; canvasd "
                             f"{100 * used / seconds:.0f} % of a processor, gateway {int(memory) / 1e6 if memory.isdigit() else 0:.0f} MB")
     await gone(host, "crowd")
-    yield "their sessions have ended", difference(host.metric("crowd", "canvas_open_sessions"), 0)
+    yield "their sessions have ended, and the gateway has its own", difference(host.metric("crowd", "canvas_open_sessions"), 1)
     host.drop(["crowd"])
 
 
 async def gone(host, name):
-    """Waits until a server has no session."""
+    """Waits until a server has no session but the gateway's."""
     with contextlib.suppress(TimeoutError):
-        await until(lambda: host.metric(name, "canvas_open_sessions") == 0)
+        await until(lambda: host.metric(name, "canvas_open_sessions") == 1)
 
 
 def seconds_of(process):
@@ -595,6 +646,34 @@ def busy(host, name):
 def quantiles(times):
     times = sorted(times) or [0]
     return f"{1000 * times[len(times) // 2]:.0f} ms in the middle, {1000 * times[len(times) * 99 // 100]:.0f} of 99 in 100, {1000 * times[-1]:.0f} at most"
+
+
+async def seats(host):
+    """One address can't take all seats of a server; and where all are taken, a tab is still served."""
+    await host.create(["wanted"])
+    raws = await asyncio.gather(*(host.raw("wanted") for _ in range(70)), return_exceptions=True)
+    answers = await asyncio.gather(*(raw.ask(POINT) for raw in raws if isinstance(raw, Raw)), return_exceptions=True)
+    count = sum(isinstance(it, dict) and it["ok"] for it in answers)
+    yield "sessions that one address has at once", None if 30 <= count <= 40 else f"{count}"
+    sessions = [host.session("wanted") for _ in range(62)]
+    taken = 0
+    for session in sessions:
+        with contextlib.suppress(*FAULTS, Refused):
+            taken += session.ask(**POINT)[0]["ok"]
+    yield "no seat is left", None if taken < 62 else f"{taken} more"
+    async with host.web("wanted") as client:
+        tab = await Tab.open(client, page("wanted"))
+        yield "a tab where no seat is left", difference((await tab.ask(SHAPE))[0]["ok"], True)
+        await tab.close()
+        tab = await Tab.open(client, page("wanted"))
+        yield "a later one", difference((await tab.ask(SHAPE))[0]["version"], 2)
+        await tab.close()
+    for session in sessions:
+        session.close()
+    for raw in raws:
+        if isinstance(raw, Raw):
+            await raw.close()
+    host.drop(["wanted"])
 
 
 # -- bad input ---------------------------------------------------------------------------------------------------------
@@ -791,7 +870,8 @@ async def watch(host):
         canvas.ask(**SHAPE)
         yield "health", difference(subprocess.run(["curl", "-s", f"{WATCH}/watched/healthz"], capture_output=True).stdout.strip(), b"ok")
         await until(lambda: host.metric("watched", "canvas_version") == 1)
-        yield "versions and sessions", difference([host.metric("watched", it) for it in ("canvas_version", "canvas_kept_version", "canvas_open_sessions")], [1, 1, 1])
+        await until(lambda: host.metric("watched", "canvas_open_sessions") == 2)  # (one is the gateway's)
+        yield "versions", difference([host.metric("watched", it) for it in ("canvas_version", "canvas_kept_version")], [1, 1])
     for path in ("/none/metrics", "/watched/none", "/watched/../watched/x", "/"):
         done = subprocess.run(["curl", "-s", "--path-as-is", "-o", "/dev/null", "-w", "%{http_code}", f"{WATCH}{path}"], capture_output=True, text=True)
         yield f"the address {path}", None if done.stdout in ("404", "502", "400") else done.stdout
@@ -823,21 +903,28 @@ async def copies(host):
 
 # -- all of it ---------------------------------------------------------------------------------------------------------
 
-PARTS = {it.__name__: it for it in (admin, doors, browsed, viewers, bad, kills, disk, watch, copies)}
-UNITS = ("canvas@poster.service", "canvas-gateway.service")
+PARTS = {it.__name__: it for it in (admin, doors, browsed, viewers, seats, bad, kills, disk, watch, copies)}
+UNITS = ("canvas@.service", "canvas-gateway.service", "canvas-store.service", "canvas-door@.service", "canvas-documents.service")
+EXPOSED = 20
+"""Tenths of what systemd-analyze calls a unit's exposure: none has more."""
 
 
 def units(host):
     """The units as systemd-analyze reads them."""
-    done = host.machine.run("systemd-analyze", "verify", *UNITS)
+    done = host.machine.run("systemd-analyze", "verify", *(it.replace("@", "@poster") for it in UNITS))
     yield "the units", difference((done.returncode, done.stdout + done.stderr), (0, ""))
+
+
+def exposures():
+    """What the units may do, as systemd-analyze rates it."""
     for unit in UNITS:
-        done = host.machine.run("systemd-analyze", "security", "--offline=yes", "--threshold=10", "--no-pager", unit)
-        yield f"what {unit} may do", difference(done.returncode, 0) and done.stdout[-300:]
+        path = TOP / "packaging" / "systemd" / unit
+        done = subprocess.run(["systemd-analyze", "security", "--offline=yes", f"--threshold={EXPOSED}", "--no-pager", str(path)], capture_output=True, text=True)
+        yield f"what {unit} may do", difference(done.returncode, 0) and (done.stdout + done.stderr)[-300:]
 
 
 async def cases(host, names):
-    for case in units(host):
+    for case in (*exposures(), *units(host)):
         yield case
     for name in names or PARTS:
         begin = time.monotonic()
@@ -859,6 +946,7 @@ async def collected(host, names):
 def read_alone(why):
     """The units, as far as they are read where no machine can be made."""
     print(f"this machine allows no other one ({why}), so the units alone are read")
+    yield from exposures()
     with tempfile.TemporaryDirectory() as folder:
         for unit in ("canvas@.service", "canvas-gateway.service"):
             target = Path(folder, unit.replace("@", "@poster"))

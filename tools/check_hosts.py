@@ -7,7 +7,9 @@ usage: tools/check_hosts.py [--long] [PART ..]      the parts are the functions 
 - documents are made at the store, and each host has doors for them;
 - they are edited by TLS through all three hosts, while one host is killed, one is cut off and comes back, the database is killed, and the host of its
   leader is killed: each answered edit is there afterwards, under its version;
-- what is none of a host's business is refused: HTTP at the raw port, no certificate, one that may not, a name that is none.
+- what is none of a host's business is refused: HTTP at the raw port, no certificate, one that may not, a name that is none;
+- no password stands in a command's words, or in what nginx's workers or the servers of documents may read; etcd, Patroni and PostgreSQL listen where
+  the hosts are alone, and want a certificate; what the store says to be a name and is none becomes no path and no unit.
 
 It prints for how many seconds edits were not answered. With --long there are more documents. The programs are those that the environment's CANVAS and
 CANVASD name, or the built ones. Prints each case that fails, and a last line 'N passed, M failed'; the status is 1 where something failed. Where this
@@ -44,6 +46,8 @@ NAMES = ("h1", "h2", "h3")
 SERVICES = ("haproxy.service", "etcd.service", "patroni.service", "postgresql.service")
 UNITS = ("canvas@poster.service", "canvas-store.service", "canvas-door@poster.socket", "canvas-door@poster.service", "canvas-documents.service",
          "canvas-documents.timer", "canvas-gateway.service")
+WORDS = "/run/words-of-all-commands"
+"""Where the words of the commands of docs/RUNNING.md are noted, in a machine."""
 ANSWER = 5
 """Seconds after which a client that is not answered tries another host."""
 
@@ -55,6 +59,9 @@ class Hosts:
         folder, self.begun = Path(folder), time.monotonic()
         package = folder / "dist" / release.make({"canvas": BUILT, "canvasd": BUILT_KEEPER}, folder / "dist")[1]
         self.keys, self.figures, self.editors, self.machines = Keys(folder), [], [], {}
+        self.trust = folder / "trust"
+        self.trust.mkdir()
+        subprocess.run(["sh", "-euc", commands_of("# In an empty folder that nobody else may read")], cwd=self.trust, check=True, capture_output=True)
         machines.network(NAMES)
         for name in NAMES:
             (folder / name).mkdir()
@@ -62,7 +69,15 @@ class Hosts:
             self._fill(it)
         for it in self.machines.values():
             it.boot()
-            it.must("sh", "-euc", commands_of("# As root, on each of h1, h2 and h3"))
+            self.command(it, "# As root, on each of h1, h2 and h3")
+
+    def command(self, machine, begin):
+        """Runs the commands of a block of docs/RUNNING.md in a machine; the words of all programs that they start are noted there."""
+        machine.must("strace", "-f", "-qq", "-A", "-o", WORDS, "-s", "10000", "-e", "trace=execve", "sh", "-euc", commands_of(begin))
+
+    @property
+    def passwords(self):
+        return [it.read_text().strip() for it in (self.trust / "secrets").iterdir()]
 
     def _fill(self, machine):
         """What a host has of its own: its name, those of the others, and keys."""
@@ -72,8 +87,10 @@ class Hosts:
         (etc / "canvas" / "users").mkdir(parents=True)
         for name in ("tls.crt", "tls.key", "clients.crt"):
             shutil.copy(self.keys.file(name), etc / "canvas" / name)
-        (etc / "canvas" / "secret").write_text("a secret of the check\n".replace(" ", "-"))
-        (etc / "canvas" / "editors").write_text('"~^CN=ann " 1;\n')
+        shutil.copytree(self.trust / "secrets", etc / "canvas" / "secrets")
+        shutil.copy(self.trust / "hosts.crt", etc / "canvas")
+        shutil.copy(self.trust / f"{machine.name}.pem", etc / "canvas" / "host.pem")
+        (etc / "canvas" / "editors").write_text('"~^CN=ann [^ ]*$" 1;\n')
 
     def close(self):
         for it in self.machines.values():
@@ -97,7 +114,7 @@ class Hosts:
 
     async def make_database(self):
         await until(lambda: self.leader() and self.has_standby())
-        self.machines["h1"].must("sh", "-euc", commands_of("# As root, on one of them, when patronictl"))
+        self.command(self.machines[self.leader()], "# As root, on the leader, when patronictl")
         await until(lambda: all(it.run("systemctl", "is-active", "--quiet", "canvas-store").returncode == 0 for it in self.machines.values()))
         await asyncio.sleep(3)  # (as long as each haproxy needs to see that)
 
@@ -264,6 +281,88 @@ async def doors(hosts):
     yield "each host serves some of them", difference(sorted({*served}, key=str), [*NAMES])
 
 
+# -- who may know and do what ------------------------------------------------------------------------------------------
+
+def words_of_processes(machine):
+    """The words of all processes of a machine."""
+    return machine.must("sh", "-c", "cat /proc/[0-9]*/cmdline | tr '\\0' ' '")
+
+
+def listeners(machine):
+    """The addresses at which a machine listens, by port."""
+    found = {}
+    for line in machine.must("ss", "-Hltn").splitlines():
+        address, _, port = line.split()[3].rpartition(":")
+        found.setdefault(int(port), set()).add(address)
+    return found
+
+
+async def trust(hosts):
+    """Passwords, certificates, and names that are none."""
+    for number, (host, machine) in enumerate(hosts.machines.items(), 1):
+        said = machine.path(WORDS).read_text() + words_of_processes(machine)
+        yield f"no password of {host} stands in a command's words", difference([it for it in hosts.passwords if it in said], [])
+        for user in ("www-data", "canvas", "nobody"):
+            words = ["setpriv", f"--reuid={user}", f"--regid={machine.must('id', '-g', user).strip()}", "--init-groups", "grep", "-rslF", "-D", "skip"]
+            done = machine.run(*words, *(f"-e{it}" for it in hosts.passwords), "/etc", "/run", "/var", "/srv", "/root")
+            yield f"no password of {host} is read by {user}", difference(done.stdout, "")
+            done = machine.run(*words[:4], "sh", "-c", "cat /proc/[0-9]*/environ /etc/canvas/*.pem /etc/canvas/*.key")
+            yield f"nor by {user} of {host} in the environment of others, nor a key", difference([it for it in [*hosts.passwords, "PRIVATE"] if it in done.stdout], [])
+        door = "/run/canvas-store/door"
+        for user, wanted in (("www-data", False), ("canvas", True)):
+            done = machine.run("setpriv", f"--reuid={user}", "--regid=canvas", "--init-groups", "test", "-w", door)
+            yield f"{user} of {host} at the store's door", difference(done.returncode == 0, wanted)
+        found = listeners(machine)
+        yield f"{host} listens where the hosts are alone", difference({port: found.get(port) for port in (2379, 2380, 8008, 5432, 9465)}, dict.fromkeys(
+            (2379, 2380, 8008, 5432, 9465), {f"10.77.0.{number}"}))
+        with_key = ["--cacert", "/etc/canvas/hosts.crt", "--cert", "/etc/canvas/host.pem"]
+        for address in (f"https://{host}:2379/health", f"https://{host}:8008/health"):
+            for name, words, wanted in (("a certificate of the hosts", with_key, True), ("none", with_key[:2], False)):
+                done = machine.run("curl", "-sf", "-o", "/dev/null", *words, address)
+                yield f"{address} with {name}", difference(done.returncode == 0, wanted)
+        plain = machine.run("curl", "-s", f"http://{host}:2379/version", f"http://{host}:8008/config")
+        yield f"{host} says nothing without TLS", difference([it for it in ("etcdserver", "ttl") if it in plain.stdout], [])
+    async for case in no_names(hosts):
+        yield case
+
+
+NO_NAMES = ("../../../etc", "a b", "poster.socket", "-x", "a/b", "UPPER", "x" * 64, "%i", "..")
+
+
+def intruded(hosts):
+    """What names that are none have led to on the hosts."""
+    found = []
+    for it in hosts.machines.values():
+        if it.must("stat", "-c", "%U", "/etc", "/var/lib", "/").split() != ["root"] * 3:
+            found.append(f"{it.name}: who owns /etc")
+        there = it.must("systemctl", "list-units", "--all", "--plain", "--no-legend", "--full", "canvas*@*").split()
+        found += [f"{it.name}: {unit}" for unit in there if "@" in unit and not re.search("@doc-[0-9]+\\.|@after", unit)]
+    return found
+
+
+async def no_names(hosts):
+    """A store that somebody has changed, and an agent that tells what is no name."""
+    leader = hosts.machines[hosts.leader()]
+    change = "ALTER TABLE document DROP CONSTRAINT document_name_check"
+    done = leader.run("sh", "-c", f'psql "$(cat /etc/canvas/database)" -c "{change}"')
+    yield "the role of the agents can't change a table", None if "must be owner" in done.stderr else done.stderr
+    told = "/run/canvas-store/names"
+    for it in hosts.machines.values():
+        it.path(told).write_text("\n".join(NO_NAMES) + "\n" + "".join(f"{name}\n" for name in hosts.holders()))
+        it.must("systemctl", "start", "canvas-documents.service")
+    yield "names that are none in the file of an agent", difference(intruded(hosts), [])
+    journal = leader.journal("canvas-documents")
+    yield "they are told", None if f"line {len(NO_NAMES)} of {told} is no name" in journal and "UPPER" not in journal else journal[-500:]
+    values = ", ".join(f"('{name}')" for name in (*NO_NAMES, "after"))
+    superuser = ["runuser", "-u", "postgres", "--", "psql", "-q", "-d", "canvas", "-c"]
+    leader.must(*superuser, f"{change}; INSERT INTO document (name) VALUES {values}")
+    yield "a name that is one has its doors", difference(await patient(lambda: all(it.path("/run/canvas/after/door").exists() for it in hosts.machines.values())), True)
+    yield "names that are none in the store", difference(intruded(hosts), [])
+    yield "they are told too", None if f"{len(NO_NAMES)} of its names are none" in leader.journal("canvas-store") else leader.journal("canvas-store")[-500:]
+    leader.must(*superuser, f"DELETE FROM document WHERE name IN ({', '.join(map(repr, (*NO_NAMES, 'after')))})")
+    yield "the doors of a name that is gone go", difference(await patient(lambda: not any(it.path("/run/canvas/after/door").exists() for it in hosts.machines.values())), True)
+
+
 # -- what fails --------------------------------------------------------------------------------------------------------
 
 async def patient(is_so):
@@ -409,8 +508,8 @@ async def kept(hosts):
                          f"{sum(it.breaks for it in hosts.editors)} connections that ended")
 
 
-PARTS = {it.__name__: it for it in (doors, killed, cut_off, agent, apart, database, leader, load)}
-SHORT = ("doors", "killed", "leader")
+PARTS = {it.__name__: it for it in (doors, trust, killed, cut_off, agent, apart, database, leader, load)}
+SHORT = ("doors", "trust", "killed", "leader")
 
 
 async def cases(hosts, given):

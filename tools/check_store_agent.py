@@ -5,7 +5,9 @@ usage: tools/check_store_agent.py [--long] [--rounds N] [PART ..]      the parts
 
 - what is kept comes back: openings, generations, writes over what is there, cuts, thousands of turns;
 - bad input ends its own connection, and the log tells of it: names, numbers, places, half lines, floods;
-- one host at a time has a document: others wait for its lease, or until it gives the document up; what a host that was cut off asks is refused;
+- one host at a time has a document: others wait for its lease, or until it gives the document up; what a host that was cut off asks is refused, and
+  it gives up, and its server answers no look, before another one has the document;
+- connections that can't be accepted are counted, and later ones are served; names that are none are told to nobody;
 - the database is killed and started again while eight clients append, and the agent is killed (-9) N times: what was answered is there, in order;
 - a folder of canvasd is imported, and exported again to what canvasd serves;
 - agents that are wrong are found by this (--long), and 64 documents are written at once.
@@ -28,7 +30,7 @@ import time
 from pathlib import Path
 
 from repository import BUILT_KEEPER, TOP
-from running import EMPTY, Running, build_keeper, difference, guarded, kept_words, tell, wait_for
+from running import EMPTY, LOST_JOURNAL, Running, build_keeper, difference, guarded, kept_words, tell, wait_for
 from store_client import Ended, Gated, Store, lines_of
 
 AGENT = Path(os.environ.get("CANVAS_STORE", TOP / "packaging" / "store" / "canvas-store"))
@@ -123,16 +125,16 @@ class Relay:
 class Agent:
     """A run of the agent as a host of this name."""
 
-    def __init__(self, folder, host, address):
+    def __init__(self, folder, host, address, *words, before=()):
         self.host, self.door, self._address, self.log = host, Path(folder) / f"{host}.door", address, Path(folder) / f"{host}.log"
+        self._words = [*before, AGENT, "serve", "--host", host, "--socket", self.door, *words]
         self.start()
 
     def start(self):
         self.door.unlink(missing_ok=True)
         with self.log.open("ab") as log:
-            words = [AGENT, "serve", "--host", self.host, "--socket", self.door]
             environment = {**os.environ, "CANVAS_DATABASE": self._address}
-            self.process = subprocess.Popen(words, stdin=subprocess.DEVNULL, stdout=log, stderr=log, env=environment)
+            self.process = subprocess.Popen(self._words, stdin=subprocess.DEVNULL, stdout=log, stderr=log, env=environment)
         if not wait_for(self._listens):
             raise RuntimeError(f"the agent does not start: {self.said()}")
 
@@ -330,6 +332,7 @@ def fences(bench):
     yield from cut_off(bench, is_late=False)
     yield from cut_off(bench, is_late=True)
     yield from frozen(bench)
+    yield from stale(bench)
 
 
 def cut_off(bench, is_late):
@@ -345,6 +348,7 @@ def cut_off(bench, is_late):
         turning.start()
         with bench.second.hold(name) as other:
             bench.figures.append(f"a host that is cut off loses its document within {time.monotonic() - begun:.1f} s")
+            yield f"{name}: it was told before, by its own clock", difference([word for word, _ in refused], ["lost"])
             yield f"{name}: what was answered is there", None if other.journal == b"\none\n\n" else other.journal
             if not is_late:
                 journal_there = Gated(other)
@@ -354,7 +358,7 @@ def cut_off(bench, is_late):
                 journal_there = Gated(other)
             journal_there.turn([b"three"])
             journal_there.turn([])
-        yield f"{name}: what it asks is refused", difference(refused, [("lost", f"{name} is held by second in the place of first")])
+        yield f"{name}: it is told why", None if "the lease of first is over: the database has not answered for 5 s" in refused[0][1] else refused
     with bench.second.hold(name) as other:
         yield f"{name}: nothing of it is kept", difference(lines_of(other.journal), [b"three"])
 
@@ -365,8 +369,76 @@ def frozen(bench):
         bench.second.process.send_signal(19)
         with bench.first.hold("frozen"):
             bench.second.process.send_signal(18)
-            wanted = "lost", "frozen is held by first in the place of second"
-            yield "a host that stood still gives up unasked", difference(ending_of(lambda: store.answer("ok")), wanted)
+            yield "a host that stood still gives up unasked", difference(ending_of(lambda: store.answer("ok"))[0], "lost")
+
+
+def stale(bench):
+    """A server whose host was cut off answers no look when another host has its document."""
+    with Running(kept_words(bench.folder / "shown", "--store", f"unix:{bench.first.door}")) as server:
+        with server.connect() as canvas:
+            canvas.create({"kind": "group"})
+        answers, over = [], threading.Event()
+
+        def look():
+            while not over.is_set():
+                with contextlib.suppress(OSError, EOFError), server.connect(5) as canvas:
+                    while not over.is_set():
+                        canvas.point(0, 0)
+                        answers.append(time.monotonic())
+                time.sleep(0.01)
+
+        looking = threading.Thread(target=look)
+        looking.start()
+        bench.relay.cut()
+        with bench.second.hold("shown"):
+            held = time.monotonic()
+            time.sleep(3)
+            over.set()
+            looking.join()
+        bench.relay.mend()
+        bench.figures.append(f"the last look at a host that was cut off: {held - answers[-1]:.2f} s before another one has the document")
+        yield "no look is answered by a host that was cut off", None if answers[-1] < held else f"{answers[-1] - held:.2f} s later"
+        yield "its server has ended", difference(server.end(5), LOST_JOURNAL)
+
+
+# -- what is around it -------------------------------------------------------------------------------------------------
+
+def crowded(bench):
+    """More connections than an agent may have."""
+    agent = Agent(bench.folder, "small", bench.database.address, before=("prlimit", "--nofile=40"))
+    idle = [Store(agent.door) for _ in range(60)]
+    yield "a connection that can't be accepted is told", None if wait_for(lambda: "can't be accepted: Too many open files" in agent.said()) else agent.said()
+    time.sleep(3)
+    yield "in few words", None if len(agent.said()) < 2000 else agent.said()[-500:]
+    for store in idle:
+        store.close()
+    with made(agent, "crowded") as store:
+        Gated(store).turn([b"one"])
+    yield "later ones are served", difference(agent.end(), 0)
+
+
+def names(bench):
+    """Names that are none are told to nobody, whatever stands in the database."""
+    told = bench.folder / "names"
+    agent = Agent(bench.folder, "telling", bench.database.address, "--names", told)
+    for name in ("one", "two"):
+        made(agent, name).close()
+    yield "the names of documents", None if wait_for(lambda: told.is_file() and told.read_text().endswith("one\ntwo\n")) else told.read_text()
+    bad_names = ("../../../etc", "a b", "-x", "A", "", "x" * 64, "a\nb")
+    bench.database.ask("ALTER TABLE document DROP CONSTRAINT document_name_check; " + "; ".join(f"INSERT INTO document (name) VALUES ('{it}')" for it in (*bad_names, "three")))
+    wait_for(lambda: "three\n" in told.read_text()) or wait_for(lambda: "three\n" in told.read_text())
+    lines = told.read_text().split("\n")
+    yield "names that are none", difference(([it for it in bad_names if it in lines[:-1]], "three" in lines), ([], True))
+    yield "the log tells of them", None if f"{len(bad_names)} of its names are none" in agent.said() else agent.said()[-500:]
+    bench.database.ask("DELETE FROM document WHERE name !~ '^[a-z0-9][a-z0-9-]{0,62}$' OR name = 'three'; "
+                       "ALTER TABLE document ADD CHECK (name ~ '^[a-z0-9][a-z0-9-]{0,62}$')")
+    agent.end()
+    credentials = bench.folder / "credentials"
+    credentials.mkdir()
+    (credentials / "database").write_text(f"{bench.database.address}\n")
+    environment = {**os.environ, "CREDENTIALS_DIRECTORY": str(credentials)}
+    done = subprocess.run([AGENT, "list"], capture_output=True, text=True, env=environment)
+    yield "the database of systemd's credential", difference((done.returncode, "one" in done.stdout), (0, True))
 
 
 # -- crashes -----------------------------------------------------------------------------------------------------------
@@ -462,8 +534,11 @@ WRONG = {
         "fences", "        WHERE id = %(id)s AND epoch = %(epoch)s AND generation = %(generation)s AND turn = %(turn)s",
         "        WHERE id = %(id)s AND %(epoch)s > 0 AND generation = %(generation)s AND turn = %(turn)s"),
     "an answer before the commit": (
-        "killed_agent", "            await (holding.begin(int(first), data) if word else holding.sync())\n            writer.write(b\"ok\\n\")",
+        "killed_agent", "            await (holding.begin(int(first), data) if word else holding.sync())\n"
+        "            writer.write(b\"\" if holding.is_told else b\"ok\\n\")",
         "            writer.write(b\"ok\\n\")\n            await (holding.begin(int(first), data) if word else holding.sync())"),
+    "it does not look at its own clock": ("fences", "agent.beat(), agent.watch(),", "agent.beat(),"),
+    "it takes no care of names": ("names", "if re.fullmatch(NAME, name)]", "]"),
     "what is on its way when the database ends counts as kept": (
         "killed_database", "            if found[0] == after:\n                break", "            break")}
 """Agents that are wrong, each with the part that tells so, a text of the agent and what stands in its place."""
@@ -558,8 +633,8 @@ def folders(bench):
     yield "no database", difference(store("list")[0], 1)
 
 
-PARTS = {it.__name__: it for it in (kept, bad, leases, fences, killed_database, killed_agent, load, folders, controls)}
-SHORT = ("kept", "bad", "fences", "killed_database", "killed_agent", "folders")
+PARTS = {it.__name__: it for it in (kept, bad, crowded, names, leases, fences, killed_database, killed_agent, load, folders, controls)}
+SHORT = ("kept", "bad", "crowded", "names", "fences", "killed_database", "killed_agent", "folders")
 
 
 def cases(bench, names):

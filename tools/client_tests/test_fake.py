@@ -397,6 +397,23 @@ class Fake(unittest.TestCase):
             with served(answering(POINT), listener) as address, Canvas.connect(address) as canvas:
                 self.assertEqual(canvas.point(0, 0), json.loads(POINT))
 
+    def test_the_server_is_told_that_a_feed_was_left(self):
+        ends = []
+
+        def note_end(sock):
+            sock.settimeout(5)
+            ends.append(sock.recv(1))
+
+        with served(answering(FIRST, end=note_end)) as address:
+            feed = Feed.connect(address)
+            self.assertEqual(next(feed), KEPT[0])
+            with feed._socket.dup():  # (as where another process was started meanwhile)
+                feed.close()
+                give_up = time.monotonic() + 5
+                while not ends and time.monotonic() < give_up:
+                    time.sleep(0.01)
+                self.assertEqual(ends, [b""])
+
     def test_the_end_of_a_feed(self):
         came = []
 

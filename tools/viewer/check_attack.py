@@ -5,7 +5,8 @@ usage: tools/viewer/check_attack.py
 
 A page of another port and a page of a file send requests to the server by a form and by `fetch`, whose bodies hold edits as lines: no edit
 is made, and the server goes on serving. Each way is first tried on a listener that only keeps what it is sent, so that it is known that the
-edits do leave the browser.
+edits do leave the browser. And a page of another port shows the gateway's page in its own, where clicks could be led to it: the browser does not show it,
+as it does a page that says nothing of that.
 
 Prints each case that fails, and a last line 'N passed, M failed'; the status is 1 where something failed.
 """
@@ -23,6 +24,7 @@ from browser import Browser  # noqa: E402
 from canvas_client import line_of  # noqa: E402
 from puppet import until  # noqa: E402
 from running import Server, difference  # noqa: E402
+from tests.desk import Gateway  # noqa: E402
 
 PAGE = b"<!DOCTYPE html><title>A page</title><iframe name=hidden></iframe>"
 EDIT = line_of({"verb": "create", "shape": {"kind": "rect", "w": 9, "h": 9, "fill": "ff0000"}}).decode()
@@ -35,6 +37,10 @@ FORM = """(() => {{
     document.body.append(form);
     form.submit();
 }})()"""
+FRAME = """new Promise((done) => {{
+    const frame = Object.assign(document.createElement('iframe'), {{src: {address}, onload: () => done(0)}});
+    document.body.append(frame);
+}})"""
 WAYS = {"a form": FORM, "fetch, no-cors": FETCH.replace("{mode}", "no-cors"), "fetch, cors": FETCH.replace("{mode}", "cors")}
 
 
@@ -112,19 +118,47 @@ async def by_page(browser, page, folder):
     await tab.close()
 
 
+async def shown(browser, page, address):
+    """The address of what a page shows of another one."""
+    tab = await browser.open(page)
+    await tab.value(FRAME.format(address=json.dumps(address)))
+    frame = (await tab.command("Page.getFrameTree"))["frameTree"]["childFrames"][-1]["frame"]
+    await tab.close()
+    return frame["url"]
+
+
+async def in_a_frame(browser, page, folder):
+    """The page of the gateway, in a page of another port."""
+    async with Host() as other:
+        yield "a page that says nothing of frames", difference(await shown(browser, page, other.address), other.address)
+    with Server(folder) as server:
+        gateway = Gateway(server)
+        try:
+            yield "the gateway's page in a frame", difference(await shown(browser, page, gateway.page), "chrome-error://chromewebdata/")
+        finally:
+            gateway.close()
+
+
+async def cases(browser, host, folder, file):
+    for page in (host.address, file.as_uri()):
+        async for case in by_page(browser, page, folder):
+            yield case
+    async for case in in_a_frame(browser, host.address, folder):
+        yield case
+
+
 async def run():
     passed = failed = 0
     with tempfile.TemporaryDirectory() as folder:
         file = Path(folder) / "page.html"
         file.write_bytes(PAGE)
         async with Browser() as browser, Host() as host:
-            for page in (host.address, file.as_uri()):
-                async for name, fault in by_page(browser, page, folder):
-                    if fault is None:
-                        passed += 1
-                    else:
-                        failed += 1
-                        print(f"FAIL {name}: {fault}", flush=True)
+            async for name, fault in cases(browser, host, folder, file):
+                if fault is None:
+                    passed += 1
+                else:
+                    failed += 1
+                    print(f"FAIL {name}: {fault}", flush=True)
     print(f"{passed} passed, {failed} failed")
     return 1 if failed else 0
 

@@ -42,8 +42,10 @@ or true. `you` is the tab's own number, told once; with `all` nobody else is the
 """
 
 import argparse
+import asyncio
 import errno
 import os
+import signal
 import socket
 import sys
 from pathlib import Path
@@ -52,6 +54,7 @@ try:
     from aiohttp import web
 
     from relay.application import application
+    from relay.arrivals import Arrivals
     from relay.documents import Folder, One
 except ModuleNotFoundError as missing:
     sys.exit(f"gateway: there is no {missing.name}; tools/viewer/setup.sh installs what is needed")
@@ -104,8 +107,22 @@ def listener_at(door):
         os.unlink(door)
     found = socket.socket(socket.AF_UNIX)
     found.bind(door)
-    found.listen(1024)
     return found, f"unix:{door}"
+
+
+async def serve(found, listener, address):
+    """Serves an application until it is told to end."""
+    arrivals, runner, over = Arrivals(found), web.AppRunner(found, access_log=None), asyncio.Event()
+    for number in (signal.SIGINT, signal.SIGTERM):
+        asyncio.get_running_loop().add_signal_handler(number, over.set)
+    await runner.setup()
+    door = await arrivals.open(runner.server, listener)
+    print(address, flush=True)
+    await over.wait()
+    door.close()
+    await runner.shutdown()
+    await runner.server.shutdown(PATIENCE)
+    await runner.cleanup()
 
 
 def main():
@@ -116,7 +133,7 @@ def main():
         sys.exit(f"gateway: {fault.strerror}")
     documents = One(given.name, given.server, given.feed) if given.server else Folder(given.documents, given.moves)
     host = None if isinstance(given.listen, str) else given.listen[0]
-    web.run_app(application(documents, host), sock=listener, print=lambda _: print(address, flush=True), access_log=None, shutdown_timeout=PATIENCE)
+    asyncio.run(serve(application(documents, host), listener, address))
 
 
 if __name__ == "__main__":

@@ -9,6 +9,12 @@ from aiohttp import web
 from relay.tabs import Tab
 
 PAGE = Path(__file__).resolve().parent.parent / "page"
+HEADERS = {
+    "Cache-Control": "no-cache",
+    "Content-Security-Policy": "default-src 'self'; img-src 'self' data:; base-uri 'none'; frame-ancestors 'none'",
+    "X-Content-Type-Options": "nosniff",
+}
+"""What each answer has: a browser runs and shows what is of this site alone, and shows it in no page of another one."""
 
 
 def is_own(request, listen):
@@ -55,8 +61,8 @@ def application(documents, listen):
         return web.Response(text=page_of(documents.title(name_in(request)), documents.root), content_type="text/html")
 
     async def fresh(_, response):
-        response.headers.setdefault("Cache-Control", "no-cache")
-        response.headers.setdefault("Content-Security-Policy", "default-src 'self'; img-src 'self' data:")
+        for name, value in HEADERS.items():
+            response.headers.setdefault(name, value)
 
     async def leave(_):
         for document in documents.shown():

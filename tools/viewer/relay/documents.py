@@ -6,6 +6,7 @@ import re
 import time
 from pathlib import Path
 
+from relay.own import OwnSeats
 from relay.pictures import Pictures
 from relay.tabs import Room
 
@@ -19,8 +20,8 @@ LINGER = 60
 class Document:
     """A document that is shown: its room, and how many look at it. The feed is followed until it is closed."""
 
-    def __init__(self, name, address, feed, share=1, moves=False):
-        self.room = Room(address, feed, Pictures(share), name, moves)
+    def __init__(self, name, address, feed, share=1, moves=False, own=lambda: None):
+        self.room = Room(address, feed, Pictures(share), name, moves, own)
         self.guests, self.left = 0, time.monotonic()
         self._following = asyncio.create_task(self.room.feed.follow()) if feed else None
 
@@ -78,7 +79,7 @@ class Folder:
 
     def __init__(self, folder, moves=False):
         self._folder, self._moves = Path(folder), moves
-        self._shown = {}
+        self._own, self._shown = OwnSeats(Path(folder), moves), {}
 
     def has(self, name):
         return NAME.fullmatch(name) is not None and (name in self._shown or (self._folder / name).is_dir())
@@ -88,18 +89,21 @@ class Folder:
 
     def document(self, name):
         if name not in self._shown:
-            self._shown[name] = Document(name, *(str(self._folder / name / door) for door in ("door", "feed")), SHARE, self._moves)
+            doors = (str(self._folder / name / door) for door in ("door", "feed"))
+            self._shown[name] = Document(name, *doors, SHARE, self._moves, lambda: self._own.session(name))
         return self._shown[name]
 
     def shown(self):
         return [*self._shown.values()]
 
     async def run(self, _):
-        tidying = asyncio.create_task(self._tidy())
+        tasks = [asyncio.create_task(it) for it in (self._tidy(), self._own.hold())]
         yield
-        tidying.cancel()
+        for task in tasks:
+            task.cancel()
         for document in self.shown():
             await document.close()
+        self._own.close()
 
     async def _tidy(self):
         """Closes what nobody has looked at for a while, again and again."""

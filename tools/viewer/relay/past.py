@@ -133,14 +133,16 @@ class Visit:
         self._turn = asyncio.Lock()
 
     async def look(self, version, requests, since=None):
-        """The replies to looks at the document as it was after so many edits, each with its body; and the lines of the edits that led there from another
-        version, where that is named."""
+        """The replies to looks at the document as it was after so many edits, each with its body; and the lines of the edits that led there from an
+        earlier version, where that is named."""
         if not self._past.is_there:
             raise Unseen("the server has no feed")
         if not all(isinstance(request, dict) and request.get("verb") in LOOKS for request in requests):
             raise Unseen("it can't be changed")
-        if not all(isinstance(number, int) and number >= 0 for number in (version, since or 0)):
+        if not all(isinstance(number, int) and 0 <= number for number in (version, 0 if since is None else since)):
             raise Unseen("there is no such version")
+        if since is not None and since > version:
+            raise Unseen(f"no edits lead from version {since} to {version}")
         async with self._turn:
             try:
                 self._past.enter(self)

@@ -15,8 +15,9 @@ class Seats:
     is the tab's own affair, since others have theirs.
     """
 
-    def __init__(self, address):
-        self._address = address
+    def __init__(self, address, own=lambda: None):
+        """Sessions at an address. `own` gives one that somebody else keeps open, or None."""
+        self._address, self._own = address, own
         self._tabs = {}
         self._opening = None
 
@@ -26,11 +27,11 @@ class Seats:
             try:
                 await asyncio.shield(self._opened())
             except Away:
-                session = self._best(is_any=True)
+                session = self._best(is_any=True) or self._own()
                 if session is None:
                     raise
                 break
-        self._tabs[session] += 1
+        self._tabs[session] = self._tabs.get(session, 0) + 1
         return session
 
     def leave(self, session):
@@ -38,7 +39,7 @@ class Seats:
         self._tabs[session] -= 1
         if not self._tabs[session]:
             del self._tabs[session]
-            session.close()
+            self._close(session)
 
     def _best(self, is_any=False):
         """The session of the fewest tabs; None where one with no tab may still be had, unless any is good."""
@@ -62,6 +63,10 @@ class Seats:
             raise
         self._tabs[session] = 0
 
+    def _close(self, session):
+        if session is not self._own():
+            session.close()
+
     def close(self):
         for session in self._tabs:
-            session.close()
+            self._close(session)

@@ -81,8 +81,8 @@ class Room:
     """What all tabs of a document share: sessions with its server, its feed if it has one, their looks and news, and who is there. A document `moves`
     that another host may have when its server is away."""
 
-    def __init__(self, address, feed_address, pictures, name="drawing", moves=False):
-        self.name, self.seats, self.moves = name, Seats(address), moves
+    def __init__(self, address, feed_address, pictures, name="drawing", moves=False, own=lambda: None):
+        self.name, self.seats, self.moves = name, Seats(address, own), moves
         self.feed = Feed(feed_address) if feed_address else None
         self.looks, self.news, self.people, self.past = Looks(pictures), News(), People(), Past(feed_address)
 

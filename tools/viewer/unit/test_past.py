@@ -124,6 +124,17 @@ def test_the_edits_between_two_versions_are_told_as_the_feed_has_them():
     tried(9, work)
 
 
+@pytest.mark.parametrize("since, why", [(9, "no edits lead from version 9 to 0"), (1, "no edits lead from version 1 to 0"), (10 ** 30, "no edits lead"),
+                                        ("", "no such version"), ([], "no such version"), (0.0, "no such version"), (-1, "no such version")])
+def test_edits_that_lead_from_no_earlier_version_are_refused(since, why):
+    async def work(_, past):
+        visit = Visit(past)
+        with pytest.raises(Unseen, match=why):
+            await visit.look(0, [], since)
+        assert await visit.look(2, [], 1) == ([], [edit(2)[:-1]])
+    tried(2, work)
+
+
 def test_two_tabs_see_two_versions():
     async def work(_, past):
         first, second = Visit(past), Visit(past)

@@ -126,3 +126,25 @@ def test_a_server_that_is_away(monkeypatch):
             await seats.take()
 
     run(monkeypatch, work)
+
+
+def test_where_no_seat_is_left_tabs_share_that_of_the_gateway(monkeypatch):
+    async def work(_, server):
+        own = await server.open(None)
+        seats = Seats(None, lambda: own)
+        found = [await seats.take() for _ in range(3)]
+        for session in found:
+            seats.leave(session)
+        again = await seats.take()
+        seats.close()
+        return {*found, again} == {own}, own.is_over
+
+    assert run(monkeypatch, work, seats=1) == (True, False)
+
+
+def test_while_seats_are_left_that_of_the_gateway_is_not_taken(monkeypatch):
+    async def work(_, server):
+        own = await server.open(None)
+        return own in [await Seats(None, lambda: own).take() for _ in range(3)]
+
+    assert run(monkeypatch, work) is False
