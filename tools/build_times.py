@@ -18,8 +18,8 @@ from repository import PROGRAMS, TOP, below, sources, uses
 
 TABLE = TOP / "tools" / "build_times.txt"
 HEAD = "# The steps of each crate's proof, in millions. tools/build_times.py --write writes this.\n"
-# Seconds of a processor at 2.5 GHz. They were fitted to one first build of canvas (63.5 minutes on four processors, 116 of a processor) and to the
-# minutes of its largest crates; machines differ by nearly two.
+# Seconds of a processor at 2.5 GHz, from the minutes of the largest crates in one first build of canvas. All of it took 63.5 minutes on four processors
+# and 116 of a processor, and is reckoned to have taken 73 and 106. Machines differ by nearly two.
 START = 10  # for any crate
 EACH_MILLION = 0.86  # for a million steps of its proof
 EACH_MILLION_BELOW = 0.12  # to load the proofs of the crates below, for a million of their steps

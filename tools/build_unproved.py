@@ -102,7 +102,7 @@ def main():
     if sys.argv[1:] not in ([it] for it in FIRST_RUNS):
         sys.exit("usage: tools/build_unproved.py canvas|canvasd")
     name = sys.argv[1]
-    for number in (signal.SIGTERM, signal.SIGHUP):
+    for number in (signal.SIGINT, signal.SIGTERM, signal.SIGHUP):
         signal.signal(number, lambda number, _: sys.exit(128 + number))
     out = TOP / "crates" / name / "out"
     out.mkdir(exist_ok=True)

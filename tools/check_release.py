@@ -3,7 +3,7 @@
 
 usage: tools/check_release.py
 
-The release is of the programs that the environment's CANVAS and CANVASD name, or else of those that bin/canvas and bin/canvasd build. The tarball is
+The libraries are those of a small tree, with a stub in the place of `rt`. The release is of the programs that the environment's CANVAS and CANVASD name, or else of those that bin/canvas and bin/canvasd build. The tarball is
 unpacked into an empty folder, the Debian package into a root folder that has the C library and nothing else; both run the example of README.md and
 servers, and canvasd again on the folder that it made.
 The second takes the right to change the root, so it runs as root or in a user namespace.
@@ -15,17 +15,20 @@ import gzip
 import os
 import re
 import shutil
+import signal
 import subprocess
 import sys
 import tempfile
+import time
 import urllib.request
 from contextlib import contextmanager
 from pathlib import Path
 
 from canvas_client import Canvas
 from check_program import EXAMPLE, readme_example
-from release import INSTALLED, PROGRAMS
-from repository import BUILT, BUILT_KEEPER, TOP
+from check_wrapper import TAKEN, packed, take, unbuilt
+from release import INSTALLED, OF_SCRIPTS, SHARED, files_of
+from repository import BUILT, BUILT_KEEPER, PROGRAMS, TOP
 from running import build, build_keeper, free_port, port_of
 
 SECONDS = 60
@@ -49,7 +52,7 @@ def releases(folder):
     made = []
     for number, mask in enumerate((0o022, 0o077)):
         target = folder / str(number)
-        words = [str(TOP / "tools" / "release.py"), "--canvas", str(BUILT), "--canvasd", str(BUILT_KEEPER), "--to", str(target)]
+        words = [str(TOP / "tools" / "release.py"), "--canvas", str(BUILT), "--canvasd", str(BUILT_KEEPER), "--to", str(target), "--programs-alone"]
         done = subprocess.run(words, umask=mask, capture_output=True, text=True, timeout=SECONDS)
         yield f"release {number}", (done.stderr, done.returncode), ("", 0)
         made.append({it.name: it.read_bytes() for it in target.iterdir()})
@@ -59,6 +62,32 @@ def releases(folder):
     yield "the checksums", call(["sha256sum", "--check", "--quiet", "SHA256SUMS"], folder / "0"), (b"", b"", 0)
     for name in PROGRAMS:
         yield f"no {name} to release", call([str(TOP / "tools" / "release.py"), f"--{name}", "/nowhere"])[2], 1
+
+
+# -- its libraries -----------------------------------------------------------------------------------------------------
+
+def libraries(_):
+    """A release with libraries, of a small tree whose programs and libraries are stubs; another copy of its sources takes them."""
+    with packed() as made:
+        for path in files_of((*SHARED, *OF_SCRIPTS, "tools/release.py")):
+            target = made.top / path.relative_to(TOP)
+            target.parent.mkdir(parents=True, exist_ok=True)
+            shutil.copy2(path, target)
+        words = ("--canvasd", str(made.top / "crates" / "canvas" / "out" / "canvas"), "--to")
+        names = sorted([f"{TARBALL}.tar.gz", PACKAGE, f"canvas-{VERSION}-libraries.tar", "SHA256SUMS"])
+        made_twice = [made.top.parent / name for name in ("dist", "again")]
+        for dist in made_twice:
+            yield "a release with libraries", made.run(*words, str(dist), command="tools/release.py")[1:], ("", 0)
+            yield "the names of its files", sorted(os.listdir(dist)), names
+            yield "their checksums", call(["sha256sum", "--check", "--quiet", "SHA256SUMS"], dist), (b"", b"", 0)
+        yield "made twice", [(it / names[1]).read_bytes() == (made_twice[0] / names[1]).read_bytes() for it in made_twice], [True, True]
+        top = unbuilt(made, "taking")
+        found = take(made, top, made_twice[0] / f"canvas-{VERSION}-libraries.tar")
+        yield "its libraries are taken", found, ([TAKEN], 0, ["run in canvas"], ["low", "middle"])
+        shutil.rmtree(made.top / "crates" / "low" / "out")
+        said = "release.py: the library low is not built; bin/canvasd builds it; --programs-alone makes a release without\n"
+        yield "a release of a library that is not built", made.run(*words, str(made.top.parent / "none"), command="tools/release.py"), ("", said, 1)
+        yield "nothing is made then", os.listdir(made.top.parent / "none"), []
 
 
 # -- what runs in both -------------------------------------------------------------------------------------------------
@@ -117,6 +146,35 @@ def shown(demo):
 
 # -- the tarball -------------------------------------------------------------------------------------------------------
 
+def passed(begin=(0, 0)):
+    """The seconds since another time by the clock, and those of a processor in what was started and has ended."""
+    used = os.times()
+    now = time.monotonic(), used.children_user + used.children_system
+    return now[0] - begin[0], now[1] - begin[1]
+
+
+def first_commands(folder):
+    """The first commands of README.md, on a release that was just downloaded, take less than ten seconds until the page is there; on a machine that
+    has more to do than it has processors, ten of a processor."""
+    first = re.search(r"^```\n(.*?)^```", (TOP / "README.md").read_text(), re.M | re.S)[1]
+    room = folder / "first"
+    room.mkdir()
+    shutil.copy(folder / "0" / f"{TARBALL}.tar.gz", room)
+    words = f"--folder {room}/drawing --listen 127.0.0.1:{free_port()}"
+    begin = passed()
+    process = subprocess.Popen(["bash", "-ec", f"{first.rstrip()} {words}"], cwd=room, env=PLAIN, start_new_session=True,
+                               stdin=subprocess.DEVNULL, stdout=subprocess.PIPE)
+    try:
+        line = process.stdout.readline().decode()
+        by_clock, _ = passed(begin)
+    finally:
+        os.killpg(process.pid, signal.SIGTERM)
+        process.communicate(timeout=SECONDS)
+    _, of_processor = passed(begin)
+    is_busy = os.getloadavg()[0] > len(os.sched_getaffinity(0))
+    yield "the first commands of README.md", (line.startswith("look at http://"), (of_processor if is_busy else by_clock) < 10), (True, True)
+
+
 def tarball(folder):
     room = folder / "unpacked"
     room.mkdir()
@@ -133,6 +191,9 @@ def tarball(folder):
         yield f"the man page of {name} tells what the help tells", words_missing(name, (top / "share" / "man" / "man1" / f"{name}.1").read_text()), []
     yield "README.md's example", call(["bash", "-c", EXAMPLE], top), (readme_example(), b"", 0)
     yield "a command that is none", call([str(top / "bin" / "canvas"), "paint"])[::2], (b"", 2)
+    for word, rest in (("--unproved", ["script"]), ("--libraries", ["file"])):
+        refused = f"canvas: {word} builds the program, and there are no sources here (docs/INSTALL.md)\n".encode()
+        yield f"{word} in a release", call([str(top / "bin" / "canvas"), word, *rest], top), (b"", refused, 4)
     yield "a document that is none", call([str(top / "bin" / "canvas"), "serve", "127.0.0.1:0", "none"])[1:], (b"canvas: there is no file none\n", 4)
     yield from served_by_tarball(top)
     yield from kept("the tarball", ["bin/canvasd"], "drawing", "examples/poster.json", top)
@@ -208,7 +269,7 @@ def main():
     build_keeper()
     passed = failed = 0
     with tempfile.TemporaryDirectory() as folder:
-        for cases in (releases, tarball, package):
+        for cases in (releases, libraries, first_commands, tarball, package):
             for name, got, wanted in cases(Path(folder)):
                 passed += got == wanted
                 failed += got != wanted

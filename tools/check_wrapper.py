@@ -265,10 +265,39 @@ def times():
         (["long", "middle", "short", "other"], [], 4, {"long": 2, "middle": 1, "short": 1}), (["short", "other"], ["long"], 2, {"short": 1, "other": 1}),
         (["short"], ["long"], 3, {"short": 3}), (["short"], ["long"], 0, {}), (["short"], ["long"], -1, {}), (["long"], ["short"], 1, {"long": 1})):
         yield f"begun of {ready} beside {running} on {idle}", build_times.to_begin(ready, running, CHAIN, idle), wanted
+    yield from tables()
+
+
+RECORD = 'x[{"aux": [], "name": "a", "steps": [3000000, 2000000, 9]}, {"aux": [], "name": "b", "steps": [1, 1600000, 0]}]y'
+"""What a kept module has between other bytes: the steps of its declarations."""
+
+
+def tables():
+    """What tools/build_times.py writes of what checks kept."""
+    with packed() as made:
+        table = made.write("tools/build_times.txt", "canvas 7\ngone 8\n")
+        made.write("crates/low/out/incremental/build/records/Rattle-low-proofs.f.Proof.decls.oantt", RECORD)
+        made.write("crates/middle/out/incremental/build/records/Rattle-middle-proofs.f.Tie.decls.oantt", RECORD.replace("3000000", "1"))
+        out, said, status = made.run("--write", command="tools/build_times.py")
+        told = ["canvas: no check kept anything of it; its line is as it was", "canvasd: no check kept anything of it; it has no line"]
+        yield "a table is written", (out.splitlines()[:2], said, status), (told, "", 0)
+        yield "the table", [it for it in table.read_text().splitlines() if it[0] != "#"], ["low 7", "middle 4", "canvas 7"]
+        yield "the minutes", re.findall(r"^(\w+): \d+ minutes on \d+ processors, \d+ over built libraries$", out, re.M), ["canvas", "canvasd"]
 
 
 # -- a release's libraries ---------------------------------------------------------------------------------------------
 
+COPIES = """
+import sys, tempfile
+from pathlib import Path
+sys.path.insert(0, sys.argv[1] + "/tools")
+from repository import copy_for
+with tempfile.TemporaryDirectory() as room:
+    copy_for("canvas", Path(room, "plain"))
+    copy_for("canvas", Path(room, "taken"), with_taken=True)
+    print(*(sum(1 for _ in Path(room, it).glob("crates/*/out/rlib/stamp")) for it in ("plain", "taken")))
+"""
+"""Prints how many libraries stand in a copy for wrong bodies, and in one for a build."""
 KIT = "stub-kit logic 12ab"
 LIBRARIES = "canvas 0 libraries.tar"
 
@@ -312,6 +341,7 @@ def libraries():
         made.write(top / "crates/canvas/src/main.rt", MAIN.replace("first", "second"))
         said = made.run("script", top=top)[1]
         yield "a build over them says so", "2 of its libraries were taken from a release, and nothing here proved them" in said, True
+        yield "they are left out where wrong bodies are tried", made.run("-c", COPIES, str(top), command="/usr/bin/python3", top=top)[::2], ("0 2\n", 0)
         made.calls()
         again = made.run("pack", "/nowhere/at.tar", command="tools/libraries.py", top=top)
         yield "they are not packed again", again, ("", "libraries: the library low rests on low, which was taken from a release; bin/canvasd builds it\n", 4)

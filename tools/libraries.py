@@ -232,8 +232,6 @@ def take(source):
             take_from(archive)
     except (tarfile.TarError, LZMAError, EOFError, ValueError, KeyError, TypeError, AttributeError) as why:
         raise NoLibraries(f"{source} is torn, or no file of libraries: {why or type(why).__name__}") from why
-    except OSError as why:
-        raise NoLibraries(f"{why.filename or source} can't be used: {why.strerror or why}") from why
 
 
 def main():
@@ -250,6 +248,9 @@ def main():
                 take(words.file)
     except NoLibraries as why:
         say(why)
+        sys.exit(4)
+    except OSError as why:
+        say(f"{why.filename or words.file} can't be used: {why.strerror or why}")
         sys.exit(4)
 
 

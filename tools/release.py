@@ -174,7 +174,7 @@ def make_package(folder, target, seconds):
     subprocess.run(words, env={**os.environ, "SOURCE_DATE_EPOCH": str(seconds)}, stdout=subprocess.DEVNULL, check=True)
 
 
-def make(files, to, with_libraries, built):
+def make(files, to, with_libraries=False, built=False):
     """Makes the release of the programs in these files, and gives the names of its own."""
     day = day_of_version()
     seconds = int(datetime.fromisoformat(day).replace(tzinfo=timezone.utc).timestamp())
