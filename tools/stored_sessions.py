@@ -4,6 +4,8 @@ tests/sessions/*.session. A line is one of
     # WORDS         a comment
     == NAME         begins a case: a session over a document of its own
     = DOCUMENT      the saved document that it begins with, a JSON text or a file's path from the repository's top; an empty one where it is left out
+    =+ MEMBERS      what is other in that document, as {"next":99,"groups":[1,9]}: its next id; groups more on the page with the ids 1 to 9, each with the
+                    key of the rank that its id is, the greatest first
     > LINE          a line that is sent
     < LINE          the line of the reply that is wanted to the next line that has none yet
     (BODY)          the body behind that line, which may go over several lines
@@ -30,6 +32,8 @@ from dataclasses import dataclass, field
 from typing import Optional
 from urllib.parse import unquote_to_bytes
 
+import key_rows
+from plain_model import saved_record
 from repository import TOP
 
 COLOURS = {"red": "ff0000", "green": "00ff00", "blue": "0000ff", "white": "ffffff", "black": "000000"}
@@ -179,6 +183,16 @@ def document_of(sign, rest):
     return line_of(sign, rest)
 
 
+def with_more(document, members):
+    """A saved document with another next id or more groups, as `=+` says."""
+    saved, more = json.loads(document), json.loads(members)
+    first, last = more.pop("groups", (1, 0))
+    for number in range(last, first - 1, -1):
+        group = {"shape": {"kind": "group"}, "pose": {}, "hidden": False, "index": key_rows.fresh(number), "parent": None}
+        saved["shapes"].append(saved_record(number, group, saved["format"]))
+    return json.dumps({**saved, **more}, separators=(",", ":")).encode()
+
+
 def take_line(case, number, line):
     """Adds a line of a file to a case."""
     sign, _, rest = line.partition(" ")
@@ -192,6 +206,8 @@ def take_line(case, number, line):
         case.replies.append(Reply(number, rest))
     elif sign in ("=", "=%") and case.document is None and not case.sent:
         case.document = document_of(sign, rest)
+    elif sign == "=+" and case.document is not None and not case.sent:
+        case.document = with_more(case.document, rest)
     elif sign == "!":
         case.fault = rest
     else:
