@@ -1,31 +1,66 @@
 #!/usr/bin/env python3
 """Compares pictures of the built program with the plain model of plain_model.py on random documents.
 
-usage: tools/compare_with_model.py [documents, 40 where it is left out] [seed, 1 where it is left out]
+usage: tools/compare_with_model.py [times, 1 where it is left out] [seed, 1 where it is left out]
        CANVAS_SERVER=canvasd tools/compare_with_model.py ..      over connections to canvasd (tools/running.py)
 
-Of each document a random window is painted at each level from 0 to 6. The documents are of all sizes: small ones, which are a pixel or
-none at the high levels, and ones that fill windows of the high levels. Shapes have sides of any length, so their edges fall between the
-pixels that a level shows, and on them.
+The documents are of the forms below, as many of each as FORMS says, so many times:
 
-Prints what differs, and a last line 'N passed, M failed'; the status is 1 where something failed.
+- any: of all sizes, and a window of each level from 0 to 6. Sides are of any length, so edges fall between the pixels that a level shows, and on them;
+- deep: 40 shapes, most in the newest group or frame, near the origin and at two corners of the plane;
+- flat: 24 shapes there, mostly in one group, painted by 1, 2 or 3 workers;
+- wide: 60 shapes that fill a wide window, by 1 to 4 workers;
+- walls: shapes up to 140 wide, most of them rectangles, in windows of one pixel to many cells;
+- crowd: more small shapes than are painted at once, and a rectangle in front of some, at the levels 0 and 3.
+
+Prints what differs, and a last line 'N passed, M failed', of documents; the status is 1 where something failed.
 """
 
 import random
 import sys
 
-from canvas_client import Refused
-from plain_model import Model
-from plain_session import window_of
-from running import build, own_session
+from canvas_client import line_of
+from fuzz import first_difference
+from plain_session import Session
+from running import answers_to, build, tell
+
+LEVELS = range(7)
+PLANE = 1 << 21
+CORNERS = [(0, 0, 0), (1 << 20, PLANE - 80, -PLANE), (-1 << 20, -PLANE, PLANE - 30)]
+"""How far each of two groups, one in another, moves to the right and up, and near which place windows are then."""
 
 
 def colour(chance):
     return f"{chance.randrange(1 << 24):06x}"
 
 
-LEVELS = range(7)
+def create(shape, pose=None, **more):
+    return {"verb": "create", "shape": shape, "pose": pose or {}, **more}
 
+
+def near(chance, least, width, height):
+    """Any pose near the origin."""
+    dx, dy = least + chance.randrange(width), least + chance.randrange(height)
+    return {"dx": dx, "dy": dy, "quarter": chance.randrange(4), "flip": chance.random() < 0.5}
+
+
+def boxed(chance, kind, most_wide, most_high):
+    """A shape with sides; half of the frames have no fill."""
+    made = {"kind": kind, "w": chance.randint(1, most_wide), "h": chance.randint(1, most_high), "fill": colour(chance)}
+    return {**made, "fill": None} if kind == "frame" and chance.random() < 0.5 else made
+
+
+def polygon(chance, corners, least, most):
+    """A polygon, which mostly crosses itself."""
+    points = [[chance.randrange(least, most), chance.randrange(least, most)] for _ in range(corners)]
+    return {"kind": "polygon", "points": points, "fill": colour(chance)}
+
+
+def patch(x, y, w, h, level=0):
+    return {"verb": "patch", "x": x, "y": y, "w": w, "h": h, "level": level}
+
+
+# -- documents of all sizes --------------------------------------------------------------------------------------------
 
 def far(chance, least, end, scale):
     """A length from `least` to `end`, so many times as great; one in three on a pixel that the scale shows, the others anywhere."""
@@ -37,7 +72,7 @@ def shape(chance, kind, scale):
     if kind == "group":
         return {"kind": "group"}
     if kind == "polygon":
-        corners = chance.randrange(3, 9)
+        corners = chance.randrange(3, 12)
         points = [[far(chance, -20, 40, scale), far(chance, -20, 40, scale)] for _ in range(corners)]
         return {"kind": "polygon", "points": points, "fill": colour(chance)}
     made = {"kind": kind, "w": side(), "h": side()}
@@ -46,60 +81,126 @@ def shape(chance, kind, scale):
     return made
 
 
-def request(chance, containers, scale):
-    kind = chance.choice(["group", "frame", "rect", "ellipse", "polygon", "polygon"])
-    made = {"verb": "create", "shape": shape(chance, kind, scale), "parent": chance.choice(containers)}
-    made["pose"] = {
-        "dx": far(chance, -12, 40, scale),
-        "dy": far(chance, -12, 40, scale),
-        "quarter": chance.randrange(4),
-        "flip": chance.random() < 0.5,
-    }
-    if chance.random() < 0.08:
-        made["hidden"] = True
-    return made
-
-
 def window(chance, model, level):
     """A window of the level over a corner of a shape that shows, or near the middle of the page."""
     left, top, right, bottom = chance.choice([box for _, box in model.leaves()] or [(-20, -20, 30, 30)])
-    w, h = (chance.randrange(1, 40) for _ in range(2))
+    w, h = chance.randrange(1, 71), chance.randrange(1, 40)
     x, y = (chance.choice(ends) >> level for ends in ((left, right), (top, bottom)))
-    return {"verb": "patch", "x": x - chance.randrange(w + 1), "y": y - chance.randrange(h + 1), "w": w, "h": h, "level": level}
+    return patch(x - chance.randrange(w + 1), y - chance.randrange(h + 1), w, h, level)
 
 
-def differs(chance):
-    """What differs for one random document, or None."""
-    model, containers, scale = Model(), [None], 1 << chance.choice([0, *LEVELS])
-    with own_session() as canvas:
-        for _ in range(chance.randrange(1, 40)):
-            line = request(chance, containers[-8:], scale)
-            try:
-                reply, _ = canvas.ask(**line)
-            except Refused as refused:
-                return f"{line} was refused: {refused}"
-            if reply["id"] != model.edit(line):
-                return f"{line} got the id {reply['id']}"
-            if line["shape"]["kind"] in ("group", "frame"):
-                containers.append(reply["id"])
-        for level in LEVELS:
-            asked = window(chance, model, level)
-            _, image = canvas.ask(**asked)
-            if image != model.image(*window_of(asked)):
-                return f"{asked} of {list(model.records.values())}"
-    return None
+def any_document(chance, session, _):
+    containers, scale = [None], 1 << chance.choice([0, *LEVELS])
+    for number in range(1, chance.randrange(2, 41)):
+        made = shape(chance, chance.choice(["group", "frame", "rect", "ellipse", "polygon", "polygon"]), scale)
+        pose = {"dx": far(chance, -12, 40, scale), "dy": far(chance, -12, 40, scale), "quarter": chance.randrange(4), "flip": chance.random() < 0.5}
+        yield create(made, pose, parent=chance.choice(containers[-8:]), hidden=chance.random() < 0.08)
+        if made["kind"] in ("group", "frame"):
+            containers.append(number)
+    for level in LEVELS:
+        yield window(chance, session.model, level)
+
+
+# -- documents at the corners of the plane -----------------------------------------------------------------------------
+
+def far_groups(away):
+    """Two groups, one in the other, each of which moves as far."""
+    pose = {"dx": away, "dy": -away}
+    return [create({"kind": "group"}, pose), create({"kind": "group"}, pose, parent=1)]
+
+
+def window_near(chance, x, y, before, width):
+    """A window near a place, cut at the edges of the plane."""
+    left, top = (max(-PLANE, at + chance.randrange(24) - before) for at in (x, y))
+    return patch(left, top, min(chance.randint(1, width), PLANE - left), min(chance.randint(1, 24), PLANE - top))
+
+
+def deep_document(chance, session, number):
+    away, x, y = CORNERS[number % 3]
+    yield from far_groups(away)
+    last = 2
+    for _ in range(40):
+        kind = chance.choices(["group", "frame", "rect", "ellipse", "polygon"], [2, 3, 2, 1, 2])[0]
+        made = {"kind": kind} if kind == "group" else polygon(chance, chance.randint(3, 11), -12, 28) if kind == "polygon" else boxed(chance, kind, 60, 40)
+        parent = last if chance.random() < 2 / 3 else chance.randint(2, last)
+        made_of = session.model.next
+        yield create(made, near(chance, -6, 14, 14), parent=parent, hidden=chance.random() < 1 / 12, spot=chance.choice(["front", "back"]))
+        if kind in ("group", "frame") and made_of in session.model.records:
+            last = made_of
+    yield window_near(chance, x, y, 12, 70)
+
+
+def flat_document(chance, session, number):
+    away, x, y = CORNERS[number // 3 % 3]
+    yield from far_groups(away)
+    for count in range(24):
+        kind = chance.choice(["group", "frame", "frame", "rect", "ellipse", "polygon", "polygon"])
+        made = {"kind": kind} if kind == "group" else polygon(chance, chance.randint(3, 8), -6, 18) if kind == "polygon" else boxed(chance, kind, 20, 20)
+        parent = max(2, chance.randrange(count + 1))
+        yield create(made, near(chance, -8, 24, 24), parent=parent, hidden=chance.random() < 1 / 9, spot=chance.choice(["front", "back"]))
+    yield window_near(chance, x, y, 8, 90)
+
+
+# -- documents that fill their windows ---------------------------------------------------------------------------------
+
+def leaf(chance, kinds, reach, corners):
+    """A shape that is no group and no frame, with sides up to `reach`."""
+    kind = chance.choice(kinds)
+    return polygon(chance, chance.randint(*corners), -reach, reach) if kind == "polygon" else boxed(chance, kind, reach, reach)
+
+
+def wide_document(chance, session, _):
+    for _ in range(60):
+        yield create(leaf(chance, ["rect", "ellipse", "polygon"], 120, (9, 9)), near(chance, -40, 300, 140))
+    yield patch(3, 5, 250, 96)
+
+
+WALLS = [patch(70, 60, 1, 1), patch(3, -7, 33, 256), patch(-2, 90, 255, 17), patch(5, 5, 9, 8), patch(31, 18, 97, 130)]
+
+
+def walls_document(chance, session, number):
+    for _ in range(24):
+        made = leaf(chance, ["rect", "rect", "rect", "rect", "ellipse"], 140, None) if chance.random() < 5 / 6 else polygon(chance, chance.randint(3, 11), -12, 28)
+        yield create(made, {**near(chance, -40, 290, 290), "flip": False})
+    yield WALLS[number % len(WALLS)]
+
+
+def crowd_document(chance, session, number):
+    level = (0, 3)[number % 2]
+    for _ in range(320):
+        reach = (40 if chance.random() < 1 / 12 else 6) << level
+        made = leaf(chance, ["rect", "ellipse", "polygon"], reach, (3, 11))
+        yield create(made, {**near(chance, -8 << level, 90 << level, 60 << level), "flip": False})
+    yield create({"kind": "rect", "w": 20 << level, "h": 16 << level, "fill": "010203"}, {"dx": 10 << level, "dy": 10 << level})
+    yield patch(-3, -2, 70, 43, level)
+
+
+# -- comparisons -------------------------------------------------------------------------------------------------------
+
+FORMS = {"any": (any_document, 40), "deep": (deep_document, 360), "flat": (flat_document, 450), "wide": (wide_document, 4),
+         "walls": (walls_document, 15), "crowd": (crowd_document, 2)}
+WORKERS = {"flat": 3, "wide": 4}
+"""Up to how many workers paint a form; else 2."""
+
+
+def difference_of(form, number, seed):
+    """What differs for one document, or None."""
+    chance = random.Random(f"{seed} {form} {number}" if form != "wide" else f"{seed} {form}")
+    session, data = Session(), b""
+    for request in FORMS[form][0](chance, session, number):
+        data += line_of(request)
+        session.feed(line_of(request))
+    workers = number % WORKERS[form] + 1 if form in WORKERS else 2
+    got, _ = answers_to(data, str(workers))
+    return None if got == session.out else f"{first_difference(got, session.out)} of the session {data!r}"
 
 
 def main():
     build()
-    count = int(sys.argv[1]) if len(sys.argv) > 1 else 40
-    chance = random.Random(int(sys.argv[2]) if len(sys.argv) > 2 else 1)
-    failures = [found for found in (differs(chance) for _ in range(count)) if found]
-    for found in failures:
-        print(f"differs: {found}")
-    print(f"{count - len(failures)} passed, {len(failures)} failed")
-    sys.exit(1 if failures else 0)
+    times, seed = ([int(it) for it in sys.argv[1:]] + [1, 1][len(sys.argv) - 1:])[:2]
+    cases = ((form, number) for form, (_, count) in FORMS.items() for number in range(times * count))
+    return tell((f"{form} {number}", difference_of(form, number, seed)) for form, number in cases)
 
 
 if __name__ == "__main__":
-    main()
+    sys.exit(main())

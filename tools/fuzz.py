@@ -153,6 +153,9 @@ def with_level(request, level):
     return request if level is None else {**request, "level": level}
 
 
+EDIT_WEIGHTS = {"create": 36, "move": 14, "pose": 9, "reshape": 9, "show": 3, "delete": 5, "respace": 3}
+LOOK_WEIGHTS = {"tile": 0.8, "patch": 9, "point": 9, "export": 3}
+"""How often each verb comes."""
 WRONG_LEVELS = [Raw("null"), True, "1", [1], {}, Raw("1.0"), Raw("-0"), Raw("1e0"), 2**63]
 
 
@@ -297,13 +300,19 @@ class Requests:
 
     def request(self):
         """A request, as a dict."""
-        verbs = {"create": 36, "move": 14, "pose": 9, "reshape": 9, "show": 3, "delete": 5, "respace": 3,
-                 "tile": 0.8, "patch": 9, "point": 9, "export": 3}
+        weights = {**EDIT_WEIGHTS, **LOOK_WEIGHTS}
         if self._habit == "pictures":
-            verbs["patch"] = 40
+            weights["patch"] = 40
         if self._habit == "deep":
-            verbs.update(create=90, delete=1)
-        verb = self._chance.choices(list(verbs), list(verbs.values()))[0]
+            weights.update(create=90, delete=1)
+        return self._one_of(weights)
+
+    def edit(self):
+        """A request that is an edit, as a dict."""
+        return self._one_of(EDIT_WEIGHTS)
+
+    def _one_of(self, weights):
+        verb = self._chance.choices(list(weights), list(weights.values()))[0]
         members = {
             "create": self._create,
             "move": self._move,

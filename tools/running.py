@@ -282,10 +282,10 @@ def own_session():
         yield canvas
 
 
-def answers_to(data):
+def answers_to(data, workers="2"):
     """What such a session writes for these bytes, and the status of `canvas script`, or 0 of a server."""
     if not IS_KEPT:
-        done = subprocess.run([str(PROGRAM), "script"], input=data, capture_output=True, timeout=SECONDS)
+        done = subprocess.run([str(PROGRAM), "script", workers], input=data, capture_output=True, timeout=SECONDS)
         return done.stdout, done.returncode
-    with tempfile.TemporaryDirectory() as folder, Server(folder) as server, server.socket() as sock:
+    with tempfile.TemporaryDirectory() as folder, Server(folder, workers=workers) as server, server.socket() as sock:
         return talk(sock, data), 0

@@ -1,0 +1,192 @@
+#!/usr/bin/env python3
+"""Compares random edits of documents of many forms and sizes with the plain models, one by one.
+
+usage: tools/compare_edits.py [seed, 1 where it is left out]
+       CANVAS_SERVER=canvasd tools/compare_edits.py ..      by canvasd (tools/running.py), and not by `canvas serve`
+
+After each edit the reply, the whole saved document and some colours have to be those of plain_session.py. The edits are those of fuzz.py; many are
+refused. They begin with
+
+- nothing: 30 times 80 edits, and 6 pixels after each;
+- 2 to 31 groups and frames, each in the one before: 60 edits each, and 6 pixels after each;
+- none to 19 of them: 60 edits each, every other one a pose, and a window of 12 by 12 pixels after each;
+- 10, 100, 1,000 and 4,096 squares on the page, and the same in groups of 63: 1,000 edits each;
+- the same in the last of 31 groups, each in the one before: 200 edits each;
+- 1,000 squares in groups, of which the children of one move away and back, and 4,096, of which the children of some get new keys.
+
+Of more than 100 records no pixel is looked at. Prints what differs, and a last line 'N passed, M failed', of documents; the status is 1 where
+something failed.
+"""
+
+import json
+import multiprocessing
+import os
+import random
+import sys
+import tempfile
+from functools import partial
+
+import key_rows
+from canvas_client import line_of
+from fuzz import Requests
+from plain_model import Model, saved_record
+from plain_session import Session, open_document
+from running import SECONDS, Server, build, difference, tell
+
+STILL = {"dx": 0, "dy": 0, "flip": False, "quarter": 0}
+RED = "ff0000"
+EXPORT = {"verb": "export"}
+FEW = 100
+"""How many records a document may have whose pixels are looked at."""
+
+
+# -- documents ---------------------------------------------------------------------------------------------------------
+
+def record(number, parent, rank, shape, pose=STILL):
+    place = {"index": key_rows.fresh(rank), "parent": parent}
+    return {"hidden": False, "id": number, "place": place, "pose": pose, "shape": shape}
+
+
+def saved(records):
+    """The saved text of these records, of which the last has the greatest id."""
+    return json.dumps({"format": 2, "next": len(records) + 1, "shapes": records}, separators=(",", ":")).encode()
+
+
+def nested(levels):
+    """Groups and a few frames, each of which holds the next."""
+    frame = {"fill": None, "h": 30, "kind": "frame", "w": 30}
+    return saved([record(k + 1, k or None, 2, frame if k % 8 == 7 else {"kind": "group"}) for k in range(levels)])
+
+
+HOLDERS = {
+    "on the page": lambda number: None,
+    "in groups": lambda number: number & ~63 if number % 64 and number > 63 else None,
+    "32 deep": lambda number: min(number - 1, 31) or None,
+}
+"""In which group a record of each form of a document lies, or None for the page."""
+IS_GROUP = {"on the page": lambda number: False, "in groups": lambda number: number % 64 == 0, "32 deep": lambda number: number <= 31}
+
+
+def filled(form, count):
+    """So many squares somewhere near the middle of the page, and groups, which lie as the form says."""
+    def one(number):
+        parent = HOLDERS[form](number)
+        if IS_GROUP[form](number):
+            return record(number, parent, number, {"kind": "group"})
+        pose = {**STILL, "dx": number % 41 - 20, "dy": number % 37 - 20}
+        return record(number, parent, number, {"fill": RED, "h": 3, "kind": "rect", "w": 3}, pose)
+
+    return saved([one(number) for number in range(1, count + 1)])
+
+
+# -- edits -------------------------------------------------------------------------------------------------------------
+
+def some_edits(count, chance, session):
+    """Edits of any verb, which may be refused."""
+    for _ in range(count):
+        yield Requests(chance, session, "any").edit()
+
+
+def turns(count, chance, session):
+    """Edits of which every other one is a pose of what is there."""
+    for number in range(count):
+        ids = list(session.model.records)
+        turn = {"dx": chance.randint(-20, 20), "dy": chance.randint(-20, 20), "quarter": chance.randrange(4), "flip": chance.random() < 0.5}
+        is_turn = number % 2 and ids
+        yield {"verb": "pose", "id": chance.choice(ids), "pose": turn} if is_turn else Requests(chance, session, "any").edit()
+
+
+def away_and_back(chance, session):
+    """All children of group 64 move to another group, back, and to the page, one after the other; each time the parent's children get new keys."""
+    for parent in (128, 64, None):
+        yield from ({"verb": "move", "id": 65 + number, "parent": parent, "spot": "front"} for number in range(63))
+        yield {"verb": "respace", "parent": parent}
+
+
+def new_keys(chance, session):
+    yield from ({"verb": "respace", "parent": group} for group in (64, 2_048, 4_032))
+
+
+# -- looks -------------------------------------------------------------------------------------------------------------
+
+def pixels(chance, session):
+    """The looks at six pixels, where there are few records."""
+    count = 6 if len(session.model.records) <= FEW else 0
+    return [{"verb": "point", "x": chance.randrange(-25, 25), "y": chance.randrange(-25, 25)} for _ in range(count)]
+
+
+def window(chance, session):
+    return [{"verb": "patch", "x": chance.randint(-20, 20), "y": chance.randint(-20, 20), "w": 12, "h": 12}]
+
+
+# -- comparisons -------------------------------------------------------------------------------------------------------
+
+class QuickModel(Model):
+    """The plain model of a saved text's document, which saves only those records anew that have changed."""
+
+    def __init__(self, text):
+        super().__init__()
+        opened = open_document(text)
+        self.records, self.next, self._texts = opened.records, opened.next, {}
+
+    def saved(self, form=2):
+        return b'{"format":%d,"next":%d,"shapes":[%s]}' % (form, self.next, b",".join(self._text(number, form) for number in sorted(self.records)))
+
+    def _text(self, number, form):
+        record, text = self._texts.get(number, (None, None))
+        if record is not self.records[number]:
+            record = self.records[number]
+            text = json.dumps(saved_record(number, record, form), separators=(",", ":"), sort_keys=True).encode()
+            self._texts[number] = record, text
+        return text
+
+
+def read_exactly(stream, wanted):
+    """As many bytes as are wanted, and the rest of a line or a body that is longer."""
+    got = stream.read(len(wanted))
+    return got if got == wanted else got + stream.peek()
+
+
+def fault_of(text, edits, looks, chance):
+    """What differs after one of the edits of a document, or None."""
+    session = Session(QuickModel(text))
+    with tempfile.TemporaryDirectory() as folder, Server(folder, text) as server, server.socket() as sock:
+        sock.settimeout(SECONDS)
+        with sock.makefile("rb") as stream:
+            for number, edit in enumerate(edits(chance, session)):
+                replies = [session.reply(line_of(edit)[:-1])]
+                asked = [EXPORT, *looks(chance, session)]
+                sock.sendall(b"".join(line_of(request) for request in [edit, *asked]))
+                replies += [session.reply(line_of(request)[:-1]) for request in asked]
+                for request, wanted in zip([edit, *asked], replies):
+                    if found := difference(read_exactly(stream, wanted), wanted):
+                        return f"{request} after {number} edits, of which the last is {edit}: {found}"
+    return None
+
+
+def jobs():
+    """A name, a document, its edits and the looks after each."""
+    yield from ((f"an empty document, {k}", nested(0), partial(some_edits, 80), pixels) for k in range(30))
+    yield from ((f"{k} groups", nested(k), partial(some_edits, 60), pixels) for k in range(2, 32))
+    yield from ((f"{k} groups that are turned", nested(k), partial(turns, 60), window) for k in range(20))
+    for form in HOLDERS:
+        edits = partial(some_edits, 200 if form == "32 deep" else 1_000)
+        yield from ((f"{count} records {form}", filled(form, count), edits, pixels) for count in (4_096, 1_000, 100, 10))
+    yield "children that move away and back", filled("in groups", 1_000), away_and_back, pixels
+    yield "new keys of few of many", filled("in groups", 4_096), new_keys, pixels
+
+
+def one(seed, job):
+    name, text, edits, looks = job
+    return name, fault_of(text, edits, looks, random.Random(f"{seed} {name}"))
+
+
+def main():
+    build()
+    seed = int(sys.argv[1]) if len(sys.argv) > 1 else 1
+    with multiprocessing.Pool(len(os.sched_getaffinity(0))) as pool:
+        return tell(pool.imap_unordered(partial(one, seed), sorted(jobs(), key=lambda job: -len(job[1]))))
+
+
+if __name__ == "__main__":
+    sys.exit(main())
