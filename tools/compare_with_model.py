@@ -16,6 +16,8 @@ The documents are of the forms below, as many of each as FORMS says, so many tim
 Prints what differs, and a last line 'N passed, M failed', of documents; the status is 1 where something failed.
 """
 
+import multiprocessing
+import os
 import random
 import sys
 
@@ -184,7 +186,7 @@ WORKERS = {"flat": 3, "wide": 4}
 
 
 def difference_of(form, number, seed):
-    """What differs for one document, or None."""
+    """What differs for one document, or None. All wide ones are the same, by other workers."""
     chance = random.Random(f"{seed} {form} {number}" if form != "wide" else f"{seed} {form}")
     session, data = Session(), b""
     for request in FORMS[form][0](chance, session, number):
@@ -195,11 +197,16 @@ def difference_of(form, number, seed):
     return None if got == session.out else f"{first_difference(got, session.out)} of the session {data!r}"
 
 
+def one(case):
+    return "{} {} of the seed {}".format(*case), difference_of(*case)
+
+
 def main():
     build()
     times, seed = ([int(it) for it in sys.argv[1:]] + [1, 1][len(sys.argv) - 1:])[:2]
-    cases = ((form, number) for form, (_, count) in FORMS.items() for number in range(times * count))
-    return tell((f"{form} {number}", difference_of(form, number, seed)) for form, number in cases)
+    cases = [(form, number, seed) for form, (_, count) in FORMS.items() for number in range(times * count)]
+    with multiprocessing.Pool(len(os.sched_getaffinity(0))) as pool:
+        return tell(pool.imap_unordered(one, cases, chunksize=10))
 
 
 if __name__ == "__main__":
