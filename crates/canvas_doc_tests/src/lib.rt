@@ -1,5 +1,6 @@
-//! Tests of documents: versions that share their records, changes in place, which record of a list is at fault, what walks leave out, and want of
-//! memory. What a session can say is in the stored sessions (`tests/sessions/`), and in random edits beside the plain models.
+//! Tests of documents: versions that share their records, changes in place, which record of a list
+//! is at fault, what walks leave out, and want of memory. What a session can say is in the stored
+//! sessions (`tests/sessions/`), and in random edits beside the plain models.
 #![tactic(auto)]
 
 #[cfg(test)]

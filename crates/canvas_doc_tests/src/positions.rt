@@ -1,4 +1,5 @@
-//! Which record of a list is no record, or belongs to no tree: the first one. Of a saved text the programs tell the refusal alone.
+//! Which record of a list is no record, or belongs to no tree: the first one. Of a saved text the
+//! programs tell the refusal alone.
 
 use crate::asserts::holds;
 use crate::samples::{RED, frame, moved, push, record, rectangle, restored};
@@ -9,7 +10,8 @@ use canvas_shape::{Kind, Points};
 use std::alloc::Global;
 use std::process::Abort;
 
-// What a record is: a group, a leaf, a leaf with a pose out of range, or a shape with values out of range.
+// What a record is: a group, a leaf, a leaf with a pose out of range, or a shape with values out of
+// range.
 #[derive(Clone, Copy, Debug)]
 enum What {
     Group,
@@ -21,7 +23,8 @@ enum What {
     Points(i64),
 }
 
-// An id, the id of a parent (0: the page), how many siblings' keys come before its index, and what it is.
+// An id, the id of a parent (0: the page), how many siblings' keys come before its index, and what
+// it is.
 type Row = (u32, u32, u32, What);
 
 const G: What = What::Group;

@@ -67,7 +67,12 @@ fn far_children_are_left_out(rt: HostRuntime) {
     let alloc = rt.alloc();
     let document = row_of_squares(&rt, alloc, 200);
     let two = ids_between(&rt, alloc, &document, 1_001, 1_011);
-    holds(&rt, "two of them", &two, two.as_slice() == [102u32, 101].as_slice());
+    holds(
+        &rt,
+        "two of them",
+        &two,
+        two.as_slice() == [102u32, 101].as_slice(),
+    );
     let none = ids_between(&rt, alloc, &document, 1_002, 1_010);
     holds(&rt, "none of them", &none, none.is_empty());
     drop(document);

@@ -1,23 +1,16 @@
-//! Which element of a saved text is at fault: the first one, where what an element is and what its values are is judged together, before the tree. The
-//! programs tell the refusal alone.
+//! Which element of a saved text is at fault: the first one, where what an element is and what its
+//! values are is judged together, before the tree. The programs tell the refusal alone.
 
 use crate::asserts::holds;
 use canvas_code::Coded;
 use canvas_saved::{StoreFault, import};
 use std::alloc::Global;
 
-// Texts with groups, groups with no such parent, the id 0, what is no record, and one place twice; the refusal and the position.
+// Texts with groups, groups with no such parent, the id 0, what is no record, and one place twice;
+// the refusal and the position.
 static TEXTS: [(&str, u16, usize); 7] = [
-    (
-        r#"{"format":1,"next":9,"shapes":[7]}"#,
-        61,
-        0,
-    ),
-    (
-        r#"{"format":2,"next":9,"shapes":[7]}"#,
-        61,
-        0,
-    ),
+    (r#"{"format":1,"next":9,"shapes":[7]}"#, 61, 0),
+    (r#"{"format":2,"next":9,"shapes":[7]}"#, 61, 0),
     (
         r#"{"format":2,"next":9,"shapes":[{"hidden":false,"id":1,"place":{"index":"a0","parent":null},"pose":{"dx":0,"dy":0,"flip":false,"quarter":0},"shape":{"kind":"group"}},{"hidden":false,"id":2,"place":{"index":"a0","parent":7},"pose":{"dx":0,"dy":0,"flip":false,"quarter":0},"shape":{"kind":"group"}},{"hidden":false,"id":0,"place":{"index":"a1","parent":null},"pose":{"dx":0,"dy":0,"flip":false,"quarter":0},"shape":{"kind":"group"}},7]}"#,
         61,

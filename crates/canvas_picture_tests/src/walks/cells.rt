@@ -41,7 +41,8 @@ fn behind(rt: &impl Abort, alloc: Global) -> Document {
     at(rt, alloc, document, polygon, 120, 120)
 }
 
-// How many items a window has of the shapes behind, with four rectangles in front that tile so many pixels.
+// How many items a window has of the shapes behind, with four rectangles in front that tile so many
+// pixels.
 fn count_tiled(rt: &impl Abort, alloc: Global, window: &Window, w: u32, h: u32) -> usize {
     let document = tiled(rt, alloc, behind(rt, alloc), w, h);
     count(rt, alloc, &document, window)
