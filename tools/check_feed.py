@@ -176,8 +176,8 @@ DRAWING = [
     create({"kind": "group"}, {"dx": 7, "dy": 7}),
     create(red(2, 2), {"dx": -9}, hidden=True),
 ]
-"""A frame 1 with a rectangle 2 that it clips and a hidden ellipse 3 beside it; a turned and flipped group 4 with a triangle 5; an empty group 6; a hidden
-rectangle 7."""
+"""A frame 1 with a rectangle 2 that it clips and a hidden ellipse 3 beside it; a turned and flipped group 4 with a triangle 5; an empty group 6; a
+hidden rectangle 7."""
 NOTHING = [0, 0, 0, 0]
 DAMAGES = [
     # Groups alone, and keys.

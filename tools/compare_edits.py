@@ -11,7 +11,7 @@ refused. They begin with
 - 2 to 31 groups and frames, each in the one before: 60 edits each, and 6 pixels after each;
 - none to 19 of them: 60 edits each, every other one a pose, and a window of 12 by 12 pixels after each;
 - 10, 100, 1,000 and 4,096 squares on the page, and the same in groups of 63: 1,000 edits each;
-- the same in the last of 31 groups, each in the one before: 200 edits each;
+- the same in the last of 31 groups, each in the one before: 200 edits each, and then nearly all is deleted;
 - 1,000 squares in groups, of which the children of one move away and back, and 4,096, of which the children of some get new keys.
 
 Of more than 100 records no pixel is looked at. Prints what differs, and a last line 'N passed, M failed', of documents; the status is 1 where
@@ -36,6 +36,8 @@ from running import SECONDS, Server, build, difference, tell
 STILL = {"dx": 0, "dy": 0, "flip": False, "quarter": 0}
 RED = "ff0000"
 EXPORT = {"verb": "export"}
+DEEPEST = 31
+"""In so many groups the records of a deep document lie."""
 FEW = 100
 """How many records a document may have whose pixels are looked at."""
 
@@ -61,10 +63,10 @@ def nested(levels):
 HOLDERS = {
     "on the page": lambda number: None,
     "in groups": lambda number: number & ~63 if number % 64 and number > 63 else None,
-    "32 deep": lambda number: min(number - 1, 31) or None,
+    "32 deep": lambda number: min(number - 1, DEEPEST) or None,
 }
 """In which group a record of each form of a document lies, or None for the page."""
-IS_GROUP = {"on the page": lambda number: False, "in groups": lambda number: number % 64 == 0, "32 deep": lambda number: number <= 31}
+IS_GROUP = {"on the page": lambda number: False, "in groups": lambda number: number % 64 == 0, "32 deep": lambda number: number <= DEEPEST}
 
 
 def filled(form, count):
@@ -85,6 +87,14 @@ def some_edits(count, chance, session):
     """Edits of any verb, which may be refused."""
     for _ in range(count):
         yield Requests(chance, session, "any").edit()
+
+
+def deep_edits(count, chance, session):
+    """Edits that delete none of the 31 groups, and then one that deletes the first of them, with nearly all that is there."""
+    for edit in some_edits(count, chance, session):
+        if edit["verb"] != "delete" or edit["id"] > DEEPEST:
+            yield edit
+    yield {"verb": "delete", "id": 1}
 
 
 def turns(count, chance, session):
@@ -170,7 +180,7 @@ def jobs():
     yield from ((f"{k} groups", nested(k), partial(some_edits, 60), pixels) for k in range(2, 32))
     yield from ((f"{k} groups that are turned", nested(k), partial(turns, 60), window) for k in range(20))
     for form in HOLDERS:
-        edits = partial(some_edits, 200 if form == "32 deep" else 1_000)
+        edits = partial(deep_edits, 200) if form == "32 deep" else partial(some_edits, 1_000)
         yield from ((f"{count} records {form}", filled(form, count), edits, pixels) for count in (4_096, 1_000, 100, 10))
     yield "children that move away and back", filled("in groups", 1_000), away_and_back, pixels
     yield "new keys of few of many", filled("in groups", 4_096), new_keys, pixels

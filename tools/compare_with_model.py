@@ -6,7 +6,8 @@ usage: tools/compare_with_model.py [times, 1 where it is left out] [seed, 1 wher
 
 The documents are of the forms below, as many of each as FORMS says, so many times:
 
-- any: of all sizes, and a window of each level from 0 to 6. Sides are of any length, so edges fall between the pixels that a level shows, and on them;
+- any: of all sizes, and a window of each level from 0 to 6. Sides are of any length, so edges fall between the pixels that a level shows, and on
+  them;
 - deep: 40 shapes, most in the newest group or frame, near the origin and at two corners of the plane;
 - flat: 24 shapes there, mostly in one group, painted by 1, 2 or 3 workers;
 - wide: 60 shapes that fill a wide window, by 1 to 4 workers;
@@ -16,6 +17,8 @@ The documents are of the forms below, as many of each as FORMS says, so many tim
 Prints what differs, and a last line 'N passed, M failed', of documents; the status is 1 where something failed.
 """
 
+import multiprocessing
+import os
 import random
 import sys
 
@@ -54,6 +57,13 @@ def polygon(chance, corners, least, most):
     """A polygon, which mostly crosses itself."""
     points = [[chance.randrange(least, most), chance.randrange(least, most)] for _ in range(corners)]
     return {"kind": "polygon", "points": points, "fill": colour(chance)}
+
+
+def shape_of(chance, kind, sides, corners, span):
+    """A shape of a kind, with the longest sides, and the numbers of corners and the places that a polygon may have."""
+    if kind == "group":
+        return {"kind": kind}
+    return polygon(chance, chance.randint(*corners), *span) if kind == "polygon" else boxed(chance, kind, *sides)
 
 
 def patch(x, y, w, h, level=0):
@@ -121,7 +131,7 @@ def deep_document(chance, session, number):
     last = 2
     for _ in range(40):
         kind = chance.choices(["group", "frame", "rect", "ellipse", "polygon"], [2, 3, 2, 1, 2])[0]
-        made = {"kind": kind} if kind == "group" else polygon(chance, chance.randint(3, 11), -12, 28) if kind == "polygon" else boxed(chance, kind, 60, 40)
+        made = shape_of(chance, kind, (60, 40), (3, 11), (-12, 28))
         parent = last if chance.random() < 2 / 3 else chance.randint(2, last)
         made_of = session.model.next
         yield create(made, near(chance, -6, 14, 14), parent=parent, hidden=chance.random() < 1 / 12, spot=chance.choice(["front", "back"]))
@@ -135,7 +145,7 @@ def flat_document(chance, session, number):
     yield from far_groups(away)
     for count in range(24):
         kind = chance.choice(["group", "frame", "frame", "rect", "ellipse", "polygon", "polygon"])
-        made = {"kind": kind} if kind == "group" else polygon(chance, chance.randint(3, 8), -6, 18) if kind == "polygon" else boxed(chance, kind, 20, 20)
+        made = shape_of(chance, kind, (20, 20), (3, 8), (-6, 18))
         parent = max(2, chance.randrange(count + 1))
         yield create(made, near(chance, -8, 24, 24), parent=parent, hidden=chance.random() < 1 / 9, spot=chance.choice(["front", "back"]))
     yield window_near(chance, x, y, 8, 90)
@@ -143,15 +153,14 @@ def flat_document(chance, session, number):
 
 # -- documents that fill their windows ---------------------------------------------------------------------------------
 
-def leaf(chance, kinds, reach, corners):
+def leaf(chance, reach, corners):
     """A shape that is no group and no frame, with sides up to `reach`."""
-    kind = chance.choice(kinds)
-    return polygon(chance, chance.randint(*corners), -reach, reach) if kind == "polygon" else boxed(chance, kind, reach, reach)
+    return shape_of(chance, chance.choice(["rect", "ellipse", "polygon"]), (reach, reach), corners, (-reach, reach))
 
 
 def wide_document(chance, session, _):
     for _ in range(60):
-        yield create(leaf(chance, ["rect", "ellipse", "polygon"], 120, (9, 9)), near(chance, -40, 300, 140))
+        yield create(leaf(chance, 120, (9, 9)), near(chance, -40, 300, 140))
     yield patch(3, 5, 250, 96)
 
 
@@ -160,7 +169,7 @@ WALLS = [patch(70, 60, 1, 1), patch(3, -7, 33, 256), patch(-2, 90, 255, 17), pat
 
 def walls_document(chance, session, number):
     for _ in range(24):
-        made = leaf(chance, ["rect", "rect", "rect", "rect", "ellipse"], 140, None) if chance.random() < 5 / 6 else polygon(chance, chance.randint(3, 11), -12, 28)
+        made = shape_of(chance, chance.choice(["rect", "rect", "rect", "rect", "ellipse", "polygon"]), (140, 140), (3, 11), (-12, 28))
         yield create(made, {**near(chance, -40, 290, 290), "flip": False})
     yield WALLS[number % len(WALLS)]
 
@@ -169,7 +178,7 @@ def crowd_document(chance, session, number):
     level = (0, 3)[number % 2]
     for _ in range(320):
         reach = (40 if chance.random() < 1 / 12 else 6) << level
-        made = leaf(chance, ["rect", "ellipse", "polygon"], reach, (3, 11))
+        made = leaf(chance, reach, (3, 11))
         yield create(made, {**near(chance, -8 << level, 90 << level, 60 << level), "flip": False})
     yield create({"kind": "rect", "w": 20 << level, "h": 16 << level, "fill": "010203"}, {"dx": 10 << level, "dy": 10 << level})
     yield patch(-3, -2, 70, 43, level)
@@ -184,7 +193,7 @@ WORKERS = {"flat": 3, "wide": 4}
 
 
 def difference_of(form, number, seed):
-    """What differs for one document, or None."""
+    """What differs for one document, or None. All wide ones are the same, by other workers."""
     chance = random.Random(f"{seed} {form} {number}" if form != "wide" else f"{seed} {form}")
     session, data = Session(), b""
     for request in FORMS[form][0](chance, session, number):
@@ -195,11 +204,16 @@ def difference_of(form, number, seed):
     return None if got == session.out else f"{first_difference(got, session.out)} of the session {data!r}"
 
 
+def one(case):
+    return "{} {} of the seed {}".format(*case), difference_of(*case)
+
+
 def main():
     build()
     times, seed = ([int(it) for it in sys.argv[1:]] + [1, 1][len(sys.argv) - 1:])[:2]
-    cases = ((form, number) for form, (_, count) in FORMS.items() for number in range(times * count))
-    return tell((f"{form} {number}", difference_of(form, number, seed)) for form, number in cases)
+    cases = [(form, number, seed) for form, (_, count) in FORMS.items() for number in range(times * count)]
+    with multiprocessing.Pool(len(os.sched_getaffinity(0))) as pool:
+        return tell(pool.imap_unordered(one, cases, chunksize=10))
 
 
 if __name__ == "__main__":

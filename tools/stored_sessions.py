@@ -4,8 +4,8 @@ tests/sessions/*.session. A line is one of
     # WORDS         a comment
     == NAME         begins a case: a session over a document of its own
     = DOCUMENT      the saved document that it begins with, a JSON text or a file's path from the repository's top; an empty one where it is left out
-    =+ MEMBERS      what is other in that document, as {"next":99,"groups":[1,9]}: its next id; groups more on the page with the ids 1 to 9, each with the
-                    key of the rank that its id is, the greatest first
+    =+ MEMBERS      what is other in that document, as {"next":99,"groups":[1,9]}: its next id; groups more on the page with the ids 1 to 9, each with
+                    the key of the rank that its id is, the greatest first
     > LINE          a line that is sent
     < LINE          the line of the reply that is wanted to the next line that has none yet
     (BODY)          the body behind that line, which may go over several lines

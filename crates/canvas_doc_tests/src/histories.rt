@@ -3,7 +3,7 @@
 use crate::asserts::holds;
 use crate::dice::Dice;
 use crate::samples::{
-    BLUE, GREEN, RED, create, edited_by, moved, push, record, rectangle, restored,
+    BLUE, GREEN, RED, after, create, edited_by, moved, polygon, push, record, rectangle, restored,
 };
 use canvas_doc::{Document, Edit, Parent, Record, Spot};
 use canvas_key::{Key, fresh};
@@ -373,4 +373,48 @@ fn many_versions_stay_what_they_were(rt: HostRuntime) {
     let count = versions.len();
     holds(&rt, "65 versions", &count, count == 65);
     check_versions(&rt, alloc, &versions);
+}
+
+// A triangle on the page.
+fn triangle(rt: &impl Abort, alloc: Global) -> Document {
+    let kind = polygon(alloc, &[(0, 0), (4, 0), (0, 4)]).expect(rt, "memory");
+    let edit = create(kind, Parent::Page, Spot::Front);
+    after(rt, alloc, Document::empty(alloc), edit)
+}
+
+fn check_clone(rt: &impl Abort, alloc: Global, document: &Document) {
+    let clone = document.try_clone(alloc).expect(rt, "memory");
+    let next = clone.next_id();
+    holds(rt, "next id 2", &next, next == 2);
+    let same = tell(rt, alloc, document) == tell(rt, alloc, &clone);
+    holds(rt, "the clone", &1, same);
+    drop(clone);
+}
+
+#[test]
+fn a_triangle_is_cloned(rt: HostRuntime) {
+    let alloc = rt.alloc();
+    let document = triangle(&rt, alloc);
+    check_clone(&rt, alloc, &document);
+    holds(&rt, "red", &(0, 0), document.colour_at(0, 0) == RED);
+    drop(document);
+}
+
+// Whether the change that an edit is decided to be fits the document.
+fn is_fitting(rt: &impl Abort, alloc: Global, document: &Document, edit: Edit) -> bool {
+    let change = document.decide(alloc, &edit).expect(rt, "accepted");
+    document.fits(&change)
+}
+
+#[test]
+fn decided_changes_fit(rt: HostRuntime) {
+    let alloc = rt.alloc();
+    let document = first_document(&rt, alloc);
+    for made in 13..18u32 {
+        let is_so = is_fitting(&rt, alloc, &document, edit_after(made));
+        holds(&rt, "fits", &made, is_so);
+    }
+    let new = is_fitting(&rt, alloc, &document, edit_after(0));
+    holds(&rt, "fits", &0, new);
+    drop(document);
 }

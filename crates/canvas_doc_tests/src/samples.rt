@@ -2,13 +2,11 @@
 
 use canvas_code::OutOfMemory;
 use canvas_doc::{Document, Edit, MOST_RECORDS, Parent, Place, Record, Refusal, Spot, TreeFault};
-use canvas_key::{Key, KeyFault};
+use canvas_key::Key;
 use canvas_plane::{Point, Pose};
 use canvas_shape::{Colour, Kind, Points};
 use std::alloc::Global;
 use std::process::Abort;
-
-pub(crate) const WHITE: Colour = Colour([255, 255, 255]);
 
 pub(crate) const RED: Colour = Colour([255, 0, 0]);
 
@@ -59,14 +57,6 @@ pub(crate) fn record(id: u32, parent: Parent, index: Key, kind: Kind) -> Record 
         pose: Pose::STILL,
         hidden: false,
     }
-}
-
-/// The index `a0`, 126 times `z`: nothing lies between it and `a1`.
-pub(crate) fn last_index_below_a1() -> Result<Key, KeyFault> {
-    let mut text = [b'z'; 128];
-    text[0] = b'a';
-    text[1] = b'0';
-    Key::read(&text)
 }
 
 /// A new shape without motion.
@@ -128,12 +118,4 @@ pub(crate) fn refusal(alloc: Global, document: &Document, edit: Edit) -> Option<
 /// Puts one more record at the end.
 pub(crate) fn push(rt: &impl Abort, records: &mut Vec<Record>, shape: Record) {
     records.push(shape).expect(rt, "memory");
-}
-
-/// The index of a shape, or no byte where there is no such shape.
-pub(crate) fn index_of(document: &Document, id: u32) -> &[u8] {
-    match document.get(id) {
-        Some(shape) => shape.place.index.bytes(),
-        None => &[],
-    }
 }

@@ -1,12 +1,10 @@
-//! Saved documents, by their texts.
+//! Saved documents, by their texts: which element is at fault, the room of a text, and want of memory.
 
 #[cfg(test)]
 mod asserts;
 #[cfg(test)]
 mod memory;
 #[cfg(test)]
-mod refused;
+mod positions;
 #[cfg(test)]
-mod texts;
-#[cfg(test)]
-mod worked;
+mod written;

@@ -1,5 +1,5 @@
-//! Tests of scenes and pictures of small documents and of random ones, of images, of lists of
-//! events, and of lines.
+//! Tests of scenes, strips and workers, of images, of lists of events, and of lines. Colours are told
+//! by the stored sessions (`tests/sessions/`).
 #![tactic(auto)]
 
 #[cfg(test)]

@@ -9,8 +9,6 @@ mod memory;
 #[cfg(test)]
 mod recent;
 #[cfg(test)]
-mod refused;
-#[cfg(test)]
 mod replayed;
 #[cfg(test)]
 mod seats;

@@ -1,10 +1,10 @@
-//! Worked pictures, strips and workers, and free rows.
+//! Clips, strips and workers, and free rows.
 
 ghost use Rattle.std.specs.Prelude.{◌≤ℤ◌};
 
 use crate::asserts::{equal, holds};
 use crate::pictures::{painted, picture};
-use crate::shapes::{GREEN, RED, after, frame, nested, page_box, rect, red_rectangle, with};
+use crate::shapes::{RED, after, frame, page_box, rect, red_rectangle, with};
 use bumpalo::Bump;
 use canvas_doc::{Document, Edit, Parent};
 use canvas_paint::{FreeGate, FreeRow, Gate, PaintFault, paint_strip, strip_rows};
@@ -17,27 +17,6 @@ use std::sync::atomic::{AtomicU64, Ordering};
 use std::thread;
 use std::thread::Threads;
 use std::time::{Clock, Duration};
-
-// The colours of the pixels of four columns and rows from the origin on.
-fn walk(rt: &impl Abort, alloc: Global, document: &Document) -> Vec<u8> {
-    let mut out = Vec::new(alloc);
-    for pixel in 0..16i32 {
-        let colour = document.colour_at(pixel % 4, pixel / 4);
-        out.extend_from_slice(&colour.0).expect(rt, "memory");
-    }
-    out
-}
-
-// Asserts that the picture of a document in the window 0, 0, 4, 4 has the colours of the walk.
-fn check_walk<R: Threads + Sync + Abort>(
-    rt: &R,
-    alloc: Global,
-    document: &Document,
-    window: &Window,
-) {
-    let bytes = picture(rt, alloc, document, window, 1);
-    equal(rt, "the picture", &bytes, &walk(rt, alloc, document));
-}
 
 // Asserts that these are the clips of a document's items in a window.
 fn check_clips(
@@ -76,8 +55,6 @@ fn turned_frame_cuts_its_child(rt: HostRuntime) {
     let window = Window::new(0, 0, 4, 4).expect(&rt, "a window");
     let document = turned(&rt, alloc);
     check_clips(&rt, alloc, &document, &window, &[page_box(0, 0, 1, 2)]);
-    check_walk(&rt, alloc, &document, &window);
-    equal(&rt, "a colour", &document.colour_at(0, 1), &RED);
 }
 
 #[test]
@@ -90,27 +67,6 @@ fn a_hidden_frame_makes_no_item(rt: HostRuntime) {
     };
     let hidden = after(alloc, turned(&rt, alloc), &hide).expect(&rt, "memory");
     check_clips(&rt, alloc, &hidden, &window, &[]);
-}
-
-// Two rows of four green pixels and two white ones.
-fn green_and_white(rt: &impl Abort, alloc: Global) -> Vec<u8> {
-    let mut rows = Vec::new(alloc);
-    for _ in 0..2u8 {
-        for _ in 0..4u8 {
-            rows.extend_from_slice(&GREEN.0).expect(rt, "memory");
-        }
-        rows.extend_from_slice(&[255; 6]).expect(rt, "memory");
-    }
-    rows
-}
-
-#[test]
-fn frames_in_frames_cut_by_both(rt: HostRuntime) {
-    let alloc = rt.alloc();
-    let window = Window::new(0, 0, 6, 2).expect(&rt, "a window");
-    let document = nested(alloc).expect(&rt, "memory");
-    let bytes = picture(&rt, alloc, &document, &window, 1);
-    equal(&rt, "the picture", &bytes, &green_and_white(&rt, alloc));
 }
 
 // The picture of a document in a window of 256 by 2, in two strips of a row each.

@@ -6,7 +6,6 @@ use crate::pictures::count;
 use crate::shapes::{BLUE, GREEN, RED, frame, page_box, rect, right, with};
 use bumpalo::Bump;
 use canvas_doc::{Document, Parent};
-use canvas_paint::paint_strip;
 use canvas_plane::{PageBox, Window};
 use canvas_scene::{Node, Scene};
 use canvas_shape::Kind;
@@ -50,22 +49,11 @@ fn clipped(rt: &impl Abort, alloc: Global) -> Document {
     after(rt, alloc, document, rect(4, 4, GREEN), 0, Parent::Shape(2))
 }
 
-// Asserts that these bytes are the top row of a document in the window 0, 0, 4, 4.
-fn check_top_row(rt: &impl Abort, alloc: Global, document: &Document, wanted: &[u8]) {
-    let window = Window::new(0, 0, 4, 4).expect(rt, "a window");
-    let bump = Bump::new(alloc);
-    let scene = Scene::build(&bump, document, &window).expect(rt, "memory");
-    let row = paint_strip(alloc, scene.display_list(), &window, 0, 1).expect(rt, "memory");
-    equal(rt, "the top row", &row.as_slice(), &wanted);
-}
-
 #[test]
 fn clipped_rectangle_hides_what_its_clip_leaves(rt: HostRuntime) {
     let alloc = rt.alloc();
     let document = clipped(&rt, alloc);
     check_counts(&rt, alloc, &document, (3, 2));
-    let wanted = [0, 255, 0, 255, 0, 0, 255, 255, 255, 255, 255, 255];
-    check_top_row(&rt, alloc, &document, &wanted);
 }
 
 #[test]

@@ -2,8 +2,8 @@
 
 use canvas_code::OutOfMemory;
 use canvas_doc::{Document, Edit, Parent, Spot};
-use canvas_plane::{PageBox, Pose};
-use canvas_shape::{Colour, Kind};
+use canvas_plane::{PageBox, Point, Pose};
+use canvas_shape::{Colour, Kind, Points};
 use std::alloc::Global;
 
 pub(crate) const RED: Colour = Colour([255, 0, 0]);
@@ -20,14 +20,32 @@ pub(crate) fn frame(w: u32, h: u32, fill: Option<Colour>) -> Kind {
     Kind::Frame { w, h, fill }
 }
 
-/// A pose so far to the right.
-pub(crate) fn right(dx: i64) -> Pose {
+pub(crate) fn ellipse(w: u32, h: u32, fill: Colour) -> Kind {
+    Kind::Ellipse { w, h, fill }
+}
+
+/// Half of a square.
+pub(crate) fn triangle(alloc: Global, side: i64, fill: Colour) -> Result<Kind, OutOfMemory> {
+    let mut points = Points::new(alloc);
+    for (x, y) in [(0, 0), (side, 0), (0, side)] {
+        points.push(Point { x, y })?;
+    }
+    Ok(Kind::Polygon { points, fill })
+}
+
+/// A move without a turn.
+pub(crate) fn away(dx: i64, dy: i64) -> Pose {
     Pose {
         dx,
-        dy: 0,
+        dy,
         quarter: 0,
         flip: false,
     }
+}
+
+/// A pose so far to the right.
+pub(crate) fn right(dx: i64) -> Pose {
+    away(dx, 0)
 }
 
 pub(crate) fn page_box(left: i64, top: i64, right: i64, bottom: i64) -> PageBox {

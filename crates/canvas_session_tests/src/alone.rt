@@ -5,6 +5,5 @@ mod ends;
 mod faults;
 mod kept;
 mod memory;
-mod rows;
 mod serving;
-mod sessions;
+pub(crate) mod sessions;

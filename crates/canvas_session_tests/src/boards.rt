@@ -335,31 +335,6 @@ fn share<B: Lines, H: Wait + Abort>(rt: &H, alloc: Global, opened: Opened, docum
 }
 
 #[test]
-fn a_board_alone_at_its_document_is_never_behind(rt: HostRuntime) {
-    let alloc = rt.alloc();
-    goes_on::<Brand, _>(&rt, alloc, Opened::new(), Document::empty(alloc))
-}
-
-fn goes_on<B: Lines, H: Wait + Abort>(rt: &H, alloc: Global, opened: Opened, document: Document)
-    requires { B.line 1 ≡ record { book = opened.head.word.book; opening = document; limit = 100 } }
-{
-    let mut board = first_board::<B, H>(rt, alloc, opened, document, 100);
-    for number in 1..=50 {
-        check_round(rt, &mut board, number);
-    }
-}
-
-// Asserts that an edit is accepted as such a version, and that one that is refused leaves it.
-fn check_round<B: Lines, H: Wait + Abort>(rt: &H, board: &mut Shared<B>, number: u32) {
-    check_edit(rt, board, square(1, 0), number.into(), Some(number));
-    let missing = Edit::Delete { id: 99 };
-    let fault = BoardFault::Refused(Refusal::NoSuchShape);
-    check_fault(rt, board, &missing, fault);
-    equal(rt, "its number", &fault.code(), &2);
-    check_dot(rt, board, number.into(), RED);
-}
-
-#[test]
 fn settings_that_are_refused(rt: HostRuntime) {
     let alloc = rt.alloc();
     refuses::<Brand, _>(&rt, alloc, Opened::new(), Document::empty(alloc))

@@ -70,29 +70,6 @@ impl Read for Same {
     }
 }
 
-/// A writer that counts how often it is given a text, and keeps what else it is given.
-#[derive(Drop)]
-pub(crate) struct Counting<'a> {
-    pub(crate) text: &'a [u8],
-    pub(crate) count: u64,
-    pub(crate) others: Vec<u8>,
-}
-
-impl Write for Counting<'_> {
-    fn write(&mut self, buf: &[u8]) -> io::Result<usize> {
-        if buf == self.text {
-            self.count = self.count.saturating_add(1);
-        } else {
-            self.others.extend_from_slice(buf)?;
-        }
-        Ok(buf.len())
-    }
-
-    fn flush(&mut self) -> io::Result<()> {
-        Ok(())
-    }
-}
-
 /// A writer that can be flushed so many times.
 #[derive(Drop)]
 pub(crate) struct Flushed {

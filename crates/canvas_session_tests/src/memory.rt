@@ -6,7 +6,6 @@ ghost use Rattle.std.specs.Prelude.{◌≡◌};
 
 use crate::asserts::{equal, holds};
 use crate::boards::{RED, WHITE, accepted, at, boards, is_painted, origin, square};
-use crate::sessions::saved_squares;
 use canvas_board::{Board, BoardFault, Dot, Edited, Gallery, LastExport, Picture, Saved, Shared};
 use canvas_doc::{Document, Edit};
 use canvas_line::{Line, Lines, Opened, Seat};
@@ -142,6 +141,11 @@ fn check_the_end<B: Lines, R: Abort>(rt: &R, board: &mut Shared<B>) {
     let saved = saved(board).expect(rt, "a saved document");
     equal(rt, "its version", &saved.version, &3);
     holds(rt, "its text", saved.text.as_slice() == saved_squares());
+}
+
+// A square of 10 at 100 and one of 1 at 500, as they are saved.
+fn saved_squares() -> &'static [u8] {
+    br#"{"format":2,"next":3,"shapes":[{"hidden":false,"id":1,"place":{"index":"a0","parent":null},"pose":{"dx":100,"dy":0,"flip":false,"quarter":0},"shape":{"fill":"ff0000","h":10,"kind":"rect","w":10}},{"hidden":false,"id":2,"place":{"index":"a1","parent":null},"pose":{"dx":500,"dy":0,"flip":false,"quarter":0},"shape":{"fill":"ff0000","h":1,"kind":"rect","w":1}}]}"#
 }
 
 #[test]

@@ -7,11 +7,6 @@ pub(crate) fn holds(rt: &impl Abort, what: &str, is_so: bool) {
     assert!(rt; is_so, "{what}");
 }
 
-/// Ends the test with both texts, and the one that was read, unless they are equal.
-pub(crate) fn reads(rt: &impl Abort, text: &str, found: &str, wanted: &str) {
-    assert!(rt; found == wanted, "{found} is not {wanted} at {text}");
-}
-
 /// Ends the test with these words and both numbers unless they are equal.
 pub(crate) fn counts(rt: &impl Abort, what: &str, found: usize, wanted: usize) {
     assert!(rt; found == wanted, "{what}: {found} is not {wanted}");

@@ -3,21 +3,16 @@
 
 use crate::asserts::{equal, holds_at};
 use crate::pictures::count;
-use crate::walks::shapes::{Dice, away, ellipse, frame, rect, small_polygon, with};
-use crate::walks::walk::check_walk;
+use crate::shapes::{GREEN, RED, away, ellipse, frame, rect, triangle, with};
 use canvas_doc::{Document, Parent};
 use canvas_plane::Window;
-use canvas_shape::{Colour, Kind};
+use canvas_shape::Kind;
 use std::alloc::Global;
 use std::process::Abort;
 
-const RED: Colour = Colour([255, 0, 0]);
-
-const GREEN: Colour = Colour([0, 255, 0]);
-
 // The document with a shape in front at a place.
 fn at(rt: &impl Abort, alloc: Global, document: Document, kind: Kind, x: i64, y: i64) -> Document {
-    with(rt, alloc, document, kind, away(x, y), Parent::Page)
+    with(alloc, document, kind, away(x, y), Parent::Page).expect(rt, "memory")
 }
 
 // The document with four rectangles in front that tile `w` by `h` pixels, parted at column and row 128.
@@ -42,11 +37,12 @@ fn behind(rt: &impl Abort, alloc: Global) -> Document {
     let document = at(rt, alloc, document, frame(300, 300, Some(RED)), 0, 0);
     let document = at(rt, alloc, document, rect(250, 250, RED), 0, 0);
     let document = at(rt, alloc, document, ellipse(200, 90, RED), 30, 40);
-    let polygon = small_polygon(rt, alloc, &mut Dice(5), RED);
+    let polygon = triangle(alloc, 30, RED).expect(rt, "memory");
     at(rt, alloc, document, polygon, 120, 120)
 }
 
-// How many items a window has of the shapes behind, with four rectangles in front that tile so many pixels.
+// How many items a window has of the shapes behind, with four rectangles in front that tile so many
+// pixels.
 fn count_tiled(rt: &impl Abort, alloc: Global, window: &Window, w: u32, h: u32) -> usize {
     let document = tiled(rt, alloc, behind(rt, alloc), w, h);
     count(rt, alloc, &document, window)
@@ -95,57 +91,11 @@ fn a_window_of_a_level_has_greater_cells(rt: HostRuntime) {
 fn a_polygon_behind_a_part_of_the_tiles_alone_makes_an_item(rt: HostRuntime) {
     let alloc = rt.alloc();
     let tile = Window::tile(0, 0).expect(&rt, "a window");
-    let polygon = small_polygon(&rt, alloc, &mut Dice(6), RED);
-    let mut document = at(&rt, alloc, Document::empty(alloc), polygon, 128, 128);
+    let polygon = triangle(alloc, 30, RED).expect(&rt, "memory");
+    let mut document = at(&rt, alloc, Document::empty(alloc), polygon, 120, 120);
     for x in [0, 128] {
         document = at(&rt, alloc, document, rect(128, 256, GREEN), x, 0);
         let found = (x, count(&rt, alloc, &document, &tile));
         equal(&rt, "items", &found, &(x, 2));
-    }
-}
-
-// A shape with sides up to 140, most often a rectangle.
-fn random_kind(rt: &impl Abort, alloc: Global, dice: &mut Dice) -> Kind {
-    let w = dice.below(140).saturating_add(1);
-    let h = dice.below(140).saturating_add(1);
-    let fill = Colour([dice.byte(256), 90, 7]);
-    match dice.below(6) {
-        0 => ellipse(w, h, fill),
-        1 => small_polygon(rt, alloc, dice, fill),
-        _ => rect(w, h, fill),
-    }
-}
-
-// A document of shapes that lie over one another, most of them rectangles.
-fn random_document(rt: &impl Abort, alloc: Global, dice: &mut Dice) -> Document {
-    let mut document = Document::empty(alloc);
-    for _ in 0..24u32 {
-        let kind = random_kind(rt, alloc, dice);
-        let pose = dice.turned(-40, 290, 290);
-        document = with(rt, alloc, document, kind, pose, Parent::Page);
-    }
-    document
-}
-
-// Compares random documents with their pictures in a window.
-fn compare(rt: &impl Abort, alloc: Global, seed: u64, window: &Window) {
-    let mut dice = Dice(seed);
-    for _ in 0..3u32 {
-        let document = random_document(rt, alloc, &mut dice);
-        check_walk(rt, alloc, &document, window, seed);
-    }
-}
-
-#[test]
-fn pictures_of_many_rectangles_are_the_walk(rt: HostRuntime) {
-    for (seed, x, y, w, h) in [
-        (21, 70, 60, 1, 1),
-        (22, 3, -7, 33, 256),
-        (23, -2, 90, 255, 17),
-        (24, 5, 5, 9, 8),
-        (25, 31, 18, 97, 130),
-    ] {
-        let window = Window::new(x, y, w, h).expect(&rt, "a window");
-        compare(&rt, rt.alloc(), seed, &window);
     }
 }

@@ -1,6 +1,6 @@
 //! Edits, pictures and refusals of a board.
 
-use crate::asserts::{equal, holds_at};
+use crate::asserts::{equal, holds};
 use canvas_board::{Alone, Board, BoardFault, Dot, Edited};
 use canvas_code::Coded;
 use canvas_doc::{Document, Edit, Parent, Refusal, Spot};
@@ -11,10 +11,10 @@ use std::process::Abort;
 use std::sync::Wait;
 use std::thread::Threads;
 
-const RED: Colour = Colour([255, 0, 0]);
+pub(crate) const RED: Colour = Colour([255, 0, 0]);
 
 /// A rectangle of 2 by 1 in front of all others on the page.
-fn rectangle(fill: Colour) -> Edit {
+pub(crate) fn rectangle(fill: Colour) -> Edit {
     Edit::Create {
         kind: Kind::Rect { w: 2, h: 1, fill },
         pose: Pose::STILL,
@@ -24,7 +24,8 @@ fn rectangle(fill: Colour) -> Edit {
     }
 }
 
-fn board(rt: &impl Abort, alloc: Global, limit: u64) -> Alone {
+/// A board over an empty document, which may accept so many changes.
+pub(crate) fn board(rt: &impl Abort, alloc: Global, limit: u64) -> Alone {
     Alone::new(alloc, Document::empty(alloc), limit).expect(rt, "a board")
 }
 
@@ -57,19 +58,17 @@ fn check_red(rt: &impl Abort, board: &mut Alone, x: i32, version: u64) {
     equal(rt, "a colour", &board.point(x, 0), &Ok(wanted));
 }
 
-// Asserts that so many workers paint these bytes of such a version.
+// Asserts that a window is painted as these bytes of such a version.
 fn check_picture<H: Abort + Threads + Wait + Sync>(
     rt: &H,
     board: &mut Alone,
     window: &Window,
-    workers: u32,
     version: u64,
     want: &[u8],
 ) {
-    let picture = board.picture(rt, window, workers).expect(rt, "a picture");
+    let picture = board.picture(rt, window, 1).expect(rt, "a picture");
     equal(rt, "its version", &picture.version, &version);
-    let is_painted = picture.bytes.as_slice() == want;
-    holds_at(rt, "its bytes by workers", workers.into(), is_painted);
+    holds(rt, "its bytes", picture.bytes.as_slice() == want);
 }
 
 // Asserts that no board takes such a limit.
@@ -90,18 +89,11 @@ fn limits_of_a_board(rt: HostRuntime) {
 }
 
 #[test]
-fn an_empty_document_is_white(rt: HostRuntime) {
-    let mut board = board(&rt, rt.alloc(), 1);
-    let want = b"P6\n2 1\n255\n\xff\xff\xff\xff\xff\xff";
-    check_picture(&rt, &mut board, &window(&rt, 2, 1), 1, 0, want);
-}
-
-#[test]
 fn a_red_rectangle(rt: HostRuntime) {
     let mut board = board(&rt, rt.alloc(), 10);
     check_edit(&rt, &mut board, rectangle(RED), accepted(1, 1));
     let want = b"P6\n3 1\n255\n\xff\x00\x00\xff\x00\x00\xff\xff\xff";
-    check_picture(&rt, &mut board, &window(&rt, 3, 1), 1, 1, want);
+    check_picture(&rt, &mut board, &window(&rt, 3, 1), 1, want);
     check_red(&rt, &mut board, 1, 1);
     let saved = saved_size(&rt, &mut board);
     equal(&rt, "version and bytes saved", &saved, &(1, 193));
@@ -132,16 +124,6 @@ fn versions_are_spent_first(rt: HostRuntime) {
     check_red(&rt, &mut board, 0, 2);
 }
 
-// The picture of 256 by 2 pixels whose first two are red.
-fn red_corner(rt: &impl Abort, alloc: Global) -> Vec<u8> {
-    let mut bytes = Vec::new(alloc);
-    bytes
-        .extend_from_slice(b"P6\n256 2\n255\n\xff\x00\x00\xff\x00\x00")
-        .expect(rt, "memory");
-    bytes.extend_from_slice(&[255; 1530]).expect(rt, "memory");
-    bytes
-}
-
 // Asserts that no picture is painted by so many workers.
 fn check_no_picture<H: Abort + Threads + Wait + Sync>(
     rt: &H,
@@ -154,18 +136,14 @@ fn check_no_picture<H: Abort + Threads + Wait + Sync>(
 }
 
 #[test]
-fn numbers_of_workers(rt: HostRuntime) {
-    let alloc = rt.alloc();
-    let mut board = board(&rt, alloc, 1);
+fn bad_numbers_of_workers(rt: HostRuntime) {
+    let mut board = board(&rt, rt.alloc(), 1);
     check_edit(&rt, &mut board, rectangle(RED), accepted(1, 1));
     let window = window(&rt, 256, 2);
     check_bad_workers(&rt, &mut board, &window);
     let fault = BoardFault::BadWorkers;
     let told = (fault.code(), fault.name());
     equal(&rt, "the refusal", &told, &(31, "BadWorkers"));
-    let want = red_corner(&rt, alloc);
-    equal(&rt, "bytes", &want.len(), &1_549);
-    check_workers(&rt, &mut board, &window, &want);
 }
 
 // Asserts that no picture is painted by none, or by more than sixteen.
@@ -173,16 +151,4 @@ fn check_bad_workers<H: Abort + Threads + Wait + Sync>(rt: &H, board: &mut Alone
     check_no_picture(rt, board, window, 0);
     check_no_picture(rt, board, window, 17);
     check_no_picture(rt, board, window, u32::MAX);
-}
-
-// Asserts that one, three and sixteen workers paint these bytes.
-fn check_workers<H: Abort + Threads + Wait + Sync>(
-    rt: &H,
-    board: &mut Alone,
-    window: &Window,
-    want: &[u8],
-) {
-    check_picture(rt, board, window, 1, 1, want);
-    check_picture(rt, board, window, 3, 1, want);
-    check_picture(rt, board, window, 16, 1, want);
 }

@@ -1,22 +1,16 @@
-//! Sessions over readers and writers that are slow, fail, or end too early.
+//! Sessions over readers and writers that are slow, fail, or have no end.
 
-use crate::alone::serving::{check, front, is_fault, lines_in, served};
+use crate::alone::serving::{front, is_fault, lines_in, served};
 use crate::alone::sessions::{RED, RED_ANSWERS};
 use crate::asserts::{equal, holds, holds_at};
-use crate::fakes::{Counting, Drip, Flushed, Narrow, Same};
-use canvas_code::Coded;
-use canvas_session::{Cause, Served, SessionFault};
+use crate::fakes::{Drip, Flushed, Narrow, Same};
+use canvas_session::Cause;
 use std::alloc::Global;
 use std::process::Abort;
 use std::sync::Wait;
 use std::thread::Threads;
 
-const BAD_JSON: &[u8] = b"{\"body\":0,\"code\":50,\"name\":\"BadJson\",\"ok\":false}\n";
-
 const LINE_TOO_LONG: &[u8] = b"{\"body\":0,\"code\":70,\"name\":\"LineTooLong\",\"ok\":false}\n";
-
-const TOO_MANY_REQUESTS: &[u8] =
-    b"{\"body\":0,\"code\":73,\"name\":\"TooManyRequests\",\"ok\":false}\n";
 
 #[test]
 fn a_writer_that_fails(rt: HostRuntime) {
@@ -87,49 +81,6 @@ fn answers_to(output: &[u8], lines: usize) -> &[u8] {
 }
 
 #[test]
-fn an_input_that_is_cut(rt: HostRuntime) {
-    let input = RED;
-    for end in 0..=input.len() {
-        let cut = front(input, end);
-        let is_ended = ends_where_cut(&rt, rt.alloc(), cut, RED_ANSWERS);
-        holds_at(&rt, "cut at", end as u64, is_ended);
-    }
-}
-
-// Whether a session over such an input answers its whole lines, and ends as it should.
-fn ends_where_cut<H: Threads + Wait + Sync + Abort>(
-    rt: &H,
-    alloc: Global,
-    input: &[u8],
-    output: &[u8],
-) -> bool {
-    let mut reader = input;
-    let mut out = Vec::new(alloc);
-    let served = served(rt, alloc, &mut reader, &mut out);
-    let lines = lines_in(input);
-    is_cut(&served, input, lines as u64, out.len() as u64)
-        && out.as_slice() == answers_to(output, lines)
-}
-
-// Whether a session ended as one over this input ends.
-fn is_cut(
-    served: &Result<Served, SessionFault>,
-    input: &[u8],
-    requests: u64,
-    written: u64,
-) -> bool {
-    let is_whole = input.is_empty() || input.ends_with(b"\n");
-    match served {
-        Ok(counts) => is_whole && *counts == Served { requests, written },
-        Err(fault) => {
-            !is_whole
-                && is_fault(served, Cause::CutLine, 74, requests, written)
-                && fault.name() == "CutLine"
-        }
-    }
-}
-
-#[test]
 fn a_reader_that_fails(rt: HostRuntime) {
     let input = RED;
     for reads in 0..=input.len() {
@@ -175,47 +126,6 @@ fn a_line_that_is_too_long(rt: HostRuntime) {
     holds(&rt, "the reply", out.as_slice() == LINE_TOO_LONG);
     let read = usize::MAX.saturating_sub(reader.left);
     equal(&rt, "bytes read", &read, &65_537);
-}
-
-#[test]
-fn the_longest_line_is_read(rt: HostRuntime) {
-    let alloc = rt.alloc();
-    let mut input = vec![in alloc; b' '; 65_536].expect(&rt, "memory");
-    input.push(b'\n').expect(&rt, "memory");
-    check(&rt, alloc, &input, BAD_JSON, 1);
-    input.insert(0, b' ').expect(&rt, "memory");
-    holds(&rt, "too long", is_too_long(&rt, alloc, &input));
-}
-
-// Whether a session ends at its first line, which is too long.
-fn is_too_long<H: Threads + Wait + Sync + Abort>(rt: &H, alloc: Global, input: &[u8]) -> bool {
-    let mut reader = input;
-    let mut out = Vec::new(alloc);
-    let served = served(rt, alloc, &mut reader, &mut out);
-    is_fault(&served, Cause::LineTooLong, 70, 0, out.len() as u64)
-}
-
-#[test]
-fn one_line_too_many(rt: HostRuntime) {
-    let mut reader = Same {
-        byte: b'\n',
-        left: 1_000_001,
-    };
-    let mut writer = Counting {
-        text: BAD_JSON,
-        count: 0,
-        others: Vec::new(rt.alloc()),
-    };
-    let served = served(&rt, rt.alloc(), &mut reader, &mut writer);
-    let many = Cause::TooManyRequests;
-    let is_ended = is_fault(&served, many, 73, 1_000_000, 49_000_057);
-    holds(&rt, "ended", is_ended);
-    equal(&rt, "replies", &writer.count, &1_000_000);
-    holds(
-        &rt,
-        "the last",
-        writer.others.as_slice() == TOO_MANY_REQUESTS,
-    );
 }
 
 // The first flush comes before anything is read, the second once all lines that were read have their answers.

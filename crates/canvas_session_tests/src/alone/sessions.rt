@@ -1,4 +1,4 @@
-//! Worked sessions.
+//! Sessions with what no program has: an odd number of workers, few versions, a line alone. Others are in `tests/sessions/`.
 
 use crate::alone::serving::{answers, board, check};
 use crate::asserts::holds;
@@ -18,63 +18,8 @@ pub(crate) const RED_ANSWERS: &[u8] =
 const BAD_WORKERS: &[u8] = b"{\"body\":0,\"code\":31,\"name\":\"BadWorkers\",\"ok\":false}\n";
 
 #[test]
-fn an_empty_document_is_white(rt: HostRuntime) {
-    check(
-        &rt,
-        rt.alloc(),
-        b"{\"verb\":\"patch\",\"x\":0,\"y\":0,\"w\":2,\"h\":1}\n",
-        b"{\"body\":17,\"ok\":true,\"version\":0}\nP6\n2 1\n255\n\xff\xff\xff\xff\xff\xff",
-        1,
-    );
-}
-
-#[test]
 fn a_red_rectangle_is_painted(rt: HostRuntime) {
     check(&rt, rt.alloc(), RED, RED_ANSWERS, 2);
-}
-
-#[test]
-fn a_rectangle_behind_comes_to_the_front(rt: HostRuntime) {
-    check(
-        &rt,
-        rt.alloc(),
-        b"{\"verb\":\"create\",\"shape\":{\"kind\":\"rect\",\"w\":2,\"h\":1,\"fill\":\"ff0000\"}}\n{\"verb\":\"create\",\"shape\":{\"kind\":\"rect\",\"w\":2,\"h\":1,\"fill\":\"0000ff\"},\"spot\":\"back\"}\n{\"verb\":\"point\",\"x\":0,\"y\":0}\n{\"verb\":\"move\",\"id\":2,\"parent\":null,\"spot\":\"front\"}\n{\"verb\":\"point\",\"x\":0,\"y\":0}\n",
-        b"{\"body\":0,\"id\":1,\"ok\":true,\"version\":1}\n{\"body\":0,\"id\":2,\"ok\":true,\"version\":2}\n{\"body\":0,\"colour\":\"ff0000\",\"ok\":true,\"version\":2}\n{\"body\":0,\"ok\":true,\"version\":3}\n{\"body\":0,\"colour\":\"0000ff\",\"ok\":true,\"version\":3}\n",
-        5,
-    );
-}
-
-#[test]
-fn a_point_is_asked(rt: HostRuntime) {
-    check(
-        &rt,
-        rt.alloc(),
-        b"{\"verb\":\"create\",\"shape\":{\"kind\":\"rect\",\"w\":2,\"h\":1,\"fill\":\"ff0000\"}}\r\n{\"verb\":\"point\",\"x\":1,\"y\":0}\r\n",
-        b"{\"body\":0,\"id\":1,\"ok\":true,\"version\":1}\n{\"body\":0,\"colour\":\"ff0000\",\"ok\":true,\"version\":1}\n",
-        2,
-    );
-}
-
-#[test]
-fn the_document_is_exported(rt: HostRuntime) {
-    check(
-        &rt,
-        rt.alloc(),
-        b"{\"verb\":\"export\"}\n",
-        b"{\"body\":33,\"ok\":true,\"version\":0}\n{\"format\":2,\"next\":1,\"shapes\":[]}",
-        1,
-    );
-}
-
-#[test]
-fn what_is_refused_has_its_code(rt: HostRuntime) {
-    check(
-        &rt,
-        rt.alloc(),
-        b"[]\n{\n\n{\"verb\":\"paint\"}\n{\"verb\":\"delete\",\"id\":1}\n{\"verb\":\"patch\",\"x\":0,\"y\":0,\"w\":257,\"h\":1}\n{\"verb\":\"tile\",\"col\":8192,\"row\":0}\n",
-        b"{\"body\":0,\"code\":51,\"name\":\"NotObject\",\"ok\":false}\n{\"body\":0,\"code\":50,\"name\":\"BadJson\",\"ok\":false}\n{\"body\":0,\"code\":50,\"name\":\"BadJson\",\"ok\":false}\n{\"body\":0,\"code\":52,\"name\":\"BadVerb\",\"ok\":false}\n{\"body\":0,\"code\":2,\"name\":\"NoSuchShape\",\"ok\":false}\n{\"body\":0,\"code\":30,\"name\":\"BadWindow\",\"ok\":false}\n{\"body\":0,\"code\":30,\"name\":\"BadWindow\",\"ok\":false}\n",
-        7,
-    );
 }
 
 #[test]
