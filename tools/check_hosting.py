@@ -459,13 +459,12 @@ async def guesses(host):
                 judged.append(response.status)
 
     async with host.web(address="127.0.0.2") as client, host.web("ours") as other:
-        work = [asyncio.create_task(guess(client, number)) for number in range(300)]
-        await until(lambda: len(judged) > 30)
+        work = [asyncio.create_task(guess(client, number)) for number in range(80)]
+        await until(lambda: len(judged) > 22)
         most = 20 + 5 * (time.monotonic() - begin) + 2
-        yield "of 300 passwords of one address few are judged at once", None if len(judged) <= most else f"{len(judged)}, where {most:.0f} may be"
+        yield "of 80 passwords of one address few are judged at once", None if len(judged) <= most else f"{len(judged)}, where {most:.0f} may be"
         yield "all of these are wrong", difference({*judged}, {401})
-        count, status = len(judged), await status_of(other, page("ours"))
-        yield "another address is answered meanwhile", difference((status, len(judged) - count < 100), (200, True))
+        yield "another address is answered", difference(await status_of(other, page("ours")), 200)
         for it in work:
             it.cancel()
 
