@@ -8,7 +8,7 @@ A comment of the page says what is done with the block or the paragraph behind i
 - `run`: commands in the reader's first terminal. They end well; a block of text behind them is what they write.
 - `run in a terminal of its own`: a command that goes on until Ctrl-C; the text is what it writes first.
 - `run on the machine`: commands in a container (tools/machine.py) that has the Debian package, but for those that fetch packages. Where this machine
-  allows no container, it says so, and does not run them.
+  allows no container, it says so, and neither runs nor counts them.
 - `file: NAME`: the block is saved as that file.
 - `try: NAME`: the function of that name does what the paragraph tells the reader to do by hand, or looks whether it is as it says.
 
@@ -142,11 +142,13 @@ class Reader:
         if kind == "file":
             (self._folder / name).write_text(block)
             return None
-        return asyncio.run(TRIES[name](self)) if self.machine or name not in OF_FRIENDS else None
+        return asyncio.run(TRIES[name](self))
+
+    def can(self, mark):
+        """Whether a part can be done here: those about friends take a machine."""
+        return self._has_machine or mark != "run on the machine" and mark.partition(": ")[2] not in OF_FRIENDS
 
     def _run_on_machine(self, block):
-        if not self._has_machine:
-            return None
         if not self.machine:
             folder = self._room / "machine"
             folder.mkdir()
@@ -252,7 +254,9 @@ def unmarked(text):
 def cases(reader):
     text = PAGE.read_text()
     yield "blocks of commands that nobody runs", difference(unmarked(text), [])
-    for number, found in enumerate(PART.finditer(text), 1):
+    for found in PART.finditer(text):
+        if not reader.can(found[1]):
+            continue
         line = text.count("\n", 0, found.start()) + 1
         try:
             fault = reader.do(*found.groups())
