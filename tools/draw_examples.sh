@@ -1,5 +1,5 @@
 #!/usr/bin/env bash
-# Draws the pictures of docs/pictures again: each drawing of examples/ by the program, its tile as PNG.
+# Draws the pictures of docs/pictures again: each drawing of examples/ by the program, its tile as PNG. The environment's CANVAS names another program.
 # Needs pnmtopng of Debian's package netpbm.
 set -euo pipefail
 top=$(cd "$(dirname "$0")/.." && pwd)
@@ -7,8 +7,8 @@ command -v pnmtopng >/dev/null || { echo "pnmtopng is missing: apt-get install n
 folder=$(mktemp -d)
 trap 'rm -rf "$folder"' EXIT
 mkdir -p "$top/docs/pictures"
-for drawing in poster chart pattern; do
-    "$top/bin/canvas" script <"$top/examples/$drawing.jsonl" | python3 "$top/tools/bodies.py" "$folder/$drawing" >/dev/null
+for drawing in poster chart pattern parts; do
+    "${CANVAS:-$top/bin/canvas}" script <"$top/examples/$drawing.jsonl" | python3 "$top/tools/bodies.py" "$folder/$drawing" >/dev/null
     pnmtopng "$folder/$drawing"/*.ppm >"$top/docs/pictures/$drawing.png" 2>/dev/null
     echo "docs/pictures/$drawing.png"
 done

@@ -94,8 +94,8 @@ def difference(got, wanted):
     return None if got == wanted else f"got {str(got)[:300]}, wanted {str(wanted)[:300]}"
 
 
-def wait_for(test):
-    for _ in range(500):
+def wait_for(test, seconds=5):
+    for _ in range(100 * seconds):
         if test():
             return True
         time.sleep(0.01)
