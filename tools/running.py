@@ -8,6 +8,7 @@ built.
 import contextlib
 import functools
 import os
+import random
 import re
 import signal
 import socket
@@ -54,8 +55,11 @@ def build_keeper():
 # -- bytes and cases ---------------------------------------------------------------------------------------------------
 
 def free_port():
-    with socket.create_server(("127.0.0.1", 0)) as found:
-        return found.getsockname()[1]
+    """A port at which nobody listens, none of those that the system gives to connections. It is chosen by chance, so that two who look at once find two."""
+    while True:
+        port = random.SystemRandom().randrange(10_000, 32_000)
+        with contextlib.suppress(OSError), socket.create_server(("127.0.0.1", port)):
+            return port
 
 
 def read_all(sock):
