@@ -1,13 +1,14 @@
 // A drag of shapes, sent while it goes: at most 30 poses a second, and the last one always. All of it is one step.
 
-import { isStill, joined } from "./changes.js";
+import { joined } from "./changes.js";
 import { inOrder } from "./clip.js";
 import { shifted } from "./resize.js";
 
 const PAUSE = 1000 / 30;
-const WAYS = ["dx", "dy"];
 
 const same = ([x, y], [x2, y2]) => x === x2 && y === y2;
+const textOf = ({ dx, dy, quarter, flip }) => [dx, dy, quarter, flip].join();
+const isStill = ({ from, to }) => textOf(from) === textOf(to);
 
 const CLOCK = { now: () => performance.now(), wait: (time) => new Promise((done) => setTimeout(done, time)) };
 
@@ -17,8 +18,6 @@ export class Drag {
   #clock;
   #wanted = [0, 0];
   #changes = new Map();
-  #earlier = [];
-  #begins = new Map();
   #sent = -Infinity;
   #isFollowing = false;
   #isOver = false;
@@ -39,24 +38,15 @@ export class Drag {
     if (!this.#isFollowing && !this.#isOver) this.#follow();
   }
 
-  /** Ends at a place. What was moved is one step then, with what `more` gives of the tree to be done there; none, where it ends where it began. */
-  end(by, more = () => []) {
+  /** Ends at a place. What was moved is one step then; none, where it ends where it began. */
+  end(by) {
     this.#isOver = true;
     return this.#steps.inTurn(async () => {
       const pause = this.#sent + PAUSE - this.#clock.now();
       if (pause > 0 && !same(by, this.made)) await this.#clock.wait(pause);
       await this.#make(by);
-      const moved = [...this.#earlier, ...this.#changes.values()];
-      this.#steps.note("move", [...moved, ...await this.#makeMore(more)]);
+      this.#steps.note("move", [...this.#changes.values()].filter((change) => !isStill(change)));
     });
-  }
-
-  async #makeMore(more) {
-    const { tree } = this.#steps.state, requests = tree ? more(tree) : [];
-    if (!requests.length) return [];
-    const done = await this.#steps.make(requests);
-    this.version = Math.max(this.version, ...done.replies.map(({ version }) => version));
-    return done.changes;
   }
 
   // One pose at a time, of the newest place. Of several shapes each takes its turn of the thirty.
@@ -71,31 +61,14 @@ export class Drag {
   }
 
   async #make(by) {
-    const { tree } = this.#steps.state, records = tree && !same(by, this.made) ? inOrder(tree, this.#ids) : [];
+    const { tree } = this.#steps.state, way = [by[0] - this.made[0], by[1] - this.made[1]];
+    const records = tree && !same(way, [0, 0]) ? inOrder(tree, this.#ids) : [];
     if (!records.length) return;
     this.#sent = this.#clock.now();
-    const done = await this.#steps.make(records.map((record) => this.#posed(tree, record, by)), { isOnWay: !this.#isOver });
+    const done = await this.#steps.make(records.map((record) => shifted(tree, record, way)));
     if (done.replies.length < records.length) this.#isOver = true;
-    done.changes.forEach((change) => this.#note(change));
+    for (const change of done.changes) this.#changes.set(change.id, joined(this.#changes.get(change.id) ?? change, change));
     this.made = by;
     this.version = Math.max(this.version, ...done.replies.map(({ version }) => version));
-  }
-
-  #note(change) {
-    const last = this.#changes.get(change.id), both = last && joined(last, change);
-    if (last && !both) this.#earlier.push(last);
-    this.#changes.set(change.id, both ?? change);
-  }
-
-  // A shape goes to where the pointer has it, but only across or only down where it was dragged no other way: so two can drag one shape.
-  #posed(tree, record, by) {
-    if (!this.#begins.has(record.id)) this.#begins.set(record.id, { ...record, ways: new Set() });
-    const begin = this.#begins.get(record.id);
-    const { quarter, flip } = begin.pose, isAsBefore = begin.parent === record.parent && quarter === record.pose.quarter && flip === record.pose.flip;
-    if (!isAsBefore) return shifted(tree, record, [by[0] - this.made[0], by[1] - this.made[1]]);
-    const { pose } = shifted(tree, begin, by);
-    for (const name of WAYS) if (pose[name] !== begin.pose[name]) begin.ways.add(name);
-    const gone = Object.fromEntries([...begin.ways].map((name) => [name, pose[name]]));
-    return { verb: "pose", id: record.id, pose: { ...record.pose, ...gone } };
   }
 }

@@ -1,7 +1,6 @@
-// The steps that this tab made and took back. A step has a name and the changes of its edits, in order. What of it can't be taken back now, since others have
-// changed it, stays for later; such a step is passed over until then.
+// The steps that this tab made and took back. A step has a name and the changes of its edits, in order.
 
-import { isStill, joined, parentsIn } from "./changes.js";
+import { joined } from "./changes.js";
 
 const MOST = 500;
 const SOON = 1000;
@@ -25,11 +24,7 @@ export class History {
   }
 
   /** Notes a new step. Steps of one kind that follow each other soon become one, where they only move the same shapes. */
-  note({ changes, ...step }, time = Date.now()) {
-    this.#note({ ...step, changes: changes.filter((change) => !isStill(change)) }, time);
-  }
-
-  #note(step, time) {
+  note(step, time = Date.now()) {
     if (!step.changes.length) return;
     this.#undone = [];
     const last = this.#done.at(-1), isSoon = step.kind !== undefined && last?.kind === step.kind && time - last.time < SOON;
@@ -43,31 +38,18 @@ export class History {
     if (this.#done.length > MOST) this.#done.shift();
   }
 
-  /** The steps that are to be taken back, or made again, the next one first. */
-  steps(isRedo) {
-    return (isRedo ? this.#undone : this.#done).slice().reverse();
+  /** Takes the step that is to be taken back, or made again. */
+  take(isRedo) {
+    return (isRedo ? this.#undone : this.#done).pop();
   }
 
-  /** Takes a step out, but for those of its changes that stay; gives what puts it back. */
-  take(step, kept, isRedo) {
-    const list = isRedo ? this.#undone : this.#done, at = list.indexOf(step), left = kept.length ? { ...step, changes: kept, isPassed: true } : null;
-    if (at >= 0) list.splice(at, 1, ...(left ? [left] : []));
-    return () => list.splice(left ? list.indexOf(left) : at, left ? 1 : 0, step);
-  }
-
-  /** The ids of what other steps need that were passed over. */
-  wantedBeside(step) {
-    return [...this.#done, ...this.#undone].filter((other) => other.isPassed && other !== step).flatMap(({ changes }) => parentsIn(changes));
-  }
-
-  /** Notes that a step was passed over: the next time the one before it is taken. */
-  pass(step) {
-    step.isPassed = true;
+  /** Puts back a step that was taken and could not be sent. */
+  putBack(step, isRedo) {
+    (isRedo ? this.#undone : this.#done).push(step);
   }
 
   /** Notes what taking back a step changed, so that it can be made again; or the other way round. */
-  noteBack({ name, changes }, isRedo) {
-    const step = { name, changes: changes.filter((change) => !isStill(change)) };
+  noteBack(step, isRedo) {
     if (!step.changes.length) return;
     if (isRedo) this.#push(step);
     else this.#undone.push(step);

@@ -7,12 +7,6 @@ export class Journal {
   #begin = 0;
   #waiting = [];
   #forks = new Set();
-  #most;
-
-  /** It has at most so many edits, the last ones. */
-  constructor(most = MOST) {
-    this.#most = most;
-  }
 
   /** The name of the history that is followed; null where there is none. */
   history = null;
@@ -35,9 +29,9 @@ export class Journal {
     this.#tell();
   }
 
-  /** A journal of its own that is told of the same edits, until it is left, and has at most so many. */
-  fork(most = MOST) {
-    const found = new Journal(most);
+  /** A journal of its own that is told of the same edits, until it is left. */
+  fork() {
+    const found = new Journal();
     found.begin(this.#begin, this.history);
     found.add(this.#edits);
     this.#forks.add(found);
@@ -60,7 +54,7 @@ export class Journal {
       if (edit.version > this.end + 1) this.begin(edit.version - 1, this.history);
       this.#edits.push(edit);
     }
-    if (this.#edits.length > this.#most) this.drop(this.end - this.#most);
+    if (this.#edits.length > MOST) this.drop(this.end - MOST);
     this.#forks.forEach((fork) => fork.add(edits));
     this.#tell();
   }
@@ -68,17 +62,6 @@ export class Journal {
   /** The edit that made a version, or undefined where it is not known. */
   at(version) {
     return this.#edits[version - this.#begin - 1];
-  }
-
-  /** A tree after the edits up to a version, as far as they are known; null where they don't fit. */
-  bring(tree, version) {
-    while (tree && tree.version < version) {
-      const kept = this.at(tree.version + 1);
-      if (!kept) break;
-      if (!tree.make(kept.edit, kept)) return null;
-      tree.version++;
-    }
-    return tree;
   }
 
   /** Forgets the edits up to a version. */

@@ -1,7 +1,6 @@
 // The tool that selects, moves and resizes.
 
 import { Drag } from "./drag.js";
-import { frameAt, reachedFrame } from "./frames.js";
 import { Ghost } from "./ghost.js";
 import { dot, handle, outline, small } from "./overlay.js";
 import { boxOf, corners } from "./plane.js";
@@ -19,7 +18,7 @@ function cursorOf([across, down]) {
 
 /** Selects, moves and resizes shapes. What a press begins is one of the modes below. */
 export class Select extends Tool {
-  hint = "Click or drag a shape; drag beside them, or in a frame, to select several; double click to go into a group or frame. Space or two fingers pan, Ctrl and the wheel zoom.";
+  hint = "Click or drag a shape; drag beside them to select several; double click to go into a group. Space or two fingers pan, Ctrl and the wheel zoom.";
   mode = null;
   /** The polygon of which the points are edited, or null. */
   edited = null;
@@ -40,41 +39,20 @@ export class Select extends Tool {
     Object.assign(this, { mode, touched: this.state.selection, ...values });
   }
 
-  #pressShape(at, keys) {
-    const { state } = this, { tree, selection } = state, grip = this.#gripAt(at), hit = grip ?? tree?.at(at.page) ?? null;
-    const held = hit === null ? undefined : tree.line(hit).find(({ id }) => selection.includes(id))?.id;
-    const id = hit === null ? null : keys.isDeep || grip !== null ? hit : held ?? this.#reach(hit);
-    const isGround = grip === null && (hit === state.entered || (id === hit && held === undefined && !keys.isDeep && tree.record(id)?.shape.kind === "frame"));
-    if (hit === null || isGround) this.#pressGround(at, hit, keys);
-    else this.#pressOne(id, held === id && !keys.isDeep, keys);
-  }
-
-  // A press on no shape, or on the ground of a frame: a click selects the frame, and a drag what lies there.
-  #pressGround(at, hit, { isShift }) {
-    const { state } = this, { selection, entered } = state;
-    if (!isShift) this.#leave(at.page);
-    const within = reachedFrame(state.tree, at.page, state.entered);
-    this.#begin("marquee", { kept: isShift ? selection : [], within, ground: hit === entered ? null : hit });
-  }
-
-  #pressOne(id, isHeld, { isShift, isAlt }) {
-    const { state } = this, { tree, selection } = state;
-    this.again = isHeld ? { id, isShift } : null;
-    if (!isHeld) {
-      const { parent } = tree.record(id), isInFrame = parent !== state.entered && tree.record(parent)?.shape.kind === "frame";
-      state.select(isShift ? [...selection, id] : [id]);
-      if (isInFrame && !isShift) state.enter(parent);
+  #pressShape(at, { isShift, isDeep, isAlt }) {
+    const { state } = this, { tree, selection } = state, hit = tree?.at(at.page) ?? null;
+    if (hit === null || hit === state.entered) {
+      if (!isShift) this.#leave(at.page);
+      this.#begin("marquee", { kept: isShift ? selection : [] });
+      return;
     }
+    const held = tree.line(hit).find(({ id }) => selection.includes(id))?.id;
+    const id = isDeep ? hit : held ?? this.#reach(hit);
+    this.again = held !== undefined && !isDeep ? { id, isShift } : null;
+    if (!this.again) state.select(isShift ? [...selection, id] : [id]);
     this.#move = isAlt ? null : new Drag(this.app.editor, state.selection);
     this.app.ghost = null;
-    this.#begin("move", { from: state.box, home: null });
-  }
-
-  // The frame that is taken by its name, or by its edge where no other shape lies in front of that; or null.
-  #gripAt({ window, page }) {
-    const { tree } = this.state, grip = this.app.frames.at(window, this.app.stage.isTouched), hit = tree?.at(page) ?? null;
-    const isFree = grip && (grip.isName || hit === null || tree.record(hit).shape.kind === "frame");
-    return isFree && tree.record(grip.id) ? grip.id : null;
+    this.#begin("move", { from: state.box });
   }
 
   // What lies at a press beside all shapes: the selection goes, and so does what was entered, unless the press was in its box.
@@ -84,29 +62,20 @@ export class Select extends Tool {
     if (!(box && x >= box.left && x < box.right && y >= box.top && y < box.bottom)) state.enter(null);
   }
 
-  /** What a click on a shape selects: the outermost one that lies in what is entered, or in frames there. */
+  /** What a click on a shape selects: the outermost one that lies in what is entered. */
   #reach(hit) {
     const { tree, entered } = this.state, line = tree.line(hit), at = line.findIndex(({ id }) => id === entered);
-    const within = (at < 0 ? line : line.slice(0, at)).reverse();
-    return (within.find(({ shape }) => shape.kind !== "frame") ?? line[0]).id;
+    return (at < 0 ? line.at(-1) : line[Math.max(0, at - 1)]).id;
   }
 
-  /** Goes into a group or frame, to what lies there; or to the points of a polygon, or the name of a frame. */
+  /** Goes into the selected group or frame, to what lies there; or to the points of a polygon. */
   enter(at) {
-    const { state } = this, { tree, selected } = state, grip = this.app.frames.at(at.window, this.app.stage.isTouched);
-    if (grip?.isName && grip.id === selected) {
-      this.app.fields.name();
-      return;
-    }
-    const hit = tree?.at(at.page) ?? frameAt(tree, at.page);
-    if (hit === null) return;
+    const { state } = this, { tree, selected } = state, hit = tree?.at(at.page) ?? null;
+    if (hit === null || selected === null) return;
     const line = tree.line(hit), k = line.findIndex(({ id }) => id === selected);
     if (k > 0) {
       state.enter(selected);
       state.select([line[k - 1].id]);
-    } else if (line[0].shape.kind === "frame" && (k === 0 || selected === null)) {
-      state.select([]);
-      state.enter(hit);
     } else if (k === 0) {
       this.editPoints();
     }
@@ -137,14 +106,12 @@ export class Select extends Tool {
     this.app.ghost ??= new Ghost(this.app, this.state.selection, this.#move);
     this.app.ghost.go(this.by);
     this.#move?.to(this.by);
-    this.home = this.app.editor.homeAt(this.now.page, this.state.selection);
   }
 
   #mark() {
     const { state } = this, box = boxOf([this.begin.page, this.now.page]);
-    const found = state.tree?.within(this.within, box) ?? [];
+    const found = state.tree?.within(state.entered, box) ?? [];
     state.select([...this.kept, ...found.filter((id) => !this.kept.includes(id)).reverse()]);
-    if (!this.kept.length) state.enter(this.within);
   }
 
   release(at, keys = {}) {
@@ -154,15 +121,8 @@ export class Select extends Tool {
     this.begin = this.mode = null;
     if (mode === "point") this.#setPoints();
     else if (!isMoved && this.again && mode === "move") this.#clickAgain();
-    else if (!isMoved && mode === "marquee" && this.ground !== null) this.#takeGround();
     else if (isMoved && mode === "resize") this.#fit(to);
     else if (isMoved && mode === "move") this.#endMove(by);
-  }
-
-  // A click on the ground of a frame.
-  #takeGround() {
-    const { state } = this;
-    if (state.tree?.record(this.ground)) state.select([...this.kept, this.ground]);
   }
 
   #fit(to) {
@@ -172,8 +132,7 @@ export class Select extends Tool {
   }
 
   #endMove(by) {
-    const { editor } = this.app, ids = this.state.selection, point = this.now.page;
-    const made = this.#move ? this.#move.end(by, (tree) => editor.carriedHome(tree, ids, point)) : editor.duplicate(by, point);
+    const made = this.#move ? this.#move.end(by) : this.app.editor.duplicate(by);
     this.app.ghost?.end(made);
     this.#move = null;
   }
@@ -238,8 +197,8 @@ export class Select extends Tool {
     if (this.edited !== null) return this.#pointAt(at.window) === null ? "default" : "crosshair";
     const found = this.#handleAt(at.window);
     if (found) return cursorOf(found);
-    const { tree, entered, selection } = this.state, hit = this.#gripAt(at) ?? tree?.at(at.page) ?? null;
-    return hit === null || (hit === entered && !selection.includes(hit)) ? "default" : "move";
+    const hit = this.state.tree?.at(at.page) ?? null;
+    return hit === null || hit === this.state.entered ? "default" : "move";
   }
 
   // -- the points of a polygon ----------------------------------------------------------------------------------------
@@ -315,7 +274,6 @@ export class Select extends Tool {
     if (this.edited !== null) return this.#pointMarks();
     if (this.mode === "marquee" && this.isMoved) return [outline("marquee", this.toWindow(corners(boxOf([this.begin.page, this.now.page]))))];
     if (this.mode === "resize" && this.isMoved) return [outline("halo", this.toWindow(corners(this.to))), outline("mark", this.toWindow(corners(this.to)))];
-    if (this.mode === "move" && this.isMoved) return this.intoMark(this.home);
     return this.#handles().map(({ place }) => handle(place));
   }
 

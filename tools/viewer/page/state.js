@@ -27,11 +27,6 @@ export class State extends EventTarget {
   /** Whether an earlier version is shown, in which nothing can be changed. */
   isPast = false;
 
-  /** The tree of the document as it is shown, without own edits that came since; or null. */
-  get base() {
-    return this.#base;
-  }
-
   /** The selected shape, or the last one of several; null where there is none. */
   get selected() {
     return this.selection.at(-1) ?? null;

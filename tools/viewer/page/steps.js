@@ -1,16 +1,10 @@
 // Steps: each is some requests that the server is sent, one step after the other, and that can be taken back and made again.
 
-import { batches, harmOf, isAfter, makeNoted, mended, planBack, truly } from "./changes.js";
+import { batches, changeOf, planBack } from "./changes.js";
 import { Unanswered } from "./link.js";
 import { carryName } from "./names.js";
 
 const MOST = 256;
-/** For how long at most the feed is waited for, which tells what others did just before an edit. */
-const FEED_PAUSE = 300;
-/** How many edits are known at least, of those that the feed told of. */
-const MOST_EDITS = 2000;
-/** How often at most what an edit has put back of others' is mended. */
-const MENDS = 3;
 
 /** A request as the server is sent it: with the ids of what was made meanwhile. Null where something that it names was not made. */
 function asSent(request, made) {
@@ -28,19 +22,14 @@ export class Steps {
   #link;
   #picture;
   #tell;
-  #journal;
   #last = Promise.resolve();
   #isMaking = false;
 
-  /**
-   * `tell` is called with a refusal's reply, with a text where an edit was not answered, or with null where all was done. `journal` has the edits that the feed
-   * tells of.
-   */
-  constructor(link, picture, state, tell, journal = null) {
+  /** `tell` is called with a refusal's reply, with a text where an edit was not answered, or with null where all was done. */
+  constructor(link, picture, state, tell) {
     this.#link = link;
     this.#picture = picture;
     this.#tell = tell;
-    this.#journal = journal?.fork(MOST_EDITS) ?? null;
     this.state = state;
   }
 
@@ -73,42 +62,23 @@ export class Steps {
   /** Notes changes that were made as a step. */
   note(name, changes, kind) {
     this.state.history.note({ name, kind, changes });
-    this.#tellHistory();
+    this.state.dispatchEvent(new Event("history"));
   }
 
-  /**
-   * Takes back the last step, or makes again the one that was taken back last. Gives in words what was passed over. Where nothing of the step can be taken back
-   * now, that is all; the next time the step before it is taken.
-   */
+  /** Takes back the last step, or makes again the one that was taken back last. Gives in words what was passed over. */
   back(isRedo) {
     return this.inTurn(async () => {
-      const { history, tree } = this.state;
-      for (const step of tree ? history.steps(isRedo) : []) {
-        const plan = planBack(tree, step.changes, (id) => history.resolve(id), history.wantedBeside(step));
-        if (plan.requests.length) return this.#take(step, plan, isRedo);
-        if (step.isPassed) continue;
-        history.pass(step);
-        this.#tellHistory();
-        return { name: step.name, passed: plan.passed };
-      }
-      return null;
+      const { history, tree } = this.state, step = tree && history.take(isRedo);
+      if (!step) return null;
+      const { requests, passed } = planBack(tree, step.changes, (id) => history.resolve(id));
+      const done = requests.length ? await this.make(requests) : { changes: [] };
+      if (done.wasNotSent) history.putBack(step, isRedo);
+      else history.noteBack({ name: step.name, changes: done.changes }, isRedo);
+      const touched = done.changes.map(({ id }) => id);
+      this.state.dispatchEvent(new Event("history"));
+      this.state.select(this.state.tree.tops(touched));
+      return { name: step.name, passed };
     });
-  }
-
-  async #take(step, { requests, passed, kept }, isRedo) {
-    const { history } = this.state, putBack = history.take(step, kept, isRedo), done = await this.make(requests, { isBack: true });
-    const tooMuch = done.changes.filter(({ hadMore }) => hadMore);
-    if (tooMuch.length) await this.make(planBack(this.state.tree, tooMuch, (id) => history.resolve(id)).requests);
-    if (done.wasNotSent || done.isLate || tooMuch.length) putBack();
-    if (!done.wasNotSent) history.noteBack({ name: step.name, changes: done.changes.filter(({ hadMore }) => !hadMore) }, isRedo);
-    if (done.isLate || tooMuch.length) history.pass(step);
-    this.#tellHistory();
-    this.state.select(this.state.tree.tops(done.changes.map(({ id }) => id)));
-    return { name: step.name, passed };
-  }
-
-  #tellHistory() {
-    this.state.dispatchEvent(new Event("history"));
   }
 
   /** Whether edits are on their way. */
@@ -121,13 +91,9 @@ export class Steps {
     this.state.dispatchEvent(new Event("making"));
   }
 
-  /**
-   * Sends edits, of which the caller has the turn. Gives the replies of those that were made, and what they changed. What they have put back of others' edits that
-   * came just before is mended, but where more edits of these shapes are on their way. Edits that take back a change (`isBack`) are to put back no others at all;
-   * `isLate` tells that some did.
-   */
-  async make(requests, { isOnWay = false, isBack = false } = {}) {
-    const done = { changes: [], replies: [], made: new Map(), refusal: null, harm: [], isBack, isLate: false, isAstray: false, wasNotSent: this.state.isPast };
+  /** Sends edits, of which the caller has the turn. Gives the replies of those that were made, and what they changed. */
+  async make(requests) {
+    const done = { changes: [], replies: [], made: new Map(), refusal: null, wasNotSent: this.state.isPast };
     if (this.state.isPast) {
       this.#tell("This is the past, where nothing can be changed. Esc goes back to now.");
       return done;
@@ -135,7 +101,6 @@ export class Steps {
     this.#setMaking(true);
     try {
       for (const batch of batches(requests, MOST)) await this.#makeBatch(batch, done);
-      for (let time = 0; time < MENDS && (!isOnWay || done.isAstray) && done.harm.length; time++) await this.#mend(done);
       this.#tell(done.refusal);
     } catch (fault) {
       if (!(fault instanceof Unanswered)) throw fault;
@@ -148,51 +113,29 @@ export class Steps {
   }
 
   async #makeBatch(batch, done) {
-    const before = this.state.tree?.copy(), base = this.state.base?.copy();
+    const before = this.state.tree?.copy();
     const sent = batch.map((request) => [request, asSent(request, done.made)]).filter(([, found]) => found);
     if (!sent.length) return;
-    const replies = await this.#link.ask(sent.map(([, found]) => found)), edits = [];
+    const replies = await this.#link.ask(sent.map(([, found]) => found));
+    const edits = [];
     replies.forEach((reply, k) => {
       const [{ as, instead }, request] = sent[k];
       if (!reply.ok) {
         done.refusal ??= reply;
         return;
       }
+      const change = before && changeOf(before, request, reply);
+      before?.make(request, reply);
+      if (change) done.changes.push(change);
       if (as !== undefined) done.made.set(as, reply.id);
-      if (instead !== undefined) this.#rename(instead, reply.id);
+      if (instead !== undefined) {
+        this.state.history.rename(instead, reply.id);
+        carryName(instead, reply.id);
+      }
       done.replies.push(reply);
       edits.push([request, reply]);
     });
     this.state.add(edits);
-    if (!edits.length) return;
-    const newest = Math.max(...edits.map(([, { version }]) => version));
-    this.#picture.see(newest);
-    const changes = before ? makeNoted(before, edits) : [], journal = this.#journal;
-    await journal?.reach(newest, FEED_PAUSE);
-    const found = (journal?.isLive && base ? truly(base, edits, changes, journal) : changes).filter(Boolean);
-    for (const change of found) this.#noteChange(change, newest, done);
-  }
-
-  // Notes a change, and what of others' edits it has put back unmeant.
-  #noteChange(change, newest, done) {
-    const harm = harmOf(change, done.isBack), isNow = harm !== null && !isAfter(this.#journal, newest, harm);
-    done.isLate ||= done.isBack && harm !== null;
-    done.isAstray ||= change.isAstray;
-    if (!change.isAstray) done.changes.push(isNow ? mended(change, harm) : change);
-    if (isNow) done.harm.push(harm);
-  }
-
-  // Gives back what an edit has put back of an other one.
-  async #mend(done) {
-    const more = { ...done, changes: [], replies: [], harm: [], isBack: false }, { tree } = this.state;
-    const requests = done.harm.filter(({ id }) => tree.record(id));
-    if (requests.length) await this.#makeBatch(requests, more);
-    done.harm = more.harm;
-    done.replies.push(...more.replies);
-  }
-
-  #rename(instead, id) {
-    this.state.history.rename(instead, id);
-    carryName(instead, id);
+    if (edits.length) this.#picture.see(Math.max(...edits.map(([, { version }]) => version)));
   }
 }

@@ -3,9 +3,8 @@
 import assert from "node:assert/strict";
 import { test } from "node:test";
 
-import { batches, makeNoted, planBack } from "../page/changes.js";
+import { batches, changeOf, planBack, poseBack, shapeBack } from "../page/changes.js";
 import { History } from "../page/history.js";
-import { partsBack } from "../page/parts.js";
 import { Tree } from "../page/tree.js";
 
 const STILL = { dx: 0, dy: 0, quarter: 0, flip: false };
@@ -17,7 +16,13 @@ const tree = () => new Tree({ shapes: [saved(1, null, "a0", "group"), saved(2, 1
 const same = (id) => id;
 
 /** Makes requests in a tree, and gives their changes. */
-const make = (found, requests) => makeNoted(found, requests.map((request, k) => [request, { id: request.as ?? 100 + k }]));
+function make(found, requests) {
+  return requests.map((request, k) => {
+    const reply = { id: request.as ?? 100 + k }, change = changeOf(found, request, reply);
+    found.make(request, reply);
+    return change;
+  });
+}
 
 const bare = (found) => [...found.records.values()].map(({ id, parent, hidden, pose, shape }) => [id, parent, hidden, pose, shape]).sort((a, b) => a[0] - b[0]);
 const order = (found, parent) => found.children(parent).map(({ id }) => id);
@@ -92,23 +97,20 @@ test("what is gone, moved by others or holds what others made is passed over", (
 });
 
 test("what others did to a pose or a shape stays", () => {
-  const from = { ...STILL, dx: 5 }, to = { ...STILL, dx: 105 }, turned = { ...STILL, dx: 105, dy: 7, quarter: 1 };
-  assert.deepEqual(partsBack(to, { from, to }), { value: from, stays: [] });
-  assert.deepEqual(partsBack({ ...to, dy: 120 }, { from, to }), { value: { ...from, dy: 120 }, stays: [] });
-  assert.deepEqual(partsBack({ ...to, dx: 70 }, { from, to }), { value: { ...to, dx: 70 }, stays: ["dx"] });
-  assert.deepEqual(partsBack(turned, { from, to }), { value: turned, stays: ["dx"] });
-  assert.deepEqual(partsBack(turned, { from, to: turned }), { value: from, stays: [] });
-  for (const now of [{ ...turned, quarter: 2 }, { ...turned, dx: 3 }]) assert.deepEqual(partsBack(now, { from, to: turned }), { value: now, stays: ["turn", "dx", "dy"] });
+  const from = { ...STILL, dx: 5 }, to = { ...STILL, dx: 105, quarter: 1 };
+  assert.deepEqual(poseBack(to, { from, to }), from);
+  assert.deepEqual(poseBack({ ...to, dy: 120 }, { from, to }), { ...from, dy: 120 });
+  assert.deepEqual(poseBack({ ...to, quarter: 2 }, { from, to }), { ...from, quarter: 1 });
   const shape = (w, fill) => ({ kind: "rect", w, h: 1, fill });
-  assert.deepEqual(partsBack(shape(7, "bb"), { from: shape(1, "aa"), to: shape(1, "bb") }), { value: shape(7, "aa"), stays: [] });
-  assert.deepEqual(partsBack(shape(1, "cc"), { from: shape(1, "aa"), to: shape(1, "bb") }), { value: shape(1, "cc"), stays: ["fill"] });
+  assert.deepEqual(shapeBack(shape(7, "bb"), { from: shape(1, "aa"), to: shape(1, "bb") }), shape(7, "aa"));
+  assert.deepEqual(shapeBack(shape(1, "cc"), { from: shape(1, "aa"), to: shape(1, "bb") }), shape(1, "cc"));
 });
 
 test("all turns and flips are taken back", () => {
   for (let k = 0; k < 64; k++) {
     const pose = (bits) => ({ dx: bits, dy: 0 - bits, quarter: bits % 4, flip: bits > 3 });
     const from = pose(k % 8), to = pose(k >> 3);
-    assert.deepEqual(partsBack(to, { from, to }), { value: from, stays: [] });
+    assert.deepEqual(poseBack(to, { from, to }), from);
   }
 });
 
@@ -120,23 +122,19 @@ test("batches name nothing that they make themselves", () => {
 });
 
 test("the history: steps, what was taken back, and what follows soon", () => {
-  const history = new History(), at = (dx) => ({ ...STILL, dx }), pose = (from, to) => ({ verb: "pose", id: 1, from: at(from), to: at(to) });
-  const take = (isRedo) => {
-    const [step] = history.steps(isRedo);
-    history.take(step, [], isRedo);
-    return step;
-  };
+  const history = new History(), pose = (from, to) => ({ verb: "pose", id: 1, from, to });
   history.note({ name: "move", kind: "nudge 1", changes: [pose(1, 2)] }, 0);
   history.note({ name: "move", kind: "nudge 1", changes: [pose(2, 3)] }, 500);
   assert.equal(history.length, 1);
   history.note({ name: "move", kind: "nudge 1", changes: [pose(3, 4)] }, 5000);
   assert.equal(history.length, 2);
-  history.noteBack(take(false), false);
+  const step = history.take(false);
+  history.noteBack(step, false);
   assert.deepEqual([history.undoName, history.redoName], ["move", "move"]);
   history.note({ name: "draw", changes: [{ verb: "create", id: 2 }] });
   assert.deepEqual([history.undoName, history.redoName], ["draw", undefined]);
-  assert.deepEqual(take(false).changes[0].verb, "create");
-  assert.deepEqual(take(false).changes.map(({ from, to, trail }) => [from.dx, to.dx, trail.dx]), [[1, 3, [2]]]);
+  assert.deepEqual(history.take(false).changes[0].verb, "create");
+  assert.deepEqual(history.take(false).changes, [pose(1, 3)]);
 });
 
 test("at least 200 steps are kept", () => {
