@@ -107,6 +107,7 @@ def listener_at(door):
         os.unlink(door)
     found = socket.socket(socket.AF_UNIX)
     found.bind(door)
+    found.listen()
     return found, f"unix:{door}"
 
 
