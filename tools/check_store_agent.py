@@ -498,6 +498,7 @@ def crashes(bench, what, rounds, crash):
         time.sleep(random.uniform(0.05, 0.6))
         crash()
     time.sleep(1)
+    wait_for(lambda: all(it.known >= 10 or it.fault for it in writers), 30)
     faults = [it for it in [writer.stop() for writer in writers] if it]
     known, breaks = sum(it.known for it in writers), sum(it.breaks for it in writers)
     bench.figures.append(f"{rounds} kills of {what}: {known} answered lines, {breaks} connections ended or refused, "
