@@ -423,7 +423,7 @@ def names(bench):
     agent = Agent(bench.folder, "telling", bench.database.address, "--names", told)
     for name in ("one", "two"):
         made(agent, name).close()
-    yield "the names of documents", None if wait_for(lambda: told.is_file() and told.read_text().endswith("one\ntwo\n")) else told.read_text()
+    yield "the names of documents", None if wait_for(lambda: told.is_file() and {"one", "two"} <= {*told.read_text().split("\n")}) else told.read_text()
     bad_names = ("../../../etc", "a b", "-x", "A", "", "x" * 64, "a\nb")
     bench.database.ask("ALTER TABLE document DROP CONSTRAINT document_name_check; " + "; ".join(f"INSERT INTO document (name) VALUES ('{it}')" for it in (*bad_names, "three")))
     wait_for(lambda: "three\n" in told.read_text()) or wait_for(lambda: "three\n" in told.read_text())
@@ -498,6 +498,7 @@ def crashes(bench, what, rounds, crash):
         time.sleep(random.uniform(0.05, 0.6))
         crash()
     time.sleep(1)
+    wait_for(lambda: all(it.known >= 10 or it.fault for it in writers), 30)
     faults = [it for it in [writer.stop() for writer in writers] if it]
     known, breaks = sum(it.known for it in writers), sum(it.breaks for it in writers)
     bench.figures.append(f"{rounds} kills of {what}: {known} answered lines, {breaks} connections ended or refused, "
