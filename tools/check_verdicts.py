@@ -157,7 +157,9 @@ pub fn size(list: &List) -> usize
 """,
     "crates/low/specs/Marks.antt": "abbrev pub marked : ℕ\n",
     "crates/low/specs/Sizes.antt": "abbrev pub sized : ℕ\n",
-    "crates/mid/src/lib.rt": """ghost use Rattle.low.specs.Marks.{marked};
+    "crates/mid/src/lib.rt": """#![tactic(auto)]
+
+ghost use Rattle.low.specs.Marks.{marked};
 ghost use Rattle.low.specs.Sizes.{sized};
 
 use low::{List, Mark};

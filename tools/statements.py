@@ -34,7 +34,7 @@ def parts(text):
     """The items of a text that rt fmt laid out, each with the attributes above it: an item ends where a line that is not set in closes it."""
     found, lines, is_attribute = [], [], False
     for line in text.split("\n"):
-        if not line.strip() and not lines:
+        if not lines and (not line.strip() or line.startswith("#!")):
             continue
         lines.append(line)
         if line.startswith((" ", ")")) or not line.strip():
