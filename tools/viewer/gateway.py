@@ -23,7 +23,8 @@ A picture is named by its hash. Its PNG comes before the first reply that names 
     {"say": "here", "version": 3, "live": "1-5f0c", "since": 3}
         The server is there. `live` names the history of which all edits above `since` will be told; it is null where there is no feed. A tab that
         knows this history up to there goes on; for any other one all begins anew. A tab that comes back says what it knows in its address, as
-        /session?live=1-5f0c&since=3.
+        /session?live=1-5f0c&since=3&mark=8d1f1c9b00aa12cd, where `mark` is that of its last edit. Then "goes" is "on" where that is the history that is told now,
+        also under another name, since the gateway was started anew; and "next" where its generation has ended, and this is the next one.
     {"say": "edits", "edits": [{"damage": [0, 0, 5, 1], "edit": {..}, "id": null, "version": 4}]}
         What the feed tells, as docs/PROTOCOL.md has it. Each edit is told once, in order.
     {"say": "version", "version": 4}

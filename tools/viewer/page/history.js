@@ -78,11 +78,29 @@ export class History {
     this.#anew.set(id, next);
   }
 
+  /** Forgets at which keys moves have put shapes, of which some are elsewhere now: their neighbours tell where that was. */
+  forgetKeys(isElsewhere) {
+    const forgot = (change) => (change.verb === "move" && isElsewhere(change) ? { ...change, to: { ...change.to, index: undefined } } : change);
+    for (const step of [...this.#done, ...this.#undone]) step.changes = step.changes.map(forgot);
+  }
+
   /** The id that a shape has now. */
   resolve(id) {
     let found = id;
     while (this.#anew.has(found)) found = this.#anew.get(found);
     return found;
+  }
+
+  /** What keeps it, as plain data: the last steps, so many of each kind. */
+  saved(most = MOST) {
+    return { done: this.#done.slice(-most), undone: this.#undone.slice(-most), anew: [...this.#anew] };
+  }
+
+  /** Goes on with what was kept. */
+  load({ done, undone, anew }) {
+    this.#done = done;
+    this.#undone = undone;
+    this.#anew = new Map(anew);
   }
 
   clear() {

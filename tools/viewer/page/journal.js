@@ -2,12 +2,20 @@
 
 const MOST = 50_000;
 
+/** A short mark of an edit, as the gateway makes it of its line. */
+function markOf(edit) {
+  const found = [2_166_136_261, 40_389];
+  for (const byte of new TextEncoder().encode(JSON.stringify(edit))) found.forEach((it, k) => { found[k] = Math.imul(it ^ byte, 16_777_619) >>> 0; });
+  return found.map((it) => it.toString(16).padStart(8, "0")).join("");
+}
+
 export class Journal {
   #edits = [];
   #begin = 0;
   #waiting = [];
   #forks = new Set();
   #most;
+  #last = null;
 
   /** It has at most so many edits, the last ones. */
   constructor(most = MOST) {
@@ -26,8 +34,14 @@ export class Journal {
     return this.history !== null;
   }
 
+  /** The mark of the last edit that is known; "" where none is. */
+  get mark() {
+    return this.#last ? markOf(this.#last) : "";
+  }
+
   /** Begins behind a version of a history, or of none. */
   begin(version, history = null) {
+    this.#last = null;
     this.#edits = [];
     this.#begin = version;
     this.history = history;
@@ -48,9 +62,11 @@ export class Journal {
     this.#forks.delete(fork);
   }
 
-  /** Whether a history goes on where this one ends. */
-  isFollowedBy(version, history) {
-    return history !== null && history === this.history && version === this.end;
+  /** Whether a history goes on where this one ends, which may be it under another name: then it has that. */
+  isFollowedBy(version, history, isSame = history === this.history) {
+    const isIt = history !== null && this.isLive && isSame && version === this.end;
+    if (isIt) [this, ...this.#forks].forEach((journal) => { journal.history = history; });
+    return isIt;
   }
 
   /** Takes edits as the feed tells them. Where some are left out, those before are not known any more. */
@@ -59,6 +75,7 @@ export class Journal {
       if (edit.version <= this.end) continue;
       if (edit.version > this.end + 1) this.begin(edit.version - 1, this.history);
       this.#edits.push(edit);
+      this.#last = edit;
     }
     if (this.#edits.length > this.#most) this.drop(this.end - this.#most);
     this.#forks.forEach((fork) => fork.add(edits));

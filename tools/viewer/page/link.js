@@ -1,7 +1,8 @@
 // The tab's WebSocket to the gateway: sends batches of requests, and tells what the gateway says of the server.
 //
-// Events: `here` (the server is there; where detail.goesOn is false its versions begin anew), `version` (the document has changed), `people` (others have
-// come, moved or gone), `away` (the server or the gateway is not there; detail.why says which).
+// Events: `here` (the server is there; where detail.goesOn is false the page begins anew, and detail.isSame tells whether the history is the one that it knew, and
+// detail.isNext whether it is the next generation of that), `version` (the document has changed), `people` (others have come, moved or gone), `away` (the server
+// or the gateway is not there; detail.why says which).
 
 const RETRY = 700;
 /** How many of the pictures that came last are kept: more than the gateway believes. */
@@ -26,10 +27,13 @@ export class Link extends EventTarget {
   #waiting = new Map();
   #pictures = new Map();
 
-  /** `journal` gets the edits that the gateway tells of. */
-  constructor(journal) {
+  #known;
+
+  /** `journal` gets the edits that the gateway tells of; `known` is the end of a history that the page knew before, as {history, end, mark}, or null. */
+  constructor(journal, known = null) {
     super();
     this.#journal = journal;
+    this.#known = known;
   }
 
   /** Whether the server is there. */
@@ -40,8 +44,8 @@ export class Link extends EventTarget {
   taken = 0;
 
   open() {
-    const scheme = location.protocol === "https:" ? "wss:" : "ws:", { isLive, history, end } = this.#journal;
-    const known = isLive ? `?live=${encodeURIComponent(history)}&since=${end}` : "";
+    const scheme = location.protocol === "https:" ? "wss:" : "ws:", { history, end, mark } = this.#journal.isLive ? this.#journal : this.#known ?? { history: null };
+    const known = history === null ? "" : `?live=${encodeURIComponent(history)}&since=${end}&mark=${mark}`;
     this.#socket = new WebSocket(`${scheme}//${location.host}${location.pathname}session${known}`);
     this.#socket.binaryType = "arraybuffer";
     this.#socket.onmessage = ({ data }) => (typeof data === "string" ? this.#take(JSON.parse(data)) : this.#takePicture(data));
@@ -104,12 +108,12 @@ export class Link extends EventTarget {
     this.dispatchEvent(new CustomEvent(name, { detail }));
   }
 
-  #arrive({ version, live, since }) {
+  #arrive({ version, live, since, goes }) {
     this.#drop();
     this.isHere = true;
-    const goesOn = this.#journal.isFollowedBy(since, live);
+    const isSame = live !== null && goes === "on", goesOn = this.#journal.isFollowedBy(since, live, isSame);
     if (!goesOn) this.#journal.begin(since, live);
-    this.#pass("here", { version, goesOn });
+    this.#pass("here", { version, goesOn, isSame, isNext: goes === "next" });
   }
 
   #takeEdits(edits) {

@@ -32,8 +32,10 @@ export class Returns {
     for (let tree = this.#tree; tree && tree.version < journal.end; tree = journal.bring(tree, tree.version + 1)) {
       const kept = journal.at(tree.version + 1);
       if (!kept) break;
-      if (kept.edit.verb === "delete") this.#leave(tree, kept.edit.id);
-      else if (kept.edit.verb === "create") this.#come(kept.edit, kept.id);
+      const { verb, id, parent = null } = kept.edit;
+      if (verb === "delete") this.#leave(tree, id);
+      else if (verb === "create") this.#come(kept.edit, kept.id);
+      else if (verb === "respace") this.#state.history.forgetKeys(({ to }) => this.#state.history.resolve(to.parent) === parent);
     }
   }
 
@@ -53,6 +55,7 @@ export class Returns {
     const found = [...this.#gone].find(([, kept]) => isIt(kept))?.[0];
     if (found === undefined) return;
     this.#gone.delete(found);
+    if (spot.at === undefined) history.forgetKeys((change) => history.resolve(change.id) === found);
     if (history.resolve(found) !== id) history.rename(history.resolve(found), id);
     carryName(found, id);
   }

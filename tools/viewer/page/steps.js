@@ -9,8 +9,6 @@ const MOST = 256;
 const FEED_PAUSE = 300;
 /** How many edits are known at least, of those that the feed told of. */
 const MOST_EDITS = 2000;
-/** How often at most what an edit has put back of others' is mended. */
-const MENDS = 3;
 
 /** A request as the server is sent it: with the ids of what was made meanwhile. Null where something that it names was not made. */
 function asSent(request, made) {
@@ -132,16 +130,18 @@ export class Steps {
       this.#tell("This is the past, where nothing can be changed. Esc goes back to now.");
       return done;
     }
+    if (!isOnWay) done.draft = this.state.drafts.begin(requests);
     this.#setMaking(true);
     try {
       for (const batch of batches(requests, MOST)) await this.#makeBatch(batch, done);
-      for (let time = 0; time < MENDS && (!isOnWay || done.isAstray) && done.harm.length; time++) await this.#mend(done);
+      if (done.harm.length && (!isOnWay || done.isAstray)) await this.#mend(done);
       this.#tell(done.refusal);
     } catch (fault) {
       if (!(fault instanceof Unanswered)) throw fault;
       done.wasNotSent = !fault.wasSent && !done.changes.length;
       this.#tell(fault.wasSent ? "The server went away; whether it did this is not known." : "The server is away.");
     } finally {
+      if (done.draft) this.state.drafts.end(done.draft, Math.max(0, ...done.replies.map(({ version }) => version)));
       this.#setMaking(false);
     }
     return done;
@@ -159,11 +159,12 @@ export class Steps {
         return;
       }
       if (as !== undefined) done.made.set(as, reply.id);
-      if (instead !== undefined) this.#rename(instead, reply.id);
+      if (instead !== undefined) this.#rename(instead, reply.id, request);
       done.replies.push(reply);
       edits.push([request, reply]);
     });
     this.state.add(edits);
+    if (done.draft) this.state.drafts.answer(done.draft, batch.length, done.made);
     if (!edits.length) return;
     const newest = Math.max(...edits.map(([, { version }]) => version));
     this.#picture.see(newest);
@@ -182,17 +183,16 @@ export class Steps {
     if (isNow) done.harm.push(harm);
   }
 
-  // Gives back what an edit has put back of an other one.
+  // Gives back what edits have put back of others'.
   async #mend(done) {
-    const more = { ...done, changes: [], replies: [], harm: [], isBack: false }, { tree } = this.state;
-    const requests = done.harm.filter(({ id }) => tree.record(id));
+    const requests = done.harm.filter(({ id }) => this.state.tree.record(id)), more = { ...done, changes: [], harm: [], draft: null, isBack: false };
     if (requests.length) await this.#makeBatch(requests, more);
-    done.harm = more.harm;
-    done.replies.push(...more.replies);
   }
 
-  #rename(instead, id) {
-    this.state.history.rename(instead, id);
+  #rename(instead, id, { spot }) {
+    const { history } = this.state;
+    history.rename(instead, id);
     carryName(instead, id);
+    if (spot?.at === undefined) history.forgetKeys((change) => history.resolve(change.id) === id);
   }
 }

@@ -26,9 +26,9 @@ def is_own(request, listen):
 
 
 def known_by(request):
-    """The history that a tab followed before its connection was lost, or None, and the version up to which it knows all edits."""
-    since = request.query.get("since", "")
-    return (request.query.get("live"), int(since)) if since.isdecimal() and len(since) < 10 else (None, 0)
+    """The history that a tab followed before its connection was lost, or None, the version up to which it knows all edits, and the mark of the last one."""
+    since, mark = request.query.get("since", ""), request.query.get("mark", "")
+    return (request.query.get("live"), int(since), mark) if since.isdecimal() and len(since) < 10 else (None, 0, "")
 
 
 def page_of(title, root):

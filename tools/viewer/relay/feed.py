@@ -23,6 +23,14 @@ SERVED = re.compile(r"generation (\d+) is served")
 KEPT = re.compile(r"history: (\d+) edits are kept")
 
 
+def mark_of(line):
+    """A short mark of an edit's line, as journal.js makes it too."""
+    found = [2_166_136_261, 40_389]
+    for byte in line.encode():
+        found = [(it ^ byte) * 16_777_619 & 0xFFFFFFFF for it in found]
+    return "".join(f"{it:08x}" for it in found)
+
+
 class Refused(Exception):
     """The feed was refused, in the server's words."""
 
@@ -31,7 +39,8 @@ class Feed:
     """Follows a feed door for ever. Edits are kept as the lines that came, by their versions.
 
     `history` names the history that is followed; it is None while the door is away, and the same one after an outage only where the server's
-    last edits are those that are known. `version` is that of the last edit.
+    last edits are those that are known. `version` is that of the last edit. `before` names the history that ended when this one's generation was begun, or
+    is None.
     """
 
     def __init__(self, address):
@@ -42,6 +51,7 @@ class Feed:
         self._complaint = None
         self._changed = asyncio.Event()
         self.version = 0
+        self.before = None
 
     @property
     def history(self):
@@ -50,6 +60,23 @@ class Feed:
     def has(self, version):
         """Whether all edits behind a version are kept here."""
         return self.version - len(self._lines) <= version <= self.version
+
+    async def recalls(self, name, version, mark):
+        """Whether a history that another run of the gateway named is this one: it is of the same generation, and the edit of a version has the mark that is
+        known. The edits behind it are kept then, where they are not too many."""
+        if self.history is None or name.partition("-")[0] != str(self._generation) or not 0 < version <= self.version:
+            return False
+        try:
+            line, = await self._some(1, since=version - 1, generation=self._generation)
+            if mark_of(line) != mark:
+                return False
+            first, count = self.version - len(self._lines), self.version - version
+            lines = await self._some(first - version, since=version, generation=self._generation) if 0 < first - version and count <= MOST_KEPT else []
+        except (OSError, EOFError, ValueError, Refused, asyncio.TimeoutError):
+            return False
+        if lines and first == self.version - len(self._lines) and first - version + len(self._lines) <= MOST_KEPT:
+            self._lines.extendleft(reversed(lines))
+        return True
 
     async def is_there(self, seconds):
         """Whether the door is there, at the latest after so many seconds."""
@@ -153,7 +180,8 @@ class Feed:
         if served is None:
             raise ValueError("this is no feed")
         self._lines.clear()
-        self._generation = int(served[1])
+        ended, self._generation = self._generation, int(served[1])
+        self.before = self._name if ended is not None and self._generation == ended + 1 else None
         self.version = await self._newest(self._generation) or 0
         self._name = f"{self._generation}-{secrets.token_hex(6)}"
 

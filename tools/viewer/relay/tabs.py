@@ -94,12 +94,12 @@ class Room:
 class Tab:
     """A browser's tab: its WebSocket, and its session while the server is there, which others may have too.
 
-    `history` and `told` are the history and the version up to which the tab knows all edits, where it followed the feed. `seen` is the newest version
-    that it was told of.
+    `history` and `told` are the history and the version up to which the tab knows all edits, where it followed the feed, and `mark` is that of the last one.
+    `seen` is the newest version that it was told of.
     """
 
-    def __init__(self, socket, room, history=None, told=0):
-        self._socket, self._room, self._history, self._told = socket, room, history, told
+    def __init__(self, socket, room, history=None, told=0, mark=""):
+        self._socket, self._room, self._history, self._told, self._mark = socket, room, history, told, mark
         self._session = self._seat = None
         self.seen = 0
         self._is_live = self._is_gone = False
@@ -209,11 +209,13 @@ class Tab:
 
     async def _follow_feed(self, feed, version):
         """Tells the tab of each edit, from the version on that it has, while the feed goes on and the session is there."""
-        if self._history != feed.history or not feed.has(self._told):
-            self._history, self._told, self.seen = feed.history, feed.version, 0
-        self._session, self._is_live = self._seat, True
+        known = self._history
+        how = {"goes": "on"} if await self._is_known(feed) else {"goes": "next"} if known is not None and known == feed.before else {}
+        if not how.get("goes") == "on" or not feed.has(self._told):
+            self._told, self.seen = feed.version, 0
+        self._history, self._session, self._is_live = feed.history, self._seat, True
         self.seen = max(self.seen, version, self._told)
-        await self._say(say="here", version=self.seen, live=self._history, since=self._told)
+        await self._say(say="here", version=self.seen, live=self._history, since=self._told, **how)
         telling = asyncio.create_task(self._tell_edits(feed))
         try:
             while not self._is_gone and not telling.done():
@@ -222,6 +224,10 @@ class Tab:
         finally:
             self._is_live = False
             telling.cancel()
+
+    async def _is_known(self, feed):
+        """Whether the history that the tab knows is the one that the feed tells."""
+        return self._history is not None and (self._history == feed.history or await feed.recalls(self._history, self._told, self._mark))
 
     async def _tell_edits(self, feed):
         while lines := await feed.beyond(self._told):

@@ -138,6 +138,7 @@ async def ink(ann, place, width, height):
 async def without_fill(ann, server):
     """A frame without fill has an edge and a name, by which it is taken and moved."""
     [(frame, *_), (other, *_)], beside = await frames_on(ann, server, (0, 0, 240, 200, None), (320, 0, 240, 200, None))
+    await ann.tab.value("document.getElementById('frames').style.visibility = ''")
     await ann.tab.value("new Promise((done) => requestAnimationFrame(() => requestAnimationFrame(done)))")
     yield "its edge is seen", None if await ink(ann, (50, -2), 20, 4) >= 20 else "no"
     yield "its name is seen", None if await ink(ann, (0, -20), 60, 18) >= 60 else "no"
