@@ -89,6 +89,12 @@ export function harmOf({ verb, id, seen, from, to, own, isAstray }, isBack) {
 /** A change with what was given back of it. */
 export const mended = (change, { pose, shape, hidden }) => ({ ...change, to: pose ?? shape ?? hidden ?? change.to });
 
+/** The change of an edit that mends another change, as its sender saw it: with what that had left. */
+export function mending(change, { verb, to }) {
+  const own = verb === "pose" || verb === "reshape" ? { own: changedParts(to, change.to) } : {};
+  return { ...change, ...own, seen: to, isAstray: false };
+}
+
 /** Whether a journal tells of an edit of the same kind and shape behind a version. */
 export function isAfter(journal, version, { verb, id }) {
   for (let after = version + 1; journal?.at(after); after++) {

@@ -47,17 +47,17 @@ export function reachedFrame(tree, point, entered) {
 }
 
 /**
- * What a shape lies in when it is let go with the pointer at a pixel: the innermost frame there, or else what is next outside the frames that it was dragged
- * out of. What lies in a group stays in it.
+ * What shapes lie in when they are let go with the pointer at a pixel: the innermost frame there, or else what is next outside the frames that each was
+ * dragged out of. What lies in a group stays in it.
  */
-export function homeOf(tree, record, point, moving) {
-  const outer = tree.record(record.parent);
-  if (outer && !isFrame(outer)) return outer.id;
-  const found = frameAt(tree, point, moving);
-  if (found !== null) return found;
-  let home = outer;
-  while (isFrame(home)) home = tree.record(home.parent);
-  return home?.id ?? null;
+export function homesOf(tree, records, point, moving) {
+  const frame = records.length ? frameAt(tree, point, moving) : null;
+  return records.map(({ parent }) => {
+    let home = tree.record(parent);
+    if (frame !== null && (!home || isFrame(home))) return frame;
+    while (isFrame(home)) home = tree.record(home.parent);
+    return home?.id ?? null;
+  });
 }
 
 /** Whether two boxes have a point in common, and the part that they share. */

@@ -16,6 +16,7 @@ export class Journal {
   #forks = new Set();
   #most;
   #last = null;
+  #mark = "";
 
   /** It has at most so many edits, the last ones. */
   constructor(most = MOST) {
@@ -34,14 +35,15 @@ export class Journal {
     return this.history !== null;
   }
 
-  /** The mark of the last edit that is known; "" where none is. */
+  /** The mark of the last edit; "" where it is not known. */
   get mark() {
-    return this.#last ? markOf(this.#last) : "";
+    return this.#last ? markOf(this.#last) : this.#mark;
   }
 
-  /** Begins behind a version of a history, or of none. */
-  begin(version, history = null) {
+  /** Begins behind a version of a history, or of none; `mark` is that of the edit that made it, where that is known. */
+  begin(version, history = null, mark = "") {
     this.#last = null;
+    this.#mark = mark;
     this.#edits = [];
     this.#begin = version;
     this.history = history;

@@ -112,7 +112,7 @@ export class Link extends EventTarget {
     this.#drop();
     this.isHere = true;
     const isSame = live !== null && goes === "on", goesOn = this.#journal.isFollowedBy(since, live, isSame);
-    if (!goesOn) this.#journal.begin(since, live);
+    if (!goesOn) this.#journal.begin(since, live, isSame && since === this.#known?.end ? this.#known.mark : "");
     this.#pass("here", { version, goesOn, isSame, isNext: goes === "next" });
   }
 

@@ -41,7 +41,7 @@ export class Select extends Tool {
   }
 
   #pressShape(at, keys) {
-    const { state } = this, { tree, selection } = state, grip = this.#gripAt(at), hit = grip ?? tree?.at(at.page) ?? null;
+    const { state } = this, { tree, selection } = state, under = tree?.at(at.page) ?? null, grip = this.#gripAt(at, under), hit = grip ?? under;
     const held = hit === null ? undefined : tree.line(hit).find(({ id }) => selection.includes(id))?.id;
     const id = hit === null ? null : keys.isDeep || grip !== null ? hit : held ?? this.#reach(hit);
     const isGround = grip === null && (hit === state.entered || (id === hit && held === undefined && !keys.isDeep && tree.record(id)?.shape.kind === "frame"));
@@ -70,9 +70,9 @@ export class Select extends Tool {
     this.#begin("move", { from: state.box, home: null });
   }
 
-  // The frame that is taken by its name, or by its edge where no other shape lies in front of that; or null.
-  #gripAt({ window, page }) {
-    const { tree } = this.state, grip = this.app.frames.at(window, this.app.stage.isTouched), hit = tree?.at(page) ?? null;
+  // The frame that is taken by its name, or by its edge where no other shape than a frame is hit there; or null.
+  #gripAt({ window }, hit) {
+    const { tree } = this.state, grip = this.app.frames.at(window, this.app.stage.isTouched);
     const isFree = grip && (grip.isName || hit === null || tree.record(hit).shape.kind === "frame");
     return isFree && tree.record(grip.id) ? grip.id : null;
   }
@@ -238,7 +238,7 @@ export class Select extends Tool {
     if (this.edited !== null) return this.#pointAt(at.window) === null ? "default" : "crosshair";
     const found = this.#handleAt(at.window);
     if (found) return cursorOf(found);
-    const { tree, entered, selection } = this.state, hit = this.#gripAt(at) ?? tree?.at(at.page) ?? null;
+    const { tree, entered, selection } = this.state, under = tree?.at(at.page) ?? null, hit = this.#gripAt(at, under) ?? under;
     return hit === null || (hit === entered && !selection.includes(hit)) ? "default" : "move";
   }
 

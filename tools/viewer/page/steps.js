@@ -1,12 +1,14 @@
 // Steps: each is some requests that the server is sent, one step after the other, and that can be taken back and made again.
 
-import { batches, harmOf, isAfter, makeNoted, mended, planBack, truly } from "./changes.js";
+import { batches, harmOf, isAfter, makeNoted, mended, mending, planBack, truly } from "./changes.js";
 import { Unanswered } from "./link.js";
 import { carryName } from "./names.js";
 
 const MOST = 256;
 /** For how long at most the feed is waited for, which tells what others did just before an edit. */
 const FEED_PAUSE = 300;
+/** How often at most what an edit has put back of others' is given back, while others go on. */
+const MENDS = 4;
 /** How many edits are known at least, of those that the feed told of. */
 const MOST_EDITS = 2000;
 
@@ -134,7 +136,7 @@ export class Steps {
     this.#setMaking(true);
     try {
       for (const batch of batches(requests, MOST)) await this.#makeBatch(batch, done);
-      if (done.harm.length && (!isOnWay || done.isAstray)) await this.#mend(done);
+      for (let time = 0; time < MENDS && done.harm.length && (!isOnWay || done.isAstray); time++) await this.#mend(done);
       this.#tell(done.refusal);
     } catch (fault) {
       if (!(fault instanceof Unanswered)) throw fault;
@@ -147,7 +149,8 @@ export class Steps {
     return done;
   }
 
-  async #makeBatch(batch, done) {
+  // Where these are edits that mend others, `mends` are the changes that are mended.
+  async #makeBatch(batch, done, mends = null) {
     const before = this.state.tree?.copy(), base = this.state.base?.copy();
     const sent = batch.map((request) => [request, asSent(request, done.made)]).filter(([, found]) => found);
     if (!sent.length) return;
@@ -171,7 +174,8 @@ export class Steps {
     const changes = before ? makeNoted(before, edits) : [], journal = this.#journal;
     await journal?.reach(newest, FEED_PAUSE);
     const found = (journal?.isLive && base ? truly(base, edits, changes, journal) : changes).filter(Boolean);
-    for (const change of found) this.#noteChange(change, newest, done);
+    const mendOf = (change) => mends?.find(({ verb, id }) => verb === change.verb && id === change.id);
+    for (const change of found) this.#noteChange(mendOf(change) ? mending(change, mendOf(change)) : change, newest, done);
   }
 
   // Notes a change, and what of others' edits it has put back unmeant.
@@ -180,13 +184,16 @@ export class Steps {
     done.isLate ||= done.isBack && harm !== null;
     done.isAstray ||= change.isAstray;
     if (!change.isAstray) done.changes.push(isNow ? mended(change, harm) : change);
-    if (isNow) done.harm.push(harm);
+    if (isNow) done.harm.push({ request: harm, change });
   }
 
-  // Gives back what edits have put back of others'.
+  // Gives back what edits have put back of others'; and what that has put back of what came since.
   async #mend(done) {
-    const requests = done.harm.filter(({ id }) => this.state.tree.record(id)), more = { ...done, changes: [], harm: [], draft: null, isBack: false };
-    if (requests.length) await this.#makeBatch(requests, more);
+    const harm = done.harm.filter(({ request }) => this.state.tree.record(request.id)), more = { ...done, changes: [], harm: [], draft: null, isBack: true };
+    done.harm = [];
+    if (!harm.length) return;
+    await this.#makeBatch(harm.map(({ request }) => request), more, harm.map(({ change }) => change));
+    done.harm = more.harm;
   }
 
   #rename(instead, id, { spot }) {

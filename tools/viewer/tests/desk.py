@@ -69,14 +69,14 @@ class Server:
 class Keeper(Server):
     """A run of canvasd over a folder, which begins with the document of a file, or empty, with a feed."""
 
-    def __init__(self, folder, file=None):
+    def __init__(self, folder, file=None, *words):
         super().__init__(file)
-        self.folder = Path(folder) / "kept"
+        self.folder, self.words = Path(folder) / "kept", words
         self.feed = f"127.0.0.1:{free_port()}"
 
     def start(self):
         opening = ["--open", str(self.file)] if self.file and not self.folder.exists() else []
-        words = [str(BUILT_KEEPER), str(self.folder), "--listen", self.address, "--feed", self.feed, "--workers", "1", "--log", "error", *opening]
+        words = [str(BUILT_KEEPER), str(self.folder), "--listen", self.address, "--feed", self.feed, "--workers", "1", "--log", "error", *self.words, *opening]
         self._run(words, f"listening on {self.address}\n".encode(), f"feeding on {self.feed}\n".encode())
 
 

@@ -18,13 +18,23 @@ SLOW = """(() => {
   window.quick = () => { app.link.ask = ask; };
 })()"""
 """Each answer comes so many milliseconds later."""
-LATE = 700
+LATE = 1500
 TWO_FRAMES = "new Promise((done) => requestAnimationFrame(() => requestAnimationFrame(done)))"
 WHITE = (255, 255, 255)
+AWAY = (900, 700)
+"""Where on the sheet nothing lies."""
 
 
 def colour(fill):
     return tuple(int(fill[k:k + 2], 16) for k in (0, 2, 4))
+
+
+async def white_sheet(ann, server, *shapes):
+    """A sheet as `sheet` gives it, beside those of others; gives the numbers, and its corner."""
+    group, numbers, corner = await sheet(ann, server, *((x + AWAY[0], y + AWAY[1], w, h) for x, y, w, h in shapes))
+    corner = at(corner, AWAY)[0]
+    await ann.look_at(0, at(corner, (200, 200))[0])
+    return group, numbers, corner
 
 
 async def pixel(ann, corner, place):
@@ -46,7 +56,7 @@ async def stays(ann, corner, place):
 
 async def at_once(ann, server):
     """A shape that is drawn, resized, coloured, moved and taken back is never shown otherwise than it is to be."""
-    group, (low, high), corner = await sheet(ann, server, (0, 0, 100, 100), (60, 60, 100, 100))
+    _, (low, high), corner = await white_sheet(ann, server, (0, 0, 100, 100), (60, 60, 100, 100))
     await ann.tab.value(SLOW % LATE)
     await ann.tab.value("app.state.pick('7a4fc9')")
     await ann.press("r")
@@ -75,9 +85,9 @@ async def at_once(ann, server):
 
 async def in_its_frame(ann, server):
     """What is drawn in a frame is cut off by it at once; nothing of it is shown beyond."""
-    group, _, corner = await sheet(ann, server)
+    group, _, corner = await white_sheet(ann, server)
     with server.connect() as canvas:
-        frame, _ = canvas.ask(verb="create", shape={"kind": "frame", "w": 100, "h": 100, "fill": "f4ead5"}, parent=group, pose={"dx": 0, "dy": 0})
+        frame, _ = canvas.ask(verb="create", shape={"kind": "frame", "w": 100, "h": 100, "fill": "f4ead5"}, parent=group, pose={"dx": AWAY[0], "dy": AWAY[1]})
     await ann.settle(frame["version"])
     await ann.tab.value("app.state.select([])")
     await ann.tab.value(SLOW % LATE)
@@ -85,7 +95,7 @@ async def in_its_frame(ann, server):
     await ann.drag(*at(corner, (40, 20), (60, 40), (180, 80)))
     first = await pixel(ann, corner, (90, 50))
     yield "inside", difference(first, colour(await ann.tab.value("app.state.fill")))
-    yield "beyond", difference(await stays(ann, corner, (150, 50)), (True, {WHITE}))
+    yield "beyond", difference((await stays(ann, corner, (150, 50)))[1], {WHITE})
     await ann.tab.value("window.quick()")
     await ann.settle(0)
     yield "the picture of it", await ann.wrong_pixels()

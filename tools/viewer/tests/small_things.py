@@ -161,8 +161,8 @@ async def without_a_mouse(ann, server):
     record = server.records()[frame]
     yield "a frame by keys", difference([record["shape"]["kind"], record["shape"]["w"], record["shape"]["h"]], ["frame", 40, 32])
     await ann.press("m", *["ArrowRight"] * 3, "ArrowUp")
-    await ann.press("ArrowLeft", modifiers=SHIFT)
-    wanted = [record["pose"]["dx"] + 3 - 10, record["pose"]["dy"] - 1]
+    await ann.press(*["ArrowLeft"] * 5, modifiers=SHIFT)  # (so that what is drawn next lies beside it)
+    wanted = [record["pose"]["dx"] + 3 - 50, record["pose"]["dy"] - 1]
     await ann.tab.until(f"(({{dx, dy}}) => dx === {wanted[0]} && dy === {wanted[1]})(app.editor.record.pose)")
     await ann.press("Escape", "p", "Enter", *["ArrowRight"] * 5, "Enter", *["ArrowDown"] * 4, "Enter", "Enter")
     polygon = await ann.made(None)

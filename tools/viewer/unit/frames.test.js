@@ -3,7 +3,7 @@
 import assert from "node:assert/strict";
 import { test } from "node:test";
 
-import { frameAt, homeOf, reachedFrame } from "../page/frames.js";
+import { frameAt, homesOf, reachedFrame } from "../page/frames.js";
 import { Tree } from "../page/tree.js";
 
 const saved = (id, parent, index, kind, [dx, dy], [w, h] = [100, 100], more = {}) => ({
@@ -32,7 +32,7 @@ test("what a drag selects in: frames are gone through, groups are not", () => {
 });
 
 test("what is dragged goes into the frame under the pointer, out of one that it is dragged out of, and stays in its group", () => {
-  const found = tree(), home = (id, point) => homeOf(found, found.record(id), point, [id]);
+  const found = tree(), home = (id, point) => homesOf(found, [found.record(id)], point, [id])[0];
   assert.deepEqual([home(8, [5, 5]), home(8, [160, 160]), home(8, [950, 950]), home(8, [510, 5])], [1, 2, null, 5]);
   assert.deepEqual([home(3, [5, 5]), home(3, [160, 160]), home(3, [300, 300])], [1, 2, null]);
   assert.deepEqual([home(2, [160, 160]), home(2, [300, 5]), home(1, [160, 160])], [1, null, null]);

@@ -158,6 +158,37 @@ def test_an_earlier_copy_and_another_generation_are_other_histories(monkeypatch)
         assert asyncio.run(followed(door, lambda feed: after_outage(feed, door, lambda: change(door)))) == (False, version)
 
 
+def test_the_next_generation_goes_on_with_the_one_before(monkeypatch):
+    monkeypatch.setattr(module, "RETRY", 0.02)
+    found = []
+    for change in (lambda door: door.lines.pop(), lambda door: setattr(door, "generation", 2), lambda door: setattr(door, "generation", 3)):
+        door = Door()
+
+        async def work(feed):
+            before = feed.history
+            await after_outage(feed, door, lambda: change(door))
+            return feed.before == before
+
+        found.append(asyncio.run(followed(door, work)))
+    assert found == [False, True, False]
+
+
+def test_a_history_that_another_run_named_is_known_by_its_last_edit():
+    door = Door(line_of(1), line_of(2), line_of(3))
+
+    async def work(feed):
+        had = feed.has(1)
+        rows = [("1-old", 1, line_of(1)), ("1-old", 1, line_of(1, "b")), ("2-old", 1, line_of(1)), ("1-old", 4, line_of(4)), ("1-old", 0, line_of(1))]
+        return had, [await feed.recalls(name, version, module.mark_of(line)) for name, version, line in rows], feed.has(1), await feed.beyond(1)
+
+    assert asyncio.run(followed(door, work)) == (False, [True, False, False, False, False], True, [line_of(2), line_of(3)])
+
+
+def test_a_mark_is_what_the_page_makes_of_an_edit():
+    line = '{"damage":[0,0,5,1],"edit":{"hidden":true,"id":7,"verb":"show"},"id":null,"version":4}'
+    assert module.mark_of(line) == "b618d308fadcd308"
+
+
 def test_what_is_no_feed_is_said_once(capsys, monkeypatch):
     monkeypatch.setattr(module, "RETRY", 0.01)
 
@@ -252,15 +283,17 @@ def test_a_tab_that_comes_back_is_told_of_what_it_missed():
         async def send(text):
             said.append(json.loads(text))
 
-        for history, told in [(feed.history, 1), ("other", 1), (feed.history, 9)]:
-            task = asyncio.create_task(Tab(SimpleNamespace(closed=False, send_str=send), room, history, told)._follow(Stub(2)))
+        mark = module.mark_of(line_of(1))
+        for history, told, mark in [(feed.history, 1, ""), ("other", 1, mark), ("1-other", 1, mark), ("1-other", 1, ""), (feed.history, 9, "")]:
+            task = asyncio.create_task(Tab(SimpleNamespace(closed=False, send_str=send), room, history, told, mark)._follow(Stub(2)))
             await asyncio.sleep(0.05)
             task.cancel()
         following.cancel()
         await door.stop()
-        return [it.get("since", it.get("edits")) for it in said]
+        return [[it["since"], it.get("goes")] if "since" in it else it["edits"] for it in said]
 
-    assert asyncio.run(both()) == [1, edits(2)["edits"], 2, 2]
+    missed = edits(2)["edits"]
+    assert asyncio.run(both()) == [[1, "on"], missed, [2, None], [1, "on"], missed, [2, None], [2, "on"]]
 
 
 def test_a_tab_sees_that_its_session_has_ended():

@@ -104,6 +104,38 @@ test("what others did to a pose or a shape stays", () => {
   assert.deepEqual(partsBack(shape(1, "cc"), { from: shape(1, "aa"), to: shape(1, "bb") }), { value: shape(1, "cc"), stays: ["fill"] });
 });
 
+test("what others changed since stays, and is taken back when they have taken back theirs", () => {
+  const found = tree(), [change] = make(found, [{ verb: "pose", id: 5, pose: { ...STILL, dx: 77, dy: 8 } }]);
+  make(found, [{ verb: "pose", id: 5, pose: { ...STILL, dx: 99, dy: 8 } }]);
+  const plan = planBack(found, [change], same);
+  assert.deepEqual(plan.requests, [{ verb: "pose", id: 5, pose: { ...STILL, dx: 99 } }]);
+  assert.deepEqual([plan.passed, plan.kept.map(({ own }) => own)], [["Rectangle 5 was changed by others since."], [["dx"]]]);
+  make(found, plan.requests);
+  assert.deepEqual(planBack(found, plan.kept, same).requests, []);
+  make(found, [{ verb: "pose", id: 5, pose: { ...STILL, dx: 77 } }]);
+  assert.deepEqual(planBack(found, plan.kept, same).requests, [{ verb: "pose", id: 5, pose: { ...STILL, dx: 50 } }]);
+});
+
+test("a shape goes back to its key, or beside what others have put there", () => {
+  const found = tree(), [change] = make(found, [{ verb: "move", id: 4, parent: null, spot: "front" }]);
+  assert.deepEqual(planBack(found, [change], same).requests, [{ verb: "move", id: 4, parent: null, spot: { at: "a1" } }]);
+  make(found, [{ verb: "move", id: 1, parent: null, spot: { at: "a1" } }]);
+  const plan = planBack(found, [change], same);
+  assert.deepEqual(plan.requests, [{ verb: "move", id: 4, parent: null, spot: { over: 1 } }]);
+  make(found, [...plan.requests, { verb: "move", id: 1, parent: null, spot: { at: "a0" } }]);
+  make(found, planBack(found, plan.kept, same).requests);
+  assert.deepEqual(found.children(null).map(({ id, index }) => [id, index]), [[5, "a2"], [4, "a1"], [1, "a0"]]);
+});
+
+test("a pose is taken back only in the parent that it was given in", () => {
+  const found = tree(), changes = make(found, [{ verb: "move", id: 4, parent: 1, spot: "front" }, { verb: "pose", id: 4, pose: { ...STILL, dx: 30 } }]);
+  const [other] = make(found, [{ verb: "move", id: 4, parent: null, spot: "back" }]), plan = planBack(found, changes, same);
+  assert.deepEqual([plan.requests, plan.kept.length], [[], 2]);
+  make(found, planBack(found, [other], same).requests);
+  make(found, planBack(found, changes, same).requests);
+  assert.deepEqual([bare(found), order(found, null)], [bare(tree()), order(tree(), null)]);
+});
+
 test("all turns and flips are taken back", () => {
   for (let k = 0; k < 64; k++) {
     const pose = (bits) => ({ dx: bits, dy: 0 - bits, quarter: bits % 4, flip: bits > 3 });
