@@ -1,12 +1,13 @@
 #!/usr/bin/python3
 """The viewer's gateway: gives browsers the page, and passes on what their tabs ask of a server. The tabs of a document share a few sessions.
 
-usage: tools/viewer/gateway.py ADDRESS [--feed ADDRESS] [--listen 127.0.0.1:8080] [--name NAME]
-       tools/viewer/gateway.py --documents FOLDER [--moves] [--listen 127.0.0.1:8080]
+usage: tools/viewer/gateway.py ADDRESS [--feed ADDRESS] [--listen 127.0.0.1:8080] [--host NAME ..] [--name NAME]
+       tools/viewer/gateway.py --documents FOLDER [--moves] [--listen 127.0.0.1:8080] [--host NAME ..]
 
 The server is at HOST:PORT or unix:PATH; so is the feed of a canvasd (--feed), which tells of each edit at once, and without which the gateway asks.
 With --documents there are many: each folder /FOLDER/NAME has the sockets `door` and `feed` of its canvasd, and its page is at /d/NAME/. The gateway
-listens at HOST:PORT, or at unix:PATH for what stands before it, as nginx, and says who may see what. With --moves documents move between hosts, and a
+listens at HOST:PORT, or at unix:PATH for what stands before it, as nginx, and says who may see what. At HOST:PORT browsers find the page by an IP
+address, as localhost, or by HOST; by another name only where --host names it, so that no page of another site can pass for this one. With --moves documents move between hosts, and a
 tab whose server is away is sent away, so that it comes back by the host that has the document.
 
 A tab opens a WebSocket at /session (below /d/NAME/, if there are many documents) and sends batches of requests, as docs/PROTOCOL.md has them:
@@ -81,6 +82,7 @@ def given_words():
     words.add_argument("--documents", metavar="FOLDER", help="where each document has a folder with the sockets of its server, in the place of ADDRESS")
     words.add_argument("--moves", action="store_true", help="a document whose server is away may be at another host")
     words.add_argument("--listen", type=door_of, default=("127.0.0.1", 8080), metavar="ADDRESS", help="where the page is: HOST:PORT or unix:PATH")
+    words.add_argument("--host", action="append", default=[], metavar="NAME", help="by which other name browsers may find the page; may be given again")
     words.add_argument("--name", default="drawing", help="what the document is called in the title of each tab")
     given = words.parse_args()
     if (given.server is None) == (given.documents is None) or given.documents and given.feed or given.server and given.moves:
@@ -115,8 +117,8 @@ def main():
     except OSError as fault:
         sys.exit(f"gateway: {fault.strerror}")
     documents = One(given.name, given.server, given.feed) if given.server else Folder(given.documents, given.moves)
-    host = None if isinstance(given.listen, str) else given.listen[0]
-    web.run_app(application(documents, host), sock=listener, print=lambda _: print(address, flush=True), access_log=None, shutdown_timeout=PATIENCE)
+    hosts = None if isinstance(given.listen, str) else {given.listen[0], *(name.lower() for name in given.host)}
+    web.run_app(application(documents, hosts), sock=listener, print=lambda _: print(address, flush=True), access_log=None, shutdown_timeout=PATIENCE)
 
 
 if __name__ == "__main__":

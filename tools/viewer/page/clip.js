@@ -1,6 +1,6 @@
 // Copies of shapes, as a text that can be pasted here or into another document.
 
-import { compose } from "./plane.js";
+import { STILL, apply, around, boxOf, compose, corners } from "./plane.js";
 
 /** Copies of shapes, each with all that is below it, where they lie on the page; from back to front. */
 export function copiesOf(tree, ids) {
@@ -45,6 +45,15 @@ function saved(records) {
   for (const k of order) below.set(places[k].parent, [...(below.get(places[k].parent) ?? []), records[k]]);
   const copy = ({ id, shape, pose, hidden }) => ({ shape, pose, hidden, children: (below.get(id) ?? []).map(copy) });
   return (below.get(null) ?? []).map(copy);
+}
+
+/** The box on the page of copies, or null where they show nothing. */
+export function boxOfCopies(copies, outer = STILL) {
+  return copies.reduce((all, { shape, pose, children = [] }) => {
+    const own = compose(outer, { ...STILL, ...pose }), { kind, w, h, points } = shape;
+    if (kind === "group") return around(all, boxOfCopies(children, own));
+    return around(all, boxOf((points ?? corners({ left: 0, top: 0, right: w, bottom: h })).map((point) => apply(own, point))));
+  }, null);
 }
 
 /**

@@ -53,6 +53,7 @@ export class Notes {
     const button = document.createElement("button");
     button.textContent = offer?.words ?? "";
     button.addEventListener("click", () => offer.act());
+    this.#refusal.hide();
     this.#note.show(text, ...(offer ? [button] : []));
   }
 

@@ -11,12 +11,26 @@ from relay.tabs import Tab
 PAGE = Path(__file__).resolve().parent.parent / "page"
 
 
-def is_own(request, listen):
-    """Whether a request is of the gateway's own page: browsers tell which site a page comes from, and by which name it was found. Where the gateway listens
-    at a unix socket, which no browser reaches by itself, what stands before it answers for the name."""
-    origin, name = request.headers.get("Origin"), urlsplit(f"//{request.host}").hostname or ""
-    is_known = listen is None or name in ("localhost", listen) or name.replace(".", "").isdigit() or ":" in name
-    return is_known and (origin is None or urlsplit(origin).netloc == request.host)
+def name_of(request):
+    """The name by which a browser found the gateway."""
+    return urlsplit(f"//{request.host}").hostname or ""
+
+
+def is_known(name, hosts):
+    """Whether the gateway may be found by a name. Where it listens at a unix socket, which no browser reaches by itself, what stands before it answers for
+    the name, and `hosts` is None."""
+    return hosts is None or name == "localhost" or name in hosts or name.replace(".", "").isdigit() or ":" in name
+
+
+def is_own(request, hosts):
+    """Whether a request is of the gateway's own page: browsers tell which site a page comes from, and by which name it was found."""
+    origin = request.headers.get("Origin")
+    return is_known(name_of(request), hosts) and (origin is None or urlsplit(origin).netloc == request.host)
+
+
+def unknown(name):
+    """What a browser is told that found the gateway by a name that is not its own."""
+    return web.Response(status=421, text=f"This gateway does not answer to the name {name!r}. Whoever started it may add: --host {name}\n")
 
 
 def known_by(request):
@@ -31,8 +45,8 @@ def page_of(title, root):
     return text.replace('"page/', f'"{"../" * root.count("/")}page/')
 
 
-def application(documents, listen):
-    """The gateway of documents. It listens at a host of this name, or at a unix socket where that is None."""
+def application(documents, hosts):
+    """The gateway of documents. It is found by the names of these hosts, or listens at a unix socket where they are None."""
     def name_in(request):
         name = request.match_info.get("name")
         if not documents.has(name):
@@ -40,7 +54,7 @@ def application(documents, listen):
         return name
 
     async def tab(request):
-        if not is_own(request, listen):
+        if not is_own(request, hosts):
             raise web.HTTPForbidden
         with documents.document(name_in(request)).visit() as room:
             found = web.WebSocketResponse(compress=False, heartbeat=20)
@@ -52,6 +66,8 @@ def application(documents, listen):
         return await documents.document(name_in(request)).room.looks.pictures.answer(request)
 
     async def page(request):
+        if not is_known(name_of(request), hosts):
+            return unknown(name_of(request))
         return web.Response(text=page_of(documents.title(name_in(request)), documents.root), content_type="text/html")
 
     async def fresh(_, response):
