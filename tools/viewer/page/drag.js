@@ -4,13 +4,13 @@ import { joined } from "./changes.js";
 import { inOrder } from "./clip.js";
 import { shifted } from "./resize.js";
 
-const PAUSE = 1000 / 30;
+export const PAUSE = 1000 / 30;
 
 const same = ([x, y], [x2, y2]) => x === x2 && y === y2;
 const textOf = ({ dx, dy, quarter, flip }) => [dx, dy, quarter, flip].join();
 const isStill = ({ from, to }) => textOf(from) === textOf(to);
 
-const CLOCK = { now: () => performance.now(), wait: (time) => new Promise((done) => setTimeout(done, time)) };
+export const CLOCK = { now: () => performance.now(), wait: (time) => new Promise((done) => setTimeout(done, time)) };
 
 export class Drag {
   #steps;
