@@ -1,18 +1,66 @@
-// Copying and pasting shapes, by the clipboard of the system.
+// Copying and pasting shapes, by the clipboard of the system; and copying them as pictures.
 
-import { boxOfCopies, copiesIn, textOf } from "./clip.js";
+import { boxOfCopies, copiesIn, inOrder, textOf } from "./clip.js";
 import { listenToClipboard } from "./keys.js";
+import { isFit, snapshot, viewOf } from "./snapshot.js";
+import { svgOf } from "./svg.js";
+import { FURTHEST } from "./view.js";
 
 const ASIDE = 16;
 
 export class Clipboard {
   #app;
   #pasted = null;
+  #text = null;
+  #isCut = false;
 
   constructor(app) {
     this.#app = app;
-    listenToClipboard((isCut) => this.#copy(isCut), (text) => this.#paste(text));
+    listenToClipboard((isCut) => this.#text ?? this.#copy(isCut || this.#isCut), (text) => this.#paste(text));
   }
+
+  // -- by the menu ----------------------------------------------------------------------------------------------------
+
+  copy(isCut) {
+    this.#isCut = isCut;
+    document.execCommand("copy");
+    this.#isCut = false;
+  }
+
+  /** Pastes what the browser lets a page read, and else what was copied here last. */
+  async paste() {
+    const text = await navigator.clipboard?.readText().catch(() => null) ?? this.#pasted?.text;
+    if (text) this.#paste(text);
+    else this.#app.notes.say("The browser lets no page read what was copied elsewhere: press Ctrl+V.");
+  }
+
+  /** Copies what is selected, or all, as the text of an SVG picture. */
+  copySvg() {
+    const { state, notes } = this.#app, text = svgOf(state.tree, inOrder(state.tree, state.selection));
+    if (!text) return notes.tell("There is nothing to be seen in it.");
+    this.#text = text;
+    const isDone = document.execCommand("copy");
+    this.#text = null;
+    return isDone ? notes.say("The SVG is copied, as text.") : notes.tell("The browser did not let the page copy it: download it.");
+  }
+
+  /** Copies what is selected, or all, as a PNG picture, one to one or as near as it goes. */
+  async copyPng() {
+    const { state, picture, notes } = this.#app, box = state.box ?? state.tree?.boxOf(null);
+    if (!box) return notes.tell("There is nothing to be seen in it.");
+    if (!globalThis.ClipboardItem) return notes.tell("Browsers let a page copy pictures only over https, or from localhost: download it.");
+    let level = 0;
+    while (level < FURTHEST && !isFit(viewOf(box, level))) level++;
+    const found = snapshot(picture, viewOf(box, level)).then((it) => it?.blob ?? Promise.reject(new Error("no picture")));
+    try {
+      await navigator.clipboard.write([new ClipboardItem({ "image/png": found })]);
+      return notes.say(level ? `The PNG is copied, at 1:${2 ** level}.` : "The PNG is copied.");
+    } catch {
+      return notes.tell("The PNG could not be copied: download it.");
+    }
+  }
+
+  // -- shapes ---------------------------------------------------------------------------------------------------------
 
   #copy(isCut) {
     const { editor } = this.#app, copies = editor.copies();
