@@ -5,6 +5,8 @@ import { inOrder } from "./clip.js";
 import { shifted } from "./resize.js";
 
 export const PAUSE = 1000 / 30;
+/** How many shapes are sent on the way at most; of more only where they end. */
+const MOST_ON_WAY = 100;
 
 const same = ([x, y], [x2, y2]) => x === x2 && y === y2;
 const textOf = ({ dx, dy, quarter, flip }) => [dx, dy, quarter, flip].join();
@@ -35,7 +37,7 @@ export class Drag {
   /** Goes on to a place, so far from the first one. */
   to(by) {
     this.#wanted = by;
-    if (!this.#isFollowing && !this.#isOver) this.#follow();
+    if (!this.#isFollowing && !this.#isOver && this.#ids.length <= MOST_ON_WAY) this.#follow();
   }
 
   /** Ends at a place. What was moved is one step then; none, where it ends where it began. */

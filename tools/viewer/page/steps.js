@@ -1,10 +1,11 @@
 // Steps: each is some requests that the server is sent, one step after the other, and that can be taken back and made again.
 
+import { Ahead } from "./ahead.js";
 import { batches, changeOf, planBack } from "./changes.js";
 import { Unanswered } from "./link.js";
 import { carryName } from "./names.js";
 
-const MOST = 256;
+const MOST = 512;
 
 /** A request as the server is sent it: with the ids of what was made meanwhile. Null where something that it names was not made. */
 function asSent(request, made) {
@@ -17,6 +18,9 @@ function asSent(request, made) {
   if (found.spot?.over !== undefined) found.spot = { over: now(found.spot.over) };
   return found;
 }
+
+/** The requests of a batch that can be sent, each with what is sent of it. */
+const sentOf = (batch, made) => batch.map((request) => [request, asSent(request, made)]).filter(([, found]) => found);
 
 export class Steps {
   #link;
@@ -100,7 +104,11 @@ export class Steps {
     }
     this.#setMaking(true);
     try {
-      for (const batch of batches(requests, MOST)) await this.#makeBatch(batch, done);
+      const all = batches(requests, MOST), ahead = new Ahead(all, async (batch) => {
+        const sent = sentOf(batch, done.made);
+        return sent.length ? this.#link.ask(sent.map(([, found]) => found)) : [];
+      });
+      for (const batch of all) await this.#makeBatch(batch, done, ahead);
       this.#tell(done.refusal);
     } catch (fault) {
       if (!(fault instanceof Unanswered)) throw fault;
@@ -112,12 +120,8 @@ export class Steps {
     return done;
   }
 
-  async #makeBatch(batch, done) {
-    const before = this.state.tree?.copy();
-    const sent = batch.map((request) => [request, asSent(request, done.made)]).filter(([, found]) => found);
-    if (!sent.length) return;
-    const replies = await this.#link.ask(sent.map(([, found]) => found));
-    const edits = [];
+  async #makeBatch(batch, done, ahead) {
+    const before = this.state.tree?.copy(), sent = sentOf(batch, done.made), replies = await ahead.answered(batch), edits = [];
     replies.forEach((reply, k) => {
       const [{ as, instead }, request] = sent[k];
       if (!reply.ok) {
