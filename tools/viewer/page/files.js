@@ -113,7 +113,9 @@ export class Files {
 
   // With a feed, all that is told of is kept, and each edit is kept before it is answered.
   #kept() {
-    const { journal, editor } = this.#app;
+    const { journal, editor, link, waiting } = this.#app;
+    if (waiting.isOn) return { words: "What you did since the server went away is not kept yet. Leave this page open.", short: "not kept yet", isSafe: false };
+    if (!link.isHere) return { words: "The server is away.", short: `kept to version ${journal.end}, when last seen`, isSafe: false };
     const words = "The server keeps each edit in its folder before it answers. There is nothing to save.";
     return editor.isMaking ? { words, short: "keeping…", isSafe: false } : { words, short: `all kept, to version ${journal.end}`, isSafe: true };
   }

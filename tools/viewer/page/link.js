@@ -109,7 +109,7 @@ export class Link extends EventTarget {
     this.isHere = true;
     const goesOn = this.#journal.isFollowedBy(since, live);
     if (!goesOn) this.#journal.begin(since, live);
-    this.#pass("here", { version, goesOn });
+    this.#pass("here", { version, live, goesOn });
   }
 
   #takeEdits(edits) {

@@ -37,9 +37,12 @@ export class Steps {
     this.state = state;
   }
 
+  /** Whether the next work can be done, when it is known; where it can't, it is left out. */
+  ready = () => true;
+
   /** Does some work when all that was begun before it is done. */
   inTurn(work) {
-    const found = this.#last.then(work);
+    const found = this.#last.then(() => this.ready()).then((isReady) => (isReady ? work() : null));
     this.#last = found.catch(() => {});
     return found;
   }
