@@ -40,6 +40,11 @@ told of it, at most twenty times a second. A bot says "bot": true in its `me`, a
 or true. `you` is the tab's own number, told once; with `all` nobody else is there:
 
     {"say": "people", "people": [{"id": 2, "name": "Ann", "colour": "b3261e", "at": [120, 80]}], "gone": [1], "you": 2, "all": true}
+
+A tab may tell what shapes are called, by their numbers and kinds, as {"names": [[7, "rect", "Logo"]]}, with "" for no name. The gateway keeps that while it
+runs, and tells all tabs; with `all` these are all that it has:
+
+    {"say": "names", "names": [[7, "rect", "Logo"]], "all": true}
 """
 
 import argparse

@@ -3,13 +3,13 @@
 import { Ahead } from "./ahead.js";
 import { batches, changeOf, planBack } from "./changes.js";
 import { Unanswered } from "./link.js";
-import { carryName } from "./names.js";
+import { carryName, giveName } from "./names.js";
 
 const MOST = 512;
 
 /** A request as the server is sent it: with the ids of what was made meanwhile. Null where something that it names was not made. */
 function asSent(request, made) {
-  const { as, instead, ...found } = request;
+  const { as, instead, name, ...found } = request;
   const isThere = (id) => !(id < 0) || made.has(id);
   const now = (id) => (id < 0 ? made.get(id) : id);
   if (![found.id, found.parent, found.spot?.over].every(isThere)) return null;
@@ -126,7 +126,7 @@ export class Steps {
   async #makeBatch(batch, done, ahead) {
     const before = this.state.tree?.copy(), sent = sentOf(batch, done.made), replies = await ahead.answered(batch), edits = [];
     replies.forEach((reply, k) => {
-      const [{ as, instead }, request] = sent[k];
+      const [{ as, instead, name }, request] = sent[k];
       if (!reply.ok) {
         done.refusal ??= reply;
         return;
@@ -135,6 +135,7 @@ export class Steps {
       before?.make(request, reply);
       if (change) done.changes.push(change);
       if (as !== undefined) done.made.set(as, reply.id);
+      if (name) giveName({ id: reply.id, shape: request.shape }, name);
       if (instead !== undefined) {
         this.state.history.rename(instead, reply.id);
         carryName(instead, reply.id);

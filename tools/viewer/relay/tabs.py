@@ -10,6 +10,7 @@ from aiohttp import WSCloseCode, WSMsgType
 
 from relay.feed import Feed
 from relay.looks import Looks, is_look
+from relay.names import Names
 from relay.past import Past, Unseen, Visit
 from relay.people import People
 from relay.pictures import keep
@@ -85,10 +86,31 @@ class Room:
         self.name, self.seats, self.moves = name, Seats(address), moves
         self.feed = Feed(feed_address) if feed_address else None
         self.looks, self.news, self.people, self.past = Looks(pictures), News(), People(), Past(feed_address)
+        self.names = Names()
 
     async def close(self):
         await self.past.close()
         self.seats.close()
+
+
+class Lane:
+    """Tells a tab of one matter: nothing where it has not taken the last news yet, and all of it as soon as it has."""
+
+    def __init__(self, start, send):
+        self._start, self._send = start, send
+        self._saying = self._missed = None
+
+    def say(self, text, all_of_it):
+        if self._saying is None or self._saying.done():
+            self._saying = self._start(self._say(text))
+        else:
+            self._missed = all_of_it
+
+    async def _say(self, text):
+        await self._send(text)
+        while self._missed is not None:
+            all_of_it, self._missed = self._missed, None
+            await self._send(all_of_it())
 
 
 class Tab:
@@ -105,8 +127,7 @@ class Tab:
         self._is_live = self._is_gone = False
         self._edits = self._on_way = 0
         self._tasks = set()
-        self._saying = None
-        self._has_missed = False
+        self._people, self._names = (Lane(self._start, self._send) for _ in range(2))
         self._visit = Visit(room.past)
         self._pictures = collections.OrderedDict()
 
@@ -115,6 +136,7 @@ class Tab:
         self._start(self._watch())
         self._room.news.tabs.add(self)
         self._room.people.join(self)
+        self._room.names.join(self)
         try:
             async for message in self._socket:
                 if message.type == WSMsgType.TEXT:
@@ -128,6 +150,7 @@ class Tab:
             self._is_gone = True
             self._room.news.tabs.discard(self)
             self._room.people.leave(self)
+            self._room.names.leave(self)
             for task in [*self._tasks]:
                 task.cancel()
             await self._visit.leave()
@@ -145,6 +168,8 @@ class Tab:
             self._start(self._answer(message))
         elif message.get("past") == "left":
             self._start(self._visit.leave())
+        elif "names" in message:
+            self._room.names.take(message["names"])
         else:
             self._room.people.take(self, message)
 
@@ -163,11 +188,12 @@ class Tab:
         await self._send(json.dumps(what, separators=(",", ":")))
 
     def say_people(self, text, all_of_them):
-        """Tells the tab of people: nothing, where it has not taken the last ones yet, and all of them the next time."""
-        self._has_missed = self._has_missed or self._saying is not None and not self._saying.done()
-        if self._saying is None or self._saying.done():
-            self._saying = self._start(self._send(all_of_them() if self._has_missed else text))
-            self._has_missed = False
+        """Tells the tab of people."""
+        self._people.say(text, all_of_them)
+
+    def say_names(self, text, all_of_them):
+        """Tells the tab of the names of shapes."""
+        self._names.say(text, all_of_them)
 
     # -- the session ---------------------------------------------------------------------------------------------------
 
