@@ -7,7 +7,6 @@ import json
 
 from PIL import Image
 
-from browser import CONTROL
 from running import difference
 from tests.desk import POSTER, Desk, at, back, boxes, sheet
 from tests.small_things import PHONE

@@ -34,7 +34,7 @@ async def shared(browser, gateway, ann, ben, server):
     await ann.tab.key("c", CONTROL, commands=["copy"])
     await ann.tab.key("v", CONTROL, commands=["paste"])
     pasted = await ann.made(frame)
-    names = await ann.tab.value(f"[...document.querySelectorAll('.row .name')].map((it) => it.textContent).filter((name) => name === 'Logo <1>').length")
+    names = await ann.tab.value("[...document.querySelectorAll('.row .name')].map((it) => it.textContent).filter((name) => name === 'Logo <1>').length")
     yield "what is pasted has its names, however deep", difference(names, 4)
     text = await ann.tab.value("import('./page/svg.js').then(({ svgOf }) => svgOf(app.state.tree, [app.state.record]))")
     yield "a picture as SVG has them", difference(text.count("<title>Logo &lt;1&gt;</title>"), 2)
