@@ -63,11 +63,19 @@ export class Menu {
     else this.open(event.clientX, event.clientY);
   }
 
-  // What a press selects, and nothing more.
+  // What a click selects; what is selected with others stays so.
   #select(at) {
-    this.#app.choose("select");
-    this.#app.tool.press(at, {});
-    this.#app.tool.drop();
+    const app = this.#app;
+    app.choose("select");
+    app.tool.drop();
+    if (this.#isSelected(at, app.state.selection)) return;
+    app.tool.press(at, {});
+    app.tool.release(at, {});
+  }
+
+  #isSelected({ page }, selection) {
+    const { tree } = this.#app.state, hit = tree?.at(page) ?? null;
+    return hit !== null && tree.line(hit).some(({ id }) => selection.includes(id));
   }
 
   #down(event) {
@@ -93,14 +101,16 @@ export class Menu {
   }
 
   // One more shape is selected with those that were; on one that was already, and beside all, the menu is shown.
-  #rested({ clientX, clientY }) {
-    const { before } = this.#rest, { state, stage } = this.#app, [pressed] = state.selection;
+  #rested(event) {
+    const { before } = this.#rest, { state, stage, tool } = this.#app, at = this.#spot(event), isSelected = this.#isSelected(at, before);
     this.#rest = null;
-    stage.drop();
-    const isNew = state.selection.length === 1 && before.length > 0 && !before.includes(pressed);
-    if (isNew) state.select([...before, pressed]);
-    else this.open(clientX, clientY);
+    if (isSelected) stage.drop();
+    else tool.release(at, {});
+    const isNew = !isSelected && before.length > 0 && state.selection.length > 0;
+    if (isNew) state.select([...before, ...state.selection]);
+    else this.open(event.clientX, event.clientY);
     this.#isHeld = true;
+    stage.draw();
   }
 
   // -- what it shows --------------------------------------------------------------------------------------------------

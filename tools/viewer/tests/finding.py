@@ -10,6 +10,7 @@ TURN = "(({transform}) => Number(/[-\\d.]+/.exec(transform)[0]) * 180 / Math.PI)
 
 async def lost(ann, server):
     """Where nothing of the drawing is seen, a button tells the way, and shows all."""
+    await ann.tab.value("document.getElementById('lost').style.visibility = ''")
     await ann.look_at(0, (128, 128))
     await asyncio.sleep(0.4)
     yield "the drawing is seen", difference(await ann.tab.value("document.getElementById('lost').hidden"), True)
