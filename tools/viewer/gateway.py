@@ -35,8 +35,8 @@ A picture is named by its hash. Its PNG comes before the first reply that names 
 A batch with a member `at` looks at the document as it was after so many edits; with a member `since` too, its answer has the `edits` that led there from that
 version. Where it can't be shown, `replies` is null and `why` tells the reason. A tab that looks at the past no longer says {"past": "left"}.
 
-A tab may say of itself {"me": {"name": "Ann", "colour": "b3261e"}} and {"pointer": [120, 80]}, a place on the page, or {"pointer": null}. All tabs are
-told of it, at most twenty times a second. A bot says "bot": true in its `me`, and is to draw while its own `bot` is true: each tab may say {"bots": false},
+A tab may say of itself {"me": {"name": "Ann", "colour": "b3261e"}} and {"pointer": [120, 80]}, a place on the page, or {"pointer": null}; {"selection": [7, 9]},
+the numbers of some shapes, and {"view": [120, 80, 0]}, the middle of what it looks at and the level. All tabs are told of it, at most twenty times a second. A bot says "bot": true in its `me`, and is to draw while its own `bot` is true: each tab may say {"bots": false},
 or true. `you` is the tab's own number, told once; with `all` nobody else is there:
 
     {"say": "people", "people": [{"id": 2, "name": "Ann", "colour": "b3261e", "at": [120, 80]}], "gone": [1], "you": 2, "all": true}

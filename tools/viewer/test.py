@@ -24,10 +24,10 @@ HERE = Path(__file__).resolve().parent
 sys.path.insert(0, str(HERE.parent))
 from browser import Browser, Fault  # noqa: E402
 from running import build, build_keeper, difference  # noqa: E402
-from tests import demo, drags, drawing, files, finding, grid, keys, layers, live, looking, menu, naming, night, outages, past, selecting, sharing, small_things, stretching, svg, undo  # noqa: E402
+from tests import company, demo, drags, drawing, files, finding, grid, keys, layers, live, looking, menu, naming, night, outages, past, readers, selecting, sharing, small_things, stretching, svg, undo  # noqa: E402
 from tests.desk import POSTER, Desk, Gateway, Server  # noqa: E402
 
-MODULES = (drawing, undo, selecting, keys, drags, stretching, grid, files, svg, small_things, menu, finding, looking, layers, naming, night, sharing, outages, live, past, demo)
+MODULES = (drawing, undo, selecting, keys, drags, stretching, grid, files, svg, small_things, menu, finding, looking, layers, naming, night, sharing, company, readers, outages, live, past, demo)
 STOPS = (Fault, TimeoutError, asyncio.TimeoutError, KeyError, TypeError)
 """What ends a stage, and no other one."""
 

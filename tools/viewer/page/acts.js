@@ -50,6 +50,7 @@ export class Acts {
       paste: () => app.clipboard.paste(),
       "copy-png": () => app.clipboard.copyPng(),
       "copy-svg": () => app.clipboard.copySvg(),
+      link: () => app.clipboard.copyLink(),
       search: () => this.#search(),
       past: () => past.toggle(),
       play: () => past.play(),
@@ -105,7 +106,7 @@ export class Acts {
     const app = this.#app, { state } = app;
     app.notes.hide();
     document.body.classList.remove("has-panel");
-    if (app.stage.drop()) return;
+    if (app.stage.drop() || app.company.leave()) return;
     if (app.past.isOn) app.past.leave();
     else if (DRAWING.has(app.toolName)) app.choose("select");
     else if (state.entered !== null) this.#goOut(state.entered);

@@ -2,6 +2,7 @@
 
 import { boxOfCopies, copiesIn, inOrder, textOf } from "./clip.js";
 import { listenToClipboard } from "./keys.js";
+import { textOf as addressOf } from "./place.js";
 import { isFit, snapshot, viewOf } from "./snapshot.js";
 import { svgOf } from "./svg.js";
 import { FURTHEST } from "./view.js";
@@ -38,10 +39,21 @@ export class Clipboard {
   copySvg() {
     const { state, notes } = this.#app, text = svgOf(state.tree, inOrder(state.tree, state.selection));
     if (!text) return notes.tell("There is nothing to be seen in it.");
+    return this.#give(text) ? notes.say("The SVG is copied, as text.") : notes.tell("The browser did not let the page copy it: download it.");
+  }
+
+  /** Copies the address at which this view can be looked at, and nothing changed. */
+  copyLink() {
+    const { notes, view } = this.#app, address = `${location.origin}${location.pathname}look/${addressOf(view)}`;
+    if (this.#give(address)) notes.say(`Copied: ${address}. Who has this link can look, and change nothing by it.`);
+    else notes.say(address);
+  }
+
+  #give(text) {
     this.#text = text;
     const isDone = document.execCommand("copy");
     this.#text = null;
-    return isDone ? notes.say("The SVG is copied, as text.") : notes.tell("The browser did not let the page copy it: download it.");
+    return isDone;
   }
 
   /** Copies what is selected, or all, as a PNG picture, one to one or as near as it goes. */

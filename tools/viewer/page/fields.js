@@ -48,13 +48,13 @@ export class Fields {
   /** Shows what is so, but in a field that is being filled in, unless all are to be shown. */
   show(isAll = false) {
     const { tree, selection, box, record } = this.#app.state;
-    this.#name.disabled = !record;
+    this.#name.disabled = !record || this.#app.isReader;
     this.#name.placeholder = record ? plainName(record) : "";
     if (isAll || document.activeElement !== this.#name) this.#name.value = record ? givenName(record) : "";
     const values = this.#values();
     const hasSize = box && members(tree, selection).length > 0;
     this.#inputs.forEach((input, k) => {
-      input.disabled = !box || (k > 1 && !hasSize);
+      input.disabled = !box || this.#app.isReader || (k > 1 && !hasSize);
       if (document.activeElement !== input) input.value = values[k] ?? "";
     });
   }

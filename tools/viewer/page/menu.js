@@ -4,7 +4,7 @@ import { DRAWING, SLOP, distance } from "./tools.js";
 
 /** For how many milliseconds a finger rests. */
 const REST = 500;
-/** For how many more it chooses nothing, when it lifts. */
+/** For how many nothing is chosen by the click that comes just behind a finger. */
 const LIFTED = 100;
 /** The rows: what is done, in words, by which key; and lines between them. */
 const OF_SHAPES = [
@@ -17,9 +17,9 @@ const OF_SHAPES = [
 ];
 const OF_PAGE = [
   ["paste", "Paste", "Ctrl+V"], ["all", "Select all", "Ctrl+A"], ["copy-png", "Copy all as PNG"], ["copy-svg", "Copy all as SVG"], null,
-  ["fit", "Show all", "9"], ["nearest", "One to one", "0"], ["grid", "Grid", "#"],
+  ["link", "Copy a link for looking only"], ["fit", "Show all", "9"], ["nearest", "One to one", "0"], ["grid", "Grid", "#"],
 ];
-const IN_PAST = ["copy", "copy-png", "copy-svg", "fit-selection", "fit", "nearest"];
+const FOR_LOOKING = ["copy", "copy-png", "copy-svg", "fit-selection", "fit", "nearest"];
 
 const part = (id) => document.getElementById(id);
 
@@ -28,20 +28,21 @@ export class Menu {
   #element = part("menu");
   #stage = part("stage");
   #rest = null;
-  /** Whether the finger that asked for the menu is still there: it chooses nothing when it lifts. */
-  #isHeld = false;
+  /** When a finger asked for it. */
+  #time = -Infinity;
 
   constructor(app) {
     this.#app = app;
     this.#stage.addEventListener("contextmenu", (event) => this.#ask(event));
     this.#stage.addEventListener("pointerdown", (event) => this.#down(event), { capture: true });
     this.#stage.addEventListener("pointermove", (event) => this.#moved(event));
-    for (const kind of ["pointerup", "pointercancel"]) this.#stage.addEventListener(kind, () => this.#up());
+    this.#stage.addEventListener("pointerup", (event) => this.#up(event), { capture: true });
+    this.#stage.addEventListener("pointercancel", () => { this.#rest = null; });
     this.#stage.addEventListener("wheel", () => this.close());
     document.addEventListener("pointerdown", ({ target }) => this.#element.contains(target) || this.close(), { capture: true });
     window.addEventListener("blur", () => this.close());
     this.#element.addEventListener("keydown", (event) => this.#key(event));
-    this.#element.addEventListener("click", ({ target }) => this.#isHeld || this.#choose(target.closest("button")));
+    this.#element.addEventListener("click", ({ target, timeStamp }) => timeStamp - this.#time < LIFTED || this.#choose(target.closest("button")));
   }
 
   // -- when it is asked for -------------------------------------------------------------------------------------------
@@ -56,7 +57,7 @@ export class Menu {
     event.preventDefault();
     const { tool, toolName, past, state } = this.#app, isKey = event.button !== 2;
     if (event.pointerType === "touch" || (DRAWING.has(toolName) && (tool.begin || tool.points?.length))) return;
-    if (!isKey && !past.isOn) this.#select(this.#spot(event));
+    if (!isKey && !past.isOn && !this.#app.isReader) this.#select(this.#spot(event));
     const { left, top, width, height } = this.#stage.getBoundingClientRect(), box = isKey && state.box;
     const [x, y] = box ? this.#app.view.toWindow([(box.left + box.right) / 2, (box.top + box.bottom) / 2]) : [width / 2, height / 2];
     if (isKey) this.open(left + x, top + y);
@@ -79,46 +80,36 @@ export class Menu {
   }
 
   #down(event) {
-    const isFirst = event.pointerType === "touch" && event.isPrimary, { state, toolName } = this.#app;
-    this.#lift();
-    if (!isFirst || DRAWING.has(toolName)) return;
-    this.#rest = { at: [event.clientX, event.clientY], before: state.selection, timer: setTimeout(() => this.#rested(event), REST) };
+    const isAlone = event.pointerType === "touch" && event.isPrimary && !DRAWING.has(this.#app.toolName), { clientX, clientY, timeStamp } = event;
+    this.#rest = isAlone ? { at: [clientX, clientY], time: timeStamp, before: this.#app.state.selection } : null;
   }
 
   #moved({ clientX, clientY }) {
-    if (this.#rest && distance([clientX, clientY], this.#rest.at) >= SLOP) this.#lift();
+    if (this.#rest && distance([clientX, clientY], this.#rest.at) >= SLOP) this.#rest = null;
   }
 
-  // (the click of a finger comes just behind it)
-  #up() {
-    this.#lift();
-    setTimeout(() => { this.#isHeld = false; }, LIFTED);
-  }
-
-  #lift() {
-    clearTimeout(this.#rest?.timer);
+  #up(event) {
+    const rest = this.#rest;
     this.#rest = null;
+    if (rest && event.timeStamp - rest.time >= REST) this.#rested(event, rest.before);
   }
 
   // One more shape is selected with those that were; on one that was already, and beside all, the menu is shown.
-  #rested(event) {
-    const { before } = this.#rest, { state, stage, tool } = this.#app, at = this.#spot(event), isSelected = this.#isSelected(at, before);
-    this.#rest = null;
+  #rested(event, before) {
+    const { state, stage, tool } = this.#app, at = this.#spot(event), isSelected = this.#isSelected(at, before);
     if (isSelected) stage.drop();
     else tool.release(at, {});
-    const isNew = !isSelected && before.length > 0 && state.selection.length > 0;
-    if (isNew) state.select([...before, ...state.selection]);
+    if (!isSelected && before.length && state.selection.length) state.select([...before, ...state.selection]);
     else this.open(event.clientX, event.clientY);
-    this.#isHeld = true;
-    stage.draw();
+    this.#time = event.timeStamp;
   }
 
   // -- what it shows --------------------------------------------------------------------------------------------------
 
   /** Shows what can be done with what is selected, or with the page, at a place of the browser's window. */
   open(x, y) {
-    const { state, past } = this.#app, rows = state.records.length ? OF_SHAPES : OF_PAGE;
-    const isFit = (row) => row === null || !past.isOn || IN_PAST.includes(row[0]);
+    const { state, past, isReader } = this.#app, rows = state.records.length ? OF_SHAPES : OF_PAGE;
+    const isFit = (row) => row === null || !(past.isOn || isReader) || FOR_LOOKING.includes(row[0]);
     this.#element.replaceChildren(...rows.filter(isFit).map((row) => this.#row(row)));
     this.#element.hidden = false;
     const { width, height } = this.#element.getBoundingClientRect();

@@ -9,6 +9,8 @@ from aiohttp import web
 from relay.tabs import Tab
 
 PAGE = Path(__file__).resolve().parent.parent / "page"
+LOOK = "/look"
+"""Where, below its page, a document may be looked at, and not changed."""
 
 
 def name_of(request):
@@ -53,22 +55,28 @@ def application(documents, hosts):
             raise web.HTTPNotFound
         return name
 
-    async def tab(request):
+    async def tab(request, is_reader=False):
         if not is_own(request, hosts):
             raise web.HTTPForbidden
         with documents.document(name_in(request)).visit() as room:
             found = web.WebSocketResponse(compress=False, heartbeat=20)
             await found.prepare(request)
-            await Tab(found, room, *known_by(request)).serve()
+            await Tab(found, room, *known_by(request), is_reader=is_reader).serve()
             return found
+
+    async def reader(request):
+        return await tab(request, is_reader=True)
 
     async def picture(request):
         return await documents.document(name_in(request)).room.looks.pictures.answer(request)
 
-    async def page(request):
+    async def page(request, more=""):
         if not is_known(name_of(request), hosts):
             return unknown(name_of(request))
-        return web.Response(text=page_of(documents.title(name_in(request)), documents.root), content_type="text/html")
+        return web.Response(text=page_of(documents.title(name_in(request)), documents.root + more), content_type="text/html")
+
+    async def page_to_look(request):
+        return await page(request, LOOK)
 
     async def fresh(_, response):
         response.headers.setdefault("Cache-Control", "no-cache")
@@ -86,6 +94,9 @@ def application(documents, hosts):
         web.get(f"{documents.root}/", page),
         web.get(f"{documents.root}/session", tab),
         web.get(f"{documents.root}/picture/{{hash}}.png", picture),
+        web.get(f"{documents.root}{LOOK}/", page_to_look),
+        web.get(f"{documents.root}{LOOK}/session", reader),
+        web.get(f"{documents.root}{LOOK}/picture/{{hash}}.png", picture),
         web.static("/page", PAGE),
     ])
     return found

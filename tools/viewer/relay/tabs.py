@@ -32,6 +32,9 @@ MOST_PICTURES = 512
 """How many of the pictures that a tab was sent last it has still, as the gateway believes: fewer than the page keeps."""
 AWAY_WAIT = 2
 """How long the gateway waits, when it ends, for a tab to say that it has heard so."""
+LOOKING = ("tile", "export", "point", "patch")
+"""The verbs of a tab that may only look."""
+READ_ONLY = {"ok": False, "code": 0, "name": "ReadOnly"}
 FEED_WAIT = 2
 """How long a tab waits for the feed, when the server is there."""
 
@@ -93,6 +96,12 @@ class Room:
         self.seats.close()
 
 
+def is_looking(message):
+    """Whether a message changes nothing, neither of the document nor of what others see of it."""
+    requests = message.get("requests", ())
+    return not {"names", "bots"} & message.keys() and all(isinstance(it, dict) and it.get("verb") in LOOKING for it in requests)
+
+
 class Lane:
     """Tells a tab of one matter: nothing where it has not taken the last news yet, and all of it as soon as it has."""
 
@@ -117,11 +126,11 @@ class Tab:
     """A browser's tab: its WebSocket, and its session while the server is there, which others may have too.
 
     `history` and `told` are the history and the version up to which the tab knows all edits, where it followed the feed. `seen` is the newest version
-    that it was told of.
+    that it was told of. A reader's edits are handed to nobody.
     """
 
-    def __init__(self, socket, room, history=None, told=0):
-        self._socket, self._room, self._history, self._told = socket, room, history, told
+    def __init__(self, socket, room, history=None, told=0, is_reader=False):
+        self._socket, self._room, self._history, self._told, self._is_reader = socket, room, history, told, is_reader
         self._session = self._seat = None
         self.seen = 0
         self._is_live = self._is_gone = False
@@ -161,7 +170,9 @@ class Tab:
             await asyncio.wait_for(self._socket.close(code=WSCloseCode.GOING_AWAY), AWAY_WAIT)
 
     def _take(self, message):
-        if "at" in message:
+        if self._is_reader and not is_looking(message):
+            self._start(self._refuse(message))
+        elif "at" in message:
             self._start(self._look_back(message))
         elif "batch" in message:
             self._on_way += len(message["requests"])
@@ -298,6 +309,11 @@ class Tab:
         finally:
             self._on_way -= len(requests)
         await self._send(f'{{"batch":{json.dumps(number)},"replies":{told}}}')
+
+    async def _refuse(self, message):
+        """Answers a reader that wants more than to look."""
+        if "batch" in message:
+            await self._say(batch=message["batch"], replies=[READ_ONLY for _ in message["requests"]])
 
     async def _ask(self, session, requests, lines):
         """The answers to a batch. Looks are shared with other tabs, but while an edit of the tab's own is on its way they follow it."""

@@ -16,12 +16,12 @@ async def lost(ann, server):
     yield "the drawing is seen", difference(await ann.tab.value("document.getElementById('lost').hidden"), True)
     for point, wanted in [((9000, 128), 180), ((128, -9000), 90), ((-9000, 128), 0)]:
         await ann.look_at(0, point)
-        await ann.tab.until("!document.getElementById('lost').hidden", 3)
+        await ann.tab.until("!document.getElementById('lost').hidden")
         turn = await ann.tab.value(TURN)
         yield f"the way from {point}", None if abs((turn - wanted + 180) % 360 - 180) < 40 else f"{turn} for {wanted}"
     x, y, w, h = await ann.tab.box_of("#lost")
     await ann.tab.click(x + w / 2, y + h / 2)
-    await ann.tab.until("document.getElementById('lost').hidden", 3)
+    await ann.tab.until("document.getElementById('lost').hidden")
     yield "the button shows all", difference(await ann.tab.value("(({left, right}, seen) => left >= seen.left && right <= seen.right)(app.state.tree.boxOf(null), app.view.box)"), True)
 
 
@@ -36,7 +36,7 @@ async def at_the_edge(ann, server):
     await ann.tab.pointer("mousePressed", i, j, clickCount=1)
     await ann.tab.pointer("mouseMoved", i + 50, j)
     await ann.tab.pointer("mouseMoved", x + width - 2, j)
-    await ann.tab.until(f"app.view.left > {left + 300}", 10)
+    await ann.tab.until(f"app.view.left > {left + 300}")
     await ann.tab.pointer("mouseMoved", x + width - 200, j)
     await asyncio.sleep(0.1)
     _, now, *_ = await ann.view()
@@ -52,7 +52,7 @@ async def at_the_edge(ann, server):
     await ann.tab.pointer("mouseMoved", i, j, held=False)
     await ann.tab.pointer("mousePressed", i, j, clickCount=1)
     await ann.tab.pointer("mouseMoved", i + 50, y + height - 2)
-    await ann.tab.until(f"app.view.top > {top + 200}", 10)
+    await ann.tab.until(f"app.view.top > {top + 200}")
     await ann.press("Escape")
     await ann.tab.pointer("mouseReleased", i + 50, y + height - 2, clickCount=1)
     _, _, now, *_ = await ann.view()

@@ -74,7 +74,7 @@ async def by_the_wheel(ann, server):
     point = await ann.tab.value("app.view.pointAt([300, 200])")
     for down, wanted in [(120, 1.2), (100, 1.44), (-120, 1.2), (240, 1.728), (-240, 1.2), (-100, 1)]:
         await ann.tab.wheel(x + 300, y + 200, down, modifiers=CONTROL)
-        await ann.tab.until(f"Math.abs(app.view.scale - {wanted}) < 0.001", 3)
+        await ann.tab.until(f"Math.abs(app.view.scale - {wanted}) < 0.001")
     now = await ann.tab.value("app.view.pointAt([300, 200])")
     yield "it comes back to where it began", None if max(abs(a - b) for a, b in zip(now, point)) <= 1 else f"{now} for {point}"
     _, (one, two), corner = await sheet(ann, server, (20, 20, 60, 40), (300, 20, 60, 40))

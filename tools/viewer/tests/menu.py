@@ -22,6 +22,7 @@ async def right_click(desk, point):
     x, y = await desk.spot(point)
     for kind in ("mouseMoved", "mousePressed", "mouseReleased"):
         await desk.tab.pointer(kind, x, y, button="none" if kind == "mouseMoved" else "right", buttons=2 if kind == "mousePressed" else 0, clickCount=1)
+    await desk.tab.until("!document.getElementById('menu').hidden")
 
 
 async def menu(browser, ann, server):
@@ -35,6 +36,7 @@ async def menu(browser, ann, server):
     yield "what can't be done", difference(await ann.tab.value("['put', 'take', 'ungroup'].map((act) => document.querySelector(`#menu [data-choice=${act}]`).disabled)"), [True, False, True])
     await ann.press("ArrowDown", "ArrowDown", "Enter")
     yield "a row by the keys", difference(await ann.tab.value("document.getElementById('menu').hidden"), True)
+    await ann.tab.until(f"navigator.clipboard.readText().then((text) => text === JSON.stringify({{copied: 'canvas', shapes: app.editor.copies()}}))")
     await right_click(ann, at(corner, (40, 40))[0])
     await ann.tab.value(CHOOSE % "paste")
     await ann.tab.until(f"app.state.tree.children({frame}).length === 3")
@@ -83,10 +85,10 @@ async def by_a_finger(browser, gateway, server):
     finger = Desk(tab, server)
     await finger.settle(0)
     _, (one, two), corner = await sheet(finger, server, (60, 60, 90, 70), (180, 60, 90, 70))
-    for point, rest in [((100, 100), 0.05), ((220, 100), 0.8)]:
-        await tab.touch("touchStart", await finger.spot(at(corner, point)[0]))
-        await asyncio.sleep(rest)
-        await tab.touch("touchEnd")
+    await tab.value(f"app.state.select([{one}])")
+    await tab.touch("touchStart", await finger.spot(at(corner, (220, 100))[0]))
+    await asyncio.sleep(0.8)
+    await tab.touch("touchEnd")
     yield "one more is selected", difference(await tab.value("app.state.selection"), [one, two])
     yield "and no menu shown", difference(await tab.value("document.getElementById('menu').hidden"), True)
     await finger.touch(*at(corner, (220, 100), (225, 120), (230, 140)))
@@ -109,14 +111,14 @@ async def dropped(ann, server):
     """A file that is dropped is opened; one that is no document is named."""
     before = server.records()
     await ann.tab.value(DROP % (json.dumps(POSTER.read_text()), "'poster.json'"))
-    await ann.tab.until("document.getElementById('open').open", 3)
+    await ann.tab.until("document.getElementById('open').open")
     await ann.tab.value("document.querySelector('#open [value=into]').click()")
     await ann.tab.until("app.state.history.undoName === 'open'")
     await boxes(ann, [])
     yield "all its shapes are there", difference(len(server.records()), len(before) + 120)
     await back(ann)
     await ann.tab.value(DROP % ("'no document'", "'notes.txt'"))
-    await ann.tab.until("!document.getElementById('refusal').hidden", 3)
+    await ann.tab.until("!document.getElementById('refusal').hidden")
     yield "what is no document", None if "notes.txt" in await ann.text("refusal") else await ann.text("refusal")
     await ann.press("Escape")
 

@@ -63,7 +63,7 @@ async def edits_meanwhile(browser):
                 if started is not None:
                     await started
                 await ann.tab.until("document.getElementById('away').hidden && app.picture.isSettled")
-                await ann.tab.until(f"{DRAWN}.length === {len(before) + 1}", 10)
+                await ann.tab.until(f"{DRAWN}.length === {len(before) + 1}")
                 await ann.tab.value("app.editor.inTurn(() => null)")
                 yield f"both steps are done without {name}", difference(house.server.records()[1]["pose"]["dx"], place + 3)
                 await ann.settle(house.version)
@@ -89,7 +89,7 @@ async def older_document(ann, house, folder):
     await asyncio.sleep(0.3)
     house.server.start()
     await ann.tab.until("document.getElementById('away').hidden && app.picture.isSettled")
-    await ann.tab.until("!document.getElementById('refusal').hidden", 10)
+    await ann.tab.until("!document.getElementById('refusal').hidden")
     yield "an older document", None if "What waited for the server was not done" in await ann.text("refusal") else await ann.text("refusal")
     yield "nothing was drawn in it", difference(house.version, await ann.tab.value("app.state.tree.version"))
 
