@@ -1,12 +1,13 @@
 #!/usr/bin/python3
 """The viewer's gateway: gives browsers the page, and passes on what their tabs ask of a server. The tabs of a document share a few sessions.
 
-usage: tools/viewer/gateway.py ADDRESS [--feed ADDRESS] [--listen 127.0.0.1:8080] [--name NAME]
-       tools/viewer/gateway.py --documents FOLDER [--moves] [--listen 127.0.0.1:8080]
+usage: tools/viewer/gateway.py ADDRESS [--feed ADDRESS] [--listen 127.0.0.1:8080] [--host NAME ..] [--name NAME]
+       tools/viewer/gateway.py --documents FOLDER [--moves] [--listen 127.0.0.1:8080] [--host NAME ..]
 
 The server is at HOST:PORT or unix:PATH; so is the feed of a canvasd (--feed), which tells of each edit at once, and without which the gateway asks.
 With --documents there are many: each folder /FOLDER/NAME has the sockets `door` and `feed` of its canvasd, and its page is at /d/NAME/. The gateway
-listens at HOST:PORT, or at unix:PATH for what stands before it, as nginx, and says who may see what. With --moves documents move between hosts, and a
+listens at HOST:PORT, or at unix:PATH for what stands before it, as nginx, and says who may see what. At HOST:PORT browsers find the page by an IP
+address, as localhost, or by HOST; by another name only where --host names it, so that no page of another site can pass for this one. With --moves documents move between hosts, and a
 tab whose server is away is sent away, so that it comes back by the host that has the document.
 
 A tab opens a WebSocket at /session (below /d/NAME/, if there are many documents) and sends batches of requests, as docs/PROTOCOL.md has them:
@@ -35,11 +36,16 @@ A picture is named by its hash. Its PNG comes before the first reply that names 
 A batch with a member `at` looks at the document as it was after so many edits; with a member `since` too, its answer has the `edits` that led there from that
 version. Where it can't be shown, `replies` is null and `why` tells the reason. A tab that looks at the past no longer says {"past": "left"}.
 
-A tab may say of itself {"me": {"name": "Ann", "colour": "b3261e"}} and {"pointer": [120, 80]}, a place on the page, or {"pointer": null}. All tabs are
-told of it, at most twenty times a second. A bot says "bot": true in its `me`, and is to draw while its own `bot` is true: each tab may say {"bots": false},
+A tab may say of itself {"me": {"name": "Ann", "colour": "b3261e"}} and {"pointer": [120, 80]}, a place on the page, or {"pointer": null}; {"selection": [7, 9]},
+the numbers of some shapes, and {"view": [120, 80, 0]}, the middle of what it looks at and the level. All tabs are told of it, at most twenty times a second. A bot says "bot": true in its `me`, and is to draw while its own `bot` is true: each tab may say {"bots": false},
 or true. `you` is the tab's own number, told once; with `all` nobody else is there:
 
     {"say": "people", "people": [{"id": 2, "name": "Ann", "colour": "b3261e", "at": [120, 80]}], "gone": [1], "you": 2, "all": true}
+
+A tab may tell what shapes are called, by their numbers and kinds, as {"names": [[7, "rect", "Logo"]]}, with "" for no name. The gateway keeps that while it
+runs, and tells all tabs; with `all` these are all that it has:
+
+    {"say": "names", "names": [[7, "rect", "Logo"]], "all": true}
 """
 
 import argparse
@@ -85,6 +91,7 @@ def given_words():
     words.add_argument("--documents", metavar="FOLDER", help="where each document has a folder with the sockets of its server, in the place of ADDRESS")
     words.add_argument("--moves", action="store_true", help="a document whose server is away may be at another host")
     words.add_argument("--listen", type=door_of, default=("127.0.0.1", 8080), metavar="ADDRESS", help="where the page is: HOST:PORT or unix:PATH")
+    words.add_argument("--host", action="append", default=[], metavar="NAME", help="by which other name browsers may find the page; may be given again")
     words.add_argument("--name", default="drawing", help="what the document is called in the title of each tab")
     given = words.parse_args()
     if (given.server is None) == (given.documents is None) or given.documents and given.feed or given.server and given.moves:
@@ -108,6 +115,7 @@ def listener_at(door):
         os.unlink(door)
     found = socket.socket(socket.AF_UNIX)
     found.bind(door)
+    found.listen()
     return found, f"unix:{door}"
 
 
@@ -133,8 +141,8 @@ def main():
     except OSError as fault:
         sys.exit(f"gateway: {fault.strerror}")
     documents = One(given.name, given.server, given.feed) if given.server else Folder(given.documents, given.moves)
-    host = None if isinstance(given.listen, str) else given.listen[0]
-    asyncio.run(serve(application(documents, host), listener, address))
+    hosts = None if isinstance(given.listen, str) else {given.listen[0], *(name.lower() for name in given.host)}
+    asyncio.run(serve(application(documents, hosts), listener, address))
 
 
 if __name__ == "__main__":

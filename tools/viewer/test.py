@@ -24,10 +24,14 @@ HERE = Path(__file__).resolve().parent
 sys.path.insert(0, str(HERE.parent))
 from browser import Browser, Fault  # noqa: E402
 from running import build, build_keeper, difference  # noqa: E402
-from tests import backwards, demo, drafts, drags, drawing, files, frames, grid, layers, live, looking, night, outages, past, selecting, sharing, small_things, svg, undo  # noqa: E402
+from tests import backwards, company, demo, drafts, drags, drawing, files, finding, frames, grid, keys, layers, live, looking, menu, naming  # noqa: E402
+from tests import night, outages, past, readers, selecting, sharing, small_things, stretching, svg, undo  # noqa: E402
 from tests.desk import POSTER, Desk, Gateway, Server  # noqa: E402
 
-MODULES = (drawing, undo, selecting, drags, frames, drafts, grid, files, svg, small_things, looking, layers, night, sharing, outages, live, backwards, past, demo)
+MODULES = (
+    drawing, undo, selecting, keys, drags, stretching, frames, drafts, grid, files, svg, small_things, menu, finding, looking, layers, naming, night, sharing, company, readers,
+    outages, live, backwards, past, demo,
+)
 STOPS = (Fault, TimeoutError, asyncio.TimeoutError, KeyError, TypeError)
 """What ends a stage, and no other one."""
 

@@ -45,10 +45,29 @@ export function makeNoted(tree, pairs) {
   });
 }
 
-/** One change for two of one shape's pose, one after the other; null where they are others, or where others have turned the shape between them. */
+/**
+ * One change for two of one shape's pose, or of its look, one after the other; null where they are others, or where others have turned the shape, or made it one of
+ * another kind, between them.
+ */
 export function joined(first, second) {
-  const isOne = first.verb === "pose" && second.verb === "pose" && first.id === second.id && first.parent === second.parent;
-  return isOne && !changedParts(first.to, second.from).includes("turn") ? joinedParts(first, second) : null;
+  const isOne = first.verb === second.verb && ["pose", "reshape"].includes(first.verb) && first.id === second.id && first.parent === second.parent;
+  return isOne && !changedParts(first.to, second.from).some((name) => name === "turn" || name === "kind") ? joinedParts(first, second) : null;
+}
+
+/** The changes of edits that are sent while a drag goes: those of one shape are one, as far as they go on from each other. */
+export class OnWay {
+  #earlier = [];
+  #last = new Map();
+
+  note(change) {
+    const name = `${change.verb} ${change.id}`, last = this.#last.get(name), both = last && joined(last, change);
+    if (last && !both) this.#earlier.push(last);
+    this.#last.set(name, both ?? change);
+  }
+
+  get changes() {
+    return [...this.#earlier, ...this.#last.values()];
+  }
 }
 
 /**

@@ -1,23 +1,24 @@
 // A drag of shapes, sent while it goes: at most 30 poses a second, and the last one always. All of it is one step.
 
-import { isStill, joined } from "./changes.js";
+import { OnWay } from "./changes.js";
 import { inOrder } from "./clip.js";
 import { shifted } from "./resize.js";
 
-const PAUSE = 1000 / 30;
+export const PAUSE = 1000 / 30;
+/** How many shapes are sent on the way at most; of more only where they end. */
+const MOST_ON_WAY = 100;
 const WAYS = ["dx", "dy"];
 
 const same = ([x, y], [x2, y2]) => x === x2 && y === y2;
 
-const CLOCK = { now: () => performance.now(), wait: (time) => new Promise((done) => setTimeout(done, time)) };
+export const CLOCK = { now: () => performance.now(), wait: (time) => new Promise((done) => setTimeout(done, time)) };
 
 export class Drag {
   #steps;
   #ids;
   #clock;
   #wanted = [0, 0];
-  #changes = new Map();
-  #earlier = [];
+  #way = new OnWay();
   #begins = new Map();
   #sent = -Infinity;
   #isFollowing = false;
@@ -36,7 +37,7 @@ export class Drag {
   /** Goes on to a place, so far from the first one. */
   to(by) {
     this.#wanted = by;
-    if (!this.#isFollowing && !this.#isOver) this.#follow();
+    if (!this.#isFollowing && !this.#isOver && this.#ids.length <= MOST_ON_WAY) this.#follow();
   }
 
   /** Ends at a place. What was moved is one step then, with what `more` gives of the tree to be done there; none, where it ends where it began. */
@@ -46,8 +47,7 @@ export class Drag {
       const pause = this.#sent + PAUSE - this.#clock.now();
       if (pause > 0 && !same(by, this.made)) await this.#clock.wait(pause);
       await this.#make(by);
-      const moved = [...this.#earlier, ...this.#changes.values()];
-      this.#steps.note("move", [...moved, ...await this.#makeMore(more)]);
+      this.#steps.note("move", [...this.#way.changes, ...await this.#makeMore(more)]);
     });
   }
 
@@ -76,15 +76,9 @@ export class Drag {
     this.#sent = this.#clock.now();
     const done = await this.#steps.make(records.map((record) => this.#posed(tree, record, by)), { isOnWay: !this.#isOver });
     if (done.replies.length < records.length) this.#isOver = true;
-    done.changes.forEach((change) => this.#note(change));
+    done.changes.forEach((change) => this.#way.note(change));
     this.made = by;
     this.version = Math.max(this.version, ...done.replies.map(({ version }) => version));
-  }
-
-  #note(change) {
-    const last = this.#changes.get(change.id), both = last && joined(last, change);
-    if (last && !both) this.#earlier.push(last);
-    this.#changes.set(change.id, both ?? change);
   }
 
   // A shape goes to where the pointer has it, but only across or only down where it was dragged no other way: so two can drag one shape.

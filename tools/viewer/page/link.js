@@ -113,7 +113,7 @@ export class Link extends EventTarget {
     this.isHere = true;
     const isSame = live !== null && goes === "on", goesOn = this.#journal.isFollowedBy(since, live, isSame);
     if (!goesOn) this.#journal.begin(since, live, isSame && since === this.#known?.end ? this.#known.mark : "");
-    this.#pass("here", { version, goesOn, isSame, isNext: goes === "next" });
+    this.#pass("here", { version, live, goesOn, isSame, isNext: goes === "next" });
   }
 
   #takeEdits(edits) {

@@ -23,7 +23,7 @@ export class Panel {
     const { state, editor } = this.#app, { records, record, isPast } = state, several = records.length > 1;
     part("shape-head").textContent = record ? nameOf(record) : several ? `${count(records.length, "shape")} are selected` : "Nothing is selected";
     const needs = {
-      put: Boolean(record && editor.behind), take: records.some(({ parent }) => parent !== null), ungroup: records.some(({ shape }) => shape.kind === "group"),
+      put: Boolean(editor.behind), take: records.some(({ parent }) => parent !== null), ungroup: records.some(({ shape }) => shape.kind === "group"),
     };
     document.querySelectorAll("#actions button").forEach((button) => { button.disabled = isPast || !(needs[button.dataset.act] ?? records.length > 0); });
     document.querySelectorAll("#arrange button").forEach((button) => { button.disabled = isPast || records.length < Number(button.dataset.least); });

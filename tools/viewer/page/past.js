@@ -17,7 +17,10 @@ const grouped = (number) => number.toLocaleString("en");
 
 /** Looks: a drag pans, and a click selects what lies outermost. */
 class Look extends Tool {
-  hint = "This is the past, where nothing can be changed. Drag to pan, click to select; , and . go from edit to edit, Esc goes back to now.";
+  get hint() {
+    if (!this.app.past?.isOn) return "This page is for looking: nothing can be changed by it. Drag to pan, click to select.";
+    return "This is the past, where nothing can be changed. Drag to pan, click to select; , and . go from edit to edit, Esc goes back to now.";
+  }
 
   press(at) {
     this.begin = this.last = at.window;

@@ -40,8 +40,7 @@ export class Print {
   // The view that was chosen, or null where nothing is drawn there.
   get #view() {
     const { view, state } = this.#app, level = Number(this.#level.value), which = this.#dialog.querySelector("input:checked").value;
-    const shown = { left: view.left * view.scale, top: view.top * view.scale, right: (view.left + view.width) * view.scale, bottom: (view.top + view.height) * view.scale };
-    const box = { view: shown, selection: state.box, all: state.tree?.boxOf(null) ?? null }[which];
+    const box = { view: view.box, selection: state.box, all: state.tree?.boxOf(null) ?? null }[which];
     return box && viewOf(box, level);
   }
 

@@ -11,31 +11,33 @@ export function handlesOf({ left, top, right, bottom }) {
   return HANDLES.map(([across, down]) => [x[across], y[down]]);
 }
 
-/** A side that is moved by so much, and at least one pixel long: its begin and its end. */
-function side(from, to, edge, by) {
-  if (edge < 0) return [Math.min(to - 1, from + by), to];
-  return edge > 0 ? [from, Math.max(from + 1, to + by)] : [from, to];
-}
+/** How long a side gets of which an edge is moved by so much: negative where it goes over to the other side. */
+const lengthOf = ([from, to], edge, by, isMiddle) => to - from + edge * by * (isMiddle ? 2 : 1);
 
-/** A box of which a handle is dragged by so much; `isEven` keeps the ratio of its sides. */
-export function dragged(box, [across, down], [dx, dy], isEven) {
-  let [left, right] = side(box.left, box.right, across, dx);
-  let [top, bottom] = side(box.top, box.bottom, down, dy);
-  if (isEven) {
-    const w = box.right - box.left, h = box.bottom - box.top;
-    const by = [across && (right - left) / w, down && (bottom - top) / h];
-    const factor = Math.max(...by.filter(Boolean));
-    const wide = Math.max(1, Math.round(w * factor)), high = Math.max(1, Math.round(h * factor));
-    [left, right] = across < 0 ? [box.right - wide, box.right] : across > 0 ? [box.left, box.left + wide] : grown(box.left, w, wide);
-    [top, bottom] = down < 0 ? [box.bottom - high, box.bottom] : down > 0 ? [box.top, box.top + high] : grown(box.top, h, high);
+/** A side that gets another length, at least one pixel, and keeps the edge that is not moved, or its middle: its begin, its end, and whether it is mirrored. */
+function side([from, to], edge, length, isMiddle) {
+  const is = Math.max(1, Math.abs(length)), isMirrored = length < 0;
+  if (!edge || isMiddle) {
+    const begin = from - Math.floor((is - (to - from)) / 2);
+    return [begin, begin + is, isMirrored];
   }
-  return { left, top, right, bottom };
+  const isOnward = edge > 0 !== isMirrored, still = edge > 0 ? from : to;
+  return isOnward ? [still, still + is, isMirrored] : [still - is, still, isMirrored];
 }
 
-// A side that grows to both sides.
-function grown(from, was, is) {
-  const begin = from - Math.floor((is - was) / 2);
-  return [begin, begin + is];
+/**
+ * A box of which a handle is dragged by so much, and which of its sides are mirrored, as the handle went over to the other side. `isEven` keeps the ratio
+ * of its sides, `isMiddle` its middle.
+ */
+export function dragged(box, edges, by, { isEven = false, isMiddle = false } = {}) {
+  const sides = [[box.left, box.right], [box.top, box.bottom]], long = sides.map(([from, to]) => to - from);
+  let lengths = sides.map((it, k) => lengthOf(it, edges[k], by[k], isMiddle));
+  if (isEven) {
+    const factor = Math.max(...[0, 1].filter((k) => edges[k]).map((k) => Math.abs(lengths[k]) / Math.max(1, long[k])));
+    lengths = long.map((it, k) => Math.round(it * factor) * (lengths[k] < 0 ? -1 : 1));
+  }
+  const [[left, right, isAcross], [top, bottom, isDown]] = sides.map((it, k) => side(it, edges[k], lengths[k], isMiddle));
+  return { box: { left, top, right, bottom }, isMirrored: [isAcross, isDown] };
 }
 
 /** A shape with a box of these sides in its own coordinates. */
@@ -87,6 +89,29 @@ export function fitted(tree, ids, to) {
   if (ids.length === 1 && tree.record(ids[0]).shape.kind !== "group") return resized(tree, ids[0], to);
   const from = tree.boxAround(ids);
   return members(tree, ids).flatMap((id) => resized(tree, id, mapped(tree.boxOf(id), from, to), false));
+}
+
+/** A pose that mirrors a box in itself. */
+function mirror({ left, top, right, bottom }, [isAcross, isDown]) {
+  return { ...STILL, flip: isAcross !== isDown, quarter: isDown ? 2 : 0, dx: isAcross ? left + right : 0, dy: isDown ? top + bottom : 0 };
+}
+
+/** The requests that give shapes another box on the page, and mirror them in it. What looks the same from both sides is not turned, nor is a frame alone. */
+export function stretched(tree, ids, to, isMirrored) {
+  if (!isMirrored.some(Boolean)) return fitted(tree, ids, to);
+  const from = tree.boxAround(ids), isAlone = ids.length === 1 && tree.record(ids[0]).shape.kind !== "group", turn = mirror(to, isMirrored);
+  return members(tree, ids).flatMap((id) => {
+    const { left, top, right, bottom } = isAlone ? to : mapped(tree.boxOf(id), from, to), { kind } = tree.record(id).shape;
+    const box = boxOf([[left, top], [right, bottom]].map((point) => apply(turn, point))), found = resized(tree, id, box, isAlone);
+    return kind === "polygon" || (kind === "frame" && !isAlone) ? turnedIn(tree, id, found, mirror(box, isMirrored)) : found;
+  });
+}
+
+// The same requests, after which a shape is carried by one more pose of the page.
+function turnedIn(tree, id, requests, turn) {
+  const record = tree.record(id), outer = tree.poseOf(record.parent), isPose = (request) => request.verb === "pose" && request.id === id;
+  const last = requests.find(isPose)?.pose ?? record.pose, pose = compose(inverse(outer), compose(turn, compose(outer, last)));
+  return [...requests.filter((request) => !isPose(request)), { verb: "pose", id, pose }];
 }
 
 /** Whether several shapes get another box on the page with no edge rounded to a whole pixel. */

@@ -1,6 +1,4 @@
-// Shapes that others deleted and made anew, as by taking back what they did: the steps of this tab, and the names that it gave, still find them.
-
-import { carryName } from "./names.js";
+// Shapes that others deleted and made anew, as by taking back what they did: the steps of this tab still find them.
 
 const MOST = 4000;
 
@@ -57,6 +55,5 @@ export class Returns {
     this.#gone.delete(found);
     if (spot.at === undefined) history.forgetKeys((change) => history.resolve(change.id) === found);
     if (history.resolve(found) !== id) history.rename(history.resolve(found), id);
-    carryName(found, id);
   }
 }

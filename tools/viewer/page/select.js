@@ -6,6 +6,7 @@ import { Ghost } from "./ghost.js";
 import { dot, handle, outline, small } from "./overlay.js";
 import { boxOf, corners } from "./plane.js";
 import { HANDLES, dragged, handlesOf, isExact, members } from "./resize.js";
+import { Stretch } from "./stretch.js";
 import { FEWEST, JOIN, SLOP, Tool, distance } from "./tools.js";
 
 const ROOM = 28;
@@ -32,7 +33,7 @@ export class Select extends Tool {
     this.by = [0, 0];
     if (this.#pressPoint(at, keys)) return;
     const found = this.#handleAt(at.window);
-    if (found) this.#begin("resize", { handle: found, from: this.state.box, to: this.state.box });
+    if (found) this.#begin("resize", { handle: found, from: this.state.box, stretch: null });
     else this.#pressShape(at, keys);
   }
 
@@ -124,9 +125,13 @@ export class Select extends Tool {
     else if (this.mode === "point") this.points[this.#point] = this.grid.snap(at.page, keys);
   }
 
+  // It is drawn and sent at once. With Alt the middle stays.
   #resize(keys) {
     const { from, handle, by } = this;
-    this.to = dragged(from, handle, this.grid.pulled(from, handle, by, keys), keys.isShift);
+    this.goal = dragged(from, handle, this.grid.pulled(from, handle, by, keys), { isEven: keys.isShift, isMiddle: keys.isAlt });
+    this.stretch ??= new Stretch(this.app, this.touched);
+    this.app.ghost = this.stretch;
+    this.stretch.to(this.goal);
   }
 
   // What is dragged with Alt from its begin is a copy, which is made at the end; all else is moved at once.
@@ -150,12 +155,12 @@ export class Select extends Tool {
   release(at, keys = {}) {
     if (!this.begin) return;
     this.drag(at, keys);
-    const { mode, isMoved, by, to } = this;
+    const { mode, isMoved, by } = this;
     this.begin = this.mode = null;
     if (mode === "point") this.#setPoints();
     else if (!isMoved && this.again && mode === "move") this.#clickAgain();
     else if (!isMoved && mode === "marquee" && this.ground !== null) this.#takeGround();
-    else if (isMoved && mode === "resize") this.#fit(to);
+    else if (isMoved && mode === "resize") this.#fit(this.goal.box);
     else if (isMoved && mode === "move") this.#endMove(by);
   }
 
@@ -168,7 +173,7 @@ export class Select extends Tool {
   #fit(to) {
     const { tree, selection } = this.state;
     if (!isExact(tree, selection, to)) this.app.say("Not all of these edges fall on whole pixels at this size: each was put on the nearest one.");
-    this.app.editor.fitTo(to);
+    this.stretch.end();
   }
 
   #endMove(by) {
@@ -181,6 +186,7 @@ export class Select extends Tool {
   /** Gives up a move: what is moved already goes back by all of the way, or stays where it is. */
   #leaveMove(by = [0, 0]) {
     if (this.mode === "move" && this.isMoved) this.#move?.end(by);
+    if (this.mode === "resize") this.stretch?.drop();
     this.#move = this.app.ghost = null;
   }
 
@@ -314,7 +320,6 @@ export class Select extends Tool {
   marks() {
     if (this.edited !== null) return this.#pointMarks();
     if (this.mode === "marquee" && this.isMoved) return [outline("marquee", this.toWindow(corners(boxOf([this.begin.page, this.now.page]))))];
-    if (this.mode === "resize" && this.isMoved) return [outline("halo", this.toWindow(corners(this.to))), outline("mark", this.toWindow(corners(this.to)))];
     if (this.mode === "move" && this.isMoved) return this.intoMark(this.home);
     return this.#handles().map(({ place }) => handle(place));
   }

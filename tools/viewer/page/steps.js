@@ -1,10 +1,11 @@
 // Steps: each is some requests that the server is sent, one step after the other, and that can be taken back and made again.
 
+import { Ahead } from "./ahead.js";
 import { batches, harmOf, isAfter, makeNoted, mended, mending, planBack, truly } from "./changes.js";
 import { Unanswered } from "./link.js";
-import { carryName } from "./names.js";
+import { carryName, giveName } from "./names.js";
 
-const MOST = 256;
+const MOST = 512;
 /** For how long at most the feed is waited for, which tells what others did just before an edit. */
 const FEED_PAUSE = 300;
 /** How often at most what an edit has put back of others' is given back, while others go on. */
@@ -14,7 +15,7 @@ const MOST_EDITS = 2000;
 
 /** A request as the server is sent it: with the ids of what was made meanwhile. Null where something that it names was not made. */
 function asSent(request, made) {
-  const { as, instead, ...found } = request;
+  const { as, instead, name, ...found } = request;
   const isThere = (id) => !(id < 0) || made.has(id);
   const now = (id) => (id < 0 ? made.get(id) : id);
   if (![found.id, found.parent, found.spot?.over].every(isThere)) return null;
@@ -23,6 +24,9 @@ function asSent(request, made) {
   if (found.spot?.over !== undefined) found.spot = { over: now(found.spot.over) };
   return found;
 }
+
+/** The requests of a batch that can be sent, each with what is sent of it. */
+const sentOf = (batch, made) => batch.map((request) => [request, asSent(request, made)]).filter(([, found]) => found);
 
 export class Steps {
   #link;
@@ -44,9 +48,12 @@ export class Steps {
     this.state = state;
   }
 
+  /** Whether the next work can be done, when it is known; where it can't, it is left out. */
+  ready = () => true;
+
   /** Does some work when all that was begun before it is done. */
   inTurn(work) {
-    const found = this.#last.then(work);
+    const found = this.#last.then(() => this.ready()).then((isReady) => (isReady ? work() : null));
     this.#last = found.catch(() => {});
     return found;
   }
@@ -127,15 +134,16 @@ export class Steps {
    * `isLate` tells that some did.
    */
   async make(requests, { isOnWay = false, isBack = false } = {}) {
-    const done = { changes: [], replies: [], made: new Map(), refusal: null, harm: [], isBack, isLate: false, isAstray: false, wasNotSent: this.state.isPast };
-    if (this.state.isPast) {
+    const { tree, base, isPast } = this.state, seen = tree?.copy(), truth = base?.copy();
+    const done = { changes: [], replies: [], made: new Map(), refusal: null, harm: [], seen, truth, isBack, isLate: false, isAstray: false, wasNotSent: isPast };
+    if (isPast) {
       this.#tell("This is the past, where nothing can be changed. Esc goes back to now.");
       return done;
     }
     if (!isOnWay) done.draft = this.state.drafts.begin(requests);
     this.#setMaking(true);
     try {
-      for (const batch of batches(requests, MOST)) await this.#makeBatch(batch, done);
+      await this.#makeAll(requests, done);
       for (let time = 0; time < MENDS && done.harm.length && (!isOnWay || done.isAstray); time++) await this.#mend(done);
       this.#tell(done.refusal);
     } catch (fault) {
@@ -150,18 +158,24 @@ export class Steps {
   }
 
   // Where these are edits that mend others, `mends` are the changes that are mended.
-  async #makeBatch(batch, done, mends = null) {
-    const before = this.state.tree?.copy(), base = this.state.base?.copy();
-    const sent = batch.map((request) => [request, asSent(request, done.made)]).filter(([, found]) => found);
-    if (!sent.length) return;
-    const replies = await this.#link.ask(sent.map(([, found]) => found)), edits = [];
+  async #makeAll(requests, done, mends = null) {
+    const all = batches(requests, MOST), ahead = new Ahead(all, async (batch) => {
+      const sent = sentOf(batch, done.made);
+      return sent.length ? this.#link.ask(sent.map(([, found]) => found)) : [];
+    });
+    for (const batch of all) await this.#makeBatch(batch, done, ahead, mends);
+  }
+
+  async #makeBatch(batch, done, ahead, mends) {
+    const sent = sentOf(batch, done.made), replies = await ahead.answered(batch), edits = [];
     replies.forEach((reply, k) => {
-      const [{ as, instead }, request] = sent[k];
+      const [{ as, instead, name }, request] = sent[k];
       if (!reply.ok) {
         done.refusal ??= reply;
         return;
       }
       if (as !== undefined) done.made.set(as, reply.id);
+      if (name) giveName({ id: reply.id, shape: request.shape }, name);
       if (instead !== undefined) this.#rename(instead, reply.id, request);
       done.replies.push(reply);
       edits.push([request, reply]);
@@ -171,9 +185,9 @@ export class Steps {
     if (!edits.length) return;
     const newest = Math.max(...edits.map(([, { version }]) => version));
     this.#picture.see(newest);
-    const changes = before ? makeNoted(before, edits) : [], journal = this.#journal;
+    const { seen, truth } = done, changes = seen ? makeNoted(seen, edits) : [], journal = this.#journal;
     await journal?.reach(newest, FEED_PAUSE);
-    const found = (journal?.isLive && base ? truly(base, edits, changes, journal) : changes).filter(Boolean);
+    const found = (journal?.isLive && truth ? truly(truth, edits, changes, journal) : changes).filter(Boolean);
     const mendOf = (change) => mends?.find(({ verb, id }) => verb === change.verb && id === change.id);
     for (const change of found) this.#noteChange(mendOf(change) ? mending(change, mendOf(change)) : change, newest, done);
   }
@@ -189,10 +203,10 @@ export class Steps {
 
   // Gives back what edits have put back of others'; and what that has put back of what came since.
   async #mend(done) {
-    const harm = done.harm.filter(({ request }) => this.state.tree.record(request.id)), more = { ...done, changes: [], harm: [], draft: null, isBack: true };
+    const { tree } = this.state, harm = done.harm.filter(({ request }) => tree.record(request.id));
+    const more = { ...done, seen: tree.copy(), changes: [], harm: [], draft: null, isBack: true };
     done.harm = [];
-    if (!harm.length) return;
-    await this.#makeBatch(harm.map(({ request }) => request), more, harm.map(({ change }) => change));
+    await this.#makeAll(harm.map(({ request }) => request), more, harm.map(({ change }) => change));
     done.harm = more.harm;
   }
 

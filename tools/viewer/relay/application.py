@@ -15,14 +15,30 @@ HEADERS = {
     "X-Content-Type-Options": "nosniff",
 }
 """What each answer has: a browser runs and shows what is of this site alone, and shows it in no page of another one."""
+LOOK = "/look"
+"""Where, below its page, a document may be looked at, and not changed."""
 
 
-def is_own(request, listen):
-    """Whether a request is of the gateway's own page: browsers tell which site a page comes from, and by which name it was found. Where the gateway listens
-    at a unix socket, which no browser reaches by itself, what stands before it answers for the name."""
-    origin, name = request.headers.get("Origin"), urlsplit(f"//{request.host}").hostname or ""
-    is_known = listen is None or name in ("localhost", listen) or name.replace(".", "").isdigit() or ":" in name
-    return is_known and (origin is None or urlsplit(origin).netloc == request.host)
+def name_of(request):
+    """The name by which a browser found the gateway."""
+    return urlsplit(f"//{request.host}").hostname or ""
+
+
+def is_known(name, hosts):
+    """Whether the gateway may be found by a name. Where it listens at a unix socket, which no browser reaches by itself, what stands before it answers for
+    the name, and `hosts` is None."""
+    return hosts is None or name == "localhost" or name in hosts or name.replace(".", "").isdigit() or ":" in name
+
+
+def is_own(request, hosts):
+    """Whether a request is of the gateway's own page: browsers tell which site a page comes from, and by which name it was found."""
+    origin = request.headers.get("Origin")
+    return is_known(name_of(request), hosts) and (origin is None or urlsplit(origin).netloc == request.host)
+
+
+def unknown(name):
+    """What a browser is told that found the gateway by a name that is not its own."""
+    return web.Response(status=421, text=f"This gateway does not answer to the name {name!r}. Whoever started it may add: --host {name}\n")
 
 
 def known_by(request):
@@ -37,28 +53,36 @@ def page_of(title, root):
     return text.replace('"page/', f'"{"../" * root.count("/")}page/')
 
 
-def application(documents, listen):
-    """The gateway of documents. It listens at a host of this name, or at a unix socket where that is None."""
+def application(documents, hosts):
+    """The gateway of documents. It is found by the names of these hosts, or listens at a unix socket where they are None."""
     def name_in(request):
         name = request.match_info.get("name")
         if not documents.has(name):
             raise web.HTTPNotFound
         return name
 
-    async def tab(request):
-        if not is_own(request, listen):
+    async def tab(request, is_reader=False):
+        if not is_own(request, hosts):
             raise web.HTTPForbidden
         with documents.document(name_in(request)).visit() as room:
             found = web.WebSocketResponse(compress=False, heartbeat=20)
             await found.prepare(request)
-            await Tab(found, room, *known_by(request)).serve()
+            await Tab(found, room, *known_by(request), is_reader=is_reader).serve()
             return found
+
+    async def reader(request):
+        return await tab(request, is_reader=True)
 
     async def picture(request):
         return await documents.document(name_in(request)).room.looks.pictures.answer(request)
 
-    async def page(request):
-        return web.Response(text=page_of(documents.title(name_in(request)), documents.root), content_type="text/html")
+    async def page(request, more=""):
+        if not is_known(name_of(request), hosts):
+            return unknown(name_of(request))
+        return web.Response(text=page_of(documents.title(name_in(request)), documents.root + more), content_type="text/html")
+
+    async def page_to_look(request):
+        return await page(request, LOOK)
 
     async def fresh(_, response):
         for name, value in HEADERS.items():
@@ -76,6 +100,9 @@ def application(documents, listen):
         web.get(f"{documents.root}/", page),
         web.get(f"{documents.root}/session", tab),
         web.get(f"{documents.root}/picture/{{hash}}.png", picture),
+        web.get(f"{documents.root}{LOOK}/", page_to_look),
+        web.get(f"{documents.root}{LOOK}/session", reader),
+        web.get(f"{documents.root}{LOOK}/picture/{{hash}}.png", picture),
         web.static("/page", PAGE),
     ])
     return found

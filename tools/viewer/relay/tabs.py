@@ -10,6 +10,7 @@ from aiohttp import WSCloseCode, WSMsgType
 
 from relay.feed import Feed
 from relay.looks import Looks, is_look
+from relay.names import Names
 from relay.past import Past, Unseen, Visit
 from relay.people import People
 from relay.pictures import keep
@@ -31,6 +32,9 @@ MOST_PICTURES = 512
 """How many of the pictures that a tab was sent last it has still, as the gateway believes: fewer than the page keeps."""
 AWAY_WAIT = 2
 """How long the gateway waits, when it ends, for a tab to say that it has heard so."""
+LOOKING = ("tile", "export", "point", "patch")
+"""The verbs of a tab that may only look."""
+READ_ONLY = {"ok": False, "code": 0, "name": "ReadOnly"}
 FEED_WAIT = 2
 """How long a tab waits for the feed, when the server is there."""
 
@@ -85,28 +89,54 @@ class Room:
         self.name, self.seats, self.moves = name, Seats(address, own), moves
         self.feed = Feed(feed_address) if feed_address else None
         self.looks, self.news, self.people, self.past = Looks(pictures), News(), People(), Past(feed_address)
+        self.names = Names()
 
     async def close(self):
         await self.past.close()
         self.seats.close()
 
 
+def is_looking(message):
+    """Whether a message changes nothing, neither of the document nor of what others see of it."""
+    requests = message.get("requests", ())
+    return not {"names", "bots"} & message.keys() and all(isinstance(it, dict) and it.get("verb") in LOOKING for it in requests)
+
+
+class Lane:
+    """Tells a tab of one matter: nothing where it has not taken the last news yet, and all of it as soon as it has."""
+
+    def __init__(self, start, send):
+        self._start, self._send = start, send
+        self._saying = self._missed = None
+
+    def say(self, text, all_of_it):
+        if self._saying is None or self._saying.done():
+            self._saying = self._start(self._say(text))
+        else:
+            self._missed = all_of_it
+
+    async def _say(self, text):
+        await self._send(text)
+        while self._missed is not None:
+            all_of_it, self._missed = self._missed, None
+            await self._send(all_of_it())
+
+
 class Tab:
     """A browser's tab: its WebSocket, and its session while the server is there, which others may have too.
 
     `history` and `told` are the history and the version up to which the tab knows all edits, where it followed the feed, and `mark` is that of the last one.
-    `seen` is the newest version that it was told of.
+    `seen` is the newest version that it was told of. A reader's edits are handed to nobody.
     """
 
-    def __init__(self, socket, room, history=None, told=0, mark=""):
-        self._socket, self._room, self._history, self._told, self._mark = socket, room, history, told, mark
+    def __init__(self, socket, room, history=None, told=0, mark="", is_reader=False):
+        self._socket, self._room, self._history, self._told, self._mark, self._is_reader = socket, room, history, told, mark, is_reader
         self._session = self._seat = None
         self.seen = 0
         self._is_live = self._is_gone = False
         self._edits = self._on_way = 0
         self._tasks = set()
-        self._saying = None
-        self._has_missed = False
+        self._people, self._names = (Lane(self._start, self._send) for _ in range(2))
         self._visit = Visit(room.past)
         self._pictures = collections.OrderedDict()
 
@@ -115,6 +145,7 @@ class Tab:
         self._start(self._watch())
         self._room.news.tabs.add(self)
         self._room.people.join(self)
+        self._room.names.join(self)
         try:
             async for message in self._socket:
                 if message.type == WSMsgType.TEXT:
@@ -128,6 +159,7 @@ class Tab:
             self._is_gone = True
             self._room.news.tabs.discard(self)
             self._room.people.leave(self)
+            self._room.names.leave(self)
             for task in [*self._tasks]:
                 task.cancel()
             await self._visit.leave()
@@ -138,13 +170,17 @@ class Tab:
             await asyncio.wait_for(self._socket.close(code=WSCloseCode.GOING_AWAY), AWAY_WAIT)
 
     def _take(self, message):
-        if "at" in message:
+        if self._is_reader and not is_looking(message):
+            self._start(self._refuse(message))
+        elif "at" in message:
             self._start(self._look_back(message))
         elif "batch" in message:
             self._on_way += len(message["requests"])
             self._start(self._answer(message))
         elif message.get("past") == "left":
             self._start(self._visit.leave())
+        elif "names" in message:
+            self._room.names.take(message["names"])
         else:
             self._room.people.take(self, message)
 
@@ -163,11 +199,12 @@ class Tab:
         await self._send(json.dumps(what, separators=(",", ":")))
 
     def say_people(self, text, all_of_them):
-        """Tells the tab of people: nothing, where it has not taken the last ones yet, and all of them the next time."""
-        self._has_missed = self._has_missed or self._saying is not None and not self._saying.done()
-        if self._saying is None or self._saying.done():
-            self._saying = self._start(self._send(all_of_them() if self._has_missed else text))
-            self._has_missed = False
+        """Tells the tab of people."""
+        self._people.say(text, all_of_them)
+
+    def say_names(self, text, all_of_them):
+        """Tells the tab of the names of shapes."""
+        self._names.say(text, all_of_them)
 
     # -- the session ---------------------------------------------------------------------------------------------------
 
@@ -278,6 +315,11 @@ class Tab:
         finally:
             self._on_way -= len(requests)
         await self._send(f'{{"batch":{json.dumps(number)},"replies":{told}}}')
+
+    async def _refuse(self, message):
+        """Answers a reader that wants more than to look."""
+        if "batch" in message:
+            await self._say(batch=message["batch"], replies=[READ_ONLY for _ in message["requests"]])
 
     async def _ask(self, session, requests, lines):
         """The answers to a batch. Looks are shared with other tabs, but while an edit of the tab's own is on its way they follow it."""
