@@ -138,6 +138,7 @@ export class Select extends Tool {
     this.app.ghost.go(this.by);
     this.#move?.to(this.by);
     this.home = this.app.editor.homeAt(this.now.page, this.state.selection);
+    this.app.ghost.isLeaving = this.home !== null;
   }
 
   #mark() {
@@ -176,6 +177,15 @@ export class Select extends Tool {
     const made = this.#move ? this.#move.end(by, (tree) => editor.carriedHome(tree, ids, point)) : editor.duplicate(by, point);
     this.app.ghost?.end(made);
     this.#move = null;
+    made?.then(() => this.#goAfter());
+  }
+
+  // Goes into the frame where what was dragged lies now, or out of the one where it lies no more.
+  #goAfter() {
+    const { state } = this, { tree, entered, selected } = state, line = tree?.line(selected) ?? [];
+    if (entered === null || !line.length || line.some(({ id }) => id === entered)) return;
+    state.enter(line[1]?.shape.kind === "frame" ? line[1].id : null);
+    this.app.stage.draw();
   }
 
   /** Gives up a move: what is moved already goes back by all of the way, or stays where it is. */

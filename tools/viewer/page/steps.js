@@ -1,6 +1,6 @@
 // Steps: each is some requests that the server is sent, one step after the other, and that can be taken back and made again.
 
-import { batches, harmOf, isAfter, makeNoted, mended, mending, planBack, truly } from "./changes.js";
+import { batches, harmOf, isAfter, makeNoted, mended, mending, planBack, truly, unmended } from "./changes.js";
 import { Unanswered } from "./link.js";
 import { carryName } from "./names.js";
 
@@ -183,8 +183,9 @@ export class Steps {
     const harm = harmOf(change, done.isBack), isNow = harm !== null && !isAfter(this.#journal, newest, harm);
     done.isLate ||= done.isBack && harm !== null;
     done.isAstray ||= change.isAstray;
-    if (!change.isAstray) done.changes.push(isNow ? mended(change, harm) : change);
-    if (isNow) done.harm.push({ request: harm, change });
+    const noted = isNow ? mended(change, harm) : harm ? unmended(change) : change;
+    if (!change.isAstray) done.changes.push(noted);
+    if (isNow) done.harm.push({ request: harm, change, noted });
   }
 
   // Gives back what edits have put back of others'; and what that has put back of what came since.
@@ -193,6 +194,9 @@ export class Steps {
     done.harm = [];
     if (!harm.length) return;
     await this.#makeBatch(harm.map(({ request }) => request), more, harm.map(({ change }) => change));
+    for (const { change, noted } of harm) {
+      if (more.harm.some(({ request }) => request.id === change.id)) done.changes = done.changes.map((it) => (it === noted ? unmended(change) : it));
+    }
     done.harm = more.harm;
   }
 
