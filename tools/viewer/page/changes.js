@@ -90,6 +90,9 @@ export function harmOf({ verb, id, seen, from, to, own, isAstray }, isBack) {
 /** A change with what was given back of it. */
 export const mended = (change, { pose, shape, hidden }) => ({ ...change, to: pose ?? shape ?? hidden ?? change.to });
 
+/** Whether a request turns a shape otherwise than a change did. */
+export const isTurnedFrom = ({ verb, to }, { pose }) => verb === "pose" && pose !== undefined && changedParts(to, pose).includes("turn");
+
 /** A change of which a turn that was put back unmeant can't be given back any more: all of it is meant then. */
 export function unmended(change) {
   const all = change.verb === "pose" ? changedParts(change.from, change.to) : [];

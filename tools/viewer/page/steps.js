@@ -1,6 +1,6 @@
 // Steps: each is some requests that the server is sent, one step after the other, and that can be taken back and made again.
 
-import { batches, harmOf, isAfter, makeNoted, mended, mending, planBack, truly, unmended } from "./changes.js";
+import { batches, harmOf, isAfter, isTurnedFrom, makeNoted, mended, mending, planBack, truly, unmended } from "./changes.js";
 import { Unanswered } from "./link.js";
 import { carryName } from "./names.js";
 
@@ -195,7 +195,8 @@ export class Steps {
     if (!harm.length) return;
     await this.#makeBatch(harm.map(({ request }) => request), more, harm.map(({ change }) => change));
     for (const { change, noted } of harm) {
-      if (more.harm.some(({ request }) => request.id === change.id)) done.changes = done.changes.map((it) => (it === noted ? unmended(change) : it));
+      const isOff = more.harm.some(({ request }) => request.id === change.id && isTurnedFrom(noted, request));
+      if (isOff) done.changes = done.changes.map((it) => (it === noted ? unmended(change) : it));
     }
     done.harm = more.harm;
   }
