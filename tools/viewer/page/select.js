@@ -67,7 +67,7 @@ export class Select extends Tool {
     }
     this.#move = isAlt ? null : new Drag(this.app.editor, state.selection);
     this.app.ghost = null;
-    this.#begin("move", { from: state.box, home: null });
+    this.#begin("move", { from: state.box, home: undefined });
   }
 
   // The frame that is taken by its name, or by its edge where no other shape than a frame is hit there; or null.
@@ -138,7 +138,7 @@ export class Select extends Tool {
     this.app.ghost.go(this.by);
     this.#move?.to(this.by);
     this.home = this.app.editor.homeAt(this.now.page, this.state.selection);
-    this.app.ghost.isLeaving = this.home !== null;
+    this.app.ghost.isLeaving = this.home !== undefined;
   }
 
   #mark() {
@@ -325,7 +325,7 @@ export class Select extends Tool {
     if (this.edited !== null) return this.#pointMarks();
     if (this.mode === "marquee" && this.isMoved) return [outline("marquee", this.toWindow(corners(boxOf([this.begin.page, this.now.page]))))];
     if (this.mode === "resize" && this.isMoved) return [outline("halo", this.toWindow(corners(this.to))), outline("mark", this.toWindow(corners(this.to)))];
-    if (this.mode === "move" && this.isMoved) return this.intoMark(this.home);
+    if (this.mode === "move" && this.isMoved) return this.intoMark(this.home ?? null);
     return this.#handles().map(({ place }) => handle(place));
   }
 
