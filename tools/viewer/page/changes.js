@@ -101,12 +101,22 @@ export function harmOf({ verb, id, seen, from, to, own, isAstray }, isBack) {
   if (!own || (verb === "reshape" && from.kind !== to.kind)) return null;
   const news = isNews ? changedParts(seen, from) : [], lost = changedParts(from, to).filter((name) => !own.includes(name) || news.includes(name));
   // (a way that belongs to another turn goes on from where that has put the shape)
-  if (verb === "pose" && !isBack && seen && lost.includes("turn")) return { verb, id, pose: { ...from, dx: from.dx + to.dx - seen.dx, dy: from.dy + to.dy - seen.dy } };
+  const isTurned = verb === "pose" && seen !== undefined && lost.includes("turn");
+  if (isTurned) return { verb, id, pose: isBack ? from : { ...from, dx: from.dx + to.dx - seen.dx, dy: from.dy + to.dy - seen.dy } };
   return lost.length ? { verb, id, [verb === "pose" ? "pose" : "shape"]: withPartsOf(to, lost, from) } : null;
 }
 
 /** A change with what was given back of it. */
 export const mended = (change, { pose, shape, hidden }) => ({ ...change, to: pose ?? shape ?? hidden ?? change.to });
+
+/** Whether a request turns a shape otherwise than a change did. */
+export const isTurnedFrom = ({ verb, to }, { pose }) => verb === "pose" && pose !== undefined && changedParts(to, pose).includes("turn");
+
+/** A change of which a turn that was put back unmeant can't be given back any more: all of it is meant then. */
+export function unmended(change) {
+  const all = change.verb === "pose" ? changedParts(change.from, change.to) : [];
+  return all.includes("turn") ? { ...change, own: all } : change;
+}
 
 /** The change of an edit that mends another change, as its sender saw it: with what that had left. */
 export function mending(change, { verb, to }) {

@@ -30,6 +30,7 @@ export class Move extends Tool {
     this.#move.to(this.by);
     this.point = at.page;
     this.home = this.app.editor.homeAt(this.point, this.touched);
+    this.app.ghost.isLeaving = this.home !== undefined;
   }
 
   release() {

@@ -68,7 +68,7 @@ export class Select extends Tool {
     }
     this.#move = isAlt ? null : new Drag(this.app.editor, state.selection);
     this.app.ghost = null;
-    this.#begin("move", { from: state.box, home: null });
+    this.#begin("move", { from: state.box, home: undefined });
   }
 
   // The frame that is taken by its name, or by its edge where no other shape than a frame is hit there; or null.
@@ -143,6 +143,7 @@ export class Select extends Tool {
     this.app.ghost.go(this.by);
     this.#move?.to(this.by);
     this.home = this.app.editor.homeAt(this.now.page, this.state.selection);
+    this.app.ghost.isLeaving = this.home !== undefined;
   }
 
   #mark() {
@@ -181,6 +182,15 @@ export class Select extends Tool {
     const made = this.#move ? this.#move.end(by, (tree) => editor.carriedHome(tree, ids, point)) : editor.duplicate(by, point);
     this.app.ghost?.end(made);
     this.#move = null;
+    made?.then(() => this.#goAfter());
+  }
+
+  // Goes into the frame where what was dragged lies now, or out of the one where it lies no more.
+  #goAfter() {
+    const { state } = this, { tree, entered, selected } = state, line = tree?.line(selected) ?? [];
+    if (entered === null || !line.length || line.some(({ id }) => id === entered)) return;
+    state.enter(line[1]?.shape.kind === "frame" ? line[1].id : null);
+    this.app.stage.draw();
   }
 
   /** Gives up a move: what is moved already goes back by all of the way, or stays where it is. */
@@ -320,7 +330,7 @@ export class Select extends Tool {
   marks() {
     if (this.edited !== null) return this.#pointMarks();
     if (this.mode === "marquee" && this.isMoved) return [outline("marquee", this.toWindow(corners(boxOf([this.begin.page, this.now.page]))))];
-    if (this.mode === "move" && this.isMoved) return this.intoMark(this.home);
+    if (this.mode === "move" && this.isMoved) return this.intoMark(this.home ?? null);
     return this.#handles().map(({ place }) => handle(place));
   }
 

@@ -1,7 +1,7 @@
 // Steps: each is some requests that the server is sent, one step after the other, and that can be taken back and made again.
 
 import { Ahead } from "./ahead.js";
-import { batches, harmOf, isAfter, makeNoted, mended, mending, planBack, truly } from "./changes.js";
+import { batches, harmOf, isAfter, isTurnedFrom, makeNoted, mended, mending, planBack, truly, unmended } from "./changes.js";
 import { Unanswered } from "./link.js";
 import { carryName, giveName } from "./names.js";
 
@@ -197,8 +197,9 @@ export class Steps {
     const harm = harmOf(change, done.isBack), isNow = harm !== null && !isAfter(this.#journal, newest, harm);
     done.isLate ||= done.isBack && harm !== null;
     done.isAstray ||= change.isAstray;
-    if (!change.isAstray) done.changes.push(isNow ? mended(change, harm) : change);
-    if (isNow) done.harm.push({ request: harm, change });
+    const noted = isNow ? mended(change, harm) : harm ? unmended(change) : change;
+    if (!change.isAstray) done.changes.push(noted);
+    if (isNow) done.harm.push({ request: harm, change, noted });
   }
 
   // Gives back what edits have put back of others'; and what that has put back of what came since.
@@ -207,6 +208,10 @@ export class Steps {
     const more = { ...done, seen: tree.copy(), changes: [], harm: [], draft: null, isBack: true };
     done.harm = [];
     await this.#makeAll(harm.map(({ request }) => request), more, harm.map(({ change }) => change));
+    for (const { change, noted } of harm) {
+      const isOff = more.harm.some(({ request }) => request.id === change.id && isTurnedFrom(noted, request));
+      if (isOff) done.changes = done.changes.map((it) => (it === noted ? unmended(change) : it));
+    }
     done.harm = more.harm;
   }
 

@@ -1,6 +1,7 @@
 """Taking back, beside canvasd: after two have dragged one shape, after a reload, after a new start of the gateway, and after the end of a generation."""
 
 import asyncio
+import contextlib
 import tempfile
 
 from running import difference
@@ -113,8 +114,9 @@ async def generation_ends(browser, limit=30):
             await ann.settle(house.version)
             await ann.look_at(0, PLACE)
             await ann.tab.value(f"(async () => {{ app.editor.select({number}); await app.editor.moveBy([50, 0]); await app.editor.setFill('aa0000'); }})()")
-            while house.version and house.version < limit:
-                another_edit(house.server)
+            for _ in range(limit + 1 - house.version):
+                with contextlib.suppress(EOFError, OSError):  # (the end of the generation ends all sessions)
+                    another_edit(house.server)
             await ann.tab.until("app.link.isHere && document.getElementById('away').hidden && app.picture.isSettled && app.journal.end < 20", 60)
             said = await ann.text("note")
             yield "the page says that a generation has ended", None if "counts its edits anew" in said else said

@@ -32,6 +32,13 @@ async def frames_on(ann, server, *frames):
     return found, beside["id"]
 
 
+async def ink(ann, place, width, height):
+    """How many pixels of a box of the page are not white."""
+    x, y = await ann.spot(at(CORNER, place)[0])
+    shown = Image.open(io.BytesIO(await ann.tab.screenshot((round(x), round(y), width, height)))).convert("L")
+    return sum(shown.histogram()[:250])
+
+
 async def cleared(ann, server, *numbers):
     for number in numbers:
         server.ask(verb="delete", id=number)
@@ -77,7 +84,12 @@ async def in_and_out(ann, server):
     await back(ann, 2)
     yield "one step takes it back", difference([(await boxes(ann, [beside]))[0][:2], *parents(beside)], [at(CORNER, (0, 300))[0], None])
     await ann.tab.value("app.state.select([]), app.state.enter(null)")
-    await ann.drag(*at(CORNER, (50, 60), (100, 150), (160, 320)))
+    places = [await ann.spot(point) for point in at(CORNER, (50, 60), (100, 150), (160, 320))]
+    for kind, (x, y) in zip(("mouseMoved", "mousePressed", "mouseMoved", "mouseMoved"), [places[0], *places]):
+        await ann.tab.pointer(kind, x, y, held=kind == "mousePressed" or (x, y) != places[0], clickCount=1)
+    await ann.tab.until(f"app.picture.isSettled && app.picture.tree.boxOf({one}).left === {CORNER[0] + 140}")
+    yield "it is seen on its way out", None if await ink(ann, (150, 310), 30, 20) == 600 else "no"
+    await ann.tab.pointer("mouseReleased", *places[-1], clickCount=1)
     yield "where a shape lies that is dragged out", difference((await boxes(ann, [one]))[0][:2], at(CORNER, (140, 300))[0])
     yield "it lies on the page", difference([*parents(one), await ann.tab.value(SELECTED)], [None, [one]])
     yield "and is seen there", await ann.wrong_pixels()
@@ -88,6 +100,7 @@ async def in_and_out(ann, server):
     await ann.tab.value("app.state.select([]), app.state.enter(null)")
     await ann.drag(*at(CORNER, (50, 60), (200, 100), (400, 150)))
     yield "from frame to frame", difference([(await boxes(ann, [one]))[0][:2], *parents(one)], [at(CORNER, (380, 130))[0], other])
+    yield "which is gone into", difference(await ann.tab.value(ENTERED), other)
     await ann.drag(*at(CORNER, (400, 150), (300, 300), (100, 320)), modifiers=ALT)
     copy = await ann.made(one)
     yield "a copy that is dragged out", difference([(await boxes(ann, [copy]))[0][:2], *parents(copy, one)], [at(CORNER, (80, 300))[0], None, other])
@@ -126,13 +139,6 @@ async def drawn_over(ann, server):
         made = await ann.made(made)
         yield f"what is drawn at {place}", difference([(await boxes(ann, [made]))[0][:2], server.records()[made]["parent"]], [at(CORNER, place)[0], into])
     await cleared(ann, server, frame, other, beside, made)
-
-
-async def ink(ann, place, width, height):
-    """How many pixels of a box of the page are not white."""
-    x, y = await ann.spot(at(CORNER, place)[0])
-    shown = Image.open(io.BytesIO(await ann.tab.screenshot((round(x), round(y), width, height)))).convert("L")
-    return sum(shown.histogram()[:250])
 
 
 async def without_fill(ann, server):

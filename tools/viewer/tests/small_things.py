@@ -204,6 +204,7 @@ async def refused(ann, server):
 
 async def without_a_mouse(ann, server):
     """Drawing, moving, selecting and deleting by keys alone."""
+    await ann.look_at(0, (9000, 9000))  # (where what is drawn lies in no frame)
     await ann.tab.value("app.editor.select(null)")
     await ann.press("f", "Enter", *["ArrowRight"] * 5, *["ArrowDown"] * 4, "Enter")
     frame = await ann.made(None)
