@@ -159,6 +159,7 @@ class Desk:
     async def picture(self):
         """What the canvas shows, with no marks, edges of frames and pointers above it; two frames after the last change."""
         await self.tab.value("for (const name of ['people', 'frames', 'lost']) document.getElementById(name).style.visibility = 'hidden'")
+        await self.tab.value("document.styleSheets[0].insertRule('#overlay .theirs { visibility: hidden; }')")
         await self.tab.value("app.choose('select'), app.stage.drop(), app.editor.select(null), app.state.enter(null), app.notes.hide(), document.activeElement.blur()")
         await self.tab.value("new Promise((done) => requestAnimationFrame(() => requestAnimationFrame(done)))")
         return Image.open(io.BytesIO(await self.tab.screenshot(await self.tab.box_of("#stage")))).convert("RGB")

@@ -36,7 +36,7 @@ async def menu(browser, ann, server):
     yield "what can't be done", difference(await ann.tab.value("['put', 'take', 'ungroup'].map((act) => document.querySelector(`#menu [data-choice=${act}]`).disabled)"), [True, False, True])
     await ann.press("ArrowDown", "ArrowDown", "Enter")
     yield "a row by the keys", difference(await ann.tab.value("document.getElementById('menu').hidden"), True)
-    await ann.tab.until(f"navigator.clipboard.readText().then((text) => text === JSON.stringify({{copied: 'canvas', shapes: app.editor.copies()}}))")
+    await ann.tab.until("navigator.clipboard.readText().then((text) => text === JSON.stringify({copied: 'canvas', shapes: app.editor.copies()}))")
     await right_click(ann, at(corner, (40, 40))[0])
     await ann.tab.value(CHOOSE % "paste")
     await ann.tab.until(f"app.state.tree.children({frame}).length === 3")
