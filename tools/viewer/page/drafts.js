@@ -9,6 +9,8 @@ const EDGE = 2 ** 21;
 const MOST_BOXES = 24;
 /** Of how many shapes at most a tree is painted. */
 const MOST_SHAPES = 20_000;
+/** Of more requests at once nothing is painted before the picture shows them: to try them would take longer than that. */
+const MOST_REQUESTS = 2000;
 
 /** The boxes on the page of the shapes that requests name. */
 function boxesOf(tree, requests) {
@@ -28,12 +30,20 @@ export class Drafts {
 
   /** Begins to show requests; gives the draft, which `answer` and `end` go on with. */
   begin(requests) {
-    const named = requests.map((request) => (request.verb === "create" ? { ...request, id: request.as ?? -(2 ** 40) - this.#fresh++ } : request));
+    const named = (requests.length > MOST_REQUESTS ? [] : requests).map((request) => (request.verb === "create" ? { ...request, id: request.as ?? -(2 ** 40) - this.#fresh++ } : request));
     const before = boxesOf(this.tree, named), draft = { left: named, made: new Map(), boxes: [], version: Infinity };
     this.#list.push(draft);
     this.#isOld = true;
     draft.boxes = [...before, ...boxesOf(this.tree, named)];
     return draft;
+  }
+
+  /** Shows other requests in the place of a draft's. */
+  change(draft, requests) {
+    draft.left = requests;
+    this.#isOld = true;
+    const boxes = [...draft.boxes, ...boxesOf(this.tree, requests)];
+    draft.boxes = boxes.length ? [boxes.reduce(around)] : [];
   }
 
   /** Some of the requests were answered; `made` has the ids of what was made. */

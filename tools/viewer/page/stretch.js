@@ -21,6 +21,7 @@ export class Stretch {
   #sent = -Infinity;
   #made = [];
   #way = new OnWay();
+  #draft;
   #isFollowing = false;
   #element = null;
   #version = 0;
@@ -33,12 +34,14 @@ export class Stretch {
     this.#app = app;
     this.#ids = ids;
     this.#tree = app.state.tree.copy();
+    this.#draft = app.state.drafts.begin([]);
     this.#clock = clock;
   }
 
   /** Goes on to a box, with sides that are mirrored. */
   to(goal) {
     this.#goal = { ...goal, requests: stretched(this.#tree, this.#ids, goal.box, goal.isMirrored) };
+    this.#app.state.drafts.change(this.#draft, this.#withBack(this.#goal.requests));
     this.#draw();
     if (!this.#isFollowing && this.isLive) this.#follow();
   }
@@ -61,14 +64,15 @@ export class Stretch {
 
   /** Gives up: what was made on the way goes back. */
   drop() {
-    const { editor } = this.#app;
+    const { editor, state } = this.#app;
     this.#goal = null;
-    editor.inTurn(() => this.#made.length && this.#make(this.#begin()));
-    this.#leave();
+    state.drafts.change(this.#draft, this.#begin());
+    editor.inTurn(() => this.#made.length && this.#make(this.#begin())).finally(() => this.#leave());
   }
 
   #leave() {
     this.isOver = true;
+    this.#app.state.drafts.end(this.#draft, this.#version);
     this.#app.stage.draw();
   }
 
@@ -102,12 +106,16 @@ export class Stretch {
     return done;
   }
 
-  // What others did to the look of a shape meanwhile stays. What is so already is not sent; and what was moved on the way, and is to lie where it
-  // lay, is sent back.
+  // What was moved on the way, and is to lie where it lay, goes back.
+  #withBack(requests) {
+    const named = new Set(requests.map(({ verb, id }) => `${verb} ${id}`));
+    return [...requests, ...this.#begin().filter(({ verb, id }) => !named.has(`${verb} ${id}`))];
+  }
+
+  // What others did to the look of a shape meanwhile stays, and what is so already is not sent.
   #asNow(requests) {
-    const { tree } = this.#app.state, named = new Set(requests.map(({ verb, id }) => `${verb} ${id}`));
-    const back = this.#begin().filter(({ verb, id }) => !named.has(`${verb} ${id}`));
-    return [...requests, ...back].flatMap((request) => {
+    const { tree } = this.#app.state;
+    return this.#withBack(requests).flatMap((request) => {
       const { verb, id, pose, shape } = request, record = tree.record(id);
       if (verb === "pose") return textOf(record.pose) === textOf(pose) ? [] : [request];
       const next = { ...record.shape, ...(shape.kind === "polygon" ? { points: shape.points } : { w: shape.w, h: shape.h }) };

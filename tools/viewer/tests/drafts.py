@@ -89,7 +89,7 @@ async def in_its_frame(ann, server):
     with server.connect() as canvas:
         frame, _ = canvas.ask(verb="create", shape={"kind": "frame", "w": 100, "h": 100, "fill": "f4ead5"}, parent=group, pose={"dx": AWAY[0], "dy": AWAY[1]})
     await ann.settle(frame["version"])
-    await ann.tab.value("app.state.select([])")
+    await ann.tab.value("app.state.select([]), app.state.enter(null)")
     await ann.tab.value(SLOW % LATE)
     await ann.press("e")
     await ann.drag(*at(corner, (40, 20), (60, 40), (180, 80)))
