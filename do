@@ -4,7 +4,7 @@
 # usage: ./do docs | test | prove CRATE | wrong CRATE [EDIT..] | demo | bench SUBJECT | bench all FOLDER
 #
 #   docs    the pages, the lists of wrong bodies and the scripts agree with the sources
-#   test    what users run, on the programs that are built
+#   test    the quick tests, on the programs that are built (tests/README.md)
 #   prove   checks a crate, with its tests if it has some
 #   wrong   tries wrong bodies of a crate
 #   demo    the page to draw on
@@ -18,8 +18,8 @@ usage() {
 word=${1-}
 shift || usage
 case $word in
-docs) tools/check_docs.py && tools/check_scripts.py ;;
-test) for check in program protocol server doors streams; do "tools/check_$check.py"; done ;;
+docs) /usr/bin/python3 -m pytest tests/docs ;;
+test) /usr/bin/python3 -m pytest tests -m quick "$@" ;;
 prove)
     cd "crates/${1:?"which crate?"}"
     rt check && if [[ $1 = *_tests ]]; then rt test; fi

@@ -29,12 +29,12 @@ from pathlib import Path
 from requests import TOP, peak
 from serve import started
 
-sys.path.insert(0, str(TOP / "tools"))
+sys.path[:0] = [str(TOP / it) for it in ("python", "tools", "tests", "tests/models")]
 import key_rows  # noqa: E402
-from canvas_client import PROGRAM, Canvas  # noqa: E402
-from check_streams import BUILT  # noqa: E402
+from canvas.client import PROGRAM, Canvas  # noqa: E402
+from repository import BUILT  # noqa: E402
 from plain_model import Model  # noqa: E402
-from running import EMPTY, free_port  # noqa: E402
+from harness.running import EMPTY, free_port  # noqa: E402
 
 MOST = 16_384
 KINDS = [

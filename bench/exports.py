@@ -19,9 +19,9 @@ from documents import document, mixed
 from requests import TOP
 from serve import running
 
-sys.path.insert(0, str(TOP / "tools"))
-from canvas_client import PROGRAM, Canvas  # noqa: E402
-from running import free_port  # noqa: E402
+sys.path[:0] = [str(TOP / it) for it in ("python", "tools", "tests", "tests/models")]
+from canvas.client import PROGRAM, Canvas  # noqa: E402
+from harness.running import free_port  # noqa: E402
 
 CLIENTS = 8
 EXPORTS = 50

@@ -18,11 +18,11 @@ from pathlib import Path
 from requests import TOP
 from serve import TILE, asked, document, started
 
-sys.path.insert(0, str(TOP / "tools"))
+sys.path[:0] = [str(TOP / it) for it in ("python", "tools", "tests", "tests/models")]
 import key_rows  # noqa: E402
-from canvas_client import PROGRAM  # noqa: E402
+from canvas.client import PROGRAM  # noqa: E402
 from plain_model import Model  # noqa: E402
-from running import free_port  # noqa: E402
+from harness.running import free_port  # noqa: E402
 
 SQUARES = 4000
 MOVES = 500

@@ -24,8 +24,8 @@ from pathlib import Path
 from requests import TOP
 from serve import asked, document, over_turns, served
 
-sys.path.insert(0, str(TOP / "tools"))
-from running import Running, build, build_keeper, kept_words  # noqa: E402
+sys.path[:0] = [str(TOP / it) for it in ("python", "tools", "tests", "tests/models")]
+from harness.running import Running, kept_words  # noqa: E402
 
 TURNS = 3
 CLIENTS = (1, 8, 60)
@@ -113,8 +113,6 @@ def measure_replay(room, file):
 
 def main():
     seconds = float(sys.argv[1]) if len(sys.argv) > 1 else 6
-    build()
-    build_keeper()
     with tempfile.TemporaryDirectory(dir=sys.argv[2] if len(sys.argv) > 2 else None) as room:
         client, commit = compiled(room, "serve_client"), compiled(room, "group_commit")
         file = Path(room) / "document.json"

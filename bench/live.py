@@ -23,11 +23,11 @@ from pathlib import Path
 import aiohttp
 
 TOP = Path(__file__).resolve().parent.parent
-sys.path[:0] = [str(TOP / "tools"), str(TOP / "tools" / "viewer")]
+sys.path[:0] = [str(TOP / it) for it in ("python", "tools", "tests", "tests/models", "tests/viewer")]
 import key_rows  # noqa: E402
 from browser import Browser  # noqa: E402
 from puppet import Counter, LiveTab  # noqa: E402
-from tests.desk import Desk, Gateway, Keeper  # noqa: E402
+from stages.desk import Desk, Gateway, Keeper  # noqa: E402
 
 OTHERS, EDITS, MOVES, SECONDS = 20, 30, 30, 5
 STEP = 24

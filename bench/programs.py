@@ -32,9 +32,9 @@ from exports import processor
 from requests import TOP, hundred, mixed_edits, points, rectangle, squares, text_of
 from serve import asked_and_counted, document as hundred_saved, memory_of, running
 
-sys.path.insert(0, str(TOP / "tools"))
-from canvas_client import Canvas  # noqa: E402
-from running import EMPTY, free_port  # noqa: E402
+sys.path[:0] = [str(TOP / it) for it in ("python", "tools", "tests", "tests/models")]
+from canvas.client import Canvas  # noqa: E402
+from harness.running import EMPTY, free_port  # noqa: E402
 
 KINDS = ["rect", "ellipse", "polygon"]
 MANY = 4096

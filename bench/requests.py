@@ -37,9 +37,9 @@ import time
 from pathlib import Path
 
 TOP = Path(__file__).resolve().parent.parent
-sys.path.insert(0, str(TOP / "tools"))
-from canvas_client import PROGRAM, replies  # noqa: E402
-from check_streams import BUILT  # noqa: E402
+sys.path[:0] = [str(TOP / it) for it in ("python", "tools", "tests", "tests/models")]
+from canvas.client import PROGRAM, replies  # noqa: E402
+from repository import BUILT  # noqa: E402
 
 SIZES = [10, 100, 1000, 4096, 16_384]
 MOST = 16_384

@@ -21,10 +21,10 @@ from pathlib import Path
 
 from requests import TOP, hundred
 
-sys.path.insert(0, str(TOP / "tools"))
-from canvas_client import PROGRAM  # noqa: E402
+sys.path[:0] = [str(TOP / it) for it in ("python", "tools", "tests", "tests/models")]
+from canvas.client import PROGRAM  # noqa: E402
 from plain_model import Model  # noqa: E402
-from running import free_port  # noqa: E402
+from harness.running import free_port  # noqa: E402
 
 WORKERS = "1"
 TILE = 196_623

@@ -22,10 +22,10 @@ from pathlib import Path
 from live import document
 
 TOP = Path(__file__).resolve().parent.parent
-sys.path[:0] = [str(TOP / "tools"), str(TOP / "tools" / "viewer")]
+sys.path[:0] = [str(TOP / it) for it in ("python", "tools", "tests", "tests/models", "tests/viewer")]
 from browser import Browser  # noqa: E402
 from puppet import Counter  # noqa: E402
-from tests.desk import Gateway, Keeper  # noqa: E402
+from stages.desk import Gateway, Keeper  # noqa: E402
 
 VIEWS, SECONDS = 10, 5
 SETTLED = "new Promise((done) => { const look = () => window.app?.picture.isSettled ? done(performance.now()) : setTimeout(look, 1); look(); })"

@@ -1,14 +1,13 @@
 #!/usr/bin/env python3
 """Visits a server: puts a moon into its document, and saves a picture and the document.
 
-usage: examples/visit.py ADDRESS NAME     writes NAME.ppm, the tile (0, 0), and NAME.json, the saved document
+usage: PYTHONPATH=python examples/visit.py ADDRESS NAME     writes NAME.ppm, the tile (0, 0), and NAME.json, the saved document
 """
 
 import sys
 from pathlib import Path
 
-sys.path.insert(0, str(Path(__file__).resolve().parent.parent / "tools"))
-from canvas_client import Canvas  # noqa: E402
+from canvas import Canvas
 
 
 def main():

@@ -15,7 +15,7 @@ ROW = re.compile(r"\| `(\w+)` \| .*? \|(?: (.*?) \|)?$")
 INTRODUCTION = """# Wrong bodies of `{crate}`
 
 Each is an edit that a contract of this crate refuses. They stand below the promises of [PROOFS.md](../../../docs/PROOFS.md) that they break;
-[GATE.md](../../../docs/GATE.md) says how to try them. `tools/check_docs.py --write` makes this page anew from the edits. Headings, what stands
+[GATE.md](../../../docs/GATE.md) says how to try them. `tools/write_docs.py` makes this page anew from the edits. Headings, what stands
 below each, and remarks are written by hand.
 """
 
@@ -129,7 +129,7 @@ def faults_of_lists():
         inside = place.relative_to(TOP)
         now = as_it_stands(crate)
         is_same = place.is_file() and place.read_text() == now
-        yield None if is_same else f"{inside}: not as the edits are (tools/check_docs.py --write writes it as they are)"
+        yield None if is_same else f"{inside}: not as the edits are (tools/write_docs.py writes it as they are)"
         bodies = bodies_of(crate)
         for name, path in bodies_of(crate, "must-fail").items():
             is_body = name in bodies and path.read_text() == bodies[name].read_text()

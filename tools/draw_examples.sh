@@ -8,7 +8,7 @@ folder=$(mktemp -d)
 trap 'rm -rf "$folder"' EXIT
 mkdir -p "$top/docs/pictures"
 for drawing in poster chart pattern parts; do
-    "${CANVAS:-$top/bin/canvas}" script <"$top/examples/$drawing.jsonl" | python3 "$top/tools/bodies.py" "$folder/$drawing" >/dev/null
+    "$top/bin/canvas-client" --bodies "$folder/$drawing" <"$top/examples/$drawing.jsonl" >/dev/null
     pnmtopng "$folder/$drawing"/*.ppm >"$top/docs/pictures/$drawing.png" 2>/dev/null
     echo "docs/pictures/$drawing.png"
 done

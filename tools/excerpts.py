@@ -55,6 +55,6 @@ def faults_of_excerpts(page):
         except NoDefinition as why:
             yield f"{inside}:{line}: {why}"
             continue
-        yield None if now == found[0] else f"{inside}:{line}: not as in {found[2]} (tools/check_docs.py --write shows it as it stands)"
+        yield None if now == found[0] else f"{inside}:{line}: not as in {found[2]} (tools/write_docs.py shows it as it stands)"
     if text.count("<!-- from ") != len(SHOWN.findall(text)):
         yield f"{inside}: a line '<!-- from ..' has no block of code after it"

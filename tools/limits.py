@@ -70,7 +70,7 @@ def wanted(cell):
 
 def place_of(file):
     """Where a file stands that a row names."""
-    return TOP / file if file.startswith("tools/") else TOP / "crates" / file
+    return TOP / file if file.startswith("python/") else TOP / "crates" / file
 
 
 def faults_of_limits():

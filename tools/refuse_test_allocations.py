@@ -88,7 +88,7 @@ def main():
             subprocess.run(["rt", "test"], cwd=TOP / "crates" / crate, stdout=subprocess.DEVNULL, check=True)
     with tempfile.TemporaryDirectory() as folder:
         shim = Path(folder) / "refuse_allocation.so"
-        source = TOP / "tools" / "refuse_allocation.c"
+        source = TOP / "tests" / "harness" / "refuse_allocation.c"
         subprocess.run(["cc", "-shared", "-fPIC", "-O1", "-o", shim, source, "-ldl"], check=True)
         counts = [sweep(shim, crate, test) for crate, tests in TESTS.items() for test in tests]
     passed, failed = (sum(column) for column in zip(*counts))

@@ -20,6 +20,7 @@ import subprocess
 import sys
 import tarfile
 import tempfile
+import tomllib
 from datetime import datetime, timezone
 from pathlib import Path
 
@@ -27,34 +28,57 @@ from libraries import NoLibraries, pack, plain
 from repository import PROGRAMS, TOP
 
 VERSION = (TOP / "VERSION").read_text().strip()
-SHARED = ("README.md", "CHANGELOG.md", "VERSION", "bin/canvas-demo", "docs/*.md", "docs/pictures/*.png", "examples/*.json*", "examples/visit.py",
-          "tools/bodies.py", "tools/canvas_client.py", "tools/canvas_client.mjs", "tools/backup.py", "tools/viewer/gateway.py", "tools/viewer/bots.py", "tools/viewer/relay/*.py", "tools/viewer/setup.sh",
-          "tools/viewer/page/*", "packaging/*", "packaging/*/*")
+SHARED = ("README.md", "CHANGELOG.md", "VERSION", "docs/*.md", "docs/pictures/*.png", "examples/*.json*", "examples/visit.py", "web/client.mjs",
+          "web/package.json", "web/README.md", "packaging/*", "packaging/*/*")
 """The files of the repository that both packages have."""
+PYTHON = ("python/pyproject.toml", "python/README.md", "python/VERSION")
+"""The files beside the package in Python that the tarball has; `pip install python/` needs them."""
+DRAWN = ("chart.jsonl", "poster.jsonl")
+"""The examples that canvas-demo draws."""
+COMMANDS = tomllib.loads((TOP / "python" / "pyproject.toml").read_text())["project"]["scripts"]
+"""The commands of the package in Python: of each its module and its function."""
+OF_ROOT = ("canvas-store",)
+"""Those of them that the Debian package has in /usr/sbin."""
+COMMAND = """#!/usr/bin/python3
+from {module} import {function}
+
+{function}()
+"""
+"""A command of the Debian package."""
 INSTALLED = {"canvas-admin": "usr/sbin/canvas-admin", "systemd/canvas@.service": "lib/systemd/system/canvas@.service",
              "systemd/canvas.sysusers": "usr/lib/sysusers.d/canvas.conf",
              **{f"systemd/{it}": f"lib/systemd/system/{it}" for it in ("canvas-gateway.service", "canvas-store.service", "canvas-door@.socket",
                                                                       "canvas-door@.service", "canvas-documents.service", "canvas-documents.timer")}}
 """Where the Debian package has files of packaging/ once more, for systemd and root to find them."""
 AFTER = """#!/bin/sh
-# Makes the user of the servers, and has systemd know their units; nothing is started.
+# Makes the user of the servers, has systemd know their units, and compiles the package in Python; nothing is started.
 set -e
 if [ "$1" = configure ] && command -v systemd-sysusers >/dev/null; then
     systemd-sysusers canvas.conf
     [ ! -d /run/systemd/system ] || systemctl daemon-reload
 fi
+if [ "$1" = configure ] && command -v py3compile >/dev/null; then
+    py3compile -p canvas
+fi
 """
-OF_SCRIPTS = ("bin/canvas", "bin/canvasd", "tools/program.sh", "tools/canvas.help", "tools/canvasd.help", "tools/before_serve.py")
-"""What bin/canvas and bin/canvasd are, which the tarball has over the programs."""
+BEFORE = """#!/bin/sh
+# Takes away what was compiled of the package in Python.
+set -e
+if command -v py3clean >/dev/null; then
+    py3clean -p canvas
+fi
+"""
+OF_SCRIPTS = ("bin/canvas", "bin/canvasd", "tools/program.sh", "tools/command.sh", "tools/canvas.help", "tools/canvasd.help", "tools/before_serve.py")
+"""What the commands in bin/ are, which the tarball has over the programs and the package in Python."""
 CONTROL = f"""Package: canvas
 Version: {VERSION}
 Architecture: amd64
 Maintainer: Yurdepla
 Section: graphics
 Priority: optional
-Depends: libc6 (>= 2.34)
-Recommends: python3, python3-aiohttp, python3-pil
-Suggests: systemd, nginx, libnginx-mod-stream, haproxy, python3-psycopg, patroni, etcd-server, postgresql
+Depends: libc6 (>= 2.34), python3 (>= 3.9)
+Recommends: python3-aiohttp, python3-pil
+Suggests: systemd, nginx, libnginx-mod-stream, haproxy, python3-psycopg, python3-prometheus-client, patroni, etcd-server, postgresql
 Installed-Size: SIZE
 Description: proved server behind a shared drawing tool
  It keeps one design document of frames, groups and shapes, takes edits as
@@ -116,6 +140,27 @@ def put_files(folder, patterns):
         put(folder, path.relative_to(TOP), path.read_bytes(), os.access(path, os.X_OK))
 
 
+def put_python(folder):
+    """Writes the package in Python, with the page and the examples that its commands show."""
+    top = TOP / "python" / "canvas"
+    for place, folders, names in os.walk(top):
+        folders[:] = sorted(it for it in folders if not it.startswith((".", "__")))
+        for name in sorted(names):
+            put(folder, Path(place, name).relative_to(top), Path(place, name).read_bytes())
+    for path in files_of(["web/page/*"]):
+        put(folder, f"gateway/page/{path.name}", path.read_bytes())
+    for name in DRAWN:
+        put(folder, f"examples/{name}", (TOP / "examples" / name).read_bytes())
+
+
+def put_commands(folder):
+    """Writes the commands of the package in Python, for the system's own."""
+    for name, place in COMMANDS.items():
+        module, function = place.split(":")
+        target = f"usr/{'sbin' if name in OF_ROOT else 'bin'}/{name}"
+        put(folder, target, COMMAND.format(module=module, function=function).encode(), True)
+
+
 def checksums(folder, names):
     return "".join(f"{hashlib.sha256((folder / it).read_bytes()).hexdigest()}  {it}\n" for it in names).encode()
 
@@ -125,7 +170,8 @@ def all_files(folder):
 
 
 def fill_tarball(folder, programs, pages):
-    put_files(folder, SHARED + OF_SCRIPTS)
+    put_files(folder, SHARED + OF_SCRIPTS + PYTHON + tuple(f"bin/{it}" for it in COMMANDS))
+    put_python(folder / "python" / "canvas")
     for name in PROGRAMS:
         put(folder, f"libexec/{name}", programs[name], True)
         put(folder, f"share/man/man1/{name}.1", pages[name])
@@ -137,11 +183,8 @@ def fill_package(folder, programs, pages):
     for name in PROGRAMS:
         put(folder, f"usr/bin/{name}", programs[name], True)
         put(folder, f"usr/share/man/man1/{name}.1.gz", gzip.compress(pages[name], mtime=0))
-    (folder / "usr/bin/canvas-demo").symlink_to("../share/canvas/bin/canvas-demo")
-    (folder / "usr/sbin/canvas-store").parent.mkdir(parents=True, exist_ok=True)
-    (folder / "usr/sbin/canvas-store").symlink_to("../share/canvas/packaging/store/canvas-store")
-    for name in PROGRAMS:
-        (folder / "usr/share/canvas/bin" / name).symlink_to(f"../../../bin/{name}")
+    put_python(folder / "usr/lib/python3/dist-packages/canvas")
+    put_commands(folder)
     for name, target in INSTALLED.items():
         path = TOP / "packaging" / name
         put(folder, target, path.read_bytes(), os.access(path, os.X_OK))
@@ -152,6 +195,7 @@ def fill_package(folder, programs, pages):
     put(folder, "DEBIAN/control", CONTROL.replace("SIZE", str(-(-size // 1024))).encode())
     put(folder, "DEBIAN/md5sums", sums.encode())
     put(folder, "DEBIAN/postinst", AFTER.encode(), True)
+    put(folder, "DEBIAN/prerm", BEFORE.encode(), True)
 
 
 # -- the packages ------------------------------------------------------------------------------------------------------

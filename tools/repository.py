@@ -14,6 +14,7 @@ import sys
 from pathlib import Path
 
 TOP = Path(__file__).resolve().parent.parent
+sys.path.append(str(TOP / "python"))  # (for all of tools/: who imports the package `canvas` imports this module first)
 SOURCES = ("src", "specs", "proofs")
 FIRST_RUNS = {"canvas": ["script", "1"], "canvasd": ["--version"]}
 """The two programs, and the words of a run that ends by itself, with nothing on standard input."""

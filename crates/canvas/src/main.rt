@@ -7,9 +7,9 @@
 
 ghost use Rattle.std.specs.Prelude.{◌≡◌, [], IfOk, Ok};
 ghost use Rattle.canvas_board.specs.Alone.{alone_board};
-ghost use Rattle.canvas_board.specs.Seen.{Seen};
+ghost use Rattle.canvas_look.specs.Seen.{Seen};
 ghost use Rattle.canvas_session.specs.Session.{Serves};
-ghost use Rattle.canvas_board.specs.Fault.{board_fault_code};
+ghost use Rattle.canvas_look.specs.Fault.{board_fault_code};
 ghost use Rattle.canvas_session.specs.Cause.{cause_code};
 ghost use Rattle.canvas_saved.specs.Faults.{fault_code as store_fault_code};
 ghost use Rattle.canvas.specs.declared.Fault.TheVariants.{Refused};
@@ -18,9 +18,10 @@ ghost use Rattle.canvas.specs.Statuses.{fault_of_code, status_at};
 
 mod opening;
 
-use canvas_board::{Alone, BoardFault};
+use canvas_board::Alone;
 use canvas_code::Coded;
 use canvas_doc::Document;
+use canvas_look::BoardFault;
 use canvas_saved::StoreFault;
 use canvas_server::{Command, ServerFault, Settings, exit_status, serve_connections};
 use canvas_session::{Served, SessionFault, serve};

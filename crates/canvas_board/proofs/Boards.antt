@@ -7,12 +7,12 @@ use Rattle.canvas_record.specs.Decision.{decision_of}
 use Rattle.canvas_record.specs.Effect.{effect_of, Fits, new_id}
 use Rattle.canvas_record.specs.History.{replay_of, AllFit}
 use Rattle.canvas_record.proofs.Histories.{replay-snoc, all_fit-snoc}
-use Rattle.canvas_line.specs.declared.fault.Edited.{Edited}
-use Rattle.canvas_board.specs.Seen.{Seen, Grows, IsSound}
-use Rattle.canvas_board.specs.declared.fault.BoardFault.{BoardFault}
-use Rattle.canvas_board.specs.declared.fault.BoardFault.TheVariants.{OutOfMemory, Refused, VersionsSpent, Behind, Strangers, BadWorkers, BadSetting, NoView}
+use Rattle.canvas_look.specs.declared.answers.Edited.{Edited}
+use Rattle.canvas_look.specs.Seen.{Seen, Grows, IsSound}
+use Rattle.canvas_look.specs.declared.fault.BoardFault.{BoardFault}
+use Rattle.canvas_look.specs.declared.fault.BoardFault.TheVariants.{OutOfMemory, Refused, VersionsSpent, Behind, Strangers, BadWorkers, BadSetting, NoView}
 use Rattle.canvas_board.specs.Alone.{Makes, alone_board}
-use Rattle.canvas_board.specs.Steps.{Accepts, Edits}
+use Rattle.canvas_look.specs.Steps.{Accepts, Edits}
 
 -- nothing came in between
 pub grows-same : (s : Seen) → IsSound s → Grows s s

@@ -14,10 +14,10 @@ use Rattle.canvas_line.specs.Lines.{Sight}
 use Rattle.canvas_line.specs.Recent.{damages_from, recent_of}
 use Rattle.canvas_line.specs.Seats.{Begins, Looks}
 use Rattle.canvas_line.specs.Standing.{IsVersionOf}
-use Rattle.canvas_line.proofs.Prefixes.{take_more_same, take_all}
+use Rattle.canvas_look.proofs.Prefixes.{take_more_same, take_all}
 use Rattle.canvas_board.specs.declared.window_key.WindowKey.{WindowKey}
 use Rattle.canvas_board.specs.Kept.{document_at, key_of, IsEndOf, IsPictureOf, IsStillRight}
-use Rattle.canvas_board.specs.Raster.{file_of}
+use Rattle.canvas_look.specs.Raster.{file_of}
 use Rattle.canvas_board.proofs.Spared.{file-key, still-shows}
 
 -- the version that a seat has looked at is that of its front

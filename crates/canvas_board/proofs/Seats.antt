@@ -7,17 +7,17 @@ use Rattle.canvas_record.specs.Decision.{decision_of}
 use Rattle.canvas_record.specs.History.{replay_of, AllFit}
 use Rattle.canvas_record.proofs.Histories.{all_fit-front}
 use Rattle.canvas_line.specs.declared.version.Version.{Version}
-use Rattle.canvas_line.specs.declared.fault.Edited.{Edited}
+use Rattle.canvas_look.specs.declared.answers.Edited.{Edited}
 use Rattle.canvas_line.specs.declared.fault.LineFault.{LineFault}
 use Rattle.canvas_line.specs.declared.fault.LineFault.TheVariants as line
 use Rattle.canvas_line.specs.Lines.{Sight, with_front}
 use Rattle.canvas_line.specs.Seats.{EditAccepted, EditRefused, GoesOn, Looks}
-use Rattle.canvas_line.proofs.Prefixes.{prefix_trans, take_prefix, take_all, length_take_within}
-use Rattle.canvas_board.specs.Seen.{Seen, Grows, document_of}
-use Rattle.canvas_board.specs.declared.fault.BoardFault.{BoardFault}
+use Rattle.canvas_look.proofs.Prefixes.{prefix_trans, take_prefix, take_all, length_take_within}
+use Rattle.canvas_look.specs.Seen.{Seen, Grows, document_of}
+use Rattle.canvas_look.specs.declared.fault.BoardFault.{BoardFault}
 use Rattle.canvas_board.specs.Fault.{board_fault_of}
 use Rattle.canvas_board.specs.Shared.{shared_board, board_at, known_after, told_as}
-use Rattle.canvas_board.specs.Steps.{Accepts, Edits, WantsMemory}
+use Rattle.canvas_look.specs.Steps.{Accepts, Edits, WantsMemory}
 
 -- the board goes on to a history that begins with its seat's front
 pub grows-seat : (s : Sight) (known : ℕ) (h : List Change) → IsPrefix s.front h → AllFit s.opening h → length h ≤ s.limit → Grows (board_at s known) (shared_board s.opening s.limit h)

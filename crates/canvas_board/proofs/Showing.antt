@@ -5,12 +5,12 @@ use Rattle.canvas_record.specs.declared.edits.Change.{Change}
 use Rattle.canvas_record.specs.declared.edits.Edit.{Edit}
 use Rattle.canvas_record.specs.History.{replay_of}
 use Rattle.canvas_line.specs.declared.version.Version.{Version}
-use Rattle.canvas_line.specs.declared.fault.Edited.{Edited}
+use Rattle.canvas_look.specs.declared.answers.Edited.{Edited}
 use Rattle.canvas_line.specs.declared.fault.LineFault.{LineFault}
 use Rattle.canvas_line.specs.declared.fault.LineFault.TheVariants as line
 use Rattle.canvas_line.specs.Lines.{Sight, with_front}
 use Rattle.canvas_line.specs.Seats.{Begins, EditAccepted, EditRefused, Looks}
-use Rattle.canvas_line.proofs.Prefixes.{prefix_self, prefix_trans, prefix_length, take_more_same}
+use Rattle.canvas_look.proofs.Prefixes.{prefix_self, prefix_trans, prefix_length, take_more_same}
 use Rattle.canvas_board.specs.Shared.{board_at, known_after, shared_board}
 
 pub goes-nowhere : (s t : Sight) → t ≡ s → Begins s t

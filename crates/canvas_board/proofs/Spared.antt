@@ -1,12 +1,11 @@
 -- What changes leave as it is: a window that the damage of each misses shows the same picture after them.
-use Rattle.std.proofs.Common.{◌≡◌, ℕ, suc, ◌+◌, ◌-◌, ◌<◌, ◌≤◌, Bool, true, false, ◌&&◌, List, [], ◌∷◌, ◌++◌, length, take, drop, All, refl, sym, ap, ◌∙◌, subst, arith}
-use Rattle.std.specs.Prelude.{ℤ, ◌+ℤ◌, ◌*ℤ◌, pos}
+use Rattle.std.proofs.Common.{◌≡◌, ℕ, suc, ◌+◌, ◌<◌, ◌≤◌, Bool, true, false, ◌&&◌, List, [], ◌∷◌, ◌++◌, length, take, drop, All, refl, sym, ap, ◌∙◌, subst, arith}
+use Rattle.std.specs.Prelude.{ℤ}
 use Rattle.std.proofs.lemmas.List.{drop_at, take-append-drop}
 use Rattle.canvas_plane.specs.declared.PageBox.{PageBox}
 use Rattle.canvas_plane.specs.declared.windows.Window.{Window}
 use Rattle.canvas_plane.specs.Page.{is_in, meet_of}
-use Rattle.canvas_plane.specs.Sides.{scale_of}
-use Rattle.canvas_plane.specs.Window.{covered_by}
+use Rattle.canvas_plane.specs.Window.{IsWindowAt, covered_by}
 use Rattle.canvas_plane.proofs.Boxes.{empty-none, meet-exact}
 use Rattle.canvas_record.specs.declared.edits.Change.{Change}
 use Rattle.canvas_record.specs.Contents.{Contents, IsWellFormed}
@@ -16,10 +15,10 @@ use Rattle.canvas_record.specs.History.{replay_of, AllFit}
 use Rattle.canvas_record.specs.Picture.{colour}
 use Rattle.canvas_record.proofs.Histories.{all_fit-front, replay-append}
 use Rattle.canvas_ppm.specs.P6.{p6_of}
-use Rattle.canvas_paint.specs.Pictures.{raster_of}
 use Rattle.canvas_paint.proofs.Joined.{joined-picture}
-use Rattle.canvas_line.proofs.Prefixes.{length_take_within}
-use Rattle.canvas_board.specs.Raster.{file_of}
+use Rattle.canvas_look.proofs.Prefixes.{length_take_within}
+use Rattle.canvas_look.specs.Raster.{file_of}
+use Rattle.canvas_look.proofs.Windows.{window-file}
 use Rattle.canvas_line.specs.declared.recent.Damage.{Damage}
 use Rattle.canvas_board.specs.declared.window_key.WindowKey.{WindowKey}
 use Rattle.canvas_line.specs.Recent.{damages_from}
@@ -86,5 +85,13 @@ still-shows keeps told opening changes k window w fit end right =
 
 -- the file of a window goes by its numbers
 pub file-key : (d : Contents) (a b : Window) → key_of a ≡ key_of b → file_of d a ≡ file_of d b
-unfolding file_of
-file-key d a b e = ap (λ (k : WindowKey). p6_of k.w k.h (raster_of (λ i j. (colour d.records ((k.x +ℤ pos i) *ℤ pos (scale_of k.level)) ((k.y +ℤ pos j) *ℤ pos (scale_of k.level))).0) k.w 0 (k.h - 0))) e
+file-key d a b e =
+    let own : IsWindowAt b.level b.x b.y b.w b.h b = record { at_level = refl; left = refl; top = refl; width = refl; height = refl } in
+    let same : IsWindowAt b.level b.x b.y b.w b.h a = record {
+      at_level = ap (λ (k : WindowKey). k.level) e;
+      left = ap (λ (k : WindowKey). k.x) e;
+      top = ap (λ (k : WindowKey). k.y) e;
+      width = ap (λ (k : WindowKey). k.w) e;
+      height = ap (λ (k : WindowKey). k.h) e;
+    } in
+    window-file d b.level b.x b.y b.w b.h a b same own

@@ -5,9 +5,9 @@ use Rattle.canvas_record.specs.declared.edits.Edit.{Edit}
 use Rattle.canvas_record.specs.Contents.{Contents}
 use Rattle.canvas_record.specs.Decision.{decision_of}
 use Rattle.canvas_record.specs.Effect.{Fits}
-use Rattle.canvas_board.specs.declared.fault.BoardFault.{BoardFault}
-use Rattle.canvas_board.specs.declared.fault.BoardFault.TheVariants.{OutOfMemory, Refused, VersionsSpent, Behind, Strangers, BadWorkers, BadSetting, NoView}
-use Rattle.canvas_board.specs.Seen.{Seen}
+use Rattle.canvas_look.specs.declared.fault.BoardFault.{BoardFault}
+use Rattle.canvas_look.specs.declared.fault.BoardFault.TheVariants.{OutOfMemory, Refused, VersionsSpent, Behind, Strangers, BadWorkers, BadSetting, NoView}
+use Rattle.canvas_look.specs.Seen.{Seen}
 
 -- a limit of accepted changes
 abbrev pub is_limit : ℕ → Bool

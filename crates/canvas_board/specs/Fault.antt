@@ -1,23 +1,10 @@
--- The codes of a board's refusals, and what becomes of those of its seat.
-use Rattle.std.specs.Prelude.{ℕ}
-use Rattle.canvas_record.specs.Refused.{refusal_code}
+-- What a board over a seat answers where its seat is refused.
 use Rattle.canvas_line.specs.declared.fault.LineFault.{LineFault}
 use Rattle.canvas_line.specs.declared.fault.LineFault.TheVariants as line
-use Rattle.canvas_board.specs.declared.fault.BoardFault.{BoardFault}
-use Rattle.canvas_board.specs.declared.fault.BoardFault.TheVariants.{OutOfMemory, Refused, VersionsSpent, Behind, Strangers, BadWorkers, BadSetting, NoView}
+use Rattle.canvas_look.specs.declared.fault.BoardFault.{BoardFault}
+use Rattle.canvas_look.specs.declared.fault.BoardFault.TheVariants.{OutOfMemory, Refused, VersionsSpent, Behind, Strangers, BadSetting, NoView}
 
--- the code of a refusal
-abbrev pub board_fault_code : BoardFault → ℕ
-board_fault_code OutOfMemory = 1
-board_fault_code (Refused why) = refusal_code why
-board_fault_code VersionsSpent = 16
-board_fault_code (Behind desk front) = 17
-board_fault_code (Strangers own found) = 18
-board_fault_code BadWorkers = 31
-board_fault_code BadSetting = 32
-board_fault_code NoView = 33
-
--- What a board answers where its seat is refused. A seat that could not be had is a document that could not be entered.
+-- A seat that could not be had is a document that could not be entered.
 abbrev pub board_fault_of : LineFault → BoardFault
 board_fault_of line.OutOfMemory = OutOfMemory
 board_fault_of (line.Refused why) = Refused why

@@ -15,9 +15,9 @@ use Rattle.canvas_line.specs.Seats.{is_no_further}
 use Rattle.canvas_line.specs.Recent.{damages_from}
 use Rattle.canvas_line.specs.declared.version.Version.{Version}
 use Rattle.canvas_line.specs.declared.recent.Damage.{Damage}
-use Rattle.canvas_board.specs.declared.answers.Picture.{Picture}
+use Rattle.canvas_look.specs.declared.answers.Picture.{Picture}
 use Rattle.canvas_board.specs.declared.window_key.WindowKey.{WindowKey}
-use Rattle.canvas_board.specs.Raster.{file_of}
+use Rattle.canvas_look.specs.Raster.{file_of}
 
 -- the level and the numbers of a window
 abbrev pub key_of : Window → WindowKey

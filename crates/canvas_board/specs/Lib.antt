@@ -1,6 +1,3 @@
-pub mod Raster
-pub mod Seen
-pub mod Steps
 pub mod Fault
 pub mod Alone
 pub mod Shared

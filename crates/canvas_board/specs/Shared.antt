@@ -3,13 +3,13 @@ use Rattle.std.specs.Prelude.{◌≡◌, ℕ, ◌<◌, ◌≤◌, false, List, t
 use Rattle.canvas_record.specs.declared.edits.Change.{Change}
 use Rattle.canvas_record.specs.Contents.{Contents}
 use Rattle.canvas_line.specs.Lines.{Sight}
-use Rattle.canvas_line.specs.declared.fault.Edited.{Edited}
+use Rattle.canvas_look.specs.declared.answers.Edited.{Edited}
 use Rattle.canvas_line.specs.declared.fault.LineFault.{LineFault}
 use Rattle.canvas_line.specs.declared.fault.LineFault.TheVariants as line
-use Rattle.canvas_board.specs.declared.fault.BoardFault.{BoardFault}
-use Rattle.canvas_board.specs.declared.fault.BoardFault.TheVariants.{BadSetting}
+use Rattle.canvas_look.specs.declared.fault.BoardFault.{BoardFault}
+use Rattle.canvas_look.specs.declared.fault.BoardFault.TheVariants.{BadSetting}
 use Rattle.canvas_board.specs.Fault.{board_fault_of}
-use Rattle.canvas_board.specs.Seen.{Seen}
+use Rattle.canvas_look.specs.Seen.{Seen}
 
 -- the board of one caller among others
 abbrev pub shared_board : Contents → ℕ → List Change → Seen

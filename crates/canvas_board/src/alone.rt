@@ -4,15 +4,12 @@ ghost use Rattle.std.specs.Prelude.{◌≡◌, IfOk, OnErr};
 ghost use Rattle.canvas_record.specs.Effect.{effect_of};
 ghost use Rattle.canvas_board.specs.Alone.{Makes, Opens};
 
-use crate::answers::{Dot, Picture, Saved};
-use crate::board::Board;
-use crate::fault::BoardFault;
 use crate::history::History;
 use crate::picture::file_of;
 use crate::saving::text_of;
 use bumpalo::Bump;
 use canvas_doc::{Change, Document, Edit, Refusal};
-use canvas_line::Edited;
+use canvas_look::{Board, BoardFault, Dot, Edited, Picture, Saved};
 use canvas_plane::Window;
 use std::alloc::Global;
 use std::marker::Model;
@@ -37,7 +34,7 @@ pub struct Alone {
 
 impl Model for Alone {
     ghost use Rattle.std.specs.Prelude.{◌≡◌, ◌≤◌, true, length};
-    ghost use Rattle.canvas_board.specs.Seen.{Seen};
+    ghost use Rattle.canvas_look.specs.Seen.{Seen};
     ghost use Rattle.canvas_record.specs.History.{AllFit, replay_of};
 
     ghost Value = { Seen };

@@ -4,7 +4,7 @@ ghost use Rattle.std.specs.Prelude.{◌≡◌, ◌≤◌, ◌^◌, IfSome, vec_l
 ghost use Rattle.std.specs.Arc.{arc_value};
 ghost use Rattle.canvas_line.specs.Seats.{is_no_further};
 ghost use Rattle.canvas_record.specs.History.{replay_of};
-ghost use Rattle.canvas_saved.specs.Saved.{saved_text_of};
+ghost use Rattle.canvas_json.specs.Saved.{saved_text_of};
 
 use canvas_line::{Lines, Mark};
 use std::alloc::Global;
@@ -23,7 +23,7 @@ impl<B: Lines> Model for Exported<B> {
     ghost use Rattle.std.specs.Arc.{arc_value};
     ghost use Rattle.canvas_line.specs.Lines.{Sight};
     ghost use Rattle.canvas_record.specs.History.{replay_of};
-    ghost use Rattle.canvas_saved.specs.Saved.{saved_text_of};
+    ghost use Rattle.canvas_json.specs.Saved.{saved_text_of};
 
     ghost Value = { Sight };
 

@@ -5,7 +5,7 @@ ghost use Rattle.std.specs.Arc.{arc_value};
 ghost use Rattle.canvas_line.specs.Standing.{IsVersionOf};
 ghost use Rattle.canvas_board.specs.declared.gallery.TheConstants.{MOST_SHELVES};
 ghost use Rattle.canvas_board.specs.declared.shelf.TheConstants.{MOST_OF_SHELF};
-ghost use Rattle.canvas_board.specs.Raster.{file_of};
+ghost use Rattle.canvas_look.specs.Raster.{file_of};
 
 use crate::damage_log::DamageLog;
 use crate::kept::{Kept, MOST_PICTURE_BYTES};

@@ -5,7 +5,7 @@ ghost use Rattle.std.specs.Arc.{arc_value};
 ghost use Rattle.canvas_plane.specs.Page.{is_empty_box, meet_of};
 ghost use Rattle.canvas_record.specs.History.{AllFit};
 ghost use Rattle.canvas_board.specs.Kept.{document_at, key_of, IsEndOf, IsPictureOf, IsStillRight};
-ghost use Rattle.canvas_board.specs.Raster.{file_of};
+ghost use Rattle.canvas_look.specs.Raster.{file_of};
 
 use crate::window_key::{WindowKey, key_of};
 use canvas_line::{Damage, Lines, Mark};

@@ -4,7 +4,7 @@ ghost use Rattle.std.specs.Prelude.{◌≡◌, ◌≤◌, ◌^◌, IfSome, vec_l
 ghost use Rattle.std.specs.Arc.{arc_value};
 ghost use Rattle.canvas_record.specs.Contents.{IsWellFormed};
 ghost use Rattle.canvas_line.specs.Standing.{IsVersionOf};
-ghost use Rattle.canvas_board.specs.Raster.{file_of};
+ghost use Rattle.canvas_look.specs.Raster.{file_of};
 
 use crate::gallery::Gallery;
 use crate::kept::Kept;

@@ -3,7 +3,7 @@
 ghost use Rattle.std.specs.Prelude.{◌≡◌, ◌≤◌, ◌^◌, IfOk, IfSome, vec_len};
 ghost use Rattle.std.specs.Arc.{arc_value};
 ghost use Rattle.canvas_record.specs.History.{replay_of};
-ghost use Rattle.canvas_saved.specs.Saved.{saved_text_of};
+ghost use Rattle.canvas_json.specs.Saved.{saved_text_of};
 ghost use Rattle.canvas_board.specs.Exports.{gives_way, newer_of};
 
 use crate::exported::Exported;

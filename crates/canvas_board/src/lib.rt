@@ -3,9 +3,7 @@
 #![tactic(auto)]
 
 mod alone;
-mod answers;
 mod asked;
-mod board;
 mod damage_log;
 mod exported;
 mod fault;
@@ -21,10 +19,7 @@ mod shelf;
 mod window_key;
 
 pub use alone::Alone;
-pub use answers::{Dot, Picture, Saved};
-pub use board::Board;
-pub use canvas_line::Edited;
-pub use fault::BoardFault;
+pub use canvas_look::{Board, BoardFault, Dot, Edited, Picture, Saved};
 pub use gallery::{Gallery, MOST_GALLERY_BYTES};
 pub use last_export::LastExport;
 pub use shared::{MOST_KEPT, Shared};

@@ -2,13 +2,13 @@
 
 ghost use Rattle.std.specs.Prelude.{◌≡◌, ◌≤◌, ◌^◌, IfOk, true, vec_len};
 ghost use Rattle.std.specs.Arc.{arc_value};
-ghost use Rattle.canvas_board.specs.Raster.{file_of};
+ghost use Rattle.canvas_look.specs.Raster.{file_of};
 ghost use Rattle.canvas_paint.specs.Workers.{are_workers};
 
-use crate::answers::MOST_BYTES;
 use bumpalo::Bump;
 use canvas_code::OutOfMemory;
 use canvas_doc::Document;
+use canvas_look::MOST_BYTES;
 use canvas_plane::Window;
 use canvas_scene::append_picture;
 use std::alloc::Global;
@@ -17,7 +17,7 @@ use std::thread::Threads;
 
 /// The P6 file of a window of a document, painted by 1 to 16 workers, ready to be shared. The arena
 /// holds the scene until its next reset.
-#[tactic(auto, unfolding(crate::specs::Raster::file_of))]
+#[tactic(auto, unfolding(canvas_look::specs::Raster::file_of))]
 pub fn file_of<R: Threads + Sync>(
     rt: &R,
     alloc: Global,

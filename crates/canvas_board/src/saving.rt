@@ -2,11 +2,11 @@
 
 ghost use Rattle.std.specs.Prelude.{◌≡◌, ◌≤◌, ◌^◌, IfOk, vec_len};
 ghost use Rattle.std.specs.Arc.{arc_value};
-ghost use Rattle.canvas_saved.specs.Saved.{saved_text_of};
+ghost use Rattle.canvas_json.specs.Saved.{saved_text_of};
 
-use crate::answers::MOST_BYTES;
 use canvas_code::OutOfMemory;
 use canvas_doc::Document;
+use canvas_look::MOST_BYTES;
 use canvas_saved::export;
 use std::alloc::Global;
 use std::sync::Arc;

@@ -6,9 +6,7 @@ ghost use Rattle.canvas_paint.specs.Workers.{are_workers};
 ghost use Rattle.canvas_board.specs.Kept.{ShowsAt};
 ghost use Rattle.canvas_board.specs.Shared.{OpensAt, known_after, shared_board};
 
-use crate::answers::{Dot, Picture, Saved};
-use crate::board::Board;
-use crate::fault::BoardFault;
+use crate::fault::board_fault_of;
 use crate::gallery::Gallery;
 use crate::kept_pictures::KeptPictures;
 use crate::last_export::LastExport;
@@ -17,7 +15,8 @@ use crate::shelf::Shelf;
 use bumpalo::Bump;
 use canvas_code::OutOfMemory;
 use canvas_doc::Edit;
-use canvas_line::{Edited, LineFault, Lines, Seat, Version};
+use canvas_line::{LineFault, Lines, Seat, Version};
+use canvas_look::{Board, BoardFault, Dot, Edited, Picture, Saved};
 use canvas_plane::Window;
 use std::alloc::Global;
 use std::marker::Model;
@@ -45,7 +44,7 @@ pub struct Shared<B: Lines> {
 
 impl<B: Lines> Model for Shared<B> {
     ghost use Rattle.std.specs.Prelude.{◌≤◌, length};
-    ghost use Rattle.canvas_board.specs.Seen.{Seen};
+    ghost use Rattle.canvas_look.specs.Seen.{Seen};
     ghost use Rattle.canvas_board.specs.Shared.{board_at};
 
     ghost Value = { Seen };
@@ -130,7 +129,7 @@ impl<B: Lines> Board for Shared<B> {
         self.known = known_after(self.known, self.seat.number(), &answer);
         match answer {
             Ok(edited) => Ok(edited),
-            Err(fault) => Err(BoardFault::from(fault)),
+            Err(fault) => Err(board_fault_of(fault)),
         }
     }
 

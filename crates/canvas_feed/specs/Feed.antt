@@ -9,7 +9,7 @@ use Rattle.canvas_record.specs.Contents.{Contents}
 use Rattle.canvas_record.specs.Damage.{damage_of}
 use Rattle.canvas_record.specs.Decision.{decision_of}
 use Rattle.canvas_record.specs.Effect.{effect_of, new_id}
-use Rattle.canvas_saved.specs.Saved.{saved_text_of}
+use Rattle.canvas_json.specs.Saved.{saved_text_of}
 use Rattle.canvas_wire.specs.Requests.{request_of}
 use Rattle.canvas_wire.specs.declared.request.Request.{Request}
 use Rattle.canvas_wire.specs.declared.request.Request.TheVariants as requests

@@ -10,6 +10,6 @@ mod step;
 
 pub use generation::{Generation, next_number, served};
 pub use making::{Maker, make};
-pub use names::{JOURNAL, LOCK, OPENING, STORE, TEMPORARY, number_of};
+pub use names::{JOURNAL, LOCK, NEW_JOURNAL, OPENING, STORE, TEMPORARY, number_of};
 pub use state::{State, state_of};
 pub use step::Step;

@@ -12,6 +12,9 @@ pub const TEMPORARY: &str = "opening.json.new";
 /// The edits of a generation.
 pub const JOURNAL: &str = "journal.jsonl";
 
+/// The same in a new file that has not got its name yet.
+pub const NEW_JOURNAL: &str = "journal.jsonl.new";
+
 /// The file by whose lock one process alone serves the folder.
 pub const LOCK: &str = "lock";
 

@@ -11,7 +11,7 @@ use Rattle.canvas_wire.specs.declared.request.Request.TheVariants as requests
 use Rattle.canvas_feed.specs.Feed.{change_asked, change_in, change_told, effect_told, feed_line, feed_text, line_told}
 use Rattle.canvas_keep.specs.Telling.{Replays, Tells}
 use Rattle.canvas_keep.proofs.Histories.{replays_one}
-use Rattle.canvas_line.specs.declared.fault.Edited.{Edited}
+use Rattle.canvas_look.specs.declared.answers.Edited.{Edited}
 use Rattle.canvas_line.specs.Lines.{Sight, with_front}
 use Rattle.canvas_line.specs.Seats.{EditAccepted}
 use Rattle.canvas_follow.specs.Course.{Follows, FollowsAll, IsFedBy, TellsNext, document_at}

@@ -1,13 +1,13 @@
 //! The board of a session at a follower: it looks here, and hands edits on.
 ghost use denote.Param.Send.{IsSync};
 ghost use Rattle.std.specs.Prelude.{◌≡◌, false, IfNone, IfSome};
-ghost use Rattle.canvas_board.specs.Steps.{Edits};
+ghost use Rattle.canvas_look.specs.Steps.{Edits};
 
 use crate::handed::{Handed, Leader, Outcome};
 use crate::turns::Turns;
-use canvas_board::{Board, BoardFault, Dot, Edited, Picture, Saved};
 use canvas_doc::Edit;
 use canvas_line::Lines;
+use canvas_look::{Board, BoardFault, Dot, Edited, Picture, Saved};
 use canvas_plane::Window;
 use canvas_wire::write_edit;
 use std::alloc::Global;

@@ -1,15 +1,15 @@
 //! Whose turn it is: the edits of a feed are made in their order, those that sessions here have
 //! asked for by these sessions.
 ghost use Rattle.std.specs.Prelude.{◌≡◌, IfNone, IfSome};
-ghost use Rattle.canvas_board.specs.Steps.{Edits};
+ghost use Rattle.canvas_look.specs.Steps.{Edits};
 
 use crate::course::Course;
 use crate::fault::CourseFault;
 use crate::feed_line::edit_in;
-use canvas_board::{Board, BoardFault, Edited};
 use canvas_code::Coded;
 use canvas_doc::Edit;
 use canvas_line::Lines;
+use canvas_look::{Board, BoardFault, Edited};
 use std::alloc::{AllocError, Global};
 use std::sync::{Condvar, Mutex, MutexGuard, Wait};
 

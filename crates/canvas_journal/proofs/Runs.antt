@@ -1,4 +1,4 @@
--- What a turn or a recovery adds to a run.
+-- What a turn or an opening adds to a run.
 use Rattle.std.proofs.Common.{◌≡◌, ℕ, List, [], ◌++◌, length, sym, ap, ◌∙◌, arith, append_assoc, append-nil, ⊎_elim}
 use mathlib.Core.List.{IsPrefix}
 use Rattle.canvas_journal.specs.Device.{Only, LeavesOnly}
@@ -51,13 +51,6 @@ module _ {D : Type 0} (seen : D → List ℕ) (may_leave : D → List ℕ → Ty
         (same (handed_of seen old) (recovered c) (sym (is ∙ done)), longer (recovered c) (done_of seen new) new.staged (same (recovered c) (done_of seen new) is));
   }
 
-  -- a recovery, whether it succeeds or not
-  pub recovery_lasts : (old new : D) (known handed : List (List ℕ)) → IsPrefix known (recovered (seen old)) → IsPrefix (recovered (seen old)) handed
-      → LeavesOnly moment left_since old new (λ c. recovered c ≡ recovered (seen old)) → Lasts left_since new (moment old) known handed
-  recovery_lasts old new known handed counts begins leaves c left =
-      let is : recovered c ≡ recovered (seen old) = leaves.each c left in
-      (along known (recovered (seen old)) (recovered c) is counts, (begins.0, ap (λ l. l ++ begins.0) is ∙ begins.1))
-
   -- a journal that was just opened
   pub opened_settled : (old : D) (journal : Journal D) → seen journal.device ≡ at_rest (recovered (seen old)) [] → recovered (seen journal.device) ≡ recovered (seen old)
       → journal.end ≡ length (text (recovered (seen old))) → journal.staged ≡ [] → Only (seen journal.device) (may_leave journal.device) → IsSettled seen may_leave journal
@@ -67,13 +60,13 @@ module _ {D : Type 0} (seen : D → List ℕ) (may_leave : D → List ℕ → Ty
     durable = durable;
   }
 
-  pub opened_keeps : (old : D) (journal : Journal D) (known : List (List ℕ)) → recovered (seen journal.device) ≡ recovered (seen old)
-      → LeavesOnly moment left_since old journal.device (λ c. recovered c ≡ recovered (seen old)) → IsPrefix known (recovered (seen old))
-      → HasKept seen moment left_since journal (moment old) known
-  opened_keeps old journal known is leaves counts = record {
-    begun = leaves.later;
+  pub opened_keeps : (old : D) (journal : Journal D) (known : List (List ℕ)) → ((c : List ℕ) → left_since journal.device (moment journal.device) c → may_leave journal.device c)
+      → recovered (seen journal.device) ≡ recovered (seen old) → Only (seen journal.device) (may_leave journal.device) → IsPrefix known (recovered (seen old))
+      → HasKept seen moment left_since journal (moment journal.device) known
+  opened_keeps old journal known only_now is durable counts = record {
+    begun = omega arith;
     counts = along known (recovered (seen old)) (done_of seen journal) is counts;
     lasts = λ c left.
-        let left_is : recovered c ≡ recovered (seen old) = leaves.each c left in
-        (along known (recovered (seen old)) (recovered c) left_is counts, longer (recovered c) (done_of seen journal) journal.staged (same (recovered c) (done_of seen journal) (left_is ∙ sym is)));
+        let left_is : recovered c ≡ done_of seen journal = ap recovered (durable c (only_now c left)) in
+        (along known (recovered (seen old)) (recovered c) (left_is ∙ is) counts, longer (recovered c) (done_of seen journal) journal.staged (same (recovered c) (done_of seen journal) left_is));
   }

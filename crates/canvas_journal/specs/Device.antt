@@ -1,5 +1,5 @@
 -- What the calls of a device do to its file, and what a crash may do between two syncs.
-use Rattle.std.specs.Prelude.{◌<◌, ◌≡◌, ◌⊎◌, ℕ, ◌+◌, ◌≤◌, max, min, List, ◌++◌, length, take, drop, Result, IsErrOf}
+use Rattle.std.specs.Prelude.{◌<◌, ◌≡◌, ◌⊎◌, ℕ, ◌+◌, ◌≤◌, max, List, ◌++◌, length, take, drop, Result, IsErrOf}
 use Rattle.canvas_journal.specs.declared.device.DeviceError.{DeviceError}
 use Rattle.canvas_journal.specs.declared.device.DeviceError.TheVariants.{Failed, Full}
 
@@ -13,11 +13,6 @@ pub record Torn (at n : ℕ) (old new : List ℕ) : Type 0 where
   pub after : drop (at + n) new ≡ drop (at + n) old
   pub no_shorter : length old ≤ length new
   pub no_longer : length new ≤ max (length old) (at + n)
-
--- after a cut: some length between, or all of a file that is shorter
-pub record Cut (n : ℕ) (old new : List ℕ) : Type 0 where
-  pub no_shorter : min n (length old) ≤ length new
-  pub front : take (length new) old ≡ new
 
 -- each new outcome of a crash is an old outcome after a step
 abbrev pub Follows : (List ℕ → List ℕ → Type 0) → (List ℕ → Type 0) → (List ℕ → Type 0) → Type 0

@@ -1,8 +1,9 @@
-//! A file as the journal sees it: what a read returns, and what a crash may leave.
+//! A file as the journal sees it: what a read returns, which is memory of the system, and what a
+//! crash may leave, which is the disk.
 
-ghost use Rattle.std.specs.Prelude.{◌≡◌, ◌≤◌, List, ℕ, length, take, IfOk, OnOk};
+ghost use Rattle.std.specs.Prelude.{◌≡◌, ◌⊎◌, ◌≤◌, List, ℕ, length, take, IfOk, OnOk};
 ghost use Rattle.canvas_journal.specs.declared.device.DeviceError.TheVariants.{Memory};
-ghost use Rattle.canvas_journal.specs.Device.{Only, Follows, Torn, Cut, Holds, Elapses, HasCause};
+ghost use Rattle.canvas_journal.specs.Device.{Only, Follows, Torn, Holds, Elapses, HasCause};
 
 use std::alloc::{AllocError, Global};
 use thiserror::Error;
@@ -32,7 +33,9 @@ impl From<AllocError> for DeviceError {
 /// A file on a disk that may crash between any two moments, also within a call.
 ///
 /// What is written and not yet synced may be there whole, in part, torn, or not at all after a
-/// crash. What a sync has covered is there.
+/// crash. What a sync has covered is there. What a read returns may never come to the disk: after
+/// a sync that failed a system may still show what it will write no more. So of a file that was
+/// just opened nothing is known but what a read returns.
 pub trait Device {
     /// The bytes that a read returns.
     ghost seen: { Self → List ℕ };
@@ -68,11 +71,15 @@ pub trait Device {
             (left_since self.new) (may_leave self.new) }
         ensures cause { HasCause (faults self.old) (faults self.new) result };
 
-    /// Cuts the file to a length.
-    fn cut(&mut self, len: usize) -> Result<(), DeviceError>
-        requires { len ≤ length (seen self.old) }
-        ensures cut { OnOk result (seen self.new ≡ take len (seen self.old)) }
-        ensures crash { Follows (Cut len) (may_leave self.old) (may_leave self.new) }
+    /// Has a new file with these bytes take the place of this one. The first `same` of them are
+    /// those that a read returns. A crash leaves what it might have left before, or these bytes.
+    fn rewrite(&mut self, same: usize, bytes: &[u8]) -> Result<(), DeviceError>
+        requires within { same ≤ length bytes.now }
+        requires same { take same bytes.now ≡ take same (seen self.old) }
+        ensures written { OnOk result (seen self.new ≡ bytes.now) }
+        ensures durable { OnOk result (Only bytes.now (may_leave self.new)) }
+        ensures crash { (c : List ℕ) → may_leave self.new c
+            → may_leave self.old c ⊎ (c ≡ bytes.now) }
         ensures time { Elapses (moment self.old) (moment self.new) (left_since self.old)
             (left_since self.new) (may_leave self.new) }
         ensures cause { HasCause (faults self.old) (faults self.new) result };

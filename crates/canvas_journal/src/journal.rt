@@ -10,7 +10,7 @@ ghost use Rattle.std.specs.Prelude.{◌≡◌, ◌⊎◌, ◌*◌, ◌+◌, ◌<
 ghost use Rattle.canvas_journal.specs.Device.{Only, LeavesOnly};
 ghost use Rattle.canvas_journal.specs.Lines.{recovered, text};
 ghost use mathlib.Core.List.{IsPrefix};
-ghost use Rattle.canvas_journal.specs.Journal.{at_rest, done_of, IsSettled, IsWithOrWithout};
+ghost use Rattle.canvas_journal.specs.Journal.{at_rest, done_of, IsKeptOr, IsSettled, IsWithOrWithout, Renews};
 ghost use Rattle.canvas_journal.specs.Runs.{handed_of, HasKept, Lasts};
 
 use crate::batch::Batch;
@@ -34,23 +34,26 @@ pub struct Journal<D: Device> {
 }
 
 impl<D: Device + Drop> Journal<D> {
-    /// Opens a journal over a file that a crash may have left, with the lines that count in it.
-    /// They are acknowledged: each later crash leaves them.
+    /// Opens a journal over a file, with the lines that count in what a read returns. They are
+    /// written into a new file, for what a read returns may not be on the disk. Then they are
+    /// acknowledged: each later crash leaves them.
     pub fn open(alloc: Global, mut device: D) -> Result<(Journal<D>, Lines), DeviceError>
-        requires { Only (D.seen device) (D.may_leave device) }
-
         ensures lines { IfOk result
             (λ r. map (λ v. v.items) r.1.lines.items ≡ recovered (D.seen device)) }
         ensures settled { IfOk result (λ r. IsSettled D.seen D.may_leave r.0) }
         ensures done { IfOk result
             (λ r. (done_of D.seen r.0 ≡ recovered (D.seen device)) × (r.0.staged ≡ [])) }
-        // A run begins or goes on: what was known of the lines is known of those that each later
+        // The file has its lines on the disk. A crash meanwhile left what it might have left
+        // before, or the same lines.
+        ensures renewed { IfOk result
+            (λ r. Renews D.seen D.may_leave D.moment D.left_since device r.0.device) }
+        // A run begins or goes on: what is known of the lines is known of those that each later
         // crash leaves.
         ensures keeps { IfOk result
             (λ r. (known : List (List ℕ)) → IsPrefix known (recovered (D.seen device))
-            → HasKept D.seen D.moment D.left_since r.0 (D.moment device) known) }
+            → HasKept D.seen D.moment D.left_since r.0 (D.moment r.0.device) known) }
     {
-        let lines = recover(alloc, &mut device)?;
+        let lines = renew(alloc, &mut device)?;
         let staged = Batch::new(alloc)?;
         let journal = Journal {
             device,
@@ -110,12 +113,9 @@ impl<D: Device> Journal<D> {
     }
 }
 
-/// Reads the lines that count in a file that a crash may have left, and repairs its end. It may
-/// itself crash at any moment, and be begun again.
-pub fn recover<D: Device>(alloc: Global, device: &mut D) -> Result<Lines, DeviceError>
-    // After a restart, what is read is what is on the disk.
-    requires { Only (D.seen device.old) (D.may_leave device.old) }
-
+// Reads the lines that count, and writes them into a new file. It may itself crash at any moment,
+// and be begun again.
+fn renew<D: Device>(alloc: Global, device: &mut D) -> Result<Lines, DeviceError>
     ensures lines { IfOk result
         (λ r. map (λ v. v.items) r.lines.items ≡ recovered (D.seen device.old)) }
     ensures end { IfOk result (λ r. r.end ≡ length (text (recovered (D.seen device.old)))) }
@@ -123,26 +123,19 @@ pub fn recover<D: Device>(alloc: Global, device: &mut D) -> Result<Lines, Device
     ensures same { OnOk result (recovered (D.seen device.new) ≡ recovered (D.seen device.old)) }
     ensures durable { OnOk result (Only (D.seen device.new) (D.may_leave device.new)) }
 
-    // A crash at any moment leaves the same lines.
+    // A crash at any moment, also of a call that fails, leaves what it might have left before, or
+    // the same lines.
     ensures any_moment { LeavesOnly D.moment D.left_since device.old device.new
-        (λ c. recovered c ≡ recovered (D.seen device.old)) }
-
-    // A run goes on: what was known of the lines that a crash left, is known of those that each
-    // later crash leaves.
-    ensures lasts { (known : List (List ℕ)) (handed : List (List ℕ))
-        → IsPrefix known (recovered (D.seen device.old))
-        → IsPrefix (recovered (D.seen device.old)) handed
-        → Lasts D.left_since device.new (D.moment device.old) known handed }
+        (IsKeptOr (D.may_leave device.old) (recovered (D.seen device.old))) }
 
     ensures failed { IsErrOf result DeviceError.Failed → D.faults device.old < D.faults device.new }
     ensures full { IsErrOf result DeviceError.Full → ⊥ }
 {
-    let bytes = device.read(alloc)?;
+    let mut bytes = device.read(alloc)?;
     let lines = read_lines(alloc, &bytes)?;
-    device.cut(lines.end)?;
-    // The cut has to be on the disk first: behind a gate that is torn open, what was there would count.
-    device.sync()?;
-    device.write_at(lines.end, b"\n")?;
-    device.sync()?;
+    // What is not acknowledged is left out, and the gate behind the lines is closed.
+    bytes.truncate(lines.end);
+    bytes.extend_from_slice(b"\n")?;
+    device.rewrite(lines.end, &bytes)?;
     Ok(lines)
 }

@@ -9,5 +9,5 @@ mod reading;
 
 pub use batch::Batch;
 pub use device::{Device, DeviceError};
-pub use journal::{Journal, recover};
-pub use reading::{Lines, first_line};
+pub use journal::Journal;
+pub use reading::{Lines, first_line, read_lines};

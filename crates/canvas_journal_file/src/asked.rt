@@ -9,21 +9,25 @@ use std::alloc::Global;
 use std::marker::Model;
 
 // What was asked.
-const HELD: u64 = 0;
+const SHOWN: u64 = 0;
 
 const WROTE: u64 = 1;
 
-const SHORTENED: u64 = 2;
+const SYNCED: u64 = 2;
 
-const SYNCED: u64 = 3;
+const UNREAD: u64 = 3;
 
-const UNREAD: u64 = 4;
+const WROTE_NEW: u64 = 4;
 
-/// A file, as what it held at first and what was asked of it since. No memory holds what was written.
+const SYNCED_NEW: u64 = 5;
+
+const NAMED: u64 = 6;
+
+/// A file, as what it showed at first and what was asked of it since. No memory holds what was written.
 #[derive(Drop)]
 pub struct Asked<F: Backing> {
     file: F,
-    // What the file held at first, until it is read or changed.
+    // What the file showed at first, until it is read or changed.
     first: Option<Vec<u8>>,
     record: Record,
 }
@@ -41,12 +45,12 @@ impl<F: Backing> Model for Asked<F> {
 }
 
 impl<F: Backing> Asked<F> {
-    /// A file that holds these bytes, all of them on the disk.
+    /// A file of which these bytes were read. What the disk has of it is not known.
     pub fn new(file: F, first: Vec<u8>) -> Asked<F>
         ensures { result ≡ (0, 0, true, first.items) ∷ [] }
     {
         let mut record = Record::new();
-        record.note(&[HELD, 0, 1], &first);
+        record.note(&[SHOWN, 0, 1], &first);
         Asked {
             file,
             first: Some(first),
@@ -78,7 +82,7 @@ impl<F: Backing> Device for Asked<F> {
 
     ghost only_now = { λ f c left. only f c left };
 
-    /// What the file held at first. It can be read once, before it is changed; any later read is
+    /// What the file showed at first. It can be read once, before it is changed; any later read is
     /// refused as `Failed`.
     fn read(&mut self, _alloc: Global) -> Result<Vec<u8>, DeviceError> {
         match self.first.take() {
@@ -98,12 +102,18 @@ impl<F: Backing> Device for Asked<F> {
         answer(done)
     }
 
-    fn cut(&mut self, len: usize) -> Result<(), DeviceError> {
+    fn rewrite(&mut self, same: usize, bytes: &[u8]) -> Result<(), DeviceError> {
         self.first = None;
-        let done = self.file.cut(len);
+        let written = self.file.write_new(same, bytes);
         self.record
-            .note(&[SHORTENED, len as u64, as_number(done)], &[]);
-        answer(done)
+            .note(&[WROTE_NEW, same as u64, as_number(written)], bytes);
+        answer(written)?;
+        let synced = self.file.sync_new();
+        self.record.note(&[SYNCED_NEW, 0, as_number(synced)], &[]);
+        answer(synced)?;
+        let named = self.file.take_name();
+        self.record.note(&[NAMED, 0, as_number(named)], &[]);
+        answer(named)
     }
 
     fn sync(&mut self) -> Result<(), DeviceError> {

@@ -6,5 +6,5 @@ mod backing;
 mod record;
 
 pub use asked::Asked;
-pub use backing::{Backing, HostFile, Memory};
+pub use backing::Backing;
 pub use record::Record;

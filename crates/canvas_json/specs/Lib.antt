@@ -6,6 +6,7 @@ pub mod MemberNames
 pub mod Objects
 pub mod Places
 pub mod Poses
+pub mod Saved
 pub mod Shapes
 pub mod Taken
 pub mod Texts

@@ -15,11 +15,11 @@ use Rattle.canvas_wire.specs.EditTexts.{edit_text}
 use Rattle.canvas_wire.specs.Requests.{request_of}
 use Rattle.canvas_wire.specs.declared.request.Request.TheVariants as requests
 use Rattle.canvas_journal.specs.Lines.{recovered}
-use Rattle.canvas_line.specs.declared.fault.Edited.{Edited}
+use Rattle.canvas_look.specs.declared.answers.Edited.{Edited}
 use Rattle.canvas_line.specs.Lines.{Sight, with_front}
 use Rattle.canvas_line.specs.Recording.{Makes}
 use Rattle.canvas_line.specs.Seats.{EditAccepted}
-use Rattle.canvas_line.proofs.Prefixes.{prefix_whole, prefix_length}
+use Rattle.canvas_look.proofs.Prefixes.{prefix_whole, prefix_length}
 use Rattle.canvas_keep.specs.Telling.{Tells, TellsBeginning, Replays, StopsAt, Stops, AreReadBack}
 use Rattle.canvas_keep.specs.declared.fault.ReplayFault.{ReplayFault}
 

@@ -17,7 +17,7 @@ use Rattle.canvas_line.specs.Lines.{Sight, with_front}
 use Rattle.canvas_line.specs.Recording.{Makes, MakesRest}
 use Rattle.canvas_line.specs.Seats.{GoesOn, TakesAt}
 use Rattle.canvas_line.specs.declared.recorder.Taken.{Taken}
-use Rattle.canvas_line.proofs.Prefixes.{prefix_self, prefix_trans, prefix_whole, take_more_same, take_all}
+use Rattle.canvas_look.proofs.Prefixes.{prefix_trans, prefix_whole, take_more_same, take_all}
 use Rattle.canvas_keep.specs.Telling.{Tells, TellsBeginning, Replays}
 use Rattle.canvas_keep.specs.Keeping.{Keeping, StandsFor}
 use Rattle.canvas_keep.proofs.Histories.{tells_both, tells_length, tells_prefix, tells_beginning}
@@ -160,16 +160,17 @@ told_from_start s m t ls empty replays goes same =
     subst (Tells s.opening ls) (sym front) told
 
 pub stands_opened : {D : Type 0} (seen : D → List ℕ) (may_leave : D → List ℕ → Type 0) (moment : D → ℕ) (left_since : D → ℕ → List ℕ → Type 0) (journal : Journal D) (s m t : Sight) (ls : List (List ℕ)) (kept : ℕ) (device opened : D)
-    → opened ≡ device → IsSettled seen may_leave journal → done_of seen journal ≡ recovered (seen device) → journal.staged ≡ [] → ls ≡ recovered (seen device)
+    → opened ≡ journal.device → IsSettled seen may_leave journal → done_of seen journal ≡ recovered (seen device) → journal.staged ≡ [] → ls ≡ recovered (seen device)
     → s.front ≡ [] → Replays s ls m → GoesOn m t → length t.front ≡ length m.front → kept ≡ length m.front
-    → ((known : List (List ℕ)) → IsPrefix known (recovered (seen device)) → HasKept seen moment left_since journal (moment device) known)
+    → ((known : List (List ℕ)) → IsPrefix known (recovered (seen device)) → HasKept seen moment left_since journal (moment journal.device) known)
     → StandsFor seen may_leave moment left_since journal t kept opened
 stands_opened {D} seen may_leave moment left_since journal s m t ls kept device opened is settled done staged lines empty replays goes same number keeps =
     let opening : t.opening ≡ s.opening = ap (λ (x : Sight). x.opening) goes.2 ∙ ap (λ (x : Sight). x.opening) replays.2 in
-    let told : Tells t.opening (recovered (seen device)) t.front = subst (λ (d : Contents). Tells d (recovered (seen device)) t.front) (sym opening)
-    (subst (λ (x : List (List ℕ)). Tells s.opening x t.front) lines (told_from_start s m t ls empty replays goes same)) in
+    let told : Tells t.opening (recovered (seen journal.device)) t.front = subst (λ (d : Contents). Tells d (recovered (seen journal.device)) t.front) (sym opening)
+    (subst (λ (x : List (List ℕ)). Tells s.opening x t.front) (lines ∙ sym done) (told_from_start s m t ls empty replays goes same)) in
     subst (λ (o : D). StandsFor seen may_leave moment left_since journal t kept o) (sym is)
-    (stands_first seen may_leave moment left_since journal t kept device settled done staged told (number ∙ sym same) (keeps (recovered (seen device)) (prefix_self (recovered (seen device)))))
+    (stands_first seen may_leave moment left_since journal t kept journal.device settled refl staged told (number ∙ sym same)
+    (keeps (recovered (seen journal.device)) ([], append-nil (recovered (seen journal.device)) ∙ done)))
 
 -- ---- numbers
 

@@ -9,14 +9,14 @@ use Rattle.canvas_keep.specs.declared.fault.OpenFault.{OpenFault}
 use Rattle.canvas_keep.specs.declared.fault.OpenFault.TheVariants as faults
 use Rattle.canvas_keep.specs.Telling.{Tells, Stops}
 
--- a keeper: its line as its seat sees it, how many versions are kept, the journal, and the device as it was when the journal was opened
+-- a keeper: its line as its seat sees it, how many versions are kept, the journal, and the device as it was once the journal was open
 pub record Keeping (D : Type 0) : Type 0 where
   pub line : Sight
   pub kept : ℕ
   pub journal : Journal D
   pub opened : D
 
--- The lines that count and the staged ones tell the front, and so many of them count. Each crash since the journal was opened leaves the
+-- The lines that count and the staged ones tell the front, and so many of them count. Each crash since the journal is open leaves the
 -- lines that it found then, and of the others a beginning.
 pub record StandsFor {D : Type 0} (seen : D → List ℕ) (may_leave : D → List ℕ → Type 0) (moment : D → ℕ) (left_since : D → ℕ → List ℕ → Type 0) (journal : Journal D) (line : Sight) (kept : ℕ) (opened : D) : Type 0 where
   pub settled : IsSettled seen may_leave journal

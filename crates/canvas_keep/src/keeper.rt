@@ -18,8 +18,8 @@ use std::snapshot::Snapshot;
 use std::sync::Wait;
 
 /// The open journal of a line, and the seat by which it takes what the line recorded. Contracts see
-/// it as the seat, how many versions are kept, the journal, and the device as it was when the
-/// journal was opened.
+/// it as the seat, how many versions are kept, the journal, and the device as it was once the
+/// journal was open.
 #[derive(Drop)]
 pub struct Keeper<D: Device, B: Lines> {
     journal: Journal<D>,

@@ -1,9 +1,8 @@
 //! From a file that a crash may have left to the line that goes on with its history.
 ghost use Rattle.std.specs.Prelude.{◌≡◌, [], List, ℕ, length, IfOk, IfErr};
 ghost use mathlib.Core.List.{IsPrefix};
-ghost use Rattle.canvas_journal.specs.Device.{Only};
 ghost use Rattle.canvas_journal.specs.Lines.{recovered};
-ghost use Rattle.canvas_journal.specs.Journal.{done_of};
+ghost use Rattle.canvas_journal.specs.Journal.{done_of, Renews};
 ghost use Rattle.canvas_journal.specs.Runs.{handed_of, HasKept};
 ghost use Rattle.canvas_line.specs.Lines.{with_front};
 ghost use Rattle.canvas_keep.specs.Telling.{Tells};
@@ -20,30 +19,30 @@ use std::sync::Wait;
 
 /// Opens a journal over a line at its beginning: makes the edits of the lines that count, through
 /// the seat, and then has the line record. No other seat of the line edits it meanwhile. Where a
-/// line can't be replayed, the journal is left as it is.
+/// line can't be replayed, the journal is left with the lines that it has.
 pub fn open<D: Device + Drop, B: Lines, R: Wait>(
     rt: &R,
     alloc: Global,
     device: D,
     mut seat: Seat<B>,
 ) -> Result<Keeper<D, B>, OpenFault>
-    // After a restart, what is read is what is on the disk.
-    requires durable { Only (D.seen device) (D.may_leave device) }
-    requires front { seat.front ≡ [] }
+    requires { seat.front ≡ [] }
 
     // The front is the history that the lines of the file tell, and nothing else.
     ensures tells { IfOk result (λ k. Tells seat.opening (recovered (D.seen device)) k.line.front) }
     ensures line { IfOk result (λ k. k.line ≡ with_front seat k.line.front) }
     ensures kept { IfOk result (λ k. k.kept ≡ length k.line.front) }
-    ensures opened { IfOk result (λ k. k.opened ≡ device) }
-    // A run begins or goes on: what was known of the lines is known of those that each later crash leaves.
+    // The lines are on the disk then. A crash meanwhile left what it might have left before, or these lines.
+    ensures opened { IfOk result
+        (λ k. Renews D.seen D.may_leave D.moment D.left_since device k.opened) }
+    // A run begins or goes on: what is known of the lines is known of those that each later crash leaves.
     ensures keeps { IfOk result
         (λ k. (known : List (List ℕ)) → IsPrefix known (recovered (D.seen device))
-        → HasKept D.seen D.moment D.left_since k.journal (D.moment device) known) }
+        → HasKept D.seen D.moment D.left_since k.journal (D.moment k.opened) known) }
     ensures refused { IfErr result (λ f. OpenRefused seat (recovered (D.seen device)) f) }
 {
-    let opened = Snapshot::of(&device);
     let (journal, lines) = Journal::open(alloc, device)?;
+    let opened = Snapshot::of(&journal.device);
     replay(rt, alloc, &mut seat, lines.lines.as_slice())?;
     let kept = seat.number();
     seat.start_recording(rt)?;

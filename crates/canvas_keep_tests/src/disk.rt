@@ -1,4 +1,5 @@
 //! A disk in memory: it keeps what was asked of it, fails where it is to, and tells what a crash may leave.
+//! What a start reads of it may be more than it has.
 
 use canvas_journal_file::Backing;
 use std::alloc::{AllocError, Global};
@@ -8,15 +9,21 @@ use std::sync::{Arc, Mutex};
 #[derive(Drop)]
 enum Call {
     Wrote { at: usize, bytes: Vec<u8> },
-    Cut { len: usize },
     Synced,
+    WroteNew { bytes: Vec<u8> },
+    SyncedNew,
+    // The new file has the name, which is on the disk by the next one.
+    Named,
+    SyncedName,
 }
 
 /// What was asked of a disk since it held its first bytes.
 #[derive(Drop)]
 struct Calls {
     alloc: Global,
+    // What was on the disk, and what the system showed.
     first: Vec<u8>,
+    shown: Vec<u8>,
     // A write that fails is among these: a part of it may be there.
     done: Vec<Call>,
     asked: usize,
@@ -46,9 +53,21 @@ pub(crate) struct Disk {
 impl Disk {
     /// A disk that holds these bytes, and whose call of such a number fails, from 1; with 0 none does.
     pub(crate) fn new(alloc: Global, first: Vec<u8>, fails: usize) -> Result<Disk, AllocError> {
+        let shown = first.to_vec(alloc)?;
+        Disk::showing(alloc, shown, first, fails)
+    }
+
+    /// The same where the system shows other bytes, since it failed to write them.
+    pub(crate) fn showing(
+        alloc: Global,
+        shown: Vec<u8>,
+        first: Vec<u8>,
+        fails: usize,
+    ) -> Result<Disk, AllocError> {
         let calls = Calls {
             alloc,
             first,
+            shown,
             done: Vec::new(alloc),
             asked: 0,
             fails,
@@ -58,13 +77,13 @@ impl Disk {
         })
     }
 
-    /// The same disk, in other hands, and the bytes that it held first.
+    /// The same disk, in other hands, and the bytes that were shown first.
     pub(crate) fn held(&self) -> Result<(Disk, Vec<u8>), AllocError> {
         let held = Disk {
             calls: Arc::try_clone(&self.calls)?,
         };
         match self.calls.try_lock() {
-            Some(calls) => Ok((held, calls.first.to_vec(calls.alloc)?)),
+            Some(calls) => Ok((held, calls.shown.to_vec(calls.alloc)?)),
             None => Err(AllocError),
         }
     }
@@ -116,41 +135,67 @@ impl Backing for Disk {
         calls.is_done() && is_noted
     }
 
-    fn cut(&mut self, len: usize) -> bool {
-        let Some(mut calls) = self.calls.try_lock() else {
-            return false;
-        };
-        let is_noted = calls.note(Call::Cut { len });
-        calls.is_done() && is_noted
-    }
-
     fn sync(&mut self) -> bool {
         let Some(mut calls) = self.calls.try_lock() else {
             return false;
         };
         calls.is_done() && calls.note(Call::Synced)
     }
+
+    fn write_new(&mut self, _same: usize, bytes: &[u8]) -> bool {
+        let Some(mut calls) = self.calls.try_lock() else {
+            return false;
+        };
+        let Ok(bytes) = bytes.to_vec(calls.alloc) else {
+            return false;
+        };
+        let is_noted = calls.note(Call::WroteNew { bytes });
+        calls.is_done() && is_noted
+    }
+
+    fn sync_new(&mut self) -> bool {
+        let Some(mut calls) = self.calls.try_lock() else {
+            return false;
+        };
+        calls.is_done() && calls.note(Call::SyncedNew)
+    }
+
+    fn take_name(&mut self) -> bool {
+        let Some(mut calls) = self.calls.try_lock() else {
+            return false;
+        };
+        let is_noted = calls.note(Call::Named);
+        calls.is_done() && is_noted && calls.is_done() && calls.note(Call::SyncedName)
+    }
 }
 
 // In how many ways a call is left that was not synced: not at all, whole, its first half, its
-// second half, blanks and LFs.
+// second half, blanks and LFs. A name is taken or not.
 const WAYS: usize = 6;
 
-// How many of the first calls are on the disk: those before the last sync.
-fn synced(done: &[Call], moment: usize) -> usize {
-    let mut synced = 0;
-    for (number, call) in done.iter().take(moment).enumerate() {
-        if let Call::Synced = call {
-            synced = number;
+// Whether what a call did is on the disk for certain after so many calls. Calls that have others
+// put there leave nothing themselves.
+fn is_certain(done: &[Call], number: usize, moment: usize) -> bool {
+    let Some(call) = done.get(number) else {
+        return true;
+    };
+    let mut later = done.iter().take(moment).skip(number);
+    match call {
+        Call::Wrote { .. } => {
+            later.any(|call| matches!(call, Call::Synced) || matches!(call, Call::SyncedName))
         }
+        Call::WroteNew { .. } => later.any(|call| matches!(call, Call::SyncedNew)),
+        Call::Named => later.any(|call| matches!(call, Call::SyncedName)),
+        Call::Synced => true,
+        Call::SyncedNew => true,
+        Call::SyncedName => true,
     }
-    synced
 }
 
 fn ways(done: &[Call], moment: usize) -> usize {
     let mut ways: usize = 1;
-    for call in done.iter().take(moment).skip(synced(done, moment)) {
-        if !matches!(call, Call::Synced) {
+    for number in 0..moment.min(done.len()) {
+        if !is_certain(done, number, moment) {
             ways = ways.saturating_mul(WAYS);
         }
     }
@@ -165,13 +210,13 @@ fn left(
     way: usize,
 ) -> Result<Vec<u8>, AllocError> {
     let mut file = first.to_vec(alloc)?;
-    let synced = synced(done, moment);
+    let mut new = Vec::new(alloc);
     let mut rest = way;
     for (number, call) in done.iter().take(moment).enumerate() {
-        if number < synced {
-            leave(&mut file, call, 1)?;
-        } else if !matches!(call, Call::Synced) {
-            leave(&mut file, call, rest % WAYS)?;
+        if is_certain(done, number, moment) {
+            leave(alloc, &mut file, &mut new, call, 1)?;
+        } else {
+            leave(alloc, &mut file, &mut new, call, rest % WAYS)?;
             rest /= WAYS;
         }
     }
@@ -179,16 +224,28 @@ fn left(
 }
 
 // What is left of a call.
-fn leave(file: &mut Vec<u8>, call: &Call, way: usize) -> Result<(), AllocError> {
+fn leave(
+    alloc: Global,
+    file: &mut Vec<u8>,
+    new: &mut Vec<u8>,
+    call: &Call,
+    way: usize,
+) -> Result<(), AllocError> {
     match call {
         Call::Wrote { at, bytes } => write(file, *at, bytes, way),
-        Call::Cut { len } => {
+        Call::WroteNew { bytes } => {
+            new.clear();
+            write(new, 0, bytes, way)
+        }
+        Call::Named => {
             if way % 2 == 1 {
-                file.truncate(*len);
+                *file = new.to_vec(alloc)?;
             }
             Ok(())
         }
         Call::Synced => Ok(()),
+        Call::SyncedNew => Ok(()),
+        Call::SyncedName => Ok(()),
     }
 }
 

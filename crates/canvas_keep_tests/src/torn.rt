@@ -1,4 +1,5 @@
-//! A crash at each moment of a run, also of its opening, which leaves what was not synced in all ways.
+//! A crash at each moment of a run, also of its opening, which leaves what was not synced in all ways;
+//! and a start where the system shows what it failed to write.
 
 use crate::asserts::{equal, holds, holds_at};
 use crate::disk::Disk;
@@ -21,6 +22,59 @@ fn each_crash_leaves_what_was_acknowledged(rt: HostRuntime) {
         crashes = check_crashes(&rt, alloc, &run, moment).saturating_add(crashes);
     }
     holds_at(&rt, "crashes", crashes, crashes > 200);
+}
+
+#[test]
+fn what_a_start_shows_is_on_the_disk(rt: HostRuntime) {
+    let alloc = rt.alloc();
+    let run = whole_run(&rt, alloc);
+    let all = lines_of(&rt, alloc, &crashed(&rt, alloc, &run.disk, usize::MAX, 0));
+    let mut fewer: u64 = 0;
+    for moment in 0..=run.disk.moment() {
+        let before = lines_of(&rt, alloc, &crashed(&rt, alloc, &run.disk, moment, 0));
+        check_start(
+            &rt,
+            alloc,
+            &parted(&rt, alloc, &run.disk, moment),
+            &before,
+            &all,
+        );
+        fewer = fewer.saturating_add((before.len() < all.len()) as u64);
+    }
+    holds_at(&rt, "disks that had fewer lines", fewer, fewer > 20);
+}
+
+// The disk that has what was on it after so many calls, where the system shows what came later too.
+fn parted(rt: &impl Abort, alloc: Global, disk: &Disk, moment: usize) -> Disk {
+    let shown = disk.left(usize::MAX, 0).expect(rt, "memory");
+    let first = disk.left(moment, 0).expect(rt, "memory");
+    Disk::showing(alloc, shown, first, 0).expect(rt, "memory")
+}
+
+// A start is answered with the lines that are shown, and has them on the disk then; a crash before
+// leaves them or those that were there.
+fn check_start(
+    rt: &impl Abort,
+    alloc: Global,
+    disk: &Disk,
+    before: &Vec<Vec<u8>>,
+    all: &Vec<Vec<u8>>,
+) {
+    equal(
+        rt,
+        "the lines that are shown",
+        &lines_of(rt, alloc, disk),
+        all,
+    );
+    for moment in 0..=OPENING {
+        for way in 0..disk.ways(moment) {
+            let left = lines_of(rt, alloc, &crashed(rt, alloc, disk, moment, way));
+            let is_there = left.len() == all.len();
+            let wanted = if is_there { all } else { before };
+            equal(rt, "the lines that a crash leaves", &left, wanted);
+            holds(rt, "all lines in the end", is_there || moment < OPENING);
+        }
+    }
 }
 
 // Crashes after so many calls, in each way. Tells how many they were.

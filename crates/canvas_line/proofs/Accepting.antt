@@ -5,7 +5,7 @@ use Rattle.canvas_record.specs.declared.edits.Edit.{Edit}
 use Rattle.canvas_record.specs.Contents.{Contents}
 use Rattle.canvas_record.specs.Decision.{decision_of}
 use Rattle.canvas_record.specs.History.{replay_of}
-use Rattle.canvas_line.specs.declared.fault.Edited.{Edited}
+use Rattle.canvas_look.specs.declared.answers.Edited.{Edited}
 use Rattle.canvas_line.specs.Lines.{Line, line_of, Accepts, Next}
 use Rattle.canvas_line.specs.Standing.{Shown}
 use Rattle.canvas_line.specs.Trails.{Facts}

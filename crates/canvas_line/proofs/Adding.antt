@@ -7,7 +7,7 @@ use prog.Atomic.{either}
 use Rattle.logbook.specs.Pages.{Cell, cell, keeps, no_nib, step, Moves, Goes}
 use Rattle.canvas_record.specs.declared.edits.Change.{Change}
 use Rattle.canvas_line.specs.Books.{IsKept, Adds, Looks}
-use Rattle.canvas_line.proofs.Prefixes.{prefix_whole}
+use Rattle.canvas_look.proofs.Prefixes.{prefix_whole}
 
 abbrev pub shown : List Change → List Change
 shown log = []

@@ -2,7 +2,7 @@
 use Rattle.std.proofs.Common.{◌≡◌, ℕ, ◌+◌, ◌-◌, ◌<◌, ◌≤◌, List, [], ◌∷◌, ◌++◌, length, drop, take, ap, sym, ◌∙◌, arith, append_assoc, length-append, length-drop, length-take-le, drop-drop}
 use Rattle.std.proofs.lemmas.List.{drop-append-le}
 use Rattle.canvas_line.specs.Recent.{last_64}
-use Rattle.canvas_line.proofs.Prefixes.{take_all}
+use Rattle.canvas_look.proofs.Prefixes.{take_all}
 
 -- the shared entries that count, and the newer ones
 pub counted : {A : Type 0} (f : ℕ) (older newer now : List A) → drop f older ++ newer ≡ now → f ≤ length older → length now + f ≡ length older + length newer

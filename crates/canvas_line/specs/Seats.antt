@@ -7,7 +7,7 @@ use Rattle.canvas_record.specs.Decision.{decision_of}
 use Rattle.canvas_record.specs.Effect.{new_id}
 use Rattle.canvas_record.specs.History.{replay_of, AllFit}
 use Rattle.canvas_line.specs.declared.version.Version.{Version}
-use Rattle.canvas_line.specs.declared.fault.Edited.{Edited}
+use Rattle.canvas_look.specs.declared.answers.Edited.{Edited}
 use Rattle.canvas_line.specs.declared.fault.LineFault.{LineFault}
 use Rattle.canvas_line.specs.declared.fault.LineFault.TheVariants as fault
 use Rattle.canvas_line.specs.declared.recorder.Taken.{Taken}

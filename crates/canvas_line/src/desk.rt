@@ -7,7 +7,7 @@ ghost use Rattle.canvas_line.specs.Lines.{Accepts, Rightly, Takes, line_of, reco
 ghost use Rattle.canvas_line.specs.Rule.{Knows};
 ghost use Rattle.left_right.specs.Sides.{view as seat_view};
 
-use crate::fault::{Edited, LineFault};
+use crate::fault::LineFault;
 use crate::front::{Head, Lines, Trace};
 use crate::herald::Herald;
 use crate::next::next_published;
@@ -17,6 +17,7 @@ use crate::version::Version;
 use crate::viewer::Viewer;
 use crate::writer::{LineWriter, publish_at};
 use canvas_doc::Edit;
+use canvas_look::Edited;
 use crossbeam_utils::CachePadded;
 use std::alloc::{AllocError, Global};
 use std::marker::{Model, PhantomData};

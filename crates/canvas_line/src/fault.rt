@@ -1,4 +1,4 @@
-//! Answers of a line, and its refusals.
+//! Why a line or a seat does not answer.
 ghost use Rattle.std.specs.Prelude.{◌≡◌};
 ghost use Rattle.canvas_line.specs.Fault.{line_fault_code};
 ghost use Rattle.canvas_line.specs.declared.fault.LineFault.TheVariants as fault;
@@ -7,15 +7,6 @@ use canvas_code::{Coded, OutOfMemory};
 use canvas_doc::Refusal;
 use std::alloc::AllocError;
 use thiserror::Error;
-
-/// An edit that was accepted.
-#[derive(Clone, Copy, Debug, PartialEq, Eq)]
-pub struct Edited {
-    /// How many changes are accepted then: the version that the edit made, from 1.
-    pub number: u64,
-    /// The id of the shape that the edit made, if it made one.
-    pub id: Option<u32>,
-}
 
 /// Why a line or a seat does not answer. After any of them the document is as it was.
 #[derive(Clone, Copy, Debug, Drop, PartialEq, Eq, Error)]

@@ -20,8 +20,9 @@ mod version;
 mod viewer;
 mod writer;
 
+pub use canvas_look::Edited;
 pub use desk::Desk;
-pub use fault::{Edited, LineFault};
+pub use fault::LineFault;
 pub use front::{Glimpse, Lines, Opened};
 pub use herald::Herald;
 pub use line::Line;

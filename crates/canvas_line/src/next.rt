@@ -7,7 +7,7 @@ ghost use Rattle.canvas_line.specs.Lines.{Decides, Follows, Next, RefusedAt, Rig
 ghost use Rattle.canvas_line.specs.Recent.{last_64};
 ghost use Rattle.canvas_line.specs.Recording.{Awaits};
 
-use crate::fault::{Edited, LineFault};
+use crate::fault::LineFault;
 use crate::front::Head;
 use crate::published::Published;
 use crate::recent::Damage;
@@ -15,6 +15,7 @@ use crate::recorder::Recorder;
 use crate::version::Version;
 use canvas_code::OutOfMemory;
 use canvas_doc::{Change, Document, Edit, Refusal};
+use canvas_look::Edited;
 use std::alloc::Global;
 use std::snapshot::Snapshot;
 use std::sync::Arc;

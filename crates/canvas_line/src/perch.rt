@@ -8,7 +8,7 @@ ghost use Rattle.canvas_line.specs.Lines.{Accepts, Takes, recording, with_front,
 ghost use Rattle.canvas_line.specs.declared.fault.LineFault.TheVariants as fault;
 
 use crate::desk::Desk;
-use crate::fault::{Edited, LineFault};
+use crate::fault::LineFault;
 use crate::front::{Glimpse, Lines, Trace};
 use crate::herald::Herald;
 use crate::mark::Mark;
@@ -18,6 +18,7 @@ use crate::recorder::Taken;
 use crate::version::Version;
 use crate::viewer::Viewers;
 use canvas_doc::Edit;
+use canvas_look::Edited;
 use std::alloc::Global;
 use std::marker::{Model, PhantomData};
 use std::sync::{Arc, Wait};

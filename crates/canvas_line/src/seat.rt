@@ -6,7 +6,7 @@ ghost use Rattle.canvas_line.specs.Seats.{Looks, EditAccepted, EditRefused, Goes
 ghost use Rattle.canvas_line.specs.declared.fault.LineFault.TheVariants as fault;
 
 use crate::desk::Desk;
-use crate::fault::{Edited, LineFault};
+use crate::fault::LineFault;
 use crate::front::{Glimpse, Lines};
 use crate::herald::Herald;
 use crate::mark::Mark;
@@ -15,6 +15,7 @@ use crate::perch::Perch;
 use crate::recorder::Taken;
 use crate::version::Version;
 use canvas_doc::Edit;
+use canvas_look::Edited;
 use core::sync::yield_now;
 use std::alloc::Global;
 use std::hint::spin_loop;

@@ -42,7 +42,10 @@ impl<T: Share> SharedList<T> {
         ensures { result ≡ [] }
     {
         SharedList {
-            table: Table::empty(alloc),
+            table: Table {
+                parts: Vec::new(alloc),
+                count: 0,
+            },
         }
     }
 
@@ -52,7 +55,7 @@ impl<T: Share> SharedList<T> {
         ensures len { result ≡ length self.now }
         ensures few { result < 2 ^ 32 }
     {
-        self.table.len()
+        self.table.count
     }
 
     /// Whether there are none.

@@ -175,7 +175,7 @@ impl<T: Share> Block<T> {
         ensures some { 0 < length self.now }
         ensures few { result < 2 ^ 32 }
     {
-        Counted::count(self)
+        self.noted.count as usize
     }
 
     /// Its chunks.
@@ -184,7 +184,7 @@ impl<T: Share> Block<T> {
         ensures same { result.now ≡ self.now }
         ensures some { 0 < length self.now }
     {
-        self.contents()
+        &self.contents
     }
 }
 

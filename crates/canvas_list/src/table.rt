@@ -77,10 +77,8 @@ impl<T: Share, C: Contents<T>> Table<T, C> {
     pub(crate) fn with_room(alloc: Global, parts: usize) -> Result<Table<T, C>, OutOfMemory>
         ensures { IfOk result (λ list. list ≡ []) }
     {
-        Ok(Table {
-            parts: Vec::with_capacity(alloc, parts)?,
-            ..Table::empty(alloc)
-        })
+        let parts = Vec::with_capacity(alloc, parts)?;
+        Ok(Table { parts, count: 0 })
     }
 
     /// One more part.

@@ -12,11 +12,12 @@ use Rattle.canvas_key.specs.Text.{IsKey}
 use Rattle.canvas_record.specs.declared.records.Place.{Place}
 use Rattle.canvas_record.specs.declared.records.Record.{Record}
 use Rattle.canvas_record.specs.Tree.{IsInLimits}
+use Rattle.canvas_json.specs.Saved.{place_data, saved_text_of}
 use Rattle.canvas_json.specs.Texts.{list_text}
 use Rattle.canvas_json.proofs.Spelled.{boolean-spelled, key-spelled, parent-spelled, pose-spelled, kind-spelled, item-spelled, two-laid, five-laid}
 use Rattle.canvas_saved.specs.declared.formats.Format.TheVariants.{Two}
 use Rattle.canvas_saved.specs.Kept.{IsKept}
-use Rattle.canvas_saved.specs.Saved.{place_data, record_data, document_data, saved_text_of, contents_with}
+use Rattle.canvas_saved.specs.Saved.{record_data, document_data, contents_with}
 use Rattle.canvas_saved.specs.SavedText.{place_text, record_text, document_text}
 
 place-spelled : (place : Place) → IsKey place.index → place_text place ≡ compact_text (place_data place)

@@ -27,7 +27,8 @@ use Rattle.canvas_saved.specs.declared.formats.Format.TheVariants.{One, Two}
 use Rattle.canvas_saved.specs.Formats.{number_of}
 use Rattle.canvas_saved.specs.Kept.{IsKept}
 use Rattle.canvas_saved.specs.Records.{whole_shape_of, whole_pose_of, index_of, place_in, place_of, place_at, record_in, record_of}
-use Rattle.canvas_saved.specs.Saved.{place_data, record_data, data_in}
+use Rattle.canvas_json.specs.Saved.{place_data}
+use Rattle.canvas_saved.specs.Saved.{record_data, data_in}
 
 -- ---- what is read
 

@@ -1,21 +1,16 @@
--- The text of a saved document: compact JSON, members in the order of their names, records by rising id.
+-- The texts of saved documents, by their format. That of format 2 is the text that a document is saved as.
 use Rattle.std.specs.Borrow.{Bor}
 use Rattle.std.specs.Prelude.{ℕ, List, codes, map}
-use Rattle.serde_json.specs.Data.{Data, boolean, number, string, array, object, unsigned, Items, no_members, member}
+use Rattle.serde_json.specs.Data.{Data, boolean, number, string, object, unsigned, Items, no_members, member}
 use Rattle.serde_json.specs.View.{items_of}
 use Rattle.serde_json.specs.Written.{compact_text}
-use Rattle.canvas_record.specs.declared.records.Place.{Place}
 use Rattle.canvas_record.specs.declared.records.Record.{Record}
 use Rattle.canvas_record.specs.Contents.{Contents}
 use Rattle.canvas_json.specs.Objects.{parent_data, pose_data, shape_data}
+use Rattle.canvas_json.specs.Saved as saved
 use Rattle.canvas_saved.specs.declared.formats.Format.{Format}
 use Rattle.canvas_saved.specs.declared.formats.Format.TheVariants.{One, Two}
 use Rattle.canvas_saved.specs.Formats.{number_of}
-
-abbrev pub place_data : Place → Data
-place_data place =
-    object (member (codes "index") (string place.index)
-    (member (codes "parent") (parent_data place.parent) no_members))
 
 -- in format 1 the parent and the index stand beside the id, in format 2 they are one member
 abbrev pub record_data : Format → Record → Data
@@ -26,19 +21,11 @@ record_data One r =
     (member (codes "parent") (parent_data r.place.parent)
     (member (codes "pose") (pose_data r.pose)
     (member (codes "shape") (shape_data r.kind) no_members))))))
-record_data Two r =
-    object (member (codes "hidden") (boolean r.hidden)
-    (member (codes "id") (number (unsigned r.id))
-    (member (codes "place") (place_data r.place)
-    (member (codes "pose") (pose_data r.pose)
-    (member (codes "shape") (shape_data r.kind) no_members)))))
+record_data Two r = saved.record_data r
 
 -- a saved document with these shapes
 abbrev pub document_data : Format → ℕ → Items → Data
-document_data format next shapes =
-    object (member (codes "format") (number (unsigned (number_of format)))
-    (member (codes "next") (number (unsigned next))
-    (member (codes "shapes") (array shapes) no_members)))
+document_data format next shapes = saved.document_data (number_of format) next shapes
 
 -- records as they are lent, with a next id, as the contents of a document
 abbrev pub contents_with : ℕ → List (Bor Record) → Contents
@@ -51,7 +38,3 @@ data_in format d = document_data format d.next (items_of (map (record_data forma
 -- the text of the document in a format
 abbrev pub text_in : Format → Contents → List ℕ
 text_in format d = compact_text (data_in format d)
-
--- the text that the document is saved as, of format 2
-abbrev pub saved_text_of : Contents → List ℕ
-saved_text_of d = text_in Two d

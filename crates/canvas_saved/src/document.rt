@@ -1,10 +1,11 @@
 //! Documents as saved texts, and back.
 ghost use Rattle.std.specs.Prelude.{◌≡◌, ◌≤◌, length, false, Ok, Err, IfOk};
 ghost use Rattle.std.specs.Str.{is_utf8};
+ghost use Rattle.canvas_json.specs.Saved.{saved_text_of};
 ghost use Rattle.canvas_saved.specs.Faults.{Gives};
 ghost use Rattle.canvas_saved.specs.Formats.{most_of};
 ghost use Rattle.canvas_saved.specs.Opened.{opened};
-ghost use Rattle.canvas_saved.specs.Saved.{saved_text_of, text_in};
+ghost use Rattle.canvas_saved.specs.Saved.{text_in};
 ghost use Rattle.canvas_saved.specs.declared.fault.StoreFault.TheVariants.{BadJson};
 ghost use Rattle.canvas_saved.specs.declared.formats.Format.TheVariants.{One};
 

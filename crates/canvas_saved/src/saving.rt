@@ -2,12 +2,13 @@
 ghost use Rattle.std.specs.Prelude.{◌≡◌, ◌++◌, ◌≤◌, length, false, All, Ok, IfOk, OnOk};
 ghost use Rattle.canvas_record.specs.Contents.{IsWellFormed};
 ghost use Rattle.canvas_json.specs.Fit.{FitsParent};
+ghost use Rattle.canvas_json.specs.Saved.{saved_text_of};
 ghost use Rattle.canvas_json.specs.Texts.{list_text};
 ghost use Rattle.canvas_saved.specs.declared.formats.Format.TheVariants.{One};
 ghost use Rattle.canvas_saved.specs.Formats.{most_of};
 ghost use Rattle.canvas_saved.specs.Kept.{IsKept};
 ghost use Rattle.canvas_saved.specs.Opened.{opened, records_read};
-ghost use Rattle.canvas_saved.specs.Saved.{text_in, saved_text_of, contents_with};
+ghost use Rattle.canvas_saved.specs.Saved.{text_in, contents_with};
 ghost use Rattle.canvas_saved.specs.SavedText.{head_text, place_text, record_text, document_text};
 
 use canvas_code::OutOfMemory;

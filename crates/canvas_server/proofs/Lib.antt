@@ -1,3 +1,1 @@
-pub mod Passing
 pub mod Reading
-pub mod Written

@@ -1,9 +1,6 @@
 pub mod Connection
 pub mod Doors
 pub mod Faults
-pub mod Gate
-pub mod Http
-pub mod Outlet
 pub mod Settings
 pub mod Statuses
 pub mod Words

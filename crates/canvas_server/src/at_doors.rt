@@ -1,18 +1,15 @@
 //! Serving a line at its doors, behind a gate.
 
 ghost use Rattle.std.specs.Prelude.{◌≡◌, length, vec_len};
-ghost use Rattle.canvas_server.specs.Doors.{EndsAtDoors, door_fault};
+ghost use Rattle.canvas_server.specs.Doors.{EndsAtDoors, door_fault, shares_of};
 
-use crate::doors::Door;
-use crate::ending::{Call, Ending};
-use crate::event::Events;
-use crate::gate::Settles;
 use crate::house::serve_until;
 use crate::server_fault::ServerFault;
 use crate::serving::boards_of;
 use crate::workers::Workers;
-use canvas_board::Board;
+use canvas_doors::{Call, Door, Ending, Events, Settles, Shares};
 use canvas_line::{Lines, Seat};
+use canvas_look::Board;
 use std::alloc::Global;
 use std::net::Net;
 use std::sync::{Mutex, Wait};
@@ -28,7 +25,14 @@ pub struct DoorSettings {
     pub workers: u32,
     /// After how many seconds a session ends whose client sends nothing, or takes nothing; 0 is never.
     pub idle: u64,
+    /// How many seats one address of another machine may have, one at least.
+    pub share: u32,
+    /// How many of the doors, the last ones, are for gateways, which have some seats of their own.
+    pub gateways: usize,
 }
+
+/// How many seats are left to gateways at most.
+const GATEWAY_SEATS: usize = 16;
 
 impl DoorSettings {
     /// The first of `BadSetting` and `BadWorkers` that the settings call for at so many doors and
@@ -36,13 +40,29 @@ impl DoorSettings {
     pub fn check(&self, doors: usize, seats: usize) -> Result<(), ServerFault>
         ensures { result ≡ door_fault doors seats self.now }
     {
-        if doors < 1 || seats < 1 || 64 < seats || 256 < self.keep {
+        if doors < 1 || seats < 1 || 64 < seats || 256 < self.keep || self.share < 1 {
             return Err(ServerFault::BadSetting);
         }
         if self.workers < 1 || 16 < self.workers {
             return Err(ServerFault::BadWorkers);
         }
         Ok(())
+    }
+
+    /// How so many seats are shared. Where a door is for gateways, sixteen are left to them, or half.
+    pub fn shares(&self, seats: usize) -> Shares
+        ensures { result ≡ shares_of seats self.now }
+    {
+        let own = if self.gateways == 0 {
+            0
+        } else {
+            (seats / 2).min(GATEWAY_SEATS)
+        };
+        Shares {
+            count: seats,
+            own,
+            each: self.share as usize,
+        }
     }
 }
 
@@ -122,7 +142,7 @@ pub fn serve_boards_at<
         Workers::new(settings.workers),
         gate,
         events,
-        settings.idle,
+        settings,
         ending,
     );
     match call {

@@ -1,36 +1,30 @@
 //! The bytes of one connection.
 
-ghost use Rattle.std.specs.Prelude.{◌≡◌, ℕ, IfSome, IsTrue, List, Option};
-ghost use Rattle.std.specs.Io.KnownBytes.{Appends};
+ghost use Rattle.std.specs.Prelude.{◌≡◌, ℕ, IfSome, List, Option};
 ghost use Rattle.canvas_server.specs.Connection.{IsAnswered};
-ghost use Rattle.canvas_server.specs.Gate.{HasPassed};
-ghost use Rattle.canvas_wire.specs.Replies.{line_of, refused};
+ghost use Rattle.canvas_doors.specs.Gate.{HasPassed};
 
-use crate::doors::Stream;
-use crate::first_bytes::{FIRST_BYTES, read_first, speaks_http};
-use crate::gate::Settles;
-use crate::gated::{Connection, Gated};
-use crate::outlet::{Outlet, WriteTwo};
 use crate::workers::Workers;
-use canvas_board::Board;
-use canvas_code::name_of;
-use canvas_session::{Cause, Served, SessionFault, Witness, serve_before};
-use canvas_wire::{Reply, ReplyLine, write_reply};
+use canvas_doors::{
+    Beginning, Connection, Gated, Outlet, Settles, WriteTwo, read_first, refuse_foreign,
+};
+use canvas_look::Board;
+use canvas_session::{Served, SessionFault, Witness, serve_before};
 use std::alloc::Global;
-use std::io::{Read, Write};
+use std::io::Read;
 use std::marker::Brand;
-use std::net::Shutdown;
 use std::sync::Wait;
 use std::thread::Threads;
-use std::time::{Clock, Duration, Instant};
 
 /// How a connection was answered.
 #[derive(Drop)]
 pub enum Answered {
-    /// An HTTP request, by one reply.
-    Http,
+    /// What is no session, as HTTP or TLS, by one reply.
+    Foreign,
     /// All else, as a session.
     Session(Result<Served, SessionFault>),
+    /// Not at all: a read failed before the first line was whole.
+    Unread,
 }
 
 /// Answers what a reader brings until that has ended, to a writer that comes back. A gate is asked
@@ -128,14 +122,17 @@ fn answer_input<H: Threads + Wait + Sync, B: Board, O: Witness, R: Read + Drop, 
           after = B.seen board.new;
         }) answered) }
 {
-    let mut first = [0u8; FIRST_BYTES];
-    let count = read_first(&mut reader, &mut first);
-    let (first, _) = first.split_at(count);
-    if speaks_http(first) {
-        if !refuse_http(&mut writer) {
-            return (writer, None);
+    let mut first = Vec::new(alloc);
+    match read_first(&mut reader, &mut first) {
+        Err(_) => return (writer, None),
+        Ok(Beginning::Unread) => return (writer, Some(Answered::Unread)),
+        Ok(Beginning::Foreign) => {
+            if !refuse_foreign(&mut writer) {
+                return (writer, None);
+            }
+            return (writer, Some(Answered::Foreign));
         }
-        return (writer, Some(Answered::Http));
+        Ok(Beginning::Session) => {}
     }
     let mut outlet = match Outlet::new(alloc, writer) {
         Ok(outlet) => outlet,
@@ -147,86 +144,11 @@ fn answer_input<H: Threads + Wait + Sync, B: Board, O: Witness, R: Read + Drop, 
         board,
         workers.count(),
         witness,
-        &mut first.chain(reader),
+        &mut first.as_slice().chain(reader),
         &mut outlet,
     );
     match outlet.finish() {
         (writer, Ok(())) => (writer, Some(Answered::Session(ended))),
         (writer, Err(_)) => (writer, None),
-    }
-}
-
-/// Tells a client that no seat is free. This reply names no version, so no gate is asked.
-pub fn refuse(stream: &Stream) {
-    let mut writer = stream;
-    // A client that is gone needs no reply.
-    let _ = tell(&mut writer, &no_seats());
-}
-
-/// Tells a client that speaks HTTP that its request is none, and says whether the reply went out.
-/// It names no version.
-pub fn refuse_http<W: Write>(writer: &mut W) -> bool
-    ensures { IsTrue result
-        → Appends (W.contents writer.old) (W.contents writer.new) (line_of (refused 50)) }
-{
-    tell(writer, &no_json())
-}
-
-// Writes the only reply of a connection, and says whether it went out.
-fn tell<W: Write>(writer: &mut W, line: &ReplyLine) -> bool
-    ensures { IsTrue result
-        → Appends (W.contents writer.old) (W.contents writer.new) line.now.bytes }
-{
-    writer.write_all(line.as_str().as_bytes()).is_ok()
-}
-
-// The reply to an HTTP request: its first line is no JSON.
-fn no_json() -> ReplyLine
-    ensures { result.bytes ≡ line_of (refused 50) }
-{
-    write_reply(&Reply::Refused {
-        code: 50,
-        name: name_of(50),
-    })
-}
-
-// The reply where all seats are taken.
-fn no_seats() -> ReplyLine
-    ensures { result.bytes ≡ line_of (refused 19) }
-{
-    write_reply(&Reply::Refused {
-        code: 19,
-        name: name_of(19),
-    })
-}
-
-/// How many seconds the server reads on after a closing reply.
-const SETTLING: u64 = 2;
-
-/// How many pieces of at most 4,096 bytes it then reads at most: 1 MiB.
-const MOST_PIECES: u32 = 256;
-
-/// Ends what is sent, and reads what still comes, at most 1 MiB for two seconds, and up to two more
-/// where a read waits: a connection that is closed with bytes unread is reset, and a reset may take
-/// the closing reply with it.
-pub fn settle<H: Clock>(rt: &H, stream: &Stream) {
-    let mut reader = stream;
-    let patience = Duration::from_secs(SETTLING);
-    let Ok(start) = Instant::now(rt) else {
-        return;
-    };
-    if stream.shutdown(Shutdown::Write).is_err() || stream.set_read_timeout(patience).is_err() {
-        return;
-    }
-    let mut bytes = [0u8; 4096];
-    for _ in 0..MOST_PIECES {
-        match reader.read(&mut bytes) {
-            Ok(count) if count > 0 => {}
-            _ => return,
-        }
-        match start.elapsed(rt) {
-            Ok(time) if time < patience => {}
-            _ => return,
-        }
     }
 }

@@ -2,10 +2,11 @@
 
 ghost use Rattle.std.specs.Prelude.{◌≡◌, false};
 
-use crate::event::Events;
-use canvas_board::{Board, BoardFault, Dot, Gallery, LastExport, Picture, Saved, Shared};
+use canvas_board::{Gallery, LastExport, Shared};
 use canvas_doc::Edit;
-use canvas_line::{Edited, Lines, Seat};
+use canvas_doors::Events;
+use canvas_line::{Lines, Seat};
+use canvas_look::{Board, BoardFault, Dot, Edited, Picture, Saved};
 use canvas_plane::Window;
 use std::alloc::Global;
 use std::sync::Wait;

@@ -4,41 +4,31 @@ ghost use denote.Param.Send.{IsSend, IsSync};
 ghost use Rattle.std.specs.Prelude.{◌≡◌, ◌<◌, OnOk, IfErr, length};
 ghost use Rattle.canvas_server.specs.declared.server_fault.ServerFault.TheVariants.{AcceptFault};
 
-use crate::connection::{refuse, settle};
-use crate::doors::{Accepts, Door, Stream};
-use crate::ending::{Call, Ending};
-use crate::event::{Events, Quiet};
-use crate::gate::{Settles, Unkept};
-use crate::seats::{Seats, Settling};
+use crate::at_doors::DoorSettings;
 use crate::server_fault::ServerFault;
 use crate::visit::answer_visit;
 use crate::workers::Workers;
-use canvas_board::Board;
+use canvas_doors::{
+    Accepts, Arrival, Call, Door, Ending, Events, Guest, OwnDoor, Quiet, Seats, Settles, Settling,
+    Shares, Stream, Unkept, close_doors, next_stream, refuse, settle_counted,
+};
+use canvas_look::Board;
 use std::alloc::Global;
 use std::net::{Net, TcpListener};
 use std::sync::{Mutex, Wait};
 use std::thread;
 use std::thread::{Scope, Threads};
-use std::time::{Clock, Duration};
+use std::time::Clock;
 
-/// With how many accepts that fail in a row the server ends.
-const PATIENCE: u32 = 100;
-
-/// How many milliseconds the server waits after an accept that failed.
-const PAUSE: u64 = 10;
-
-/// How often the server looks whether all sessions have ended before it cuts those that are left:
-/// once in ten milliseconds.
-const LOOKS: u32 = 500;
-
-/// What the threads of a server share: a board for each seat, which seats are taken, and how many
-/// connections are being settled; the gate that sessions ask, who is told of them, after how many
+/// What the threads of a server share: a board for each seat, which seats are taken and how they are
+/// shared, and how many connections are being settled; the gate that sessions ask, who is told of them, after how many
 /// silent seconds they end (0 for never), and the server's end.
 #[derive(Drop)]
 pub struct House<'a, B: Board, G: Settles, E: Events> {
     pub alloc: Global,
     boards: &'a [Mutex<B>],
     seats: &'a Mutex<Seats>,
+    shares: Shares,
     settling: &'a Mutex<Settling>,
     pub workers: Workers,
     pub gate: &'a G,
@@ -62,6 +52,12 @@ pub fn serve_boards<H: Threads + Wait + Clock + Sync, B: Board + Send>(
     ensures served { OnOk result (0 < connections) }
     ensures fault { IfErr result (λ fault. fault ≡ AcceptFault) }
 {
+    // Anybody may have any seat.
+    let shares = Shares {
+        count: boards.len(),
+        own: 0,
+        each: boards.len(),
+    };
     let seats = Mutex::new(Seats::new());
     let settling = Mutex::new(Settling::new());
     let gate = Unkept;
@@ -71,6 +67,7 @@ pub fn serve_boards<H: Threads + Wait + Clock + Sync, B: Board + Send>(
         alloc,
         boards,
         seats: &seats,
+        shares,
         settling: &settling,
         workers,
         gate: &gate,
@@ -110,22 +107,25 @@ pub fn serve_until<
     workers: Workers,
     gate: &'a G,
     events: &'a E,
-    idle: u64,
+    settings: &DoorSettings,
     ending: &'a Ending,
 ) -> Call
     requires { length boards.now ≡ seats }
 {
+    let shares = settings.shares(boards.len());
+    let shared_doors = doors.len().saturating_sub(settings.gateways);
     let seats = Mutex::new(Seats::new());
     let settling = Mutex::new(Settling::new());
     let house = House {
         alloc,
         boards,
         seats: &seats,
+        shares,
         settling: &settling,
         workers,
         gate,
         events,
-        idle,
+        idle: settings.idle,
         ending,
     };
     let house = &house;
@@ -135,7 +135,7 @@ pub fn serve_until<
         |scope|
             requires { IsSync H.row × IsSend B.row × IsSync G.row × IsSync E.row }
         {
-            open_doors(rt, scope, house, doors, ending);
+            open_doors(rt, scope, house, doors, shared_doors);
             ending.wait(rt);
             close_doors(rt, doors, ending)
         },
@@ -143,7 +143,7 @@ pub fn serve_until<
     ending.wait(rt)
 }
 
-// Starts a thread at each door.
+// Starts a thread at each door. The first ones share their seats, and the others have some of their own.
 fn open_doors<
     's,
     'e: 's,
@@ -156,18 +156,19 @@ fn open_doors<
     scope: &'s Scope<'s, &'e ()>,
     house: &'e House<'e, B, G, E>,
     doors: &'e [Door],
-    ending: &'e Ending,
+    shared_doors: usize,
 )
     requires { IsSync H.row × IsSend B.row × IsSync G.row × IsSync E.row }
 {
-    for door in doors {
+    for (index, door) in doors.iter().enumerate() {
+        let is_own = shared_doors <= index;
         let started = scope.spawn(
             move ||
                 requires { IsSync H.row × IsSend B.row × IsSync G.row × IsSync E.row }
-            { keep_door(rt, scope, house, door, ending) },
+            { keep_door(rt, scope, house, door, is_own) },
         );
         if started.is_err() {
-            ending.begin(rt, Call::DoorFault);
+            house.ending.begin(rt, Call::DoorFault);
         }
     }
 }
@@ -181,32 +182,17 @@ fn keep_door<
     B: Board + Send,
     G: Settles + Sync,
     E: Events + Sync,
->(
-    rt: &'e H,
-    scope: &'s Scope<'s, &'e ()>,
-    house: &'e House<'e, B, G, E>,
-    door: &Door,
-    ending: &Ending,
-)
+>(rt: &'e H, scope: &'s Scope<'s, &'e ()>, house: &'e House<'e, B, G, E>, door: &Door, is_own: bool)
     requires { IsSync H.row × IsSend B.row × IsSync G.row × IsSync E.row }
 {
-    if accept_each(rt, scope, house, door, 0).is_err() {
-        ending.begin(rt, Call::DoorFault);
+    let ended = if is_own {
+        accept_each(rt, scope, house, &OwnDoor(door), 0)
+    } else {
+        accept_each(rt, scope, house, door, 0)
+    };
+    if ended.is_err() {
+        house.ending.begin(rt, Call::DoorFault);
     }
-}
-
-/// Wakes the threads at the doors, and gives the sessions time to end; then cuts those that are left.
-pub fn close_doors<H: Wait + Clock + Net>(rt: &H, doors: &[Door], ending: &Ending) {
-    for door in doors {
-        door.wake(rt);
-    }
-    for _ in 0..LOOKS {
-        if ending.is_empty(rt) {
-            return;
-        }
-        thread::sleep(rt, Duration::from_millis(PAUSE));
-    }
-    ending.cut(rt);
 }
 
 // Admits each connection that comes, until there were so many, the server ends, or none can be
@@ -232,40 +218,23 @@ fn accept_each<
 {
     let mut left = connections;
     'accepts: for _ in rt.forever() {
-        let Some(stream) = next_stream(rt, door, house.ending) else {
-            break;
-        };
-        admit(rt, scope, house, stream);
-        if left == 1 {
-            return Ok(());
+        match next_stream(rt, door, house.ending) {
+            Arrival::Over => break,
+            Arrival::Missed => house.events.was_missed(),
+            Arrival::Came(stream, guest) => {
+                admit(rt, scope, house, stream, guest);
+                if left == 1 {
+                    return Ok(());
+                }
+                left = left.saturating_sub(1);
+            }
         }
-        left = left.saturating_sub(1);
     }
     Err(ServerFault::AcceptFault)
 }
 
-/// Waits for the next connection that comes to a door; `None` once the server ends, or where none
-/// can be accepted any more.
-pub fn next_stream<H: Wait + Clock, D: Accepts>(
-    rt: &H,
-    door: &D,
-    ending: &Ending,
-) -> Option<Stream> {
-    for _ in 0..PATIENCE {
-        let accepted = door.accept();
-        if ending.has_begun() {
-            return None;
-        }
-        if let Ok(stream) = accepted {
-            return Some(stream);
-        }
-        // A connection that was given up before it was accepted, or too many open files.
-        thread::sleep(rt, Duration::from_millis(PAUSE));
-    }
-    None
-}
-
-// Lends a free seat to a connection, on a thread of its own; where there is none, says so and closes it.
+// Lends a free seat to a connection, on a thread of its own; where there is none that the guest may
+// have, says so and closes it.
 fn admit<
     's,
     'e: 's,
@@ -273,10 +242,16 @@ fn admit<
     B: Board + Send,
     G: Settles + Sync,
     E: Events + Sync,
->(rt: &'e H, scope: &'s Scope<'s, &'e ()>, house: &'e House<'e, B, G, E>, stream: Stream)
+>(
+    rt: &'e H,
+    scope: &'s Scope<'s, &'e ()>,
+    house: &'e House<'e, B, G, E>,
+    stream: Stream,
+    guest: Guest,
+)
     requires { IsSync H.row × IsSend B.row × IsSync G.row × IsSync E.row }
 {
-    let found = house.seats.lock(rt).take(house.boards.len());
+    let found = house.seats.lock(rt).take(guest, &house.shares);
     match found {
         None => {
             house.events.was_full();
@@ -326,10 +301,4 @@ fn session<H: Threads + Wait + Clock + Sync, B: Board, G: Settles, E: Events>(
     if told && house.settling.lock(rt).begin() {
         settle_counted(rt, house.settling, stream);
     }
-}
-
-/// Settles a connection that was counted.
-pub fn settle_counted<H: Wait + Clock>(rt: &H, settling: &Mutex<Settling>, stream: &Stream) {
-    settle(rt, stream);
-    settling.lock(rt).end();
 }

@@ -4,7 +4,6 @@ ghost use Rattle.std.specs.Prelude.{◌≡◌};
 ghost use Rattle.canvas_server.specs.declared.server_fault.ServerFault.TheVariants.{OutOfMemory};
 ghost use Rattle.canvas_server.specs.Faults.{server_fault_code, server_fault_name};
 
-use canvas_board::BoardFault;
 use canvas_code::name_of;
 use std::alloc::AllocError;
 use thiserror::Error;

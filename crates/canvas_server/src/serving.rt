@@ -5,12 +5,12 @@ ghost use Rattle.canvas_server.specs.declared.server_fault.ServerFault.TheVarian
 ghost use Rattle.canvas_server.specs.Settings.{Ends, opening_fault, settings_fault};
 
 use crate::counted::Counted;
-use crate::event::{Events, Quiet};
 use crate::house::serve_boards;
 use crate::server_fault::ServerFault;
 use crate::workers::Workers;
 use canvas_board::{Gallery, LastExport};
 use canvas_doc::Document;
+use canvas_doors::{Events, Quiet};
 use canvas_line::{Line, LineFault, Lines, Opened, Seat};
 use std::alloc::Global;
 use std::marker::Brand;

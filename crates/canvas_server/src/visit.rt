@@ -1,20 +1,18 @@
 //! One connection that has a seat: how long it may be silent, who is told of it, and what ends it.
 
 use crate::connection::{Answered, answer};
-use crate::doors::Stream;
-use crate::ending::{Call, Ending};
-use crate::event::{Events, Parting};
-use crate::gate::Settles;
 use crate::house::House;
-use crate::outlet::WriteTwo;
-use canvas_board::Board;
+use canvas_doors::{
+    Call, Ending, Events, Lapse, Parting, Settles, Stream, Timely, WriteTwo, set_up,
+};
+use canvas_look::Board;
 use canvas_session::Cause;
 use std::cell::Cell;
 use std::io;
-use std::io::{ErrorKind, Read, Write};
+use std::io::{Read, Write};
 use std::sync::Wait;
 use std::thread::Threads;
-use std::time::Duration;
+use std::time::Clock;
 
 /// A gate whose refusal, or whose wish to end, begins the end of the server.
 #[derive(Drop)]
@@ -47,42 +45,28 @@ impl<G: Settles> Settles for Watch<'_, G> {
 
 /// What a client sends. It ends where the server does.
 #[derive(Drop)]
-struct Input<'a> {
-    stream: &'a Stream,
-    ending: &'a Ending,
-    is_idle: &'a Cell<bool>,
+struct Input<'c, 'e, H: Clock> {
+    client: Timely<'c, H>,
+    ending: &'e Ending,
 }
 
-impl Read for Input<'_> {
+impl<H: Clock> Read for Input<'_, '_, H> {
     fn read(&mut self, bytes: &mut [u8]) -> io::Result<usize> {
         if self.ending.has_begun() {
             return Ok(0);
         }
-        // A silent client is waited for once.
-        if self.is_idle.get() {
-            return Err(ErrorKind::WouldBlock.into());
-        }
-        let mut stream = self.stream;
-        match stream.read(bytes) {
-            Ok(count) => Ok(count),
-            Err(error) => {
-                if error.kind() == ErrorKind::WouldBlock {
-                    self.is_idle.set(true);
-                }
-                Err(error)
-            }
-        }
+        self.client.read(bytes)
     }
 }
 
 /// What a client is sent. Each piece is told of.
 #[derive(Drop)]
-struct Output<'a, E: Events> {
-    stream: &'a Stream,
-    events: &'a E,
+struct Output<'s, 'e, E: Events> {
+    stream: &'s Stream,
+    events: &'e E,
 }
 
-impl<E: Events> Write for Output<'_, E> {
+impl<E: Events> Write for Output<'_, '_, E> {
     fn write(&mut self, bytes: &[u8]) -> io::Result<usize> {
         let mut stream = self.stream;
         let sent = stream.write(bytes)?;
@@ -95,7 +79,7 @@ impl<E: Events> Write for Output<'_, E> {
     }
 }
 
-impl<E: Events> WriteTwo for Output<'_, E> {
+impl<E: Events> WriteTwo for Output<'_, '_, E> {
     fn write_two(&mut self, first: &[u8], second: &[u8]) -> io::Result<usize> {
         let mut stream = self.stream;
         let sent = stream.write_two(first, second)?;
@@ -106,7 +90,7 @@ impl<E: Events> WriteTwo for Output<'_, E> {
 
 /// Answers a client until it has sent all or the server ends, and says whether more may still come.
 /// Where the server has ended before, nothing is answered.
-pub fn answer_visit<H: Threads + Wait + Sync, B: Board, G: Settles, E: Events>(
+pub fn answer_visit<H: Threads + Wait + Clock + Sync, B: Board, G: Settles, E: Events>(
     rt: &H,
     house: &House<B, G, E>,
     board: &mut B,
@@ -124,40 +108,27 @@ pub fn answer_visit<H: Threads + Wait + Sync, B: Board, G: Settles, E: Events>(
     house.ending.has_begun()
         || matches!(
             parting,
-            Parting::Http | Parting::Cut(Cause::LineTooLong | Cause::TooManyRequests)
+            Parting::Foreign | Parting::Cut(Cause::LineTooLong | Cause::TooManyRequests)
         )
 }
 
-/// Sets how a connection sends and after how many silent seconds a read or a write fails, 0 for
-/// never. Where that can't be set it is served all the same.
-pub fn set_up(stream: &Stream, idle: u64) {
-    // Where small replies are delayed they come all the same.
-    let _ = stream.set_nodelay();
-    if idle > 0 {
-        let patience = Duration::from_secs(idle);
-        let _ = stream.set_read_timeout(patience);
-        let _ = stream.set_write_timeout(patience);
-    }
-}
-
 // Answers a client, and says how that ended.
-fn answer_stream<H: Threads + Wait + Sync, B: Board, G: Settles, E: Events>(
-    rt: &H,
+fn answer_stream<'x, H: Threads + Wait + Clock + Sync, B: Board, G: Settles, E: Events>(
+    rt: &'x H,
     house: &House<B, G, E>,
     board: &mut B,
     seat: usize,
-    stream: &Stream,
+    stream: &'x Stream,
 ) -> Parting {
-    let is_idle = Cell::new(false);
+    let lapse = Cell::new(None);
     let gate = Watch {
         gate: house.gate,
         ending: house.ending,
         seat,
     };
     let input = Input {
-        stream,
+        client: Timely::lines(rt, stream, house.idle, &lapse),
         ending: house.ending,
-        is_idle: &is_idle,
     };
     let output = Output {
         stream,
@@ -176,16 +147,18 @@ fn answer_stream<H: Threads + Wait + Sync, B: Board, G: Settles, E: Events>(
     );
     match answered {
         None => Parting::Unsent,
-        Some(Answered::Http) => Parting::Http,
+        Some(Answered::Foreign) => Parting::Foreign,
         Some(Answered::Session(Ok(_))) => Parting::Finished,
-        Some(Answered::Session(Err(fault))) => parting_of(fault.cause, is_idle.get()),
+        Some(Answered::Session(Err(fault))) => parting_of(fault.cause, lapse.get()),
+        Some(Answered::Unread) => parting_of(Cause::ReadFault, lapse.get()),
     }
 }
 
 // How a session ended that did not end with its input.
-fn parting_of(cause: Cause, is_idle: bool) -> Parting {
-    match cause {
-        Cause::ReadFault if is_idle => Parting::Idle,
+fn parting_of(cause: Cause, lapse: Option<Lapse>) -> Parting {
+    match (cause, lapse) {
+        (Cause::ReadFault, Some(Lapse::Idle)) => Parting::Idle,
+        (Cause::ReadFault, Some(Lapse::Slow)) => Parting::Slow,
         _ => Parting::Cut(cause),
     }
 }

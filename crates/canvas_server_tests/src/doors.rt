@@ -7,8 +7,9 @@ use crate::crowd::{PICTURE, WHITE};
 use crate::gates::{Counts, Few, Slow, Stuck};
 use crate::servers::{NO_SEATS, RED, ask, connected, listening};
 use canvas_doc::Document;
+use canvas_doors::{Door, Events, Quiet, Settles};
 use canvas_line::{Line, Lines, Opened};
-use canvas_server::{Door, DoorSettings, Ended, Events, Quiet, ServerFault, Settles, serve_doors};
+use canvas_server::{DoorSettings, Ended, ServerFault, serve_doors};
 use std::alloc::Global;
 use std::io::{Read, Write};
 use std::marker::Brand;
@@ -25,6 +26,8 @@ const SETTINGS: DoorSettings = DoorSettings {
     keep: 2,
     workers: 1,
     idle: 0,
+    share: 64,
+    gateways: 0,
 };
 
 /// The reply to the first edit.
@@ -306,7 +309,7 @@ fn bad_settings_come_before_the_doors(rt: HostRuntime) {
         let settings = DoorSettings {
             keep: *keep,
             workers: *workers,
-            idle: 0,
+            ..SETTINGS
         };
         let ended = serve_at(&rt, rt.alloc(), &doors, 1, &Stuck, &settings, &Quiet);
         equal(&rt, "the end", &ended, &Err(*fault));

@@ -1,6 +1,6 @@
 //! Gates that tests put before a server, and what they count.
 
-use canvas_server::{Events, Parting, Settles, Witness};
+use canvas_doors::{Events, Parting, Settles, Witness};
 use canvas_wire::Request;
 use std::io::ErrorKind;
 use std::sync::Wait;

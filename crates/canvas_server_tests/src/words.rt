@@ -1,4 +1,4 @@
-//! How many workers the words of the command line ask for, and statuses. `tools/check_program.py` has words that are no command.
+//! How many workers the words of the command line ask for, and statuses. `tests/program/test_program.py` has words that are no command.
 
 use crate::asserts::equal;
 use canvas_server::{Command, exit_status};

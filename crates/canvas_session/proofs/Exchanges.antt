@@ -1,19 +1,20 @@
 -- How a session goes on.
-use Rattle.std.proofs.Common.{◌≡◌, ℕ, suc, ◌+◌, ◌<◌, ◌≤◌, inl, inr, List, [], ◌∷◌, ◌++◌, Option, Result, length, map, take, drop, get_or, refl, sym, ap, ◌∙◌, arith, subst, append_assoc, append-nil, add-one, length-append, length-take-le}
+use Rattle.std.proofs.Common.{◌≡◌, ℕ, suc, ◌+◌, ◌<◌, ◌≤◌, inl, inr, List, [], ◌∷◌, ◌++◌, Option, Result, length, take, drop, get_or, refl, sym, ap, ◌∙◌, arith, subst, append_assoc, append-nil, add-one, length-append, length-take-le}
 use Rattle.std.specs.List.{flat_map, AllByRecursion}
 use Rattle.std.specs.Io.KnownBytes.{Consumes, Appends, Keeps}
 use Rattle.std.proofs.KnownBytes.{Consumes-nil, Consumes-trans, Appends-nil, Appends-trans, Appends-kept}
 use Rattle.std.proofs.Math.Seq.{drop-cons, take-length, take-add, take-append_seam, drop-append_seam}
 use Rattle.std.proofs.lemmas.Grind.{flat_map-append}
-use Rattle.std.proofs.lemmas.List.{length-map, map-append, take-append-drop, get_or-take}
+use Rattle.std.proofs.lemmas.List.{take-append-drop, get_or-take}
 use Rattle.canvas_wire.specs.declared.request.Request.{Request}
 use Rattle.canvas_wire.specs.declared.fault.WireFault.{WireFault}
+use Rattle.canvas_wire.specs.Faults.{Gives}
 use Rattle.canvas_wire.specs.Requests.{request_of}
-use Rattle.canvas_board.specs.Seen.{Seen}
+use Rattle.canvas_look.specs.Seen.{Seen}
 use Rattle.canvas_session.specs.Line.{LacksLf, IsLine, ended}
 use Rattle.canvas_session.specs.Pending.{TakesIn}
 use Rattle.canvas_session.specs.Response.{Response, text_of, texts_of}
-use Rattle.canvas_session.specs.Transcript.{Answers, IsTranscript}
+use Rattle.canvas_session.specs.Transcript.{Answers, AreRead, IsTranscript, Step}
 use Rattle.canvas_session.specs.Session.{Ends, Exchange, IsSession, IsClosed, IsBroken, MayClose, closing_line}
 use Rattle.canvas_session.proofs.LinesOf.{first_lines}
 
@@ -23,8 +24,8 @@ all_push P (y ∷ ys) x h p = (h.0, all_push P ys x h.1 p)
 
 -- a transcript goes on by one step
 transcript_push : (workers : ℕ) (s : Seen) (rs : List (Result Request WireFault)) (answers : List Response) (t : Seen) (r : Result Request WireFault) (a : Response) (u : Seen)
-    → IsTranscript workers s rs answers t → Answers workers t r a u → IsTranscript workers s (rs ++ r ∷ []) (answers ++ a ∷ []) u
-transcript_push workers s [] [] t r a u h step = (u, subst (λ (x : Seen). Answers workers x r a u) h step, refl)
+    → IsTranscript workers s rs answers t → Step workers t r a u → IsTranscript workers s (rs ++ r ∷ []) (answers ++ a ∷ []) u
+transcript_push workers s [] [] t r a u h step = (u, subst (λ (x : Seen). Step workers x r a u) h step, refl)
 transcript_push workers s (q ∷ rs) (b ∷ answers) t r a u h step = (h.0, h.1, transcript_push workers h.0 rs answers t r a u h.2 step)
 transcript_push workers s [] (b ∷ answers) t r a u h step = absurd h
 transcript_push workers s (q ∷ rs) [] t r a u h step = absurd h
@@ -34,6 +35,24 @@ transcript_length workers s [] [] t h = refl
 transcript_length workers s (q ∷ rs) (b ∷ answers) t h = ap (λ k. suc k) (transcript_length workers h.0 rs answers t h.2)
 transcript_length workers s [] (b ∷ answers) t h = absurd h
 transcript_length workers s (q ∷ rs) [] t h = absurd h
+
+-- one more line is read
+read_push : (lines : List (List ℕ)) (reads : List (Result Request WireFault)) (line : List ℕ) (read : Result Request WireFault) → AreRead lines reads → Gives read (request_of line)
+    → AreRead (lines ++ line ∷ []) (reads ++ read ∷ [])
+read_push [] [] line read h gives = (gives, tt)
+read_push (x ∷ lines) (r ∷ reads) line read h gives = (h.0, read_push lines reads line read h.1 gives)
+read_push [] (r ∷ reads) line read h gives = absurd h
+read_push (x ∷ lines) [] line read h gives = absurd h
+
+read_length : (lines : List (List ℕ)) (reads : List (Result Request WireFault)) → AreRead lines reads → length lines ≡ length reads
+read_length [] [] h = refl
+read_length (x ∷ lines) (r ∷ reads) h = ap (λ k. suc k) (read_length lines reads h.1)
+read_length [] (r ∷ reads) h = absurd h
+read_length (x ∷ lines) [] h = absurd h
+
+-- each line has one answer
+answers_length : (workers : ℕ) (e : Ends) (pending : List ℕ) (talk : Exchange workers e pending) → length talk.lines ≡ length talk.answers
+answers_length workers e pending talk = read_length talk.lines talk.reads talk.are_read ∙ transcript_length workers e.before talk.reads talk.answers e.after talk.steps
 
 -- the line at the front, as a line
 pub line_at : (xs : List ℕ) (n : ℕ) → n ≤ 65536 → n < length xs → LacksLf n xs → IsLine (take n xs)
@@ -56,9 +75,11 @@ pub session_begins : (workers : ℕ) (from out : Option (List ℕ)) (s : Seen) (
 session_begins workers from out s pending e = rw e (record {
   talk = record {
     lines = [];
+    reads = [];
     answers = [];
     each = tt;
     few = omega arith;
+    are_read = tt;
     steps = refl;
     took = Consumes-nil from;
   };
@@ -76,9 +97,11 @@ session_waits workers from mid to out o p s t old new n w h takes keeps =
     record {
       talk = record {
         lines = h.talk.lines;
+        reads = h.talk.reads;
         answers = h.talk.answers;
         each = h.talk.each;
         few = h.talk.few;
+        are_read = h.talk.are_read;
         steps = h.talk.steps;
         took = subst (Consumes from to) joined (Consumes-trans from mid to (before ++ old) takes.0 h.talk.took takes.1);
       };
@@ -89,17 +112,19 @@ session_waits workers from mid to out o p s t old new n w h takes keeps =
 
 -- one more line is answered
 pub exchange_more : (workers : ℕ) (from to out o p : Option (List ℕ)) (s t u : Seen) (old new : List ℕ) (k : ℕ) (a : Response) (h : Exchange workers (ends from to out o s t) old) → length h.lines < 1000000
-    → IsLine (take k old) → ended (take k old) ++ new ≡ old → Answers workers t (request_of (take k old)) a u → Exchange workers (ends from to out p s u) new
+    → IsLine (take k old) → ended (take k old) ++ new ≡ old → Answers workers t (take k old) a u → Exchange workers (ends from to out p s u) new
 exchange_more workers from to out o p s t u old new k a h room line whole step =
     let lines : flat_map ended (h.lines ++ take k old ∷ []) ≡ flat_map ended h.lines ++ ended (take k old) = flat_map-append ended h.lines (take k old ∷ []) ∙ ap (λ (l : List ℕ). flat_map ended h.lines ++ l) (append-nil (ended (take k old))) in
     let took : flat_map ended h.lines ++ old ≡ flat_map ended (h.lines ++ take k old ∷ []) ++ new =
     ap (λ (l : List ℕ). flat_map ended h.lines ++ l) (sym whole) ∙ sym (append_assoc (flat_map ended h.lines) (ended (take k old)) new) ∙ ap (λ (l : List ℕ). l ++ new) (sym lines) in
     record {
       lines = h.lines ++ take k old ∷ [];
+      reads = h.reads ++ step.0 ∷ [];
       answers = h.answers ++ a ∷ [];
       each = all_push IsLine h.lines (take k old) h.each line;
       few = omega (arith, room, length-append h.lines (take k old ∷ []));
-      steps = rw (map-append request_of h.lines (take k old ∷ [])) (transcript_push workers s (map request_of h.lines) h.answers t (request_of (take k old)) a u h.steps step);
+      are_read = read_push h.lines h.reads (take k old) step.0 h.are_read step.1;
+      steps = transcript_push workers s h.reads h.answers t step.0 a u h.steps step.2;
       took = subst (Consumes from to) took h.took;
     }
 
@@ -108,7 +133,7 @@ texts_of-push answers a = flat_map-append text_of answers (a ∷ []) ∙ ap (λ 
 
 pub session_answers : (workers : ℕ) (from to out o p : Option (List ℕ)) (s t u : Seen) (old new : List ℕ) (n w k sent : ℕ) (a : Response)
     → IsSession workers (ends from to out o s t) old n w → n < 1000000 → IsLine (take k old) → ended (take k old) ++ new ≡ old
-    → Answers workers t (request_of (take k old)) a u → Appends o p (take sent (text_of a)) → sent ≡ length (text_of a)
+    → Answers workers t (take k old) a u → Appends o p (take sent (text_of a)) → sent ≡ length (text_of a)
     → IsSession workers (ends from to out p s u) new (n + 1) (w + sent)
 unfolding exchange_more
 session_answers workers from to out o p s t u old new n w k sent a h room line whole step wrote all =
@@ -132,14 +157,13 @@ take_both front back w k e =
 -- the last answer is cut off
 pub session_breaks : (workers : ℕ) (from to out o p : Option (List ℕ)) (s t u : Seen) (old new : List ℕ) (n w k sent : ℕ) (a : Response)
     → IsSession workers (ends from to out o s t) old n w → n < 1000000 → IsLine (take k old) → ended (take k old) ++ new ≡ old
-    → Answers workers t (request_of (take k old)) a u → Appends o p (take sent (text_of a)) → sent < length (text_of a)
+    → Answers workers t (take k old) a u → Appends o p (take sent (text_of a)) → sent < length (text_of a)
     → IsBroken workers (ends from to out p s u) n (w + sent)
 unfolding exchange_more
 session_breaks workers from to out o p s t u old new n w k sent a h room line whole step wrote short =
     let talk : Exchange workers (ends from to out p s u) new = exchange_more workers from to out o p s t u old new k a h.talk (omega (arith, h.counted)) line whole step in
     let texts : texts_of (h.talk.answers ++ a ∷ []) ++ [] ≡ texts_of h.talk.answers ++ text_of a = append-nil (texts_of (h.talk.answers ++ a ∷ [])) ∙ texts_of-push h.talk.answers a in
-    let count : length (map request_of h.talk.lines) ≡ length h.talk.answers = transcript_length workers s (map request_of h.talk.lines) h.talk.answers t h.talk.steps in
-    let same : n ≡ length h.talk.answers = omega (arith, h.counted, count, length-map h.talk.lines request_of) in
+    let same : n ≡ length h.talk.answers = h.counted ∙ answers_length workers (ends from to out o s t) old h.talk in
     let front : take n (h.talk.answers ++ a ∷ []) ≡ h.talk.answers = ap (λ j. take j (h.talk.answers ++ a ∷ [])) same ∙ take-append_seam h.talk.answers (a ∷ []) in
     let size : length (texts_of (h.talk.answers ++ a ∷ [])) ≡ length (texts_of h.talk.answers) + length (text_of a) = ap length (texts_of-push h.talk.answers a) ∙ length-append (texts_of h.talk.answers) (text_of a) in
     let below : w + sent < length (texts_of (h.talk.answers ++ a ∷ [])) = omega (arith, size, h.bytes, short) in
@@ -159,12 +183,11 @@ session_breaks workers from to out o p s t u old new n w k sent a h room line wh
 pub session_closing : (workers : ℕ) (from to out o p : Option (List ℕ)) (s t : Seen) (pending closing : List ℕ) (n w k : ℕ) → IsSession workers (ends from to out o s t) pending n w
     → MayClose n pending closing → Appends o p (take k closing) → k ≤ length closing → IsBroken workers (ends from to out p s t) n (w + k)
 session_closing workers from to out o p s t pending closing n w k h closes wrote within =
-    let count : length (map request_of h.talk.lines) ≡ length h.talk.answers = transcript_length workers s (map request_of h.talk.lines) h.talk.answers t h.talk.steps in
-    let same : n ≡ length h.talk.answers = omega (arith, h.counted, count, length-map h.talk.lines request_of) in
+    let same : n ≡ length h.talk.answers = h.counted ∙ answers_length workers (ends from to out o s t) pending h.talk in
     let front : take n h.talk.answers ≡ h.talk.answers = ap (λ j. take j h.talk.answers) same ∙ take-length h.talk.answers in
     record {
       pending = pending;
-      talk = record { lines = h.talk.lines; answers = h.talk.answers; each = h.talk.each; few = h.talk.few; steps = h.talk.steps; took = h.talk.took };
+      talk = record { lines = h.talk.lines; reads = h.talk.reads; answers = h.talk.answers; each = h.talk.each; few = h.talk.few; are_read = h.talk.are_read; steps = h.talk.steps; took = h.talk.took };
       closing = closing;
       closes = closes;
       wrote = rw (take_both (texts_of h.talk.answers) closing w k h.bytes) (Appends-trans out o p (texts_of h.talk.answers) (take k closing) h.wrote wrote);
@@ -180,7 +203,7 @@ pub session_closed : (workers code : ℕ) (from to out o p : Option (List ℕ)) 
 session_closed workers code from to out o p s t pending n w k h wrote all =
     let sent_all : take k (closing_line code) ≡ closing_line code = ap (λ j. take j (closing_line code)) all ∙ take-length (closing_line code) in
     record {
-      talk = record { lines = h.talk.lines; answers = h.talk.answers; each = h.talk.each; few = h.talk.few; steps = h.talk.steps; took = h.talk.took };
+      talk = record { lines = h.talk.lines; reads = h.talk.reads; answers = h.talk.answers; each = h.talk.each; few = h.talk.few; are_read = h.talk.are_read; steps = h.talk.steps; took = h.talk.took };
       wrote = Appends-trans out o p (texts_of h.talk.answers) (closing_line code) h.wrote (subst (Appends o p) sent_all wrote);
       counted = h.counted;
       bytes = omega (arith, h.bytes, all, length-append (texts_of h.talk.answers) (closing_line code));

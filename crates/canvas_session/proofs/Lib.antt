@@ -6,6 +6,6 @@ pub mod Exchanges
 pub mod Stops
 pub mod Shown
 pub mod Taking
-pub mod Making
-pub mod Showing
+pub mod Belonging
+pub mod Longer
 pub mod Telling

@@ -3,7 +3,7 @@ use Rattle.std.proofs.Common.{◌≡◌, ℕ, ℤ, Option, None, Some}
 use Rattle.canvas_plane.specs.declared.windows.Window.{Window}
 use Rattle.canvas_plane.specs.declared.windows.WindowFault.{WindowFault}
 use Rattle.canvas_plane.specs.Window.{IsWindowAt}
-use Rattle.canvas_board.specs.Seen.{Seen}
+use Rattle.canvas_look.specs.Seen.{Seen}
 use Rattle.canvas_session.specs.Response.{Response}
 use Rattle.canvas_session.specs.Transcript.{Shows, ShowsUnless}
 

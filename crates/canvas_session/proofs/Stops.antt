@@ -2,7 +2,7 @@
 use Rattle.std.proofs.Common.{◌≡◌, ℕ, ◌+◌, ◌<◌, ◌≤◌, ◌⊎◌, inl, inr, List, [], Option, length, take, refl, sym, ◌∙◌, arith, subst, add-zero}
 use Rattle.std.specs.Io.KnownBytes.{Appends, IsAtEnd}
 use Rattle.std.proofs.KnownBytes.{Appends-nil}
-use Rattle.canvas_board.specs.Seen.{Seen}
+use Rattle.canvas_look.specs.Seen.{Seen}
 use Rattle.canvas_session.specs.declared.fault.Cause.{Cause}
 use Rattle.canvas_session.specs.declared.fault.Cause.TheVariants.{LineTooLong, WriteFault, TooManyRequests}
 use Rattle.canvas_session.specs.declared.fault.SessionFault.{SessionFault}

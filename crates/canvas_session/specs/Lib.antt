@@ -6,4 +6,5 @@ pub mod Response
 pub mod Transcript
 pub mod Cause
 pub mod Session
+pub mod Belongs
 pub mod OneHistory

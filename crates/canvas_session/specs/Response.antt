@@ -3,13 +3,13 @@ use Rattle.std.specs.Prelude.{ℕ, List, [], ◌++◌, length, Option, Some, Non
 use Rattle.std.specs.List.{flat_map}
 use Rattle.std.specs.Arc.{arc_value}
 use Rattle.canvas_wire.specs.Replies.{Said, created, edited, body, point, refused, behind, line_of}
-use Rattle.canvas_line.specs.declared.fault.Edited.{Edited}
-use Rattle.canvas_board.specs.declared.answers.Picture.{Picture}
-use Rattle.canvas_board.specs.declared.answers.Dot.{Dot}
-use Rattle.canvas_board.specs.declared.answers.Saved.{Saved}
-use Rattle.canvas_board.specs.declared.fault.BoardFault.{BoardFault}
-use Rattle.canvas_board.specs.declared.fault.BoardFault.TheVariants.{Behind}
-use Rattle.canvas_board.specs.Fault.{board_fault_code}
+use Rattle.canvas_look.specs.declared.answers.Edited.{Edited}
+use Rattle.canvas_look.specs.declared.answers.Picture.{Picture}
+use Rattle.canvas_look.specs.declared.answers.Dot.{Dot}
+use Rattle.canvas_look.specs.declared.answers.Saved.{Saved}
+use Rattle.canvas_look.specs.declared.fault.BoardFault.{BoardFault}
+use Rattle.canvas_look.specs.declared.fault.BoardFault.TheVariants.{Behind}
+use Rattle.canvas_look.specs.Fault.{board_fault_code}
 
 pub record Response : Type 0 where
   pub reply : Said

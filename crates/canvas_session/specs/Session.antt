@@ -1,13 +1,14 @@
 -- A session: what was read, what was written, and what the board is then.
-use Rattle.std.specs.Prelude.{◌≡◌, ℕ, ◌+◌, ◌<◌, ◌≤◌, ◌⊎◌, List, [], ◌++◌, length, map, take, slice_index, Option, Result, Ok, Err}
+use Rattle.std.specs.Prelude.{◌≡◌, ℕ, ◌+◌, ◌<◌, ◌≤◌, ◌⊎◌, List, [], ◌++◌, length, take, slice_index, Option, Result, Ok, Err}
 use Rattle.std.specs.List.{flat_map, AllByRecursion}
 use Rattle.std.specs.Io.KnownBytes.{Consumes, Appends, IsAtEnd}
-use Rattle.canvas_wire.specs.Requests.{request_of}
+use Rattle.canvas_wire.specs.declared.request.Request.{Request}
+use Rattle.canvas_wire.specs.declared.fault.WireFault.{WireFault}
 use Rattle.canvas_wire.specs.Replies.{refused, line_of}
-use Rattle.canvas_board.specs.Seen.{Seen}
+use Rattle.canvas_look.specs.Seen.{Seen}
 use Rattle.canvas_session.specs.Line.{LacksLf, HasNoLf, IsLine, ended, AreAllLines, AreFirstLines}
 use Rattle.canvas_session.specs.Response.{Response, texts_of}
-use Rattle.canvas_session.specs.Transcript.{IsTranscript}
+use Rattle.canvas_session.specs.Transcript.{AreRead, IsTranscript}
 use Rattle.canvas_session.specs.declared.fault.Cause.{Cause}
 use Rattle.canvas_session.specs.declared.fault.Cause.TheVariants.{OutOfMemory, LineTooLong, ReadFault, WriteFault, TooManyRequests, CutLine}
 use Rattle.canvas_session.specs.declared.fault.SessionFault.{SessionFault}
@@ -23,13 +24,15 @@ pub record Ends : Type 0 where
   pub before : Seen
   pub after : Seen
 
--- The lines were answered by a board of so many workers, and `pending` was read besides.
+-- The lines were read and answered by a board of so many workers, and `pending` came besides.
 pub record Exchange (workers : ℕ) (e : Ends) (pending : List ℕ) : Type 0 where
   pub lines : List (List ℕ)
+  pub reads : List (Result Request WireFault)
   pub answers : List Response
   pub each : AllByRecursion IsLine lines
   pub few : length lines ≤ 1000000
-  pub steps : IsTranscript workers e.before (map request_of lines) answers e.after
+  pub are_read : AreRead lines reads
+  pub steps : IsTranscript workers e.before reads answers e.after
   pub took : Consumes e.input e.unread (flat_map ended lines ++ pending)
 
 -- The responses were written, and nothing else.

@@ -1,5 +1,5 @@
 -- Which responses a board may give to a list of requests.
-use Rattle.std.specs.Prelude.{◌≡◌, ℕ, ℤ, pos, ◌*ℤ◌, ◌⊎◌, List, [], ◌∷◌, Option, None, Some, Result, Ok, Err}
+use Rattle.std.specs.Prelude.{◌≡◌, ℕ, ℤ, pos, ◌*ℤ◌, List, [], ◌∷◌, Option, None, Some, Result, Ok, Err}
 use Rattle.canvas_plane.specs.declared.windows.Window.{Window}
 use Rattle.canvas_plane.specs.declared.windows.WindowFault.{WindowFault}
 use Rattle.canvas_plane.specs.Limits.{window_fault, window_fault_code}
@@ -7,15 +7,16 @@ use Rattle.canvas_plane.specs.Window.{IsWindowAt}
 use Rattle.canvas_wire.specs.declared.request.Request.{Request}
 use Rattle.canvas_wire.specs.declared.request.Request.TheVariants.{Edit, Tile, Patch, Point, Export}
 use Rattle.canvas_wire.specs.declared.fault.WireFault.{WireFault}
-use Rattle.canvas_wire.specs.Faults.{fault_code}
+use Rattle.canvas_wire.specs.Faults.{Gives, fault_code}
+use Rattle.canvas_wire.specs.Requests.{request_of}
 use Rattle.canvas_wire.specs.Replies.{refused}
-use Rattle.canvas_line.specs.declared.fault.Edited.{Edited}
-use Rattle.canvas_board.specs.declared.answers.Picture.{Picture}
-use Rattle.canvas_board.specs.declared.answers.Dot.{Dot}
-use Rattle.canvas_board.specs.declared.answers.Saved.{Saved}
-use Rattle.canvas_board.specs.declared.fault.BoardFault.{BoardFault}
-use Rattle.canvas_board.specs.Seen.{Seen}
-use Rattle.canvas_board.specs.Steps.{Edits, Looks, Paints, Saves}
+use Rattle.canvas_look.specs.declared.answers.Edited.{Edited}
+use Rattle.canvas_look.specs.declared.answers.Picture.{Picture}
+use Rattle.canvas_look.specs.declared.answers.Dot.{Dot}
+use Rattle.canvas_look.specs.declared.answers.Saved.{Saved}
+use Rattle.canvas_look.specs.declared.fault.BoardFault.{BoardFault}
+use Rattle.canvas_look.specs.Seen.{Seen}
+use Rattle.canvas_look.specs.Steps.{Edits, Looks, Paints, Saves}
 use Rattle.canvas_session.specs.Response.{Response, bare, edit_response, picture_response, point_response, saved_response}
 
 -- the picture of a window by so many workers
@@ -42,17 +43,20 @@ Step workers s (Ok (Point x y)) a t = (result : Result Dot BoardFault) × Looks 
 Step workers s (Ok Export) a t = (result : Result Saved BoardFault) × Saves s result t × (a ≡ saved_response result)
 Step workers s (Err fault) a t = (a ≡ bare (refused (fault_code fault))) × (t ≡ s)
 
--- memory was refused, and the board is as it was
-abbrev pub WantsMemory : Seen → Response → Seen → Type 0
-WantsMemory s a t = (a ≡ bare (refused 1)) × (t ≡ s)
+-- A line is read as its request, its first fault, or, where memory is refused, as none; and what it is read as is answered.
+abbrev pub Answers : ℕ → Seen → List ℕ → Response → Seen → Type 0
+Answers workers s line a t = (read : Result Request WireFault) × Gives read (request_of line) × Step workers s read a t
 
--- the same, or the step of the request
-abbrev pub Answers : ℕ → Seen → Result Request WireFault → Response → Seen → Type 0
-Answers workers s r a t = Step workers s r a t ⊎ WantsMemory s a t
+-- each of these lines was read so
+abbrev pub AreRead : List (List ℕ) → List (Result Request WireFault) → Type 0
+AreRead [] [] = Unit {0}
+AreRead (line ∷ lines) (read ∷ reads) = Gives read (request_of line) × AreRead lines reads
+AreRead [] (read ∷ reads) = ⊥
+AreRead (line ∷ lines) [] = ⊥
 
 -- the requests were answered in turn
 abbrev pub IsTranscript : ℕ → Seen → List (Result Request WireFault) → List Response → Seen → Type 0
 IsTranscript workers s [] [] t = t ≡ s
-IsTranscript workers s (r ∷ rs) (a ∷ more) t = (mid : Seen) × Answers workers s r a mid × IsTranscript workers mid rs more t
+IsTranscript workers s (r ∷ rs) (a ∷ more) t = (mid : Seen) × Step workers s r a mid × IsTranscript workers mid rs more t
 IsTranscript workers s [] (a ∷ more) t = ⊥
 IsTranscript workers s (r ∷ rs) [] t = ⊥

@@ -3,14 +3,13 @@
 ghost use denote.Param.Send.{IsSync};
 ghost use Rattle.std.specs.Prelude.{◌≡◌, Ok, pos, ◌*ℤ◌};
 ghost use Rattle.canvas_wire.specs.Replies.{IsNamed, refused, said};
-ghost use Rattle.canvas_wire.specs.Requests.{request_of};
 ghost use Rattle.canvas_session.specs.Response.{bare, edit_response, fault_response, made, picture_response, point_response, saved_response};
 ghost use Rattle.canvas_session.specs.Transcript.{Answers, Shows, ShowsAt, Step};
 
 use crate::answer::Answer;
 use crate::witness::{Unwitnessed, Witness};
-use canvas_board::{Board, BoardFault, Dot, Edited, Picture, Saved};
 use canvas_code::{Coded, name_of};
+use canvas_look::{Board, BoardFault, Dot, Edited, Picture, Saved};
 use canvas_plane::Window;
 use canvas_wire::{Reply, Request, RequestReader};
 use std::alloc::Global;
@@ -27,7 +26,7 @@ pub fn answer_line<B: Board, H: Threads + Wait + Sync>(
     workers: u32,
     line: &[u8],
 ) -> Answer
-    ensures { Answers workers (B.seen board.old) (request_of line.now) result (B.seen board.new) }
+    ensures { Answers workers (B.seen board.old) line.now result (B.seen board.new) }
 {
     let mut request_reader = RequestReader::new(alloc);
     answer_next(
@@ -51,7 +50,7 @@ pub(crate) fn answer_next<B: Board, O: Witness, H: Threads + Wait + Sync>(
     request_reader: &mut RequestReader,
     line: &[u8],
 ) -> Answer
-    ensures { Answers workers (B.seen board.old) (request_of line.now) result (B.seen board.new) }
+    ensures { Answers workers (B.seen board.old) line.now result (B.seen board.new) }
 {
     match request_reader.read(alloc, line) {
         Err(fault) => {

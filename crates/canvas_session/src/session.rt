@@ -10,7 +10,7 @@ use crate::pending::Pending;
 use crate::respond::answer_next;
 use crate::served::Served;
 use crate::witness::{Unwitnessed, Witness};
-use canvas_board::Board;
+use canvas_look::Board;
 use canvas_wire::RequestReader;
 use std::alloc::Global;
 use std::io::{Read, Write};

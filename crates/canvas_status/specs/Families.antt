@@ -1,7 +1,7 @@
 -- The families of the page.
 use Rattle.std.specs.Prelude.{ℕ, List, [], ◌∷◌, codes}
 use Rattle.canvas_status.specs.declared.family.Family.{Family}
-use Rattle.canvas_status.specs.declared.family.Family.TheVariants.{Build, Uptime, Generation, Version, Kept, Seats, OpenSessions, Sessions, RefusedConnections, Followers, FollowerLag, Requests, Refusals, SentBytes, PaintedPictures, KeptPictures, Syncs, SyncSeconds}
+use Rattle.canvas_status.specs.declared.family.Family.TheVariants.{Build, Uptime, Generation, Version, Kept, Seats, OpenSessions, Sessions, RefusedConnections, MissedConnections, Followers, FollowerLag, Requests, Refusals, SentBytes, PaintedPictures, KeptPictures, Syncs, SyncSeconds}
 
 -- a family's name, type and meaning
 pub record Row : Type 0 where
@@ -25,7 +25,8 @@ row_of Kept = gauge (codes "canvas_kept_version") (codes "The newest version tha
 row_of Seats = gauge (codes "canvas_seats") (codes "Sessions that may be at once.")
 row_of OpenSessions = gauge (codes "canvas_open_sessions") (codes "Sessions now.")
 row_of Sessions = counter (codes "canvas_sessions_total") (codes "Sessions that began.")
-row_of RefusedConnections = counter (codes "canvas_refused_connections_total") (codes "Connections that found all seats taken.")
+row_of RefusedConnections = counter (codes "canvas_refused_connections_total") (codes "Connections that found no seat that they may have.")
+row_of MissedConnections = counter (codes "canvas_missed_connections_total") (codes "Times that no connection could be accepted, for want of memory or files.")
 row_of Followers = gauge (codes "canvas_followers") (codes "Followers of the feed now.")
 row_of FollowerLag = gauge (codes "canvas_follower_lag_edits") (codes "Edits on the disk that were not sent yet to the follower farthest behind.")
 row_of Requests = counter (codes "canvas_requests_total") (codes "Lines that were answered, by verb.")
@@ -47,4 +48,4 @@ family_help family = (row_of family).help
 
 -- all families, in the order of the page
 abbrev pub families : List Family
-families = Build ∷ Uptime ∷ Generation ∷ Version ∷ Kept ∷ Seats ∷ OpenSessions ∷ Sessions ∷ RefusedConnections ∷ Followers ∷ FollowerLag ∷ Requests ∷ Refusals ∷ SentBytes ∷ PaintedPictures ∷ KeptPictures ∷ Syncs ∷ SyncSeconds ∷ []
+families = Build ∷ Uptime ∷ Generation ∷ Version ∷ Kept ∷ Seats ∷ OpenSessions ∷ Sessions ∷ RefusedConnections ∷ MissedConnections ∷ Followers ∷ FollowerLag ∷ Requests ∷ Refusals ∷ SentBytes ∷ PaintedPictures ∷ KeptPictures ∷ Syncs ∷ SyncSeconds ∷ []

@@ -4,7 +4,7 @@ use Rattle.std.specs.List.{flat_map}
 use Rattle.canvas_code.specs.Names.{name_of}
 use Rattle.canvas_status.specs.declared.status.Status.{Status}
 use Rattle.canvas_status.specs.declared.family.Family.{Family}
-use Rattle.canvas_status.specs.declared.family.Family.TheVariants.{Build, Uptime, Generation, Version, Kept, Seats, OpenSessions, Sessions, RefusedConnections, Followers, FollowerLag, Requests, Refusals, SentBytes, PaintedPictures, KeptPictures, Syncs, SyncSeconds}
+use Rattle.canvas_status.specs.declared.family.Family.TheVariants.{Build, Uptime, Generation, Version, Kept, Seats, OpenSessions, Sessions, RefusedConnections, MissedConnections, Followers, FollowerLag, Requests, Refusals, SentBytes, PaintedPictures, KeptPictures, Syncs, SyncSeconds}
 use Rattle.canvas_status.specs.declared.verb.Verb.{Verb}
 use Rattle.canvas_status.specs.Verbs.{verbs, verb_name, place_of}
 use Rattle.canvas_status.specs.Families.{families, family_name, family_help, family_kind}
@@ -45,6 +45,7 @@ samples_at s Seats name = plain name (decimal s.seats)
 samples_at s OpenSessions name = plain name (decimal s.open_sessions)
 samples_at s Sessions name = plain name (decimal s.sessions)
 samples_at s RefusedConnections name = plain name (decimal s.refused_connections)
+samples_at s MissedConnections name = plain name (decimal s.missed_connections)
 samples_at s Followers name = plain name (decimal (followers_at s.followers))
 samples_at s FollowerLag name = plain name (decimal (lag_at s.kept s.followers))
 samples_at s Requests name = request_samples name s.requests

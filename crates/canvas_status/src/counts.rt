@@ -20,6 +20,7 @@ pub struct Counts {
     begun_sessions: AtomicU64,
     ended_sessions: AtomicU64,
     refused_connections: AtomicU64,
+    missed_connections: AtomicU64,
     // At each place of a follower one more than the last version that was sent to it; 0 where nobody follows.
     followers: [AtomicU64; MOST_FOLLOWERS],
     requests: [AtomicU64; 12],
@@ -43,6 +44,7 @@ impl Counts {
             begun_sessions: AtomicU64::new(0),
             ended_sessions: AtomicU64::new(0),
             refused_connections: AtomicU64::new(0),
+            missed_connections: AtomicU64::new(0),
             followers: array::from_fn(|_| AtomicU64::new(0)),
             requests: array::from_fn(|_| AtomicU64::new(0)),
             refusals: array::from_fn(|_| AtomicU64::new(0)),
@@ -64,9 +66,14 @@ impl Counts {
         add(&self.ended_sessions, 1);
     }
 
-    /// A connection found all seats taken.
+    /// A connection found no seat that it may have.
     pub fn refuse_connection(&self) {
         add(&self.refused_connections, 1);
+    }
+
+    /// A connection could not be accepted, for want of memory or files.
+    pub fn miss_connection(&self) {
+        add(&self.missed_connections, 1);
     }
 
     /// The follower at a place was sent all up to a version.
@@ -149,6 +156,7 @@ impl Counts {
             open_sessions: begun.saturating_sub(ended),
             sessions: begun,
             refused_connections: read(&self.refused_connections),
+            missed_connections: read(&self.missed_connections),
             followers: array::from_fn(|place| self.followers.get(place).map_or(0, read)),
             requests: array::from_fn(|place| self.requests.get(place).map_or(0, read)),
             refusals: array::from_fn(|code| self.refusals.get(code).map_or(0, read)),

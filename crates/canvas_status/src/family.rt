@@ -14,6 +14,7 @@ pub(crate) enum Family {
     OpenSessions,
     Sessions,
     RefusedConnections,
+    MissedConnections,
     Followers,
     FollowerLag,
     Requests,
@@ -26,7 +27,7 @@ pub(crate) enum Family {
 }
 
 /// All families, in the order of the page.
-pub(crate) const FAMILIES: [Family; 18] = [
+pub(crate) const FAMILIES: [Family; 19] = [
     Family::Build,
     Family::Uptime,
     Family::Generation,
@@ -36,6 +37,7 @@ pub(crate) const FAMILIES: [Family; 18] = [
     Family::OpenSessions,
     Family::Sessions,
     Family::RefusedConnections,
+    Family::MissedConnections,
     Family::Followers,
     Family::FollowerLag,
     Family::Requests,
@@ -63,6 +65,7 @@ impl Family {
             Family::OpenSessions => "canvas_open_sessions",
             Family::Sessions => "canvas_sessions_total",
             Family::RefusedConnections => "canvas_refused_connections_total",
+            Family::MissedConnections => "canvas_missed_connections_total",
             Family::Followers => "canvas_followers",
             Family::FollowerLag => "canvas_follower_lag_edits",
             Family::Requests => "canvas_requests_total",
@@ -89,7 +92,9 @@ impl Family {
             Family::Seats => "Sessions that may be at once.",
             Family::OpenSessions => "Sessions now.",
             Family::Sessions => "Sessions that began.",
-            Family::RefusedConnections => "Connections that found all seats taken.",
+            Family::RefusedConnections => "Connections that found no seat that they may have.",
+            Family::MissedConnections =>
+                "Times that no connection could be accepted, for want of memory or files.",
             Family::Followers => "Followers of the feed now.",
             Family::FollowerLag =>
                 "Edits on the disk that were not sent yet to the follower farthest behind.",
@@ -118,6 +123,7 @@ impl Family {
             Family::OpenSessions => "gauge",
             Family::Sessions => "counter",
             Family::RefusedConnections => "counter",
+            Family::MissedConnections => "counter",
             Family::Followers => "gauge",
             Family::FollowerLag => "gauge",
             Family::Requests => "counter",

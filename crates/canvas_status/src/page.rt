@@ -74,6 +74,7 @@ fn write_samples(out: &mut Vec<u8>, family: Family, status: &Status) -> Result<(
         Family::OpenSessions => push_plain(out, name, status.open_sessions),
         Family::Sessions => push_plain(out, name, status.sessions),
         Family::RefusedConnections => push_plain(out, name, status.refused_connections),
+        Family::MissedConnections => push_plain(out, name, status.missed_connections),
         Family::Followers => push_plain(out, name, followers_at(&status.followers)),
         Family::FollowerLag => push_plain(out, name, lag_at(&status.followers, status.kept)),
         Family::Requests => write_requests(out, name, &status.requests),

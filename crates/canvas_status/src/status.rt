@@ -24,8 +24,10 @@ pub struct Status {
     pub open_sessions: u64,
     /// How many sessions began.
     pub sessions: u64,
-    /// How many connections found all seats taken.
+    /// How many connections found no seat that they may have.
     pub refused_connections: u64,
+    /// How many times a connection could not be accepted, for want of memory or files.
+    pub missed_connections: u64,
     /// At the place of each follower of the feed one more than the last version that was sent to
     /// it; 0 where nobody follows.
     pub followers: [u64; MOST_FOLLOWERS],

@@ -17,6 +17,10 @@ abbrev pub held_message : ℕ → ℕ → List ℕ → List ℕ → List ℕ
 held_message epoch generation opening journal =
     held_text (record { epoch = epoch; generation = generation; opening = length opening; journal = length journal }) ++ (opening ++ journal)
 
+-- the lease lasts for so many milliseconds
+abbrev pub lasts_text : ℕ → List ℕ
+lasts_text time = codes "lasts " ++ decimal time ++ codes "\n"
+
 -- why a store does not do what it was asked, by its line without the LF
 abbrev pub Tells : List ℕ → StoreFault → Type 0
 Tells line (fault.Busy words) = line ≡ codes "busy " ++ words.bytes

@@ -5,6 +5,10 @@ use Rattle.std.specs.Prelude.{ℕ, List, ◌++◌, codes, decimal, length}
 abbrev pub hold_text : List ℕ → List ℕ
 hold_text name = codes "hold " ++ name ++ codes "\n"
 
+-- how long the lease of this epoch lasts
+abbrev pub lease_text : List ℕ → ℕ → List ℕ
+lease_text name epoch = codes "lease " ++ name ++ codes " " ++ decimal epoch ++ codes "\n"
+
 -- a generation begins with this saved document, and with an empty journal
 abbrev pub begin_text : ℕ → List ℕ → List ℕ
 begin_text generation opening = codes "begin " ++ decimal generation ++ codes " " ++ decimal (length opening) ++ codes "\n" ++ opening

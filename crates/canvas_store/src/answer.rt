@@ -1,9 +1,10 @@
 //! The lines that a store answers.
-ghost use Rattle.std.specs.Prelude.{◌≡◌, ◌++◌, [], ◌∷◌, ◌<◌, IfOk, length, codes, OnOk};
+ghost use Rattle.std.specs.Prelude.{◌≡◌, ◌++◌, [], ◌∷◌, ◌<◌, IfOk, IfSome, length, codes, OnOk};
 ghost use Rattle.std.specs.Io.KnownBytes.{Consumes, Keeps};
-ghost use Rattle.canvas_store.specs.Answers.{Tells};
+ghost use Rattle.canvas_store.specs.Answers.{Tells, lasts_text};
 
 use crate::fault::{MOST_LINE, StoreFault, Words};
+use crate::head::lasts_line;
 use std::io::{ErrorKind, Read};
 
 /// A line without its LF, in printable ASCII.
@@ -68,6 +69,30 @@ fn unasked<R: Read>(first: &[u8], reader: &mut R) -> StoreFault {
     match read_line(&mut first.chain(reader)) {
         Ok(line) => refusal_of(&line),
         Err(fault) => fault,
+    }
+}
+
+/// Reads for how many milliseconds a lease lasts.
+pub(crate) fn read_lasts<R: Read>(reader: &mut R) -> Result<u64, StoreFault>
+    ensures { IfOk result (λ time. Consumes (R.remaining reader.old) (R.remaining reader.new)
+        (lasts_text time)) }
+{
+    let line = read_line(reader)?;
+    match time_in(&line) {
+        Some(time) => Ok(time),
+        None => Err(refusal_of(&line)),
+    }
+}
+
+// The number of a line, where it says how long a lease lasts and nothing else.
+fn time_in(line: &Line) -> Option<u64>
+    ensures { IfSome result (λ time. line.now.bytes ++ 10 ∷ [] ≡ lasts_text time) }
+{
+    let time = line.as_str().strip_prefix("lasts ")?.parse::<u64>().ok()?;
+    if lasts_line(time).as_str() == line.as_str() {
+        Some(time)
+    } else {
+        None
     }
 }
 

@@ -46,6 +46,27 @@ pub(crate) fn cut_head(len: usize) -> Head
     head
 }
 
+/// What stands behind the name where a lease is asked after.
+pub(crate) fn epoch_tail(epoch: u64) -> Head
+    ensures { result.bytes ≡ codes " " ++ decimal epoch ++ codes "\n" }
+{
+    let mut head = Head::new();
+    head.push_str(" ");
+    push_number(&mut head, epoch);
+    head.push_str("\n");
+    head
+}
+
+/// The line that says for how many milliseconds a lease lasts, without its LF.
+pub(crate) fn lasts_line(time: u64) -> Head
+    ensures { result.bytes ≡ codes "lasts " ++ decimal time }
+{
+    let mut head = Head::new();
+    head.push_str("lasts ");
+    push_number(&mut head, time);
+    head
+}
+
 // Appends a number, which takes at most 20 digits.
 fn push_number(head: &mut Head, number: u64)
     requires { length head.old.bytes + 20 ≤ 64 }

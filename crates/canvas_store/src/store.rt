@@ -1,12 +1,12 @@
 //! A store at the other end of a connection.
 ghost use Rattle.std.specs.Prelude.{◌≡◌, IfOk, OnOk};
 ghost use Rattle.std.specs.Io.KnownBytes.{Appends, Consumes, Keeps};
-ghost use Rattle.canvas_store.specs.Messages.{hold_text, begin_text, write_text, cut_text, sync_text};
-ghost use Rattle.canvas_store.specs.Answers.{held_message, ok_text};
+ghost use Rattle.canvas_store.specs.Messages.{hold_text, lease_text, begin_text, write_text, cut_text, sync_text};
+ghost use Rattle.canvas_store.specs.Answers.{held_message, lasts_text, ok_text};
 
-use crate::answer::{read_line, read_unasked, refusal_of};
+use crate::answer::{read_lasts, read_line, read_unasked, refusal_of};
 use crate::fault::StoreFault;
-use crate::head::{begin_head, cut_head, write_head};
+use crate::head::{begin_head, cut_head, epoch_tail, write_head};
 use crate::held::{Held, read_held};
 use std::alloc::Global;
 use std::io;
@@ -90,6 +90,28 @@ impl<R: Read, W: Write> Store<R, W> {
         ensures unsent { self.new.messages ≡ self.old.messages }
     {
         read_unasked(&mut self.answers)
+    }
+
+    /// Asks for how long the lease of a document, by its name, lasts under an epoch, over a connection that holds no document.
+    pub fn ask_lease(&mut self, document: &str, epoch: u64) -> Result<(), StoreFault>
+        ensures sent { OnOk result
+            (Appends (W.contents self.old.messages) (W.contents self.new.messages)
+            (lease_text document.now epoch)) }
+        ensures unread { OnOk result (self.new.answers ≡ self.old.answers) }
+    {
+        self.send(b"lease ")?;
+        self.send(document.as_bytes())?;
+        self.send(epoch_tail(epoch).as_bytes())
+    }
+
+    /// For how many milliseconds the lease that was asked after lasts, from when it was asked.
+    pub fn lasts(&mut self) -> Result<u64, StoreFault>
+        ensures read { IfOk result
+            (λ time. Consumes (R.remaining self.old.answers) (R.remaining self.new.answers)
+            (lasts_text time)) }
+        ensures unsent { self.new.messages ≡ self.old.messages }
+    {
+        read_lasts(&mut self.answers)
     }
 
     // Asks for the document of a name.

@@ -1,4 +1,4 @@
-//! Rows by the published algorithm (`tools/key_rows.py read` and `fresh`). More are in `tests/sessions/keys.session`.
+//! Rows by the published algorithm (`tests/models/key_rows.py read` and `fresh`). More are in `tests/sessions/keys.session`.
 
 // Heads and digits that are no key's, each with its fault.
 static BAD_HEADS: [[&str; 2]; 22] = [

@@ -24,7 +24,7 @@ use Rattle.canvas_keep.specs.contracts.slot.Slot as slot
 use Rattle.canvas_keep.specs.contracts.settling.Keep as keep
 use Rattle.canvas_keep.specs.contracts.settling.Keep.TheInside as keep_inside
 use Rattle.canvas_follow.proofs.turns.Turns.TheSendSync as turns
-use Rattle.canvas_server.proofs.ending.Ending.TheSendSync as ending
+use Rattle.canvas_doors.proofs.ending.Ending.TheSendSync as ending
 use Rattle.canvasd.specs.contracts.gate.Gate as gate
 use Rattle.canvasd.specs.contracts.follow_gate.FollowGate as follow_gate
 use Rattle.canvasd.specs.contracts.yard.Yard as yard

@@ -3,7 +3,7 @@ use Rattle.std.specs.Prelude.{◌≡◌, ℕ, List}
 use Rattle.canvas_record.specs.declared.edits.Change.{Change}
 use Rattle.canvas_record.specs.Contents.{Contents}
 use Rattle.canvas_record.specs.History.{replay_of}
-use Rattle.canvas_saved.specs.Saved.{saved_text_of}
+use Rattle.canvas_json.specs.Saved.{saved_text_of}
 use Rattle.canvas_keep.specs.Telling.{Tells}
 
 -- each line is an edit that is made where it stands, and the text is the document after all of them

@@ -48,6 +48,7 @@ status_at fault.Busy = 4
 status_at fault.NoNumber = 4
 status_at (fault.Server f) = status_of (server_fault_code f)
 status_at (fault.Lost number why system) = 6
+status_at (fault.Astray number why) = 6
 status_at (fault.Misfit why) = 4
 status_at (fault.Store f) = unheld_status f
 status_at (fault.StoreLost f) = 6

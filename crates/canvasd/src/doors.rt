@@ -2,7 +2,7 @@
 
 use crate::addresses::{Address, address_of};
 use crate::fault::{Deed, Fault, Place, refused};
-use canvas_server::Door;
+use canvas_doors::Door;
 use std::alloc::Global;
 use std::io::ErrorKind;
 use std::net::{Net, TcpListener, TcpStream};

@@ -1,8 +1,8 @@
 //! What happens at the doors, as lines on standard error.
 
 use canvas_code::Coded;
+use canvas_doors::{Events, Parting, Witness};
 use canvas_record::Edit;
-use canvas_server::{Events, Parting, Witness};
 use canvas_status::{Counts, Verb};
 use canvas_wire::Request;
 use log::{Log, debug, warn};
@@ -16,8 +16,8 @@ pub struct DoorLog<'a, H: Clock, K: Log> {
     log: &'a K,
     counts: &'a Counts,
     begun: Instant,
-    // From which second on a full house is told again.
-    next_full: AtomicU64,
+    // From which second on it is told again that a connection was turned away or missed.
+    next_told: AtomicU64,
 }
 
 impl<'a, H: Clock, K: Log> DoorLog<'a, H, K> {
@@ -28,20 +28,20 @@ impl<'a, H: Clock, K: Log> DoorLog<'a, H, K> {
             log,
             counts,
             begun,
-            next_full: AtomicU64::new(0),
+            next_told: AtomicU64::new(0),
         }
     }
 
-    // Whether a full house is to be told now: at most once a second.
+    // Whether that is to be told now: at most once a second.
     fn is_time(&self) -> bool {
         let Ok(passed) = self.begun.elapsed(self.rt) else {
             return false;
         };
         let now = passed.as_secs();
-        let next = self.next_full.load(Ordering::SeqCst);
+        let next = self.next_told.load(Ordering::SeqCst);
         next <= now
             && self
-                .next_full
+                .next_told
                 .compare_exchange(
                     next,
                     now.saturating_add(1),
@@ -68,6 +68,13 @@ impl<'a, H: Clock, K: Log> Events for DoorLog<'a, H, K> {
         self.counts.refuse_connection();
         if self.is_time() {
             warn!(*self.log; "all seats are taken: a connection was turned away");
+        }
+    }
+
+    fn was_missed(&self) {
+        self.counts.miss_connection();
+        if self.is_time() {
+            warn!(*self.log; "no connection could be accepted, for want of memory or files: it is tried again");
         }
     }
 
@@ -113,8 +120,9 @@ fn verb_of_edit(edit: &Edit) -> Verb {
 fn parting_name(parting: &Parting) -> &'static str {
     match parting {
         Parting::Finished => "its input has ended",
-        Parting::Http => "it spoke HTTP",
+        Parting::Foreign => "it was no session, as HTTP or TLS",
         Parting::Idle => "it was idle",
+        Parting::Slow => "it took too long for a line",
         Parting::Cut(cause) => cause.name(),
         Parting::Unsent => "not all replies could be sent",
     }

@@ -71,6 +71,15 @@ pub enum Misfit {
     Unknown,
 }
 
+/// Why the name of a journal does not lead to the file that is served.
+#[derive(Clone, Copy, Debug, Drop)]
+pub enum Astray {
+    /// It leads to another file.
+    Other,
+    /// It leads nowhere that can be looked at.
+    Gone(io::Error),
+}
+
 /// What a leader has that is not what its follower has.
 #[derive(Clone, Copy, Debug, Drop, PartialEq, Eq)]
 pub enum Strange {
@@ -135,6 +144,11 @@ pub enum Fault {
         fault: KeepFault,
         system: i32,
     },
+    /// The name of a generation's journal does not lead to the file any more that is served.
+    Astray {
+        number: u32,
+        astray: Astray,
+    },
     /// The folder is not served with a store, or without one.
     Misfit(Misfit),
     /// The document is not held at its store.
@@ -170,6 +184,7 @@ impl Fault {
             Fault::NoNumber => 4,
             Fault::Server(fault) => exit_status(fault.code()),
             Fault::Lost { .. } => 6,
+            Fault::Astray { .. } => 6,
             Fault::Misfit(_) => 4,
             Fault::Store(fault) => unheld_status(fault),
             Fault::StoreLost(_) => 6,

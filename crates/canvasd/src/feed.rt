@@ -1,6 +1,6 @@
 //! The feed of a generation, as its threads share it.
 
-ghost use Rattle.std.specs.Prelude.{◌<◌, IfSome};
+ghost use Rattle.canvasd.specs.Feed.{IsBeyond};
 
 use crate::fault::{Deed, Fault, Place, refused};
 use crate::folder::path_in;
@@ -10,6 +10,7 @@ use std::fs::{File, OpenOptions};
 use std::os::unix::fs::FileExt;
 use std::rt::Files;
 use std::sync::{Condvar, Mutex, Wait};
+use std::time::{Clock, Duration};
 use std::{fs, io};
 
 /// The name of the file of a feed, which has none once it is open.
@@ -27,6 +28,17 @@ pub struct Reach {
     pub end: u64,
 }
 
+/// What a follower is sent next.
+#[derive(Clone, Copy, Debug, Drop)]
+pub enum More {
+    /// All up to here.
+    Next(Reach),
+    /// Nothing yet.
+    Nothing,
+    /// Nothing: no more is told.
+    Over,
+}
+
 // What was told so far.
 #[derive(Drop)]
 struct Told {
@@ -35,17 +47,18 @@ struct Told {
 }
 
 impl Told {
-    // How far a follower is sent next that was sent so far; nothing where no more was told.
-    fn reach_beyond(&self, sent: Reach) -> Option<Reach>
-        ensures { IfSome result (λ next. sent.end < next.end) }
+    // What a follower is sent next that was sent so far.
+    fn more_beyond(&self, sent: Reach) -> More
+        ensures { IsBeyond sent result }
     {
         let version = sent
             .version
             .saturating_add(STRIDE)
             .min(self.index.version());
         match self.index.place_behind(version) {
-            Some(end) if sent.end < end => Some(Reach { version, end }),
-            _ => None,
+            Some(end) if sent.end < end => More::Next(Reach { version, end }),
+            _ if self.has_ended => More::Over,
+            _ => More::Nothing,
         }
     }
 }
@@ -124,22 +137,17 @@ impl Feed {
         unreachable!()
     }
 
-    /// Waits until more was told than a follower was sent, and says how far it is sent next. `None`
-    /// where no more is told.
-    pub fn reach_beyond<H: Wait>(&self, rt: &H, sent: Reach) -> Option<Reach>
-        ensures { IfSome result (λ next. sent.end < next.end) }
+    /// Waits for a while until more was told than a follower was sent, and says what it is sent next.
+    pub fn wait_beyond<H: Wait + Clock>(&self, rt: &H, sent: Reach, patience: Duration) -> More
+        ensures { IsBeyond sent result }
     {
-        let mut told = self.told.lock(rt);
-        for _ in rt.forever() {
-            if let Some(next) = told.reach_beyond(sent) {
-                return Some(next);
-            }
-            if told.has_ended {
-                return None;
-            }
-            told = self.word.wait(rt, told);
+        let told = self.told.lock(rt);
+        match told.more_beyond(sent) {
+            More::Nothing => {}
+            more => return more,
         }
-        unreachable!()
+        let (told, _) = self.word.wait_timeout(rt, told, patience);
+        told.more_beyond(sent)
     }
 }
 

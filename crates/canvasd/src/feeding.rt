@@ -7,12 +7,13 @@ use crate::feed::Feed;
 use crate::following::{Parted, Progress, follow, refuse};
 use crate::gate::Kept;
 use crate::scribing::keep_feed;
-use canvas_board::Board;
-use canvas_feed::{Refusal, Scribe};
-use canvas_server::{
-    Call, Door, DoorSettings, Ended, Ending, Events, NoEntry, ServerFault, Settles, Settling,
-    Stream, close_doors, next_stream, serve_boards_at, settle_counted,
+use canvas_doors::{
+    Arrival, Call, Door, Ending, Events, NoEntry, Settles, Settling, Stream, close_doors,
+    next_stream, settle_counted,
 };
+use canvas_feed::{Refusal, Scribe};
+use canvas_look::Board;
+use canvas_server::{DoorSettings, Ended, ServerFault, serve_boards_at};
 use canvas_status::{Counts, MOST_FOLLOWERS};
 use log::{Log, debug, error};
 use std::alloc::Global;
@@ -175,10 +176,11 @@ fn keep_door<'s, 'e: 's, G: Kept + Sync, K: Log + Sync, H: Threads + Wait + Cloc
     requires { IsSync H.row × IsSync G.row × IsSync K.row }
 {
     for _ in rt.forever() {
-        let Some(stream) = next_stream(rt, door, hall.ending) else {
-            break;
-        };
-        admit(rt, scope, hall, stream);
+        match next_stream(rt, door, hall.ending) {
+            Arrival::Over => break,
+            Arrival::Missed => hall.counts.miss_connection(),
+            Arrival::Came(stream, _) => admit(rt, scope, hall, stream),
+        }
     }
     if !hall.ending.has_begun() {
         error!(*hall.log; "a door of the feed accepts no connection any more");
@@ -257,7 +259,7 @@ fn serve_follower<G: Kept, K: Log, H: Wait + Clock>(
     let why = parted.name();
     debug!(*hall.log; "the follower at place {place} has ended: {why}");
     hall.ending.leave(rt, place);
-    let is_told = hall.ending.has_begun() || matches!(parted, Parted::Http | Parted::Refused);
+    let is_told = hall.ending.has_begun() || matches!(parted, Parted::Foreign | Parted::Refused);
     if is_told && hall.settling.lock(rt).begin() {
         settle_counted(rt, hall.settling, stream);
     }

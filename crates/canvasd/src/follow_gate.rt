@@ -1,9 +1,9 @@
 //! The gate of a line that follows: what its own journal keeps, and which sessions are lost.
 
 use crate::gate::{Gate, Kept};
+use canvas_doors::{Events, Parting, Settles, Witness};
 use canvas_journal::Device;
 use canvas_line::Lines;
-use canvas_server::{Events, Parting, Settles, Witness};
 use canvas_wire::Request;
 use log::{Log, warn};
 use std::alloc::{AllocError, Global};
@@ -123,6 +123,10 @@ impl<E: Events, K: Log> Events for FollowEvents<'_, E, K> {
 
     fn was_full(&self) {
         self.events.was_full();
+    }
+
+    fn was_missed(&self) {
+        self.events.was_missed();
     }
 
     fn sent(&self, bytes: usize) {

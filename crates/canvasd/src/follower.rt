@@ -12,14 +12,14 @@ use crate::lanes::Lanes;
 use crate::recent::Own;
 use crate::serving::MOST_EDITS;
 use crate::yard::Yard;
-use canvas_board::{Board, Gallery, LastExport};
+use canvas_board::{Gallery, LastExport};
+use canvas_doors::{Door, Ending, Events, Settles};
 use canvas_feed::Scribe;
 use canvas_follow::{Course, Relayed, Turns};
 use canvas_journal::Device;
 use canvas_line::{Lines, Seat};
-use canvas_server::{
-    Counted, Door, DoorSettings, Ended, Ending, Events, ServerFault, Settles, serve_boards_at,
-};
+use canvas_look::Board;
+use canvas_server::{Counted, DoorSettings, Ended, ServerFault, serve_boards_at};
 use log::Log;
 use std::alloc::Global;
 use std::net::{Net, TcpListener, TcpStream};

@@ -2,16 +2,15 @@
 ghost use Rattle.std.specs.Prelude.{◌≡◌, ◌<◌, IfSome};
 
 use crate::feeding::{Fed, serve_fed};
-use crate::guard::{Loses, start_guard};
-use crate::store::Link;
+use crate::guard::{Ground, Loses, start_guard};
+use crate::names::Names;
 use crate::watch::{Standing, Watch, Watched, start_watch};
+use canvas_doors::{Door, Ending, Events, Settles};
 use canvas_feed::Scribe;
 use canvas_journal::Device;
 use canvas_keep::{Keep, Keeper};
 use canvas_line::{LineFault, Lines, Seat};
-use canvas_server::{
-    Door, DoorSettings, Ended, Ending, Events, ServerFault, Settles, boards_of, serve_doors,
-};
+use canvas_server::{DoorSettings, Ended, ServerFault, boards_of, serve_doors};
 use canvas_status::Counts;
 use log::Log;
 use std::alloc::Global;
@@ -30,7 +29,7 @@ pub struct Gate<D: Device, B: Lines> {
     limit: u64,
     // Whether so many are kept, or the journal is lost. Each reply asks for it.
     is_over: AtomicBool,
-    // Whether the store is lost. Nobody is answered then.
+    // Whether what keeps the line is lost. Nobody is answered then.
     is_lost: AtomicBool,
 }
 
@@ -60,10 +59,11 @@ impl<D: Device + Drop, B: Lines> Settles for Gate<D, B> {
     ghost settled = { λ _ _. Unit {0} };
 
     fn settle<R: Wait>(&self, rt: &R, _put_in: u64) -> io::Result<()> {
+        let kept = self.keep.settle(rt);
         if self.is_lost.load(Ordering::SeqCst) {
-            return Err(io::Error::other("the store is lost"));
+            return Err(io::Error::other("nothing is kept any more"));
         }
-        match self.keep.settle(rt) {
+        match kept {
             Ok(kept) if kept < self.limit => Ok(()),
             Ok(_) => {
                 self.is_over.store(true, Ordering::SeqCst);
@@ -145,22 +145,22 @@ pub fn watch_gate<
     start_watch(rt, scope, watch, gate, number, counts)
 }
 
-/// Starts the guard of a gate whose document a store keeps, in a thread of its own.
+/// Starts the guard of a gate, in a thread of its own, and says whether that could be.
 pub fn guard_gate<
     's,
     'e: 's,
     D: Device + Drop + Send,
     L: Lines + Send + Sync,
-    H: Threads + Wait + Clock + Sync,
+    H: Names + Threads + Wait + Clock + Sync,
 >(
     rt: &'e H,
     scope: &'s Scope<'s, &'e ()>,
     watch: &'e Watch,
     gate: &'e Gate<D, L>,
-    link: &'e Link,
+    ground: &'e Ground<'e>,
     doors: &'e [Door],
-) {
-    start_guard(rt, scope, watch, gate, link, doors)
+) -> bool {
+    start_guard(rt, scope, watch, gate, ground, doors)
 }
 
 /// Serves the line of a gate at doors.

@@ -10,8 +10,7 @@ use crate::seats::{line_fault, saved_at, take_seat};
 use crate::serving::{MOST_EDITS, NAME, opening_document};
 use canvas_doc::Document;
 use canvas_folder::{JOURNAL, State, state_of};
-use canvas_journal::recover;
-use canvas_journal_file::{Asked, Memory};
+use canvas_journal::read_lines;
 use canvas_keep::replay;
 use canvas_line::{Line, Lines, Opened, Seat};
 use std::alloc::Global;
@@ -81,11 +80,7 @@ fn lines_of<H: Files<File = File>>(
         Err(error) => return Err(refused(place, Deed::Read, error)),
     };
     let bytes = read_all(alloc, &mut file, place)?;
-    let mut device = Asked::new(Memory, bytes);
-    match recover(alloc, &mut device) {
-        Ok(lines) => Ok(lines.lines),
-        Err(_) => Err(Fault::Memory),
-    }
+    Ok(read_lines(alloc, &bytes)?.lines)
 }
 
 // The saved document after the edits of lines.

@@ -2,8 +2,8 @@
 
 use crate::addresses::{Address, address_of};
 use crate::leader::Away;
+use canvas_doors::Stream;
 use canvas_follow::{Handed, Leader, Outcome, read_outcome};
-use canvas_server::Stream;
 use log::{Log, info, warn};
 use std::alloc::Global;
 use std::io;

@@ -1,7 +1,7 @@
 //! The feed of a leader, as a follower reads it.
 
 use crate::lanes::connect_to;
-use canvas_server::Stream;
+use canvas_doors::Stream;
 use std::alloc::{AllocError, Global};
 use std::io::{ErrorKind, Read, Write};
 use std::net::{Net, TcpListener, TcpStream};

@@ -1,6 +1,6 @@
 //! What the program says of a fault.
 
-use crate::fault::{Deed, Fault, Place, Strange};
+use crate::fault::{Astray, Deed, Fault, Place, Strange};
 use crate::store_words::{write_lost, write_misfit, write_unheld};
 use crate::words::Order;
 use canvas_code::{Coded, name_of};
@@ -158,6 +158,20 @@ impl<'a> Told<'a> {
             _ => write!(f, " can't be written: {fault}"),
         }
     }
+
+    // Writes where a journal's name leads in place of the file that was served.
+    fn write_astray<W: Write>(
+        &self,
+        number: u32,
+        astray: Astray,
+        f: &mut Formatter<W>,
+    ) -> fmt::Result {
+        self.write_place(Place::Journal(number), f)?;
+        match astray {
+            Astray::Other => f.write_str(" is another file than the one that was served"),
+            Astray::Gone(error) => write!(f, " that was served is not there any more: {error}"),
+        }
+    }
 }
 
 // Writes which address it is.
@@ -207,6 +221,7 @@ impl Display for Told<'_> {
                 fault,
                 system,
             } => self.write_lost(number, fault, system, f),
+            Fault::Astray { number, astray } => self.write_astray(number, astray, f),
             Fault::Misfit(why) => write_misfit(folder, self.store, why, f),
             Fault::Store(fault) => write_unheld(self.store, &fault, f),
             Fault::StoreLost(fault) => write_lost(self.store, &fault, f),

@@ -1,7 +1,7 @@
 //! Saved documents: from the text of a file, and to a text.
 ghost use Rattle.std.specs.Prelude.{◌≡◌, ◌≤◌, IfOk, IfSome, Ok, length};
 ghost use Rattle.canvas_saved.specs.Opened.{opened};
-ghost use Rattle.canvas_saved.specs.Saved.{saved_text_of};
+ghost use Rattle.canvas_json.specs.Saved.{saved_text_of};
 
 use crate::fault::{Deed, Fault, Place, refused};
 use canvas_code::Coded;

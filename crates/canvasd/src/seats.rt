@@ -1,7 +1,7 @@
 //! The seats of a line.
 ghost use Rattle.std.specs.Prelude.{◌≡◌, All, IfOk, IfSome};
 ghost use Rattle.canvas_record.specs.History.{replay_of};
-ghost use Rattle.canvas_saved.specs.Saved.{saved_text_of};
+ghost use Rattle.canvas_json.specs.Saved.{saved_text_of};
 ghost use Rattle.canvasd.specs.Seats.{IsUnused};
 
 use crate::fault::Fault;

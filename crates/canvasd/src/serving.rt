@@ -1,8 +1,6 @@
 //! Serving the document of a folder.
 ghost use denote.Param.Send.{IsSend, IsSync};
 ghost use Rattle.std.specs.Prelude.{◌≡◌};
-ghost use Rattle.canvas_journal.specs.Device.{Only};
-ghost use Rattle.canvas_journal_file.specs.Calls.{may_leave, seen_of};
 
 use crate::doors::{bind_all, tell_doors, tell_status_doors};
 use crate::events::DoorLog;
@@ -13,8 +11,11 @@ use crate::folder::{hold, look, path_in};
 use crate::follow_begin::{first_followed, judge_addresses, next_followed};
 use crate::follower::{Follows, serve_followed};
 use crate::gate::{Gate, Kept, guard_gate, serve_behind, serve_behind_fed, watch_gate};
+use crate::guard::Ground;
+use crate::holding::HeldJournal;
 use crate::journal::{JournalFile, Reason, open_journal};
 use crate::maker::begin;
+use crate::names::Names;
 use crate::opening::{read_document, saved};
 use crate::recent::Own;
 use crate::scribing::open_to_read;
@@ -25,13 +26,14 @@ use crate::stored::first_held;
 use crate::watch::Watch;
 use crate::words::{Service, VERSION};
 use canvas_doc::Document;
+use canvas_doors::{Door, Events, Settles};
 use canvas_feed::Scribe;
-use canvas_folder::{OPENING, State, next_number, state_of};
+use canvas_folder::{OPENING, State, state_of};
 use canvas_journal::DeviceError;
 use canvas_journal_file::Asked;
 use canvas_keep::{KeepFault, OpenFault, open};
 use canvas_line::{Line, LineFault, Lines, Opened, Seat};
-use canvas_server::{Door, DoorSettings, Ended, Events, ServerFault, Settles};
+use canvas_server::{DoorSettings, Ended, ServerFault};
 use canvas_status::Counts;
 use log::{Log, info};
 use std::alloc::Global;
@@ -48,6 +50,7 @@ use std::time::{Clock, Instant};
 /// Serves the document of a folder, generation after generation, until that can't be done any more.
 pub fn serve<
     H: Files<File = File>
+        + Names
         + Alloc
         + Print
         + Threads
@@ -64,9 +67,9 @@ pub fn serve<
         judge_addresses(following)?;
     }
     let _held = hold(rt, alloc, service.folder)?;
-    let link = link_of(rt, service)?;
+    let mut link = link_of(rt, service)?;
     let first = match &service.following {
-        None => first_of(rt, log, alloc, service, &link)?,
+        None => first_of(rt, log, alloc, service, &mut link)?,
         Some(following) => first_followed(rt, log, alloc, service, following)?,
     };
     let doors = bind_all(rt, alloc, &service.addresses, Place::Address)?;
@@ -79,12 +82,14 @@ pub fn serve<
         begun: now(rt)?,
         has_ended: AtomicBool::new(false),
     };
+    let held = HeldJournal::none();
     let house = House {
         service,
         doors: &doors,
         status_doors: &status_doors,
         counts: &counts,
         link: link.as_ref(),
+        held: &held,
     };
     serve_told(rt, log, alloc, &house, &desk, first)
 }
@@ -92,6 +97,7 @@ pub fn serve<
 // Serves generation after generation, and tells those meanwhile who ask how that goes.
 fn serve_told<
     H: Files<File = File>
+        + Names
         + Alloc
         + Print
         + Threads
@@ -133,11 +139,13 @@ struct House<'a> {
     status_doors: &'a [Door],
     counts: &'a Counts,
     link: Option<&'a Link>,
+    held: &'a HeldJournal,
 }
 
 // Serves generation after generation.
 fn serve_generations<
     H: Files<File = File>
+        + Names
         + Alloc
         + Print
         + Threads
@@ -173,12 +181,12 @@ fn link_of<H: Net>(rt: &H, service: &Service<'_>) -> Result<Option<Link>, Fault>
 }
 
 // The generation that is served first, of a document that a store keeps or of the folder.
-fn first_of<H: Files<File = File> + Alloc + Wait + Clone + Drop, K: Log>(
+fn first_of<H: Files<File = File> + Alloc + Wait + Clock + Net + Clone + Drop, K: Log>(
     rt: &H,
     log: &K,
     alloc: Global,
     service: &Service<'_>,
-    link: &Option<Link>,
+    link: &mut Option<Link>,
 ) -> Result<u32, Fault> {
     match (service.store, link) {
         (Some(address), Some(link)) => first_held(rt, log, alloc, service, address, link),
@@ -268,6 +276,7 @@ pub const MOST_EDITS: u64 = 1_000_000;
 struct Run<'a> {
     house: &'a House<'a>,
     number: u32,
+    ground: Ground<'a>,
     reason: Reason,
     begun: Instant,
     // Whether the doors are told once the journal is open.
@@ -278,6 +287,7 @@ struct Run<'a> {
 // next one begins.
 fn serve_generation<
     H: Files<File = File>
+        + Names
         + Print
         + Threads
         + Wait
@@ -296,22 +306,29 @@ fn serve_generation<
     let begun = now(rt)?;
     let service = house.service;
     let document = opening_document(rt, alloc, service.folder, number)?;
-    let run = Run {
-        house,
-        number,
-        reason: Reason::none(alloc)?,
-        begun,
-        is_first,
-    };
+    let reason = Reason::none(alloc)?;
     let (device, lines) = open_journal(
         rt,
         alloc,
         service.folder,
         number,
-        &run.reason,
+        &reason,
         house.counts,
+        house.held,
         house.link,
     )?;
+    let run = Run {
+        house,
+        number,
+        ground: Ground {
+            number,
+            held: house.held,
+            link: house.link,
+        },
+        reason,
+        begun,
+        is_first,
+    };
     // A journal that was written under a higher limit is read all the same.
     let limit = service.limit.max(lines).min(MOST_EDITS);
     serve_line::<Brand, H, K>(rt, log, alloc, Opened::new(), document, limit, device, &run)
@@ -328,6 +345,7 @@ fn now<H: Clock>(rt: &H) -> Result<Instant, Fault> {
 fn serve_line<
     L: Lines + Send + Sync,
     H: Files<File = File>
+        + Names
         + Print
         + Threads
         + Wait
@@ -345,9 +363,8 @@ fn serve_line<
     device: Asked<JournalFile<'_, H>>,
     run: &Run<'_>,
 ) -> Result<Vec<u8>, Fault>
-    requires line { L.line 1
+    requires { L.line 1
         ≡ record { book = opened.head.word.book; opening = document; limit = limit } }
-    requires durable { Only (seen_of device) (may_leave device) }
 {
     // One for the keeper, one that looks, and one by which a follower makes what it is told.
     let own = if run.house.service.following.is_some() {
@@ -378,10 +395,12 @@ fn serve_line<
     serve_gate(rt, log, alloc, seats, &gate, run)?;
     let next = newest_text(rt, alloc, &gate, run)?;
     let Gate { keep, .. } = gate;
-    match keep.close(rt) {
-        Ok(_) => Ok(next),
-        Err(fault) => Err(run.lost(rt, fault)),
+    if let Err(fault) = keep.close(rt) {
+        return Err(run.lost(rt, fault));
     }
+    // Where the folder is another one now, nothing is made in it.
+    run.ground.ensure_there(rt)?;
+    Ok(next)
 }
 
 // Says what was recovered.
@@ -399,6 +418,7 @@ fn tell_recovery<H: Clock, K: Log>(rt: &H, log: &K, kept: u64, run: &Run<'_>) {
 fn serve_gate<
     L: Lines + Send + Sync,
     H: Files<File = File>
+        + Names
         + Print
         + Threads
         + Wait
@@ -418,9 +438,10 @@ fn serve_gate<
         service,
         doors,
         status_doors,
-        link,
         ..
     } = *run.house;
+    // Something may have been lost while the journal was read.
+    run.ground.begin(rt)?;
     if run.is_first {
         tell_doors(rt, doors, &service.addresses, service.sessions)?;
         tell_status_doors(rt, status_doors, &service.status)?;
@@ -431,16 +452,14 @@ fn serve_gate<
         }
         return Ok(());
     }
-    match link {
-        Some(link) => serve_guarded(rt, log, alloc, seats, gate, run, link),
-        None => serve_with_status(rt, log, alloc, seats, gate, run),
-    }
+    serve_guarded(rt, log, alloc, seats, gate, run)
 }
 
-// Serves the line until it has all its edits, or until the store is lost that keeps them.
+// Serves the line until it has all its edits, or until what keeps them is lost.
 fn serve_guarded<
     L: Lines + Send + Sync,
     H: Files<File = File>
+        + Names
         + Print
         + Threads
         + Wait
@@ -455,9 +474,9 @@ fn serve_guarded<
     seats: Vec<Seat<L>>,
     gate: &Gate<Asked<JournalFile<'_, H>>, L>,
     run: &Run<'_>,
-    link: &Link,
 ) -> Result<(), Fault> {
     let doors = run.house.doors;
+    let ground = &run.ground;
     let watch = Watch::new();
     let watch = &watch;
     thread::scope(
@@ -466,8 +485,11 @@ fn serve_guarded<
         |scope|
             requires { IsSync H.row × IsSend L.row × IsSync L.row × IsSync K.row }
         {
-            guard_gate(rt, scope, watch, gate, link, doors);
-            let ended = serve_with_status(rt, log, alloc, seats, gate, run);
+            let ended = if guard_gate(rt, scope, watch, gate, ground, doors) {
+                serve_with_status(rt, log, alloc, seats, gate, run)
+            } else {
+                Err(Fault::Memory)
+            };
             watch.end(rt);
             ended
         },
@@ -478,6 +500,7 @@ fn serve_guarded<
 fn serve_with_status<
     L: Lines + Send + Sync,
     H: Files<File = File>
+        + Names
         + Print
         + Threads
         + Wait
@@ -503,6 +526,7 @@ fn serve_with_status<
 fn serve_watched<
     L: Lines + Send + Sync,
     H: Files<File = File>
+        + Names
         + Print
         + Threads
         + Wait
@@ -539,6 +563,7 @@ fn serve_watched<
 fn serve_at_doors<
     L: Lines + Send + Sync,
     H: Files<File = File>
+        + Names
         + Print
         + Threads
         + Wait
@@ -564,6 +589,8 @@ fn serve_at_doors<
         keep: service.keep,
         workers: service.workers,
         idle: service.idle,
+        share: service.share,
+        gateways: service.gateways,
     };
     let events = DoorLog::new(rt, log, counts, run.begun);
     let (doors, feeds) = doors.split_at(service.sessions.min(doors.len()));
@@ -605,6 +632,7 @@ fn serve_sessions<
     L: Lines + Send + Sync,
     E: Events + Sync,
     H: Files<File = File>
+        + Names
         + Print
         + Threads
         + Wait
@@ -652,22 +680,21 @@ fn ended<H: Wait>(
     fault: Option<KeepFault>,
     run: &Run<'_>,
 ) -> Result<(), Fault> {
+    // The guard ends sessions and shuts the doors.
+    if let Some(fault) = run.ground.fault(rt) {
+        return Err(fault);
+    }
     match end {
         Ok(Ended::Asked) => Ok(()),
         Ok(Ended::Unsettled) => {
             Err(run.lost(rt, fault.unwrap_or(KeepFault::Line(LineFault::NoView))))
         }
-        // The guard shuts the doors.
-        Err(ServerFault::AcceptFault) => match run.house.link.and_then(|link| link.fault(rt)) {
-            Some(fault) => Err(Fault::StoreLost(fault)),
-            None => Err(Fault::Server(ServerFault::AcceptFault)),
-        },
         Err(fault) => Err(Fault::Server(fault)),
     }
 }
 
 // The text of the newest version, with which the next generation begins.
-fn newest_text<L: Lines, H: Wait + Clock>(
+fn newest_text<L: Lines, H: Names + Wait + Clock>(
     rt: &H,
     alloc: Global,
     gate: &Gate<Asked<JournalFile<'_, H>>, L>,
@@ -683,12 +710,10 @@ fn newest_text<L: Lines, H: Wait + Clock>(
 }
 
 impl Run<'_> {
-    // The journal is lost, or the store that keeps it.
+    // The journal is lost, or what it stands on.
     fn lost<H: Wait>(&self, rt: &H, fault: KeepFault) -> Fault {
-        if let Some(link) = self.house.link
-            && let Some(fault) = link.fault(rt)
-        {
-            return Fault::StoreLost(fault);
+        if let Some(fault) = self.ground.fault(rt) {
+            return fault;
         }
         Fault::Lost {
             number: self.number,

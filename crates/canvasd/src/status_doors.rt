@@ -3,7 +3,7 @@ ghost use denote.Param.Send.{IsSync};
 ghost use Rattle.std.specs.Prelude.{◌≤◌, ◌+◌, IfOk};
 
 use crate::words::VERSION;
-use canvas_server::{Accepts, Door, Stream, settle};
+use canvas_doors::{Accepts, Door, Stream, is_passing, settle};
 use canvas_status::{Counts, Head, MOST_BYTES, Report, answer_of, read_head};
 use std::alloc::Global;
 use std::io::{ErrorKind, Read, Write};
@@ -18,7 +18,7 @@ use std::{io, thread};
 const THREADS: usize = 16;
 
 /// How many seconds a connection has to say what it asks, and to take the answer.
-const PATIENCE: u64 = 10;
+const PATIENCE: u64 = 2;
 
 /// For how many milliseconds a read waits before it is seen whether the program ends.
 const GLANCE: u64 = 500;
@@ -103,8 +103,13 @@ fn keep_door<H: Wait + Clock>(rt: &H, desk: &Desk<'_>, door: &Door) {
             return;
         }
         match accepted {
-            Ok(stream) => answer_visit(rt, desk, &stream),
-            Err(_) => thread::sleep(rt, Duration::from_millis(PAUSE)),
+            Ok((stream, _)) => answer_visit(rt, desk, &stream),
+            Err(error) => {
+                if is_passing(&error) {
+                    desk.counts.miss_connection();
+                }
+                thread::sleep(rt, Duration::from_millis(PAUSE));
+            }
         }
     }
 }

@@ -11,23 +11,25 @@ use crate::store::Link;
 use crate::words::Service;
 use canvas_folder::{JOURNAL, STORE, State, state_of};
 use canvas_store::{Held, StoreFault, name_of};
-use log::{Log, info};
+use log::{Log, info, warn};
 use std::alloc::{AllocError, Global};
 use std::fs;
 use std::fs::{File, OpenOptions};
 use std::io::{ErrorKind, Write};
+use std::net::Net;
 use std::rt::Files;
 use std::sync::Wait;
+use std::time::Clock;
 
 /// The generation that is served first of a document that a store keeps. Its folder has what is
 /// kept of it then, and a file that names the store.
-pub fn first_held<H: Files<File = File> + Alloc + Wait + Clone + Drop, K: Log>(
+pub fn first_held<H: Files<File = File> + Alloc + Wait + Clock + Net + Clone + Drop, K: Log>(
     rt: &H,
     log: &K,
     alloc: Global,
     service: &Service<'_>,
     address: &str,
-    link: &Link,
+    link: &mut Link,
 ) -> Result<u32, Fault> {
     let Some(name) = name_of(service.folder) else {
         return Err(Fault::Misfit(Misfit::NoName));
@@ -37,6 +39,9 @@ pub fn first_held<H: Files<File = File> + Alloc + Wait + Clone + Drop, K: Log>(
     check_mark(rt, alloc, service.folder, &found, &mark)?;
     let held = link.hold(alloc, name)?;
     info!(*log; "{address} keeps {name}: lease {}, generation {}", held.epoch, held.generation);
+    if !link.follow_lease(rt, alloc, address, name, held.epoch)? {
+        warn!(*log; "{address} does not say how long a lease lasts: where it stands still, looks are answered that may be old");
+    }
     if found.generations.is_empty() {
         write_mark(rt, alloc, service.folder, &mark)?;
     }

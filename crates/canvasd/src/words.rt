@@ -10,6 +10,9 @@ pub const VERSION: &str = "0.5.0";
 /// The address where none is named.
 pub const DEFAULT_ADDRESS: &str = "127.0.0.1:7878";
 
+/// The most sessions at once.
+const MOST_SEATS: u32 = 62;
+
 /// What the program is asked for.
 #[derive(Drop)]
 pub enum Order<'a> {
@@ -39,7 +42,8 @@ pub struct Following<'a> {
 #[derive(Drop)]
 pub struct Service<'a> {
     pub folder: &'a str,
-    /// Where connections come: first sessions, and then followers of the feed.
+    /// Where connections come: first sessions, of which gateways' are the last ones, and then followers
+    /// of the feed.
     pub addresses: Vec<&'a str>,
     /// At how many of them sessions come, one at least.
     pub sessions: usize,
@@ -51,8 +55,12 @@ pub struct Service<'a> {
     pub store: Option<&'a str>,
     /// Whom it follows, if it follows anybody.
     pub following: Option<Following<'a>>,
+    /// At how many of these addresses, the last ones, gateways come.
+    pub gateways: usize,
     /// How many sessions may be at once.
     pub seats: u32,
+    /// How many of them one address of another machine may have.
+    pub share: u32,
     /// How many edits a generation takes.
     pub limit: u64,
     /// How many pictures are kept for each seat; all seats share them.
@@ -90,10 +98,15 @@ fn service_of<'a>(alloc: Global, matches: &ArgMatches<'a>) -> Result<Service<'a>
     if addresses.is_empty() {
         addresses.push(DEFAULT_ADDRESS)?;
     }
+    let open = addresses.len();
+    for address in matches.get_strs("gateway").unwrap_or(&[]) {
+        addresses.push(*address)?;
+    }
     let sessions = addresses.len();
     for address in matches.get_strs("feed").unwrap_or(&[]) {
         addresses.push(*address)?;
     }
+    let seats = matches.get_one::<u32>("seats").unwrap_or(MOST_SEATS);
     Ok(Service {
         folder: matches.get_str("folder").unwrap_or(""),
         addresses,
@@ -102,7 +115,9 @@ fn service_of<'a>(alloc: Global, matches: &ArgMatches<'a>) -> Result<Service<'a>
         opening: matches.get_str("open"),
         store: matches.get_str("store"),
         following: None,
-        seats: matches.get_one::<u32>("seats").unwrap_or(62),
+        gateways: sessions.saturating_sub(open),
+        seats,
+        share: share_of(matches, seats),
         limit: matches.get_one::<u64>("limit").unwrap_or(1_000_000),
         keep: matches.get_one::<u32>("keep").unwrap_or(8),
         workers: matches.get_one::<u32>("workers").unwrap_or(2),
@@ -120,8 +135,16 @@ fn follower_of<'a>(alloc: Global, matches: &ArgMatches<'a>) -> Result<Service<'a
         feed: matches.get_str("source").unwrap_or(""),
         leader: matches.get_str("leader"),
     });
-    service.seats = matches.get_one::<u32>("seats").unwrap_or(61);
+    service.seats = matches.get_one::<u32>("seats").unwrap_or(MOST_SEATS - 1);
+    service.share = share_of(matches, service.seats);
     Ok(service)
+}
+
+// How many of so many seats one address of another machine may have: half where no number is named.
+fn share_of(matches: &ArgMatches<'_>, seats: u32) -> u32 {
+    matches
+        .get_one::<u32>("share")
+        .unwrap_or((seats / 2).max(1))
 }
 
 // The addresses that an option names.
@@ -250,6 +273,13 @@ fn with_options<'a>(alloc: Global, command: Command<'a>) -> Result<Command<'a>, 
         .value_name("ADDRESS")
         .action(ArgAction::Append)
         .help("HOST:PORT or unix:PATH, once for each [default: 127.0.0.1:7878]");
+    let gateway = Arg::new(alloc, "gateway")
+        .long("gateway")
+        .value_name("ADDRESS")
+        .action(ArgAction::Append)
+        .help(
+            "HOST:PORT or unix:PATH, once for each: as --listen, for a gateway, to which some seats are left",
+        );
     let feed = Arg::new(alloc, "feed")
         .long("feed")
         .value_name("ADDRESS")
@@ -265,7 +295,7 @@ fn with_options<'a>(alloc: Global, command: Command<'a>) -> Result<Command<'a>, 
         .value_name("LEVEL")
         .value_parser(LEVELS.as_slice())
         .help("Which lines go to standard error [default: info]");
-    let command = command.arg(listen)?.arg(feed)?.arg(status)?;
+    let command = command.arg(listen)?.arg(gateway)?.arg(feed)?.arg(status)?;
     with_numbers(alloc, command.arg(log)?)
 }
 
@@ -291,7 +321,13 @@ fn with_numbers<'a>(alloc: Global, command: Command<'a>) -> Result<Command<'a>, 
         "Seconds after which an idle session ends; 0 is never [default: 600]",
     )
     .value_parser(value_parser!(u64).range(0..=1_000_000_000));
-    command.arg(workers)?.arg(keep)?.arg(idle)
+    let share = number_word(
+        alloc,
+        "share",
+        "Sessions of one address of another machine, 1 to 62 [default: half of the seats]",
+    )
+    .value_parser(value_parser!(u32).range(1..=62));
+    command.arg(share)?.arg(workers)?.arg(keep)?.arg(idle)
 }
 
 fn number_word<'a>(alloc: Global, name: &'a str, help: &'a str) -> Arg<'a> {

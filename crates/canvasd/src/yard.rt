@@ -3,10 +3,10 @@
 use crate::fault::Fault;
 use crate::follow_gate::FollowGate;
 use crate::leader::Away;
+use canvas_doors::{Call, Ending, Settles};
 use canvas_follow::Turns;
 use canvas_journal::Device;
 use canvas_line::Lines;
-use canvas_server::{Call, Ending, Settles};
 use log::Log;
 use std::alloc::Global;
 use std::sync::atomic::AtomicBool;

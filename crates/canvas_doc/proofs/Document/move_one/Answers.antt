@@ -47,6 +47,10 @@ move_both-requires-clause-to c =
     let to : c.position_without-to.result < length c.self.inside.order.shapes = omega (arith, c.position_without-to.ensures.bound, length-remove c.self.inside.order.shapes c.position_in-from.result within) in
     subst (λ (l : List Record). c.position_without-to.result < length l) (sym c.in_ok-bounds.ensures.shapes) to
 
+pub invariant_of-self : goal.invariant_of-self
+invariant_of-self c =
+    widened-kept (record { records = c.self.inside.records; next = c.self.inside.next }) c.self.inside.order.shapes c.self.inside.order.bounds c.self.invariant c.held_bounds_at.new.order.shapes c.held_bounds_at.new.order.bounds c.in_err-bounds.ensures.shapes c.in_err-bounds.ensures.bounds
+
 pub invariant_of-self-2 : goal.invariant_of-self-2
 invariant_of-self-2 c =
     let d : Contents = record { records = c.self.inside.records; next = c.self.inside.next } in

@@ -39,6 +39,10 @@ replace_both-requires-clause-at c =
     (subst (λ (l : List Record). IsPlaceOf c.in_ok-new.new.place l c.position_in-from.result) (sym c.in_ok-bounds.ensures.shapes)
     (subst (λ (x : Record). IsPlaceOf x.place c.self.inside.order.shapes c.position_in-from.result) c.value.ensures c.position_in-from.ensures))
 
+pub invariant_of-self : goal.invariant_of-self
+invariant_of-self c =
+    widened-kept (record { records = c.self.inside.records; next = c.self.inside.next }) c.self.inside.order.shapes c.self.inside.order.bounds c.self.invariant c.held_bounds_for.new.order.shapes c.held_bounds_for.new.order.bounds c.in_err-bounds.ensures.shapes c.in_err-bounds.ensures.bounds
+
 pub invariant_of-self-2 : goal.invariant_of-self-2
 invariant_of-self-2 c =
     let d : Contents = record { records = c.self.inside.records; next = c.self.inside.next } in

@@ -1,5 +1,7 @@
 use Rattle.std.proofs.Common.{◌≡◌, ◌∙◌, List, ℕ, length, map, ap, sym, subst, arith}
 use Rattle.canvas_journal.specs.Lines.{recovered}
+use Rattle.canvas_journal.specs.Journal.{Renews}
+use Rattle.canvas_journal.specs.Runs.{HasKept}
 use Rattle.canvas_keep.specs.Telling.{Tells}
 use Rattle.canvas_keep.proofs.Stands.{stands_opened, told_from_start, kept_along}
 use Rattle.canvas_keep.proofs.opening.open.Goals as goal
@@ -9,18 +11,25 @@ new-requires g c =
     let same : length c.start_recording.new.self.front ≡ length c.replay.new.seat.front = omega (arith, c.if-number-kept.false, c.number.ensures, c.number-kept.ensures) in
     stands_opened g.D.Device.seen g.D.Device.may_leave g.D.Device.moment g.D.Device.left_since c.in_ok-journal.journal c.args.seat c.replay.new.seat c.start_recording.new.self (map (λ v. v.items) c.as_slice.result.now)
     c.number-kept.result c.args.device c.of-opened.result.value c.of-opened.ensures c.in_ok-journal.ensures.settled c.in_ok-journal.ensures.done.0 c.in_ok-journal.ensures.done.1
-    (ap (map (λ v. v.items)) c.as_slice.ensures.value ∙ c.in_ok-journal.ensures.lines) c.requires.front c.in_ok-replay.ensures.replayed c.in_ok-start_recording.ensures.started same c.number-kept.ensures
+    (ap (map (λ v. v.items)) c.as_slice.ensures.value ∙ c.in_ok-journal.ensures.lines) c.requires c.in_ok-replay.ensures.replayed c.in_ok-start_recording.ensures.started same c.number-kept.ensures
     c.in_ok-journal.ensures.keeps
 
 pub returns-clause-tells : goal.returns-clause-tells
 returns-clause-tells g c =
     let same : length c.start_recording.new.self.front ≡ length c.replay.new.seat.front = omega (arith, c.if-number-kept.false, c.number.ensures, c.number-kept.ensures) in
     let lines = ap (map (λ v. v.items)) c.as_slice.ensures.value ∙ c.in_ok-journal.ensures.lines in
-    let told = told_from_start c.args.seat c.replay.new.seat c.start_recording.new.self (map (λ v. v.items) c.as_slice.result.now) c.requires.front c.in_ok-replay.ensures.replayed c.in_ok-start_recording.ensures.started same in
+    let told = told_from_start c.args.seat c.replay.new.seat c.start_recording.new.self (map (λ v. v.items) c.as_slice.result.now) c.requires c.in_ok-replay.ensures.replayed c.in_ok-start_recording.ensures.started same in
     subst (Tells c.args.seat.opening (recovered (g.D.Device.seen c.args.device))) (sym (ap (λ k. k.line.front) c.new.ensures))
     (subst (λ (ls : List (List ℕ)). Tells c.args.seat.opening ls c.start_recording.new.self.front) lines told)
 
+pub returns-clause-opened : goal.returns-clause-opened
+returns-clause-opened g c =
+    let at : c.new.result.opened ≡ c.in_ok-journal.journal.device = ap (λ k. k.opened) c.new.ensures ∙ c.of-opened.ensures in
+    subst (λ o. Renews g.D.Device.seen g.D.Device.may_leave g.D.Device.moment g.D.Device.left_since c.args.device o) (sym at) c.in_ok-journal.ensures.renewed
+
 pub returns-clause-keeps : goal.returns-clause-keeps
 returns-clause-keeps g c known begins =
-    kept_along g.D.Device.seen g.D.Device.moment g.D.Device.left_since c.in_ok-journal.journal c.new.result.journal (g.D.Device.moment c.args.device) known (sym (ap (λ k. k.journal) c.new.ensures))
-    (c.in_ok-journal.ensures.keeps known begins)
+    let at : c.new.result.opened ≡ c.in_ok-journal.journal.device = ap (λ k. k.opened) c.new.ensures ∙ c.of-opened.ensures in
+    subst (λ o. HasKept g.D.Device.seen g.D.Device.moment g.D.Device.left_since c.new.result.journal (g.D.Device.moment o) known) (sym at)
+    (kept_along g.D.Device.seen g.D.Device.moment g.D.Device.left_since c.in_ok-journal.journal c.new.result.journal (g.D.Device.moment c.in_ok-journal.journal.device) known (sym (ap (λ k. k.journal) c.new.ensures))
+    (c.in_ok-journal.ensures.keeps known begins))

@@ -5,10 +5,10 @@ use Rattle.canvas_plane.proofs.page_box.common.Goals as goal
 
 pub returns : goal.returns
 returns c =
-    let l : FitsSigned w64 c.greater.result = search rules in
-    let t : FitsSigned w64 c.greater-2.result = search rules in
-    let r : FitsSigned w64 c.lesser.result = search rules in
-    let b : FitsSigned w64 c.lesser-2.result = search rules in
+    let l : FitsSigned w64 c.greater.result = record { sfits = c.greater.type_inv } in
+    let t : FitsSigned w64 c.greater-2.result = record { sfits = c.greater-2.type_inv } in
+    let r : FitsSigned w64 c.lesser.result = record { sfits = c.lesser.type_inv } in
+    let b : FitsSigned w64 c.lesser-2.result = record { sfits = c.lesser-2.type_inv } in
     let al : FitsSigned w64 c.args.a.now.left = search rules in
     let a_top : FitsSigned w64 c.args.a.now.top = search rules in
     let ar : FitsSigned w64 c.args.a.now.right = search rules in

@@ -1,4 +1,4 @@
-use Rattle.std.proofs.Common.{◌≡◌, ◌≤◌, ◌<ℤ◌, ◌≤ℤ◌, ◌+ℤ◌, ◌-ℤ◌, ◌*ℤ◌, ◌*◌, ◌+◌, ◌∙◌, ◌↔◌, ℕ, pos, FitsSigned, arith, ap, subst, true, false, w32, w64}
+use Rattle.std.proofs.Common.{◌≡◌, ◌≤◌, ◌<ℤ◌, ◌≤ℤ◌, ◌+ℤ◌, ◌-ℤ◌, ◌*ℤ◌, ◌*◌, ◌^◌, ◌+◌, ◌∙◌, ◌↔◌, ℕ, pos, FitsSigned, arith, ap, subst, sym, true, false, w32, w64}
 use Rattle.std.specs.Prelude.{int_le}
 use Rattle.std.proofs.lemmas.Int.{ints, to_z-of_z}
 use Rattle.canvas_plane.specs.Sides.{scale_of}
@@ -104,3 +104,13 @@ returns-else-page_place-edge-clause-before c = some c
 
 pub returns-else-page_place-edge-clause-after : goal.returns-else-page_place-edge-clause-after
 returns-else-page_place-edge-clause-after c = after c.args.from (scale_of c.args.level) c.args.size (c.steps.result + 1) c.args.edge (some c)
+
+pub steps-requires-clause-least : goal.steps-requires-clause-least
+steps-requires-clause-least c =
+    let kept = to_z-of_z w64 c.last_before.result (record { sfits = c.last_before.type_inv }) in
+    subst (λ z. pos 0 ≤ℤ z) (sym kept) c.last_before.ensures.least
+
+pub steps-requires-clause-most : goal.steps-requires-clause-most
+steps-requires-clause-most c =
+    let kept = to_z-of_z w64 c.last_before.result (record { sfits = c.last_before.type_inv }) in
+    subst (λ z. z ≤ℤ pos (2 ^ 42)) (sym kept) c.last_before.ensures.most

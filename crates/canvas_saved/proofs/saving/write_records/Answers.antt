@@ -1,8 +1,9 @@
 use Rattle.std.proofs.Common.{◌≡◌, ◌∙◌, ap}
 use Rattle.canvas_record.specs.Contents.{Contents}
+use Rattle.canvas_json.specs.Saved.{saved_text_of}
 use Rattle.canvas_saved.specs.declared.formats.Format.TheVariants.{One, Two}
 use Rattle.canvas_saved.specs.Opened.{opened, records_read}
-use Rattle.canvas_saved.specs.Saved.{contents_with, saved_text_of}
+use Rattle.canvas_saved.specs.Saved.{contents_with}
 use Rattle.canvas_saved.proofs.JsonText.{document-json}
 use Rattle.canvas_saved.proofs.Opens.{kept-held, limits-held, text-opens, text-read_back}
 use Rattle.canvas_saved.proofs.saving.write_records.Goals as goal

@@ -1,8 +1,8 @@
 use Rattle.std.proofs.Common.{◌≡◌, ◌+◌, List, [], ◌∷◌, ◌++◌, length, subst, arith, Err, ap, ◌∙◌, length-append}
 use Rattle.canvas_record.specs.declared.edits.Change.{Change}
 use Rattle.canvas_board.specs.Alone.{alone_board}
-use Rattle.canvas_board.specs.Seen.{Seen}
-use Rattle.canvas_board.specs.Steps.{Accepts, Edits}
+use Rattle.canvas_look.specs.Seen.{Seen}
+use Rattle.canvas_look.specs.Steps.{Accepts, Edits}
 use Rattle.canvas_board.proofs.Boards.{accepts-alone, all_fit-more, current-more, refused-alone}
 use Rattle.canvas_board.proofs.alone.AloneBoard.edit.Goals as goal
 

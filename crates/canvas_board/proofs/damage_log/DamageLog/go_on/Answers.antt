@@ -1,6 +1,6 @@
 use Rattle.std.proofs.Common.{◌≡◌, ◌<◌, ◌≤◌, ◌+◌, length, arith, rules}
 use Rattle.canvas_line.specs.Seats.{Begins}
-use Rattle.canvas_line.proofs.Prefixes.{prefix_length}
+use Rattle.canvas_look.proofs.Prefixes.{prefix_length}
 use Rattle.canvas_board.proofs.Logging.{log-goes-on}
 use Rattle.canvas_board.proofs.damage_log.DamageLog.go_on.Goals.{in-Some, in-None}
 use Rattle.canvas_board.proofs.damage_log.DamageLog.go_on.Goals as goal

@@ -1,7 +1,7 @@
 use Rattle.std.proofs.Common.{◌≡◌, ℕ, ◌≤◌, length, Err, sym, ap, ◌∙◌, subst}
-use Rattle.canvas_board.specs.declared.fault.BoardFault.{BoardFault}
-use Rattle.canvas_board.specs.Seen.{Seen}
-use Rattle.canvas_board.specs.Steps.{Edits}
+use Rattle.canvas_look.specs.declared.fault.BoardFault.{BoardFault}
+use Rattle.canvas_look.specs.Seen.{Seen}
+use Rattle.canvas_look.specs.Steps.{Edits}
 use Rattle.canvas_board.specs.Shared.{board_at, known_after, told_as}
 use Rattle.canvas_board.proofs.Seats.{edits-seat}
 use Rattle.canvas_board.proofs.Showing.{goes-by-answer, known-within, within-on}
@@ -16,7 +16,7 @@ returns g c =
     let all : known ≡ known_after i.known (length seat.front) c.edit-answer.result = c.known_after-self-inside.ensures ∙ ap (λ (n : ℕ). known_after i.known n c.edit-answer.result) c.number.ensures in
     let told : c.match-answer.result ≡ told_as c.edit-answer.result = elim c.match-answer.branch [
       | in-Ok w ↦ w.result-is ∙ sym (ap told_as w.in-Ok.is)
-      | in-Err w ↦ w.result-is ∙ ap (λ (f : BoardFault). Err f) w.from.ensures ∙ sym (ap told_as w.in-Err.is)
+      | in-Err w ↦ w.result-is ∙ ap (λ (f : BoardFault). Err f) w.board_fault_of.ensures ∙ sym (ap told_as w.in-Err.is)
     ] in
     subst (λ (s : Seen). Edits s c.args.edit.now c.match-answer.result (board_at seat known)) c.self.view_is
     (edits-seat i.seat seat i.known known c.args.edit.now c.edit-answer.result c.match-answer.result c.self.invariant all c.edit-answer.ensures.accepted c.edit-answer.ensures.refused told)

@@ -5,8 +5,8 @@ use Rattle.canvas_paint.specs.Workers.{are_workers}
 use Rattle.canvas_line.specs.declared.version.Version.{Version}
 use Rattle.canvas_line.specs.Lines.{Sight}
 use Rattle.canvas_line.specs.Standing.{IsVersionOf}
-use Rattle.canvas_board.specs.Raster.{file_of}
-use Rattle.canvas_board.specs.Seen.{Seen, Grows, document_of}
+use Rattle.canvas_look.specs.Raster.{file_of}
+use Rattle.canvas_look.specs.Seen.{Seen, Grows, document_of}
 use Rattle.canvas_board.specs.Shared.{board_at}
 use Rattle.canvas_board.proofs.Lasting.{looks-at}
 use Rattle.canvas_board.proofs.Seats.{looks-grow, looks-document, looks-number}

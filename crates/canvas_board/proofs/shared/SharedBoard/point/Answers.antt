@@ -4,7 +4,7 @@ use Rattle.canvas_record.specs.Contents.{Contents}
 use Rattle.canvas_record.specs.Picture.{colour}
 use Rattle.canvas_line.specs.declared.version.Version.{Version}
 use Rattle.canvas_line.specs.Seats.{Looks}
-use Rattle.canvas_board.specs.Seen.{Seen, Grows, document_of}
+use Rattle.canvas_look.specs.Seen.{Seen, Grows, document_of}
 use Rattle.canvas_board.specs.Shared.{board_at}
 use Rattle.canvas_board.proofs.Seats.{looks-grow, looks-document, looks-number}
 use Rattle.canvas_board.proofs.Showing.{goes-nowhere, told-within, within-on}

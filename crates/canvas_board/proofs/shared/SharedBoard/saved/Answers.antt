@@ -2,11 +2,11 @@ use Rattle.std.proofs.Common.{◌≡◌, sym, ap, ◌∙◌, subst}
 use Rattle.std.specs.Arc.{arc_value}
 use Rattle.canvas_record.specs.Contents.{Contents}
 use Rattle.canvas_record.specs.History.{replay_of}
-use Rattle.canvas_saved.specs.Saved.{saved_text_of}
+use Rattle.canvas_json.specs.Saved.{saved_text_of}
 use Rattle.canvas_line.specs.declared.version.Version.{Version}
 use Rattle.canvas_line.specs.Lines.{Sight}
 use Rattle.canvas_line.specs.Seats.{Looks}
-use Rattle.canvas_board.specs.Seen.{Seen, Grows, document_of}
+use Rattle.canvas_look.specs.Seen.{Seen, Grows, document_of}
 use Rattle.canvas_board.specs.Shared.{board_at}
 use Rattle.canvas_board.proofs.Seats.{looks-grow, looks-document, looks-number}
 use Rattle.canvas_board.proofs.Showing.{front-document, goes-by-look, goes-nowhere, told-within, within-on}

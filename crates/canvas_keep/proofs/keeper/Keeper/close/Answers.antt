@@ -1,5 +1,5 @@
 use Rattle.std.proofs.Common.{◌≡◌, ◌≤◌, length, ap, arith}
-use Rattle.canvas_line.proofs.Prefixes.{prefix_length}
+use Rattle.canvas_look.proofs.Prefixes.{prefix_length}
 use Rattle.canvas_keep.proofs.keeper.Keeper.close.Goals as goal
 
 pub returns : goal.returns

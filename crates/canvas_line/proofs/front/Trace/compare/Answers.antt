@@ -1,7 +1,7 @@
 use Rattle.std.proofs.Common.{◌≤◌, ap, subst, arith, length, List}
 use mathlib.Core.List.{IsPrefix}
 use Rattle.canvas_record.specs.declared.edits.Change.{Change}
-use Rattle.canvas_line.proofs.Prefixes.{prefix_shorter}
+use Rattle.canvas_look.proofs.Prefixes.{prefix_shorter}
 use Rattle.canvas_line.proofs.front.Trace.compare.Goals as goal
 
 pub returns : goal.returns

@@ -1,11 +1,19 @@
 use Rattle.std.proofs.Common.{◌≡◌, ◌∙◌, ◌+◌, ◌-◌, ◌++◌, ◌^◌, List, IfOk, ap, drop, length, subst, take}
 use Rattle.canvas_list.specs.Chunks.{joined}
-use Rattle.canvas_list.proofs.Joined.{found, len-is}
+use Rattle.canvas_list.proofs.Joined.{found, len-is, has-chunk, search-some}
 use Rattle.canvas_list.proofs.Ranges.{between, few-between, few-three}
 use Rattle.canvas_list.proofs.Runs.{rest-joined}
 use Rattle.canvas_list.proofs.Spliced.{few-ends}
 use Rattle.canvas_list.proofs.Visited.{items-before, items-from, place-in}
 use Rattle.canvas_list.proofs.block.TableContents.between.Goals as goal
+
+pub spot_of-last-requires : goal.spot_of-last-requires
+spot_of-last-requires g c =
+    search-some c.before-2.inside.parts.items c.deref.result.now c.deref.ensures.value (has-chunk c.before-2.inside.parts.items c.args.before.now 0 c.before-2.view_is c.requires.before)
+
+pub spot_of-first-requires : goal.spot_of-first-requires
+spot_of-first-requires g c =
+    search-some c.behind.inside.parts.items c.deref-2.result.now c.deref-2.ensures.value (has-chunk c.behind.inside.parts.items c.args.behind.now 0 c.behind.view_is c.requires.behind)
 
 pub between-requires-clause-upto : goal.between-requires-clause-upto
 between-requires-clause-upto g c =

@@ -1,6 +1,10 @@
-use Rattle.std.proofs.Common.{arith}
+use Rattle.std.proofs.Common.{arith, ◌∙◌, ◌++◌, List, ap}
 use Rattle.canvas_list.proofs.Joined.{cut-both, cut-few, cut-rest, cut-some}
+use Rattle.std.proofs.lemmas.List.{append-nil}
 use Rattle.canvas_list.proofs.block.TableContents.cut.Goals as goal
+
+pub returns-then-not-is_over-clause-both : goal.returns-then-not-is_over-clause-both
+returns-then-not-is_over-clause-both g c = ap (λ (l : List g.row.T.Denot). c.args.self ++ l) c.empty.ensures ∙ append-nil c.args.self
 
 pub split_at-requires : goal.split_at-requires
 split_at-requires g c = omega (arith, c.even_share.ensures.within, c.len-2.ensures, c.deref.ensures.len)

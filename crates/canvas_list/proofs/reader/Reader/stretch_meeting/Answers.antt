@@ -1,8 +1,20 @@
-use Rattle.std.proofs.Common.{◌+◌, List, arith, length, subst, sym}
-use Rattle.canvas_list.specs.Chunks.{joined, IsRun}
-use Rattle.canvas_list.proofs.Held.{apart-on, few-behind, further, place-fits, run-next, run-starts}
+use Rattle.std.proofs.Common.{◌+◌, List, arith, length, subst, sym, ◌∙◌}
+use Rattle.canvas_list.specs.Chunks.{joined, IsRun, IsStretch}
+use Rattle.canvas_list.proofs.Held.{apart-on, few-behind, further, place-fits, run-next, run-starts, run-on}
 use Rattle.canvas_list.proofs.Stretches.{stretch-beside}
+use Rattle.canvas_list.proofs.Runs.{run-of-run}
 use Rattle.canvas_list.proofs.reader.Reader.stretch_meeting.Goals as goal
+
+pub returns-then-not-is_empty-2-clause-held : goal.returns-then-not-is_empty-2-clause-held
+returns-then-not-is_empty-2-clause-held g c =
+    let block : List g.row.T.Denot = joined c.self.inside.held.beyond.now in
+    let there : IsRun c.args.self.now block c.self.inside.held.beyond_start = subst (λ (l : List g.row.T.Denot). IsRun l block c.self.inside.held.beyond_start) c.self.view_is c.self.invariant.1.more in
+    let beyond : IsRun c.args.self.now block c.args.at = subst (λ n. IsRun c.args.self.now block n) (sym c.if-at-held-3.true) there in
+    record {
+      run = run-of-run c.args.self.now block c.block_meeting-found.result.items.now c.args.at c.block_meeting-found.result.start beyond c.block_meeting-found.ensures.held.run;
+      rest = run-on c.args.self.now block (joined c.block_meeting-found.result.behind.now) c.args.at c.block_meeting-found.result.start (length c.block_meeting-found.result.items.now) beyond c.block_meeting-found.ensures.held.rest;
+      more = run-of-run c.args.self.now block (joined c.block_meeting-found.result.beyond.now) c.args.at c.block_meeting-found.result.beyond_start beyond c.block_meeting-found.ensures.held.more;
+    }
 
 pub chunk_meeting-found-requires-clause-few : goal.chunk_meeting-found-requires-clause-few
 chunk_meeting-found-requires-clause-few g c =

@@ -1,0 +1,3 @@
+pub mod Begun
+pub mod Passing
+pub mod Written

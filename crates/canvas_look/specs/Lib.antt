@@ -1,0 +1,4 @@
+pub mod Raster
+pub mod Seen
+pub mod Steps
+pub mod Fault

@@ -1,0 +1,5 @@
+"""The command canvas-gateway."""
+
+from canvas.gateway.main import main
+
+main()

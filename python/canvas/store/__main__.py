@@ -1,0 +1,5 @@
+"""The command canvas-store."""
+
+from canvas.store.main import main
+
+main()
