@@ -5,6 +5,7 @@ are. The tests and the container share the network, in which there is nobody els
 make (`network`). It takes root, Debian's systemd-container, and a kernel that lets it.
 """
 
+import errno
 import fcntl
 import os
 import re
@@ -15,6 +16,7 @@ import socket
 import struct
 import subprocess
 import time
+import uuid
 from pathlib import Path
 
 TRIAL = "mount -t tmpfs tmpfs /mnt; cd /mnt; mkdir upper work root; mount -t overlay overlay -o lowerdir=/,upperdir=/mnt/upper,workdir=/mnt/work root"
@@ -22,6 +24,8 @@ TRIAL = "mount -t tmpfs tmpfs /mnt; cd /mnt; mkdir upper work root; mount -t ove
 NAMESPACES = ("unshare", "--mount", "--net", "--pid", "--fork", "--kill-child", "--mount-proc")
 KEPT = ("systemd-journald.service", "systemd-journald.socket", "systemd-journald-dev-log.socket", "systemd-tmpfiles-setup.service", "nginx.service")
 """What is started beside what a check starts; of this machine's own units no other one is."""
+IN_GROUPS = 'while [ "$1" != -- ]; do mkdir "$1"; echo $$ > "$1/cgroup.procs"; shift; done; shift; exec "$@"'
+"""Runs a command in control groups of its own. Machines that shared one would take each other's units out of it."""
 SECONDS = 300
 PATH = "/usr/sbin:/usr/bin:/sbin:/bin"
 
@@ -63,6 +67,30 @@ def network(names):
             ip("-n", name, "link", "set", device, "up")
 
 
+def control_groups():
+    """The groups of this process by which systemd keeps the processes of units: that of version 2, and that of its own hierarchy where there is one."""
+    paths = dict(line.split(":", 2)[1:] for line in Path("/proc/self/cgroup").read_text().splitlines())
+    for line in Path("/proc/self/mounts").read_text().splitlines():
+        _, at, kind, options, *_ = line.split()
+        name = "name=systemd" if "name=systemd" in options.split(",") else ""
+        if (kind == "cgroup2" or kind == "cgroup" and name) and name in paths:
+            yield Path(at) / paths[name].strip("/")
+
+
+def remove_group(group):
+    """Removes a control group with those in it, whose processes have been killed."""
+    end = time.monotonic() + SECONDS
+    for folder, _, _ in os.walk(group, topdown=False):
+        while True:
+            try:
+                os.rmdir(folder)
+                break
+            except OSError as why:
+                if why.errno != errno.EBUSY or time.monotonic() > end:
+                    raise
+                time.sleep(0.05)
+
+
 def mount(kind, name, target, options):
     subprocess.run(["mount", "-t", kind, "-o", options, name, str(target)], check=True)
 
@@ -72,7 +100,7 @@ class Machine:
     check's network. This machine's services that are `idle` are there and not started."""
 
     def __init__(self, folder, package, name=None, idle=()):
-        self._folder, self.name, self._idle, self._process = Path(folder), name, idle, None
+        self._folder, self.name, self._idle, self._process, self._groups = Path(folder), name, idle, None, []
         self.root = self._folder / "root"
         mount("tmpfs", "canvas-check", self._folder, "size=4g")
         for name in ("upper", "work", "root"):
@@ -102,6 +130,9 @@ class Machine:
         words = ["systemd-nspawn", "--quiet", "--register=no", "--keep-unit", f"--machine={self.name or 'canvas-check'}", f"--directory={self.root}"]
         words += ["--link-journal=no", f"--rlimit=NOFILE={resource.getrlimit(resource.RLIMIT_NOFILE)[1]}"]
         words += [*([f"--network-namespace-path=/run/netns/{self.name}"] if self.name else []), "--boot"]
+        group = f"canvas-check-{uuid.uuid4().hex}"
+        self._groups = [it / group for it in control_groups()]
+        words = ["sh", "-euc", IN_GROUPS, "sh", *map(str, self._groups), "--", *words]
         self._process = subprocess.Popen(words, stdin=subprocess.DEVNULL, stdout=self.log, stderr=self.log)
         end = time.monotonic() + SECONDS
         while not (self._leader() and self.run("systemctl", "is-active", "--quiet", "basic.target").returncode == 0):
@@ -119,6 +150,8 @@ class Machine:
         self._process.kill()
         self._process.wait()
         self.log.close()
+        while self._groups:
+            remove_group(self._groups.pop())
 
     def close(self):
         """Ends it, and takes its files away."""

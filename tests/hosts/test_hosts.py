@@ -347,7 +347,7 @@ async def no_names(hosts):
         it.path(f"{told}.new").write_text("\n".join(NO_NAMES) + "\n" + "".join(f"{name}\n" for name in hosts.holders()))
         it.path(f"{told}.new").replace(it.path(told))  # (its reader runs now and then by itself)
         done = it.run("systemctl", "start", "canvas-documents.service")
-        assert done.returncode == 0, (done.stderr, it.journal("canvas-documents")[-1000:])
+        assert done.returncode == 0, f"{it.name}: {done.stderr}{it.journal('canvas-documents')[-3000:]}"
     assert intruded(hosts) == [], "names that are none in the file of an agent"
     journal = leader.journal("canvas-documents")
     assert f"line {len(NO_NAMES)} of {told} is no name" in journal and "UPPER" not in journal, ("they are told", journal[-500:])
