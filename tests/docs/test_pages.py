@@ -11,7 +11,7 @@
 - tools/README.md and examples/README.md name each file beside them;
 - docs/PROOFS.md names each crate of the kit that crates.txt has among those that are trusted;
 - each heading that docs/QUESTIONS.md names stands in its page;
-- each number of docs/LIMITS.md stands in the sources that its row names (tools/limits.py);
+- each number of docs/LIMITS.md stands in the sources that its row names, and the programs' help and man pages have the same (tools/limits.py);
 - the gate that README.md names is what .ci/run runs (tests/program runs its example);
 - CHANGELOG.md begins with the version in the file VERSION, and the packages that README.md and docs/INSTALL.md name are of that version;
 - the minutes of a first build that README.md names are at most FACTOR from what tools/build_times.py gives for four processors.
@@ -29,7 +29,7 @@ from edits import BadEdit
 from excerpts import faults_of_excerpts
 from functions import clause_lines
 from homes import faults_of_homes
-from limits import faults_of_limits
+from limits import faults_of_helps, faults_of_limits
 from repository import PROGRAMS, TOP, below, lines
 from try_wrong_bodies import edited
 from write_docs import INDEXES, PAGES
@@ -206,7 +206,7 @@ def faults_of_times():
 
 
 WHOLE = (faults_of_bodies, faults_of_lists, faults_of_questions, faults_of_trusted, faults_of_gate, faults_of_version, faults_of_times, faults_of_limits,
-         faults_of_widths)
+         faults_of_helps, faults_of_widths)
 OF_PAGES = (faults_of_page, faults_of_functions, faults_of_excerpts, faults_of_homes)
 
 
