@@ -207,7 +207,7 @@ def test_tarball(made):
     for word, rest in (("--unproved", ["script"]), ("--libraries", ["file"])):
         refused = f"canvas: {word} builds the program, and there are no sources here (docs/INSTALL.md)\n".encode()
         assert call([str(top / "bin" / "canvas"), word, *rest], top) == (b"", refused, 4), f"{word} in a release"
-    assert call([str(top / "bin" / "canvas"), "serve", "127.0.0.1:0", "none"])[1:] == (b"canvas: there is no file none\n", 4), "a document that is none"
+    assert call([str(top / "bin" / "canvas"), "serve", "127.0.0.1:0", "none"])[1:] == (b"canvas: there is no file none; serve a saved document, as examples/poster.json\n", 4), "a document that is none"
     served_by_tarball(top)
     kept("the tarball", ["bin/canvasd"], "drawing", "examples/poster.json", top)
     copied(top)
@@ -271,7 +271,7 @@ def answers(root):
     told = (TOP / "tools" / "canvas.help").read_text().replace("VERSION", VERSION, 1).encode()
     assert call([canvas, "--help"]) == (told, b"", 0), "canvas --help of the package"
     assert call([canvas, "--version"]) == (f"canvas {VERSION}\n".encode(), b"", 0), "canvas --version of the package"
-    assert call([canvas, "serve", "127.0.0.1:0", "none"])[1:] == (b"canvas: there is no file none\n", 4), "a document that is none"
+    assert call([canvas, "serve", "127.0.0.1:0", "none"])[1:] == (b"canvas: there is no file none; serve a saved document, as examples/poster.json\n", 4), "a document that is none"
     with (TOP / "examples" / "red-rectangle.jsonl").open("rb") as given:
         assert call([canvas, "script"], stdin=given) == (readme_example(), b"", 0), "README.md's example by the package's command"
     folder = root / "usr" / "share" / "bash-completion" / "completions"

@@ -80,7 +80,7 @@ def parts_of(address: str) -> tuple[str, int]:
     """Host and port of HOST:PORT."""
     host, colon, port = address.rpartition(":")
     if not colon or not port.isdigit() or int(port) > 65_535:
-        raise argparse.ArgumentTypeError(f"{address!r} is not HOST:PORT")
+        raise argparse.ArgumentTypeError(f"{address!r} is neither HOST:PORT, as 127.0.0.1:7878, nor unix:PATH")
     return host.strip("[]"), int(port)
 
 
@@ -158,6 +158,6 @@ def main() -> None:
     try:
         listener, address = listener_at(given.listen)
     except OSError as fault:
-        sys.exit(f"gateway: {fault.strerror}")
+        sys.exit(f"gateway: it can't listen there: {fault.strerror}; --listen ADDRESS names another place")
     host = None if isinstance(given.listen, str) else given.listen[0]
     asyncio.run(serve(application(documents_of(given), host), listener, address))
