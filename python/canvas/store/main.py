@@ -40,7 +40,7 @@ try:
     import psycopg
 
     from canvas.store import commands
-    from canvas.store.database import one_line
+    from canvas.store.database import DATABASE, one_line
     from canvas.store.serving import serve
 except ModuleNotFoundError as missing:
     end_without("canvas-store", missing)
@@ -92,5 +92,7 @@ def main() -> None:
     logging.getLogger("psycopg").setLevel(logging.CRITICAL)
     try:
         run(given)
+    except psycopg.OperationalError as fault:
+        sys.exit(f"canvas-store: {one_line(fault)}; CANVAS_DATABASE, or else {DATABASE}, names the database")
     except (commands.Refused, OSError, ValueError, psycopg.Error) as fault:
         sys.exit(f"canvas-store: {one_line(fault)}")
