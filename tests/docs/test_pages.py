@@ -47,7 +47,7 @@ MOST = {"docs/ARCHITECTURE.md": 1_500, "docs/DECISIONS.md": 3_000, "docs/HEADLIN
         "docs/SPEED.md": 2_000, "docs/VIEWER.md": 700}
 """How many words a page may have."""
 MOST_AS_IT_STANDS = {"README.md": 800, "docs/TUTORIAL.md": 1_500}
-"""The same of all that a reader sees there, commands and code too."""
+"""The same as `wc -w` counts, commands and code too."""
 MOST_OF_ALL = 30_000
 """How many words README.md, docs/ and the READMEs of crates, tools, tests, python, web and examples may have together."""
 
@@ -66,11 +66,6 @@ def count_of(text):
     for part in (r"^```.*?^```$", r"<!--.*?-->", r"`[^`\n]*`"):
         text = re.sub(part, "", text, flags=re.M | re.S)
     return sum(bool(re.search(r"[A-Za-z]", it)) for it in text.split())
-
-
-def as_it_stands(text):
-    """How many words a page has with all that a reader sees: comments are for the tests."""
-    return len(re.sub(r"<!--.*?-->", "", text, flags=re.S).split())
 
 
 def headings(text, signs="#{1,6}"):
@@ -189,7 +184,7 @@ def faults_of_lengths(pages):
         count = counts.get(page, sum(counts.values()))
         yield None if count <= most else f"{page}: {count} words, and {most} may be"
     for page, most in MOST_AS_IT_STANDS.items():
-        count = as_it_stands((TOP / page).read_text())
+        count = len((TOP / page).read_text().split())
         yield None if count <= most else f"{page}: {count} words with its commands and code, and {most} may be"
 
 
