@@ -4,6 +4,7 @@ tells, and a Tab in a terminal completes a word."""
 import os
 import pty
 import re
+import select
 import subprocess
 import time
 
@@ -74,7 +75,8 @@ def read_until(terminal, wanted):
     """What a terminal shows until it shows this."""
     end, shown = time.monotonic() + SECONDS, b""
     while wanted not in shown and time.monotonic() < end:
-        shown += os.read(terminal, 4096)
+        if select.select([terminal], [], [], 1)[0]:
+            shown += os.read(terminal, 4096)
     return shown
 
 
