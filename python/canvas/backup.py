@@ -309,7 +309,7 @@ def follow(source: Source, copy: Copy, is_once: bool) -> None:
             is_done, told = copy_until_it_ends(source, copy, is_once), ""
         except Lost as lost:
             if is_once:
-                raise Wrong(str(lost)) from lost
+                raise Wrong(f"{lost}; without --once it is tried again") from lost
             if told != str(lost):
                 print(f"canvas-backup: {lost}; it is tried again", file=sys.stderr, flush=True)
             told = str(lost)
