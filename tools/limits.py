@@ -134,11 +134,11 @@ def faults_of_help(name):
     for number in sorted(limits_in("".join(sections.get(it, "") for it in ("WORDS", "OPTIONS")))):
         yield None if number in there else f"docs/LIMITS.md: it has no {number:,}, which tools/{name}.help names"
     for item in " ".join(sections["LIMITS"].split()).rstrip(".").split("; "):
-        words = re.sub(r" \(.*\)", "", item.partition(" ")[2])
-        is_there = any(limits_in(item) <= numbers and words in limit for numbers, limit in by_words)
+        words = {*re.findall(r"[\w']+", re.sub(r" \(.*\)", "", item.partition(" ")[2]))}
+        is_there = any(limits_in(item) <= numbers and words <= {*re.findall(r"[\w']+", limit)} for numbers, limit in by_words)
         yield None if is_there else f"docs/LIMITS.md: it has no '{item}', which tools/{name}.help names"
     for numbers, limit in by_words:
-        for option in re.findall(rf"`{name}(?: \w+)* (--[\w-]+)`", limit):
+        for option in re.findall(rf"`(?:{name}(?: \w+)* )?(--[\w-]+)`", limit) if options_of(name) else ():
             yield faults_of_option(name, option, numbers)
     is_same = limits_in("".join(sections.values())) <= limits_in(man_page(name, "2000-01-01").replace("\\", ""))
     yield None if is_same else f"the man page of {name} lacks a number of tools/{name}.help"

@@ -158,6 +158,6 @@ def main() -> None:
     try:
         listener, address = listener_at(given.listen)
     except OSError as fault:
-        sys.exit(f"gateway: it can't listen there: {fault.strerror}; --listen ADDRESS names another place")
+        sys.exit(f"gateway: {fault.strerror}")
     host = None if isinstance(given.listen, str) else given.listen[0]
     asyncio.run(serve(application(documents_of(given), host), listener, address))
