@@ -64,6 +64,10 @@ class Cable:
     def __init__(self, address):
         self._to, self._port, self._writers, self._server = address, 0, set(), None
 
+    def lead_to(self, address):
+        """Leads to another address from the next connection on."""
+        self._to = address
+
     async def mend(self):
         """Listens, always at the same address, and gives it."""
         self._server = await asyncio.start_server(self._pass_on, "127.0.0.1", self._port)
