@@ -4,7 +4,7 @@
 // A request may name a shape that is yet to be made by a negative number: the `as` of the `create` that makes it.
 
 import { nameOf } from "./names.js";
-import { changedParts, joinedParts, partsBack, withPartsOf } from "./parts.js";
+import { changedParts, joinedParts, partOf, partsBack, same, withPartsOf } from "./parts.js";
 import { STILL } from "./plane.js";
 
 const NEAR = 16;
@@ -62,25 +62,6 @@ export function joined(first, second) {
 }
 
 /**
- * The changes of edits that are sent while a drag goes: those of one shape are one, as far as they go on from each
- * other.
- */
-export class OnWay {
-  #earlier = [];
-  #last = new Map();
-
-  note(change) {
-    const name = `${change.verb} ${change.id}`, last = this.#last.get(name), both = last && joined(last, change);
-    if (last && !both) this.#earlier.push(last);
-    this.#last.set(name, both ?? change);
-  }
-
-  get changes() {
-    return [...this.#earlier, ...this.#last.values()];
-  }
-}
-
-/**
  * The changes of edits, each with its reply, as the journal tells them: from what truly was there just before each, and
  * not only from what their sender saw, which is `seen`. `tree` is the document of an earlier version. Null where the
  * journal does not have all edits since.
@@ -110,7 +91,7 @@ const liesElsewhere = (one, other) => one.parent !== other.parent || one.index !
  * it; or null. Where it was to take back a change, all that is otherwise than its sender saw it is unmeant: `isBack`.
  * @returns {any}
  */
-export function harmOf({ verb, id, seen, from, to, own, isAstray }, isBack) {
+export function harmOf({ verb, id, seen, from, to, own, meant, isAstray }, isBack) {
   if (isAstray) return { verb, id, pose: from };
   const isNews = isBack && seen !== undefined;
   if (verb === "show") return isNews && seen !== from && from !== to ? { verb, id, hidden: from } : null;
@@ -118,7 +99,9 @@ export function harmOf({ verb, id, seen, from, to, own, isAstray }, isBack) {
     return isNews && liesElsewhere(seen, from) ? { verb, id, parent: from.parent, spot: { at: from.index } } : null;
   }
   if (!own || (verb === "reshape" && from.kind !== to.kind)) return null;
-  const news = isNews ? changedParts(seen, from) : [], isLost = (name) => !own.includes(name) || news.includes(name);
+  const news = isNews ? changedParts(seen, from) : [];
+  const isMeant = (name) => meant?.own.includes(name) && same(partOf(from, name), partOf(meant.from, name));
+  const isLost = (name) => (!own.includes(name) || news.includes(name)) && !isMeant(name);
   const lost = changedParts(from, to).filter(isLost);
   // (a way that belongs to another turn goes on from where that has put the shape)
   if (verb === "pose" && seen !== undefined && lost.includes("turn")) {
@@ -142,10 +125,14 @@ export function unmended(change) {
   return all.includes("turn") ? { ...change, own: all } : change;
 }
 
-/** The change of an edit that mends another change, as its sender saw it: with what that had left. */
-export function mending(change, { verb, to }) {
-  const own = verb === "pose" || verb === "reshape" ? { own: changedParts(to, change.to) } : {};
-  return { ...change, ...own, seen: to, isAstray: false };
+/**
+ * The change of an edit that mends another change, as its sender saw it: with what that had left. What the other change
+ * was meant to do (`isMeant`) is not mended where others, who did not know of it, have put it back.
+ */
+export function mending(change, mended, isMeant) {
+  const { verb, own, from, to } = mended, isOfParts = verb === "pose" || verb === "reshape";
+  const meant = mended.meant ?? (isMeant && isOfParts ? { own: own ?? [], from } : undefined);
+  return { ...change, ...(isOfParts ? { own: changedParts(to, change.to) } : {}), meant, seen: to, isAstray: false };
 }
 
 /** Whether a journal tells of an edit of the same kind and shape behind a version. */

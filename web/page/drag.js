@@ -1,6 +1,5 @@
 // A drag of shapes, sent while it goes: at most 30 poses a second, and the last one always. All of it is one step.
 
-import { OnWay } from "./changes.js";
 import { inOrder } from "./clip.js";
 import { shifted } from "./resize.js";
 
@@ -19,7 +18,7 @@ export class Drag {
   #ids;
   #clock;
   #wanted = [0, 0];
-  #way = new OnWay();
+  #way = null;
   #begins = new Map();
   #sent = -Infinity;
   #isFollowing = false;
@@ -51,7 +50,8 @@ export class Drag {
       const pause = this.#sent + PAUSE - this.#clock.now();
       if (pause > 0 && !same(by, this.made)) await this.#clock.wait(pause);
       await this.#make(by);
-      this.#steps.note("move", [...this.#way.changes, ...await this.#makeMore(more)]);
+      if (this.#way) this.version = Math.max(this.version, await this.#steps.giveBack(this.#way));
+      this.#steps.note("move", [...this.#way?.changes ?? [], ...await this.#makeMore(more)]);
     });
   }
 
@@ -78,10 +78,11 @@ export class Drag {
     const { tree } = this.#steps.state, records = tree && !same(by, this.made) ? inOrder(tree, this.#ids) : [];
     if (!records.length) return;
     this.#sent = this.#clock.now();
+    this.#way ??= this.#steps.begin();
     const poses = records.map((record) => this.#posed(tree, record, by));
-    const done = await this.#steps.make(poses, { isOnWay: !this.#isOver });
+    const done = await this.#steps.make(poses, { isOnWay: true });
     if (done.replies.length < records.length) this.#isOver = true;
-    done.changes.forEach((change) => this.#way.note(change));
+    this.#way.note(done);
     this.made = by;
     this.version = Math.max(this.version, ...done.replies.map(({ version }) => version));
   }

@@ -7,11 +7,13 @@ const POSE = [TURN, "dx", "dy"];
 /** How many of the last values of a part are known that one drag gave it. */
 const MOST = 64;
 
-const same = (a, b) => JSON.stringify(a) === JSON.stringify(b);
+/** Whether two values of a part are the same. */
+export const same = (a, b) => JSON.stringify(a) === JSON.stringify(b);
 const turnOf = ({ quarter, flip }) => ({ quarter, flip });
 
 const isPose = (value) => Object.hasOwn(value, "quarter");
-const partOf = (value, name) => (name === TURN ? turnOf(value) : value[name]);
+/** A part of a value. */
+export const partOf = (value, name) => (name === TURN ? turnOf(value) : value[name]);
 
 function withPart(value, name, from) {
   if (name === TURN) return { ...value, ...turnOf(from) };

@@ -7,10 +7,13 @@ import {
 } from "./changes.js";
 import { Unanswered } from "./link.js";
 import { carryName, giveName } from "./names.js";
+import { Way } from "./way.js";
 
 const MOST = 512;
 /** For how long at most the feed is waited for, which tells what others did just before an edit. */
 const FEED_PAUSE = 300;
+/** For how long at most it is waited for at the end of a drag. */
+const FEED_PATIENCE = 3000;
 /** How often at most what an edit has put back of others' is given back, while others go on. */
 const MENDS = 4;
 /** How many edits are known at least, of those that the feed told of. */
@@ -126,6 +129,25 @@ export class Steps {
     return { name: step.name, passed };
   }
 
+  /** Begins the edits of a drag. */
+  begin() {
+    return new Way(this.#journal?.isLive ? this.#journal : null, this.state.base);
+  }
+
+  /**
+   * Gives back what the edits of a drag, and those of others that came just before each of them, have put back of each
+   * other. Gives the version of the last one.
+   */
+  async giveBack(way) {
+    for (let time = 0; time < MENDS; time++) {
+      await this.#journal?.reach(way.version, FEED_PATIENCE);
+      const requests = way.mends();
+      if (!requests.length) break;
+      way.own((await this.make(requests, { isOnWay: true })).replies);
+    }
+    return way.version;
+  }
+
   #tellHistory() {
     this.state.dispatchEvent(new Event("history"));
   }
@@ -142,15 +164,15 @@ export class Steps {
 
   /**
    * Sends edits, of which the caller has the turn. Gives the replies of those that were made, and what they changed.
-   * What they have put back of others' edits that came just before is mended, but where more edits of these shapes are
-   * on their way. Edits that take back a change (`isBack`) are to put back no others at all; `isLate` tells that some
-   * did.
+   * What they have put back of others' edits that came just before is mended; on the way of a drag, which ends with
+   * `giveBack`, only where a shape was turned or got another parent. Edits that take back a change (`isBack`) are to put
+   * back no others at all; `isLate` tells that some did.
    */
   async make(requests, { isOnWay = false, isBack = false } = {}) {
     const { tree, base, isPast } = this.state, seen = tree?.copy(), truth = base?.copy();
     const done = {
       changes: [], replies: [], made: new Map(), refusal: null, harm: [], seen, truth, draft: null,
-      isBack, isLate: false, isAstray: false, wasNotSent: isPast,
+      isOnWay, isBack, isLate: false, wasNotSent: isPast,
     };
     if (isPast) {
       this.#tell("This is the past, where nothing can be changed. Esc goes back to now.");
@@ -160,8 +182,7 @@ export class Steps {
     this.#setMaking(true);
     try {
       await this.#makeAll(requests, done);
-      const isMended = () => done.harm.length && (!isOnWay || done.isAstray);
-      for (let time = 0; time < MENDS && isMended(); time++) await this.#mend(done);
+      for (let time = 0; time < MENDS && done.harm.length; time++) await this.#mend(done);
       this.#tell(done.refusal);
     } catch (fault) {
       if (!(fault instanceof Unanswered)) throw fault;
@@ -207,7 +228,7 @@ export class Steps {
     const found = (journal?.isLive && truth ? truly(truth, edits, changes, journal) : changes).filter(Boolean);
     for (const change of found) {
       const mend = mends?.find(({ verb, id }) => verb === change.verb && id === change.id);
-      this.#noteChange(mend ? mending(change, mend) : change, newest, done);
+      this.#noteChange(mend ? mending(change, mend, done.isMeant) : change, newest, done);
     }
   }
 
@@ -215,16 +236,16 @@ export class Steps {
   #noteChange(change, newest, done) {
     const harm = harmOf(change, done.isBack), isNow = harm !== null && !isAfter(this.#journal, newest, harm);
     done.isLate ||= done.isBack && harm !== null;
-    done.isAstray ||= change.isAstray;
     const noted = isNow ? mended(change, harm) : harm ? unmended(change) : change;
     if (!change.isAstray) done.changes.push(noted);
-    if (isNow) done.harm.push({ request: harm, change, noted });
+    const isLeft = done.isOnWay && !change.isAstray && !isTurnedFrom(change, harm ?? {});
+    if (isNow && !isLeft) done.harm.push({ request: harm, change, noted });
   }
 
   // Gives back what edits have put back of others'; and what that has put back of what came since.
   async #mend(done) {
     const { tree } = this.state, harm = done.harm.filter(({ request }) => tree.record(request.id));
-    const more = { ...done, seen: tree.copy(), changes: [], harm: [], draft: null, isBack: true };
+    const more = { ...done, seen: tree.copy(), changes: [], harm: [], draft: null, isBack: true, isMeant: !done.isBack };
     done.harm = [];
     await this.#makeAll(harm.map(({ request }) => request), more, harm.map(({ change }) => change));
     for (const { change, noted } of harm) {

@@ -1,7 +1,6 @@
 // Resizing shapes while it goes: drawn at once, and sent, at most 30 edits a second, and the last ones always. All of
 // it is one step.
 
-import { OnWay } from "./changes.js";
 import { CLOCK, PAUSE } from "./drag.js";
 import { copy, outline } from "./overlay.js";
 import { corners } from "./plane.js";
@@ -21,7 +20,7 @@ export class Stretch {
   #goal = null;
   #sent = -Infinity;
   #made = [];
-  #way = new OnWay();
+  #way;
   #draft;
   #isFollowing = false;
   #element = null;
@@ -36,6 +35,7 @@ export class Stretch {
     this.#ids = ids;
     this.#tree = app.state.tree.copy();
     this.#draft = app.state.drafts.begin([]);
+    this.#way = app.editor.begin();
     this.#clock = clock;
   }
 
@@ -58,6 +58,7 @@ export class Stretch {
     this.#goal = null;
     const made = editor.inTurn(async () => {
       await this.#make(goal.requests);
+      this.#version = Math.max(this.#version, await editor.giveBack(this.#way));
       editor.note("resize", this.#way.changes);
     });
     return made.finally(() => this.#leave());
@@ -68,7 +69,11 @@ export class Stretch {
     const { editor, state } = this.#app;
     this.#goal = null;
     state.drafts.change(this.#draft, this.#begin());
-    editor.inTurn(() => this.#made.length && this.#make(this.#begin())).finally(() => this.#leave());
+    const gone = editor.inTurn(async () => {
+      if (this.#made.length) await this.#make(this.#begin());
+      await editor.giveBack(this.#way);
+    });
+    gone.finally(() => this.#leave());
   }
 
   #leave() {
@@ -100,8 +105,8 @@ export class Stretch {
     const { editor, state } = this.#app, isThere = requests.every(({ id }) => state.tree?.record(id));
     const sent = isThere ? this.#asNow(requests) : [];
     this.#sent = this.#clock.now();
-    const done = sent.length ? await editor.make(sent, { isOnWay: this.#goal !== null }) : { changes: [], replies: [] };
-    for (const change of done.changes) this.#way.note(change);
+    const done = sent.length ? await editor.make(sent, { isOnWay: true }) : { changes: [], replies: [] };
+    this.#way.note(done);
     this.#version = Math.max(this.#version, ...done.replies.map(({ version }) => version));
     this.#made = requests;
     return done;
