@@ -13,7 +13,7 @@ const NEAR = 16;
  * Where a shape lies: its parent and its index key there, and who lies just behind it and just in front of it, the
  * nearest first.
  */
-export function placeOf(tree, record) {
+function placeOf(tree, record) {
   const { parent, index } = record, list = tree.children(parent), at = list.indexOf(record);
   const ids = (part) => part.map(({ id }) => id);
   const before = ids(list.slice(Math.max(0, at - NEAR), at).reverse());
@@ -24,7 +24,7 @@ export function placeOf(tree, record) {
  * What a request will change in a tree: `from` is what is there before it, `to` what is there after it. Null where it
  * can't be taken back. Where a `move` leads is noted when it is made.
  */
-export function changeOf(tree, request, reply) {
+function changeOf(tree, request, reply) {
   const { verb, id } = request;
   if (verb === "create") return { verb, id: reply.id };
   const record = tree.record(id);

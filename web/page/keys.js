@@ -54,6 +54,9 @@ const BY_MIDDLE = 300;
 const TEXTS = "input[type=text], input[type=number], input[type=search]";
 const isTyped = (target) => target.matches(TEXTS) || target.closest("dialog") !== null;
 
+/** Whether somebody types. (What is copied may be said to come from a field that was left before.) */
+const isTyping = () => isTyped(document.activeElement ?? document.body);
+
 function actOf(event, key) {
   if (!event.ctrlKey && !event.metaKey) return ACTS[key];
   return event.shiftKey ? WITH_BOTH[key] : WITH_CONTROL[key];
@@ -83,7 +86,7 @@ export function listen(choose, act) {
 export function listenToClipboard(take, give) {
   for (const kind of ["copy", "cut"]) {
     document.addEventListener(kind, (/** @type {any} */ event) => {
-      const text = isTyped(event.target) ? null : take(kind === "cut");
+      const text = isTyping() ? null : take(kind === "cut");
       if (text === null) return;
       event.clipboardData.setData("text/plain", text);
       event.preventDefault();
@@ -94,7 +97,7 @@ export function listenToClipboard(take, give) {
   const note = ({ button, timeStamp }) => { if (button === 1) middle = timeStamp; };
   document.addEventListener("pointerup", note, { capture: true });
   document.addEventListener("paste", (event) => {
-    if (isTyped(event.target) || event.timeStamp - middle < BY_MIDDLE) return;
+    if (isTyping() || event.timeStamp - middle < BY_MIDDLE) return;
     give(event.clipboardData.getData("text/plain"));
     event.preventDefault();
   });

@@ -16,7 +16,6 @@ const LEVEL = 100;
 const NOTCH = 100;
 const NOTCH_LEVEL = Math.log2(1.2);
 const LINE = 33;
-const PAUSE = 300;
 const MOST_OUTLINES = 200;
 const ARROWS = { ArrowLeft: [-1, 0], ArrowRight: [1, 0], ArrowUp: [0, -1], ArrowDown: [0, 1] };
 
@@ -34,7 +33,7 @@ export class Stage {
   #cross = null;
   #fingers = new Map();
   #pinch = null;
-  #wheel = { time: 0 };
+  #wheel = null;
   #edge;
   #last = null;
 
@@ -230,19 +229,18 @@ export class Stage {
   #turnWheel(event) {
     event.preventDefault();
     const unit = event.deltaMode === 1 ? LINE : 1, across = event.deltaX * unit, down = event.deltaY * unit;
-    if (event.ctrlKey || event.metaKey) this.#zoomBy(down, this.#spot(event).window, event.timeStamp);
+    if (event.ctrlKey || event.metaKey) this.#zoomBy(down, this.#spot(event).window);
     else if (event.shiftKey && !across) this.app.pan(down, 0);
     else this.app.pan(across, down);
   }
 
   // The point under the pointer stays there, over all turns that follow each other.
-  #zoomBy(down, window, time) {
-    const { view } = this.app, last = this.#wheel;
-    const isOn = time - last.time < PAUSE && last.window[0] === window[0] && last.window[1] === window[1];
-    const point = isOn ? last.point : view.pointAt(window);
-    this.#wheel = { time, window, point };
+  #zoomBy(down, window) {
+    const { view } = this.app, at = () => [...window, view.level, view.left, view.top].join();
+    const point = this.#wheel?.at === at() ? this.#wheel.point : view.pointAt(window);
     const notches = Math.sign(down) * Math.max(1, Math.round(Math.abs(down) / NOTCH));
     this.app.zoom(view.level + (Math.abs(down) < NOTCH / 2 ? down / LEVEL : notches * NOTCH_LEVEL), window, point);
+    this.#wheel = { at: at(), point };
   }
 
   // -- the keys -------------------------------------------------------------------------------------------------------

@@ -70,6 +70,13 @@ async def two_drags(browser):
                 await desk.tab.close()
 
 
+async def reload(desk):
+    """Loads the page anew, and waits until it knows its steps."""
+    await desk.tab.value("window.isOld = true")
+    await desk.tab.command("Page.reload")
+    await desk.tab.until("!window.isOld && window.app?.picture.isSettled && app.state.history.length > 0")
+
+
 async def outlives(browser):
     """Steps outlive a reload and a new start of the gateway, with what others did meanwhile."""
     with tempfile.TemporaryDirectory() as folder:
@@ -79,9 +86,7 @@ async def outlives(browser):
             await ann.settle(house.version)
             await ann.look_at(0, PLACE)
             await ann.tab.value(f"(async () => {{ app.editor.select({number}); await app.editor.moveBy([50, 0]); await app.editor.setFill('aa0000'); }})()")
-            await asyncio.sleep(1)
-            await ann.tab.command("Page.reload")
-            await ann.tab.until("window.app?.picture.isSettled && app.state.history.length > 0")
+            await reload(ann)
             yield "a reload", difference(await ann.tab.value(STEPS), 2)
             await back(ann)
             yield "the last step is taken back after it", difference(house.server.records()[number]["shape"]["fill"], "1f5fd0")
@@ -91,8 +96,7 @@ async def outlives(browser):
             another_edit(house.server)
             await ann.settle(house.version)
             yield "another gateway", difference([await ann.tab.value(STEPS), house.counter.verbs["export"]], [1, 0])
-            await ann.tab.command("Page.reload")
-            await ann.tab.until("window.app?.picture.isSettled && app.state.history.length > 0")
+            await reload(ann)
             await house.another_gateway()
             await ann.tab.until("document.getElementById('away').hidden && app.link.isHere")
             await ann.settle(house.version)

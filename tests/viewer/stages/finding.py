@@ -3,7 +3,7 @@
 import asyncio
 
 from harness.running import difference
-from stages.desk import at, back, boxes, sheet
+from stages.desk import at, back, becomes, boxes, sheet
 
 TURN = "(({transform}) => Number(/[-\\d.]+/.exec(transform)[0]) * 180 / Math.PI)(document.querySelector('#lost svg').style)"
 
@@ -12,13 +12,11 @@ async def lost(ann, server):
     """Where nothing of the drawing is seen, a button tells the way, and shows all."""
     await ann.tab.value("document.getElementById('lost').style.visibility = ''")
     await ann.look_at(0, (128, 128))
-    await asyncio.sleep(0.4)
-    yield "the drawing is seen", difference(await ann.tab.value("document.getElementById('lost').hidden"), True)
+    await ann.tab.until("document.getElementById('lost').hidden")
     for point, wanted in [((9000, 128), 180), ((128, -9000), 90), ((-9000, 128), 0)]:
         await ann.look_at(0, point)
-        await ann.tab.until("!document.getElementById('lost').hidden")
-        turn = await ann.tab.value(TURN)
-        yield f"the way from {point}", None if abs((turn - wanted + 180) % 360 - 180) < 40 else f"{turn} for {wanted}"
+        near = f"Math.abs((({TURN} - {wanted} + 540) % 360) - 180) < 40"
+        yield f"the way from {point}", await becomes(ann.tab, f"!document.getElementById('lost').hidden && {near}", True)
     x, y, w, h = await ann.tab.box_of("#lost")
     await ann.tab.click(x + w / 2, y + h / 2)
     await ann.tab.until("document.getElementById('lost').hidden")
