@@ -165,8 +165,8 @@ export class Steps {
   /**
    * Sends edits, of which the caller has the turn. Gives the replies of those that were made, and what they changed.
    * What they have put back of others' edits that came just before is mended; on the way of a drag, which ends with
-   * `giveBack`, only where a shape was turned or got another parent. Edits that take back a change (`isBack`) are to put
-   * back no others at all; `isLate` tells that some did.
+   * `giveBack`, only where a shape was turned or got another parent. Edits that take back a change (`isBack`) are to
+   * put back no others at all; `isLate` tells that some did.
    */
   async make(requests, { isOnWay = false, isBack = false } = {}) {
     const { tree, base, isPast } = this.state, seen = tree?.copy(), truth = base?.copy();
@@ -245,7 +245,8 @@ export class Steps {
   // Gives back what edits have put back of others'; and what that has put back of what came since.
   async #mend(done) {
     const { tree } = this.state, harm = done.harm.filter(({ request }) => tree.record(request.id));
-    const more = { ...done, seen: tree.copy(), changes: [], harm: [], draft: null, isBack: true, isMeant: !done.isBack };
+    const isMeant = !done.isBack, seen = tree.copy();
+    const more = { ...done, seen, changes: [], harm: [], draft: null, isBack: true, isMeant };
     done.harm = [];
     await this.#makeAll(harm.map(({ request }) => request), more, harm.map(({ change }) => change));
     for (const { change, noted } of harm) {
