@@ -48,9 +48,6 @@ const TABLE = [
   ["?", "this table"],
 ];
 
-/** For how many milliseconds after the middle button a paste is its own. */
-const BY_MIDDLE = 300;
-
 const TEXTS = "input[type=text], input[type=number], input[type=search]";
 const isTyped = (target) => target.matches(TEXTS) || target.closest("dialog") !== null;
 
@@ -92,12 +89,15 @@ export function listenToClipboard(take, give) {
       event.preventDefault();
     });
   }
-  // (on Linux the browser pastes by the middle button, which pans here)
-  let middle = -Infinity;
-  const note = ({ button, timeStamp }) => { if (button === 1) middle = timeStamp; };
-  document.addEventListener("pointerup", note, { capture: true });
+  // (on Linux the browser pastes by the middle button, which pans here; any other paste follows something else)
+  let isMiddle = false;
+  document.addEventListener("pointerup", ({ button }) => { isMiddle = button === 1; }, { capture: true });
+  for (const kind of ["keydown", "pointerdown"]) {
+    document.addEventListener(kind, () => { isMiddle = false; }, { capture: true });
+  }
+  window.addEventListener("blur", () => { isMiddle = false; });
   document.addEventListener("paste", (event) => {
-    if (isTyping() || event.timeStamp - middle < BY_MIDDLE) return;
+    if (isTyping() || isMiddle) return;
     give(event.clipboardData.getData("text/plain"));
     event.preventDefault();
   });

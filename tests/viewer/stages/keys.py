@@ -101,9 +101,9 @@ async def pasted(ann, server):
     await asyncio.sleep(0.3)
     yield "the middle button pans", difference((await ann.view())[1:3], [left - 40, top - 10])
     yield "it pastes nothing", difference((len(server.records()), await ann.tab.value("document.getElementById('note').hidden")), (before, True))
-    await asyncio.sleep(0.2)
+    await ann.press("Escape")
     await ann.tab.value(paste.replace("new DataTransfer()", f"(() => {{ const data = new DataTransfer(); data.setData('text/plain', {json.dumps('no shapes')}); return data; }})()"))
-    yield "a paste later is told", difference(await ann.text("note"), "What was copied holds no shapes.")
+    yield "a paste after a key is told", difference(await ann.text("note"), "What was copied holds no shapes.")
     await ann.tab.value("app.notes.hide()")
 
 

@@ -49,16 +49,15 @@ async def edits_meanwhile(browser):
                 before, place = await ann.tab.value(DRAWN), house.server.records()[1]["pose"]["dx"]
                 leave()
                 await ann.tab.until("!document.getElementById('away').hidden")
-                await asyncio.sleep(0.1)
-                yield f"the foot without {name}", None if (await ann.text("saved")).startswith("kept to version") else await ann.text("saved")
+                await ann.tab.until("document.getElementById('saved').textContent.startsWith('kept to version')")
                 yield f"it is not green without {name}", difference(await ann.tab.value("document.getElementById('saved').classList.contains('is-saved')"), False)
                 yield f"what will be without {name}", None if "is done when it is back" in await ann.text("away-why") else await ann.text("away-why")
                 await ann.tab.value("app.state.select([])")
                 await ann.press("r")
                 await ann.drag([100, 400], [120, 420], [150, 450])
                 await ann.tab.value("app.state.select([1]), app.editor.moveBy([3, 0]), 0")
-                await asyncio.sleep(0.3)
-                yield f"what waits without {name}", difference([await ann.text("saved"), await ann.tab.value("document.getElementById('refusal').hidden")], ["not kept yet", True])
+                await ann.tab.until("document.getElementById('saved').textContent === 'not kept yet'")
+                yield f"nothing is refused without {name}", difference(await ann.tab.value("document.getElementById('refusal').hidden"), True)
                 started = come()
                 if started is not None:
                     await started
@@ -86,7 +85,7 @@ async def older_document(ann, house, folder):
     shutil.move(copy, house.server.folder)
     await ann.press("r")
     await ann.drag([200, 400], [220, 420], [250, 450])
-    await asyncio.sleep(0.3)
+    await ann.tab.until("document.getElementById('saved').textContent === 'not kept yet'")
     house.server.start()
     await ann.tab.until("document.getElementById('away').hidden && app.picture.isSettled")
     await ann.tab.until("!document.getElementById('refusal').hidden")
