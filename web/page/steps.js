@@ -143,7 +143,9 @@ export class Steps {
       await this.#journal?.reach(way.version, FEED_PATIENCE);
       const requests = way.mends();
       if (!requests.length) break;
-      way.own((await this.make(requests, { isOnWay: true })).replies);
+      const { replies } = await this.make(requests, { isOnWay: true });
+      if (!replies.length) break;
+      way.own(replies);
     }
     return way.version;
   }

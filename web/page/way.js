@@ -9,12 +9,13 @@ const VALUES = { pose: "pose", reshape: "shape" };
 /** Parts that change what the others mean. */
 const WHOLE = ["turn", "kind"];
 
-const nameOf = ({ verb, id }) => `${verb} ${id}`;
+const keyOf = ({ verb, id }) => `${verb} ${id}`;
 
 export class Way {
   #journal;
   #tree;
   #own = new Set();
+  #version = 0;
   #earlier = [];
   #last = new Map();
   #theirs = new Map();
@@ -29,15 +30,18 @@ export class Way {
   note({ changes, replies }) {
     this.own(replies);
     for (const change of changes) {
-      const last = this.#last.get(nameOf(change)), both = last && joined(last, change);
+      const last = this.#last.get(keyOf(change)), both = last && joined(last, change);
       if (last && !both) this.#earlier.push(last);
-      this.#last.set(nameOf(change), both ?? change);
+      this.#last.set(keyOf(change), both ?? change);
     }
   }
 
   /** Takes replies to edits that are no changes of the step. */
   own(replies) {
-    for (const { version } of replies) this.#own.add(version);
+    for (const { version } of replies) {
+      this.#own.add(version);
+      this.#version = Math.max(this.#version, version);
+    }
   }
 
   get changes() {
@@ -46,7 +50,7 @@ export class Way {
 
   /** The version of the last edit on the way. */
   get version() {
-    return Math.max(0, ...this.#own);
+    return this.#version;
   }
 
   /**
@@ -62,7 +66,7 @@ export class Way {
   // Takes note of what others have made of the shapes. Own edits tell nothing of that.
   #read() {
     for (let tree = this.#tree; tree && this.#journal?.at(tree.version + 1); tree = this.#tree) {
-      const { edit } = this.#journal.at(tree.version + 1), name = nameOf(edit), value = VALUES[edit.verb];
+      const { edit } = this.#journal.at(tree.version + 1), name = keyOf(edit), value = VALUES[edit.verb];
       const before = value && tree.record(edit.id)?.[value];
       this.#tree = this.#journal.bring(tree, tree.version + 1);
       if (!before || !this.#last.has(name) || this.#own.has(this.#tree?.version)) continue;
@@ -74,7 +78,7 @@ export class Way {
   }
 
   #mendOf({ verb, id, parent, own, from, to, trail = {} }) {
-    const record = this.#tree.record(id), theirs = this.#theirs.get(nameOf({ verb, id }));
+    const record = this.#tree.record(id), theirs = this.#theirs.get(keyOf({ verb, id }));
     if (!record || !theirs || (parent !== undefined && record.parent !== parent)) return [];
     if (WHOLE.some((part) => own.includes(part) || theirs.parts.has(part))) return [];
     const now = record[VALUES[verb]], passed = (part) => [partOf(from, part), ...(trail[part] ?? [])];
