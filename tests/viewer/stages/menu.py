@@ -30,6 +30,7 @@ async def menu(browser, ann, server):
     await browser.command("Browser.grantPermissions", permissions=["clipboardReadWrite", "clipboardSanitizedWrite"])
     await ann.tab.command("Emulation.setFocusEmulationEnabled", enabled=True)
     frame, (one, two), corner = await sheet(ann, server, (20, 20, 60, 40), (100, 20, 60, 40))
+    await ann.tab.value("document.getElementById('search').select(), app.stage.focus()")  # (a field that is left copies nothing)
     await right_click(ann, at(corner, (40, 40))[0])
     yield "it selects", difference(await ann.tab.value("app.state.selection"), [one])
     yield "it is shown", None if {"cut", "copy", "paste", "group", "delete"} <= set(await ann.tab.value(SHOWN)) else str(await ann.tab.value(SHOWN))
