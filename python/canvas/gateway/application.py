@@ -62,58 +62,75 @@ def page_of(title: str, root: str) -> str:
     return text.replace('"page/', f'"{"../" * root.count("/")}page/')
 
 
-def application(documents: Documents, hosts: set[str] | None) -> web.Application:
-    """The gateway of documents. It is found by the names of these hosts, or listens at a unix socket where they are
-    None."""
-    def name_in(request: web.Request) -> str:
+async def fresh(_: web.Request, response: web.StreamResponse) -> None:
+    """Gives an answer the headers that each one has."""
+    for name, value in HEADERS.items():
+        response.headers.setdefault(name, value)
+
+
+class Site:
+    """What browsers get of documents. They find it by the names of these hosts, or by any where those are None."""
+
+    def __init__(self, documents: Documents, hosts: set[str] | None) -> None:
+        self._documents, self._hosts = documents, hosts
+
+    def _name(self, request: web.Request) -> str:
+        """The name of the document that a request is for."""
         name = request.match_info.get("name", "")
-        if not documents.has(name):
+        if not self._documents.has(name):
             raise web.HTTPNotFound
         return name
 
-    async def tab(request: web.Request, is_reader: bool = False) -> web.WebSocketResponse:
-        if not is_own(request, hosts):
+    async def tab(self, request: web.Request, is_reader: bool = False) -> web.WebSocketResponse:
+        """The session of a tab."""
+        if not is_own(request, self._hosts):
             raise web.HTTPForbidden
-        with documents.document(name_in(request)).visit() as room:
+        with self._documents.document(self._name(request)).visit() as room:
             found = web.WebSocketResponse(compress=False, heartbeat=20)
             await found.prepare(request)
             await Tab(found, room, known_by(request), is_reader).serve()
             return found
 
-    async def reader(request: web.Request) -> web.WebSocketResponse:
-        return await tab(request, is_reader=True)
+    async def reader(self, request: web.Request) -> web.WebSocketResponse:
+        """The session of a tab that may only look."""
+        return await self.tab(request, is_reader=True)
 
-    async def picture(request: web.Request) -> web.Response:
-        return await documents.document(name_in(request)).room.looks.pictures.answer(request)
+    async def picture(self, request: web.Request) -> web.Response:
+        """A picture, by its hash."""
+        return await self._documents.document(self._name(request)).room.looks.pictures.answer(request)
 
-    async def page(request: web.Request, more: str = "") -> web.Response:
-        if not is_known(name_of(request), hosts):
+    async def page(self, request: web.Request, more: str = "") -> web.Response:
+        """The page to draw on, or that for looking, which lies at one more part of the address."""
+        if not is_known(name_of(request), self._hosts):
             return unknown(name_of(request))
-        text = page_of(documents.title(name_in(request)), documents.root + more)
+        text = page_of(self._documents.title(self._name(request)), self._documents.root + more)
         return web.Response(text=text, content_type="text/html")
 
-    async def page_to_look(request: web.Request) -> web.Response:
-        return await page(request, LOOK)
+    async def page_to_look(self, request: web.Request) -> web.Response:
+        """The page for looking."""
+        return await self.page(request, LOOK)
 
-    async def fresh(_: web.Request, response: web.StreamResponse) -> None:
-        for name, value in HEADERS.items():
-            response.headers.setdefault(name, value)
-
-    async def leave(_: web.Application) -> None:
-        for document in documents.shown():
+    async def leave(self, _: web.Application) -> None:
+        """Ends the connections of all tabs."""
+        for document in self._documents.shown():
             await document.send_away()
 
-    found = web.Application()
+
+def application(documents: Documents, hosts: set[str] | None) -> web.Application:
+    """The gateway of documents. It is found by the names of these hosts, or listens at a unix socket where they are
+    None."""
+    found, site = web.Application(), Site(documents, hosts)
     found.on_response_prepare.append(fresh)
-    found.on_shutdown.append(leave)
+    found.on_shutdown.append(site.leave)
     found.cleanup_ctx.append(documents.run)
+    root, look = documents.root, documents.root + LOOK
     found.add_routes([
-        web.get(f"{documents.root}/", page),
-        web.get(f"{documents.root}/session", tab),
-        web.get(f"{documents.root}/picture/{{hash}}.png", picture),
-        web.get(f"{documents.root}{LOOK}/", page_to_look),
-        web.get(f"{documents.root}{LOOK}/session", reader),
-        web.get(f"{documents.root}{LOOK}/picture/{{hash}}.png", picture),
+        web.get(f"{root}/", site.page),
+        web.get(f"{root}/session", site.tab),
+        web.get(f"{root}/picture/{{hash}}.png", site.picture),
+        web.get(f"{look}/", site.page_to_look),
+        web.get(f"{look}/session", site.reader),
+        web.get(f"{look}/picture/{{hash}}.png", site.picture),
         web.static("/page", PAGE),
     ])
     return found
