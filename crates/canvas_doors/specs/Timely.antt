@@ -1,5 +1,5 @@
 -- What a client was heard to send.
-use Rattle.std.specs.Prelude.{ℕ, List, None}
+use Rattle.std.specs.Prelude.{None}
 use Rattle.canvas_session.specs.Source.{Source}
 use Rattle.canvas_doors.specs.declared.timely.Timely.{Timely}
 

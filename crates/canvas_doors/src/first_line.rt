@@ -2,7 +2,7 @@
 
 ghost use Rattle.std.specs.Prelude.{◌≡◌, ◌<◌, ◌≤◌, ℕ, [], false, length, take, vec_len, List, IfNone, IfOk, IfSome};
 ghost use Rattle.std.specs.Io.KnownBytes.{IsAtEnd};
-ghost use Rattle.canvas_session.specs.Source.{Rests, Takes};
+ghost use Rattle.canvas_session.specs.Source.{Takes};
 ghost use Rattle.canvas_doors.specs.Beginning.{Begins, Brings, Tells, TellsOf};
 ghost use Rattle.canvas_doors.specs.Foreign.{is_foreign, line_len};
 

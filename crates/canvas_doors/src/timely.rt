@@ -1,6 +1,6 @@
 //! Reading from a client that is not waited for without end.
 
-ghost use Rattle.std.specs.Prelude.{None};
+ghost use Rattle.std.specs.Prelude.{◌≡◌, [], None};
 ghost use Rattle.std.specs.Io.{ReadsAtMost};
 ghost use Rattle.canvas_session.specs.Source.{Hearing};
 ghost use Rattle.canvas_doors.specs.Timely.{heard_by};

@@ -27,6 +27,9 @@ fn note_two(noted: &mut Record, first: &[u8], second: &[u8], count: usize)
     requires { count ≤ length (first.now ++ second.now) }
     ensures { noted.new.bytes ≡ noted.old.bytes ++ take count (first.now ++ second.now) }
 {
-    let front = count.min(first.len());
-    noted.note(&first[..front], &second[..count - front]);
+    if count <= first.len() {
+        noted.note(&first[..count], &[]);
+    } else {
+        noted.note(first, &second[..count - first.len()]);
+    }
 }

@@ -120,14 +120,14 @@ pub fn answer_visit<H: Threads + Wait + Clock + Sync, B: Board, G: Settles, E: E
 }
 
 // Answers a client, and says how that ended, and what was taken from the client and sent.
-fn answer_stream<'x, H: Threads + Wait + Clock + Sync, B: Board, G: Settles, E: Events>(
+fn answer_stream<'x, 'h, H: Threads + Wait + Clock + Sync, B: Board, G: Settles, E: Events>(
     rt: &'x H,
-    house: &'x House<'x, B, G, E>,
+    house: &House<'h, B, G, E>,
     board: &mut B,
     seat: usize,
     stream: &'x Stream,
     lapse: &'x Cell<Option<Lapse>>,
-) -> (Parting, Input<'x, 'x, H>, Output<'x, 'x, E>)
+) -> (Parting, Input<'x, 'h, H>, Output<'x, 'h, E>)
     ensures { IsVisited house.now.workers (record {
       input = record { left = None; heard = [] };
       unread = heard_by result.1.client;

@@ -17,3 +17,6 @@ returns-clause-told g c = long_told c.loop-first.first.items _ c.loop-first.inva
 
 pub returns-in-Some-told_by-clause-begins : goal.returns-in-Some-told_by-clause-begins
 returns-in-Some-told_by-clause-begins g c = begins _ _ (rw c.deref.ensures.value at c.in-Some-told_by.ensures.told)
+
+pub returns-in-Some-eq0-clause-read : goal.returns-in-Some-eq0-clause-read
+returns-in-Some-eq0-clause-read g c = brought _ _ _ c.loop-first.first.items c.read_more.new.first.items c.in_ok-read_more.field-0 c.in-Some-eq0.field-0 c.in-Some-eq0.is c.loop-first.invariant.read c.in_ok-read_more.ensures
