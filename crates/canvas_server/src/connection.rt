@@ -94,14 +94,19 @@ fn answer_gated<
     ensures settled { ∥ ((n : ℕ) × HasPassed K.settled K.begun (W.contents result.1) n) ∥₁ }
 {
     let gated = Gated::<K, H, G, W>::new(rt, gate, writer);
-    let (reader, gated, answered) =
-        answer_input(rt, alloc, board, workers, witness, reader, gated);
+    let (reader, gated, answered) = answer_input(rt, alloc, board, workers, witness, reader, gated);
     (reader, gated.into_inner(), answered)
 }
 
 // Answers what a reader brings, to a writer; both come back. `None` where no memory could be had or
 // not all was sent.
-fn answer_input<H: Threads + Wait + Sync, B: Board, O: Witness, R: Hears + Drop, W: WriteTwo + Drop>(
+fn answer_input<
+    H: Threads + Wait + Sync,
+    B: Board,
+    O: Witness,
+    R: Hears + Drop,
+    W: WriteTwo + Drop,
+>(
     rt: &H,
     alloc: Global,
     board: &mut B,
