@@ -1,5 +1,5 @@
 -- How the connection of a seat ended, by how it was answered.
-use Rattle.std.specs.Prelude.{◌≡◌, ℕ, ◌⊎◌, Option, None, Some, Result, Ok, Err}
+use Rattle.std.specs.Prelude.{◌≡◌, ℕ, ◌⊎◌, Option, None, Some, Ok, Err}
 use Rattle.canvas_session.specs.Session.{Ends}
 use Rattle.canvas_session.specs.declared.fault.Cause.{Cause}
 use Rattle.canvas_session.specs.declared.fault.Cause.TheVariants.{OutOfMemory, LineTooLong, ReadFault, WriteFault, TooManyRequests, CutLine}

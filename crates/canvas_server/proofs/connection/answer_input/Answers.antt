@@ -1,4 +1,4 @@
-use Rattle.std.proofs.Common.{◌≡◌, ℕ, List, Option, Some, IfSome, OnOk, ap, ◌∙◌, sym, subst}
+use Rattle.std.proofs.Common.{◌≡◌, ℕ, List, Option, OnOk, ap, ◌∙◌, sym, subst}
 use Rattle.std.specs.Io.KnownBytes.{Keeps}
 use Rattle.canvas_session.specs.Source.{Rests, Source, Takes}
 use Rattle.canvas_session.specs.Session.{Serves}
