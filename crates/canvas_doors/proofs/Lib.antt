@@ -1,3 +1,4 @@
 pub mod Begun
 pub mod Passing
+pub mod Resuming
 pub mod Written

@@ -3,4 +3,5 @@ pub mod Doors
 pub mod Faults
 pub mod Settings
 pub mod Statuses
+pub mod Visit
 pub mod Words

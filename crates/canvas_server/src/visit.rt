@@ -1,15 +1,19 @@
 //! One connection that has a seat: how long it may be silent, who is told of it, and what ends it.
 
+ghost use Rattle.std.specs.Prelude.{◌≡◌, [], None, Some};
+ghost use Rattle.canvas_doors.specs.Timely.{heard_by};
+ghost use Rattle.canvas_server.specs.Visit.{IsVisited, parting_by};
+
 use crate::connection::{Answered, answer};
 use crate::house::House;
 use canvas_doors::{
     Call, Ending, Events, Lapse, Parting, Settles, Stream, Timely, WriteTwo, set_up,
 };
 use canvas_look::Board;
-use canvas_session::Cause;
+use canvas_session::{Cause, Hears, Told};
 use std::cell::Cell;
 use std::io;
-use std::io::{Read, Write};
+use std::io::Write;
 use std::sync::Wait;
 use std::thread::Threads;
 use std::time::Clock;
@@ -50,26 +54,29 @@ struct Input<'c, 'e, H: Clock> {
     ending: &'e Ending,
 }
 
-impl<H: Clock> Read for Input<'_, '_, H> {
-    fn read(&mut self, bytes: &mut [u8]) -> io::Result<usize> {
+impl<H: Clock> Hears for Input<'_, '_, H> {
+    ghost source = { λ input. heard_by input.client };
+
+    fn hear(&mut self, bytes: &mut [u8]) -> io::Result<usize> {
         if self.ending.has_begun() {
             return Ok(0);
         }
-        self.client.read(bytes)
+        self.client.hear(bytes)
     }
 }
 
 /// What a client is sent. Each piece is told of.
 #[derive(Drop)]
 struct Output<'s, 'e, E: Events> {
-    stream: &'s Stream,
+    stream: Told<&'s Stream>,
     events: &'e E,
 }
 
 impl<E: Events> Write for Output<'_, '_, E> {
+    ghost contents = { λ output. Some output.stream.noted.bytes };
+
     fn write(&mut self, bytes: &[u8]) -> io::Result<usize> {
-        let mut stream = self.stream;
-        let sent = stream.write(bytes)?;
+        let sent = self.stream.write(bytes)?;
         self.events.sent(sent);
         Ok(sent)
     }
@@ -81,8 +88,7 @@ impl<E: Events> Write for Output<'_, '_, E> {
 
 impl<E: Events> WriteTwo for Output<'_, '_, E> {
     fn write_two(&mut self, first: &[u8], second: &[u8]) -> io::Result<usize> {
-        let mut stream = self.stream;
-        let sent = stream.write_two(first, second)?;
+        let sent = self.stream.write_two(first, second)?;
         self.events.sent(sent);
         Ok(sent)
     }
@@ -102,7 +108,8 @@ pub fn answer_visit<H: Threads + Wait + Clock + Sync, B: Board, G: Settles, E: E
     }
     set_up(stream, house.idle);
     house.events.began(seat);
-    let parting = answer_stream(rt, house, board, seat, stream);
+    let lapse = Cell::new(None);
+    let (parting, _, _) = answer_stream(rt, house, board, seat, stream, &lapse);
     house.events.ended(seat, &parting);
     house.ending.leave(rt, seat);
     house.ending.has_begun()
@@ -112,30 +119,39 @@ pub fn answer_visit<H: Threads + Wait + Clock + Sync, B: Board, G: Settles, E: E
         )
 }
 
-// Answers a client, and says how that ended.
-fn answer_stream<'x, H: Threads + Wait + Clock + Sync, B: Board, G: Settles, E: Events>(
+// Answers a client, and says how that ended, and what was taken from the client and sent.
+fn answer_stream<'x, 'h, H: Threads + Wait + Clock + Sync, B: Board, G: Settles, E: Events>(
     rt: &'x H,
-    house: &House<B, G, E>,
+    house: &House<'h, B, G, E>,
     board: &mut B,
     seat: usize,
     stream: &'x Stream,
-) -> Parting {
-    let lapse = Cell::new(None);
+    lapse: &'x Cell<Option<Lapse>>,
+) -> (Parting, Input<'x, 'h, H>, Output<'x, 'h, E>)
+    ensures { IsVisited house.now.workers (record {
+      input = record { left = None; heard = [] };
+      unread = heard_by result.1.client;
+      held = Some [];
+      output = Some result.2.stream.noted.bytes;
+      before = B.seen board.old;
+      after = B.seen board.new;
+    }) result.0 }
+{
     let gate = Watch {
         gate: house.gate,
         ending: house.ending,
         seat,
     };
     let input = Input {
-        client: Timely::lines(rt, stream, house.idle, &lapse),
+        client: Timely::lines(rt, stream, house.idle, lapse),
         ending: house.ending,
     };
     let output = Output {
-        stream,
+        stream: Told::new(stream),
         events: house.events,
     };
     let (alloc, workers) = (house.alloc, &house.workers);
-    let (_, answered) = answer(
+    let (input, output, answered) = answer(
         rt,
         alloc,
         board,
@@ -145,17 +161,20 @@ fn answer_stream<'x, H: Threads + Wait + Clock + Sync, B: Board, G: Settles, E: 
         input,
         output,
     );
-    match answered {
+    let parting = match answered {
         None => Parting::Unsent,
         Some(Answered::Foreign) => Parting::Foreign,
         Some(Answered::Session(Ok(_))) => Parting::Finished,
         Some(Answered::Session(Err(fault))) => parting_of(fault.cause, lapse.get()),
         Some(Answered::Unread) => parting_of(Cause::ReadFault, lapse.get()),
-    }
+    };
+    (parting, input, output)
 }
 
 // How a session ended that did not end with its input.
-fn parting_of(cause: Cause, lapse: Option<Lapse>) -> Parting {
+fn parting_of(cause: Cause, lapse: Option<Lapse>) -> Parting
+    ensures { result ≡ parting_by cause lapse }
+{
     match (cause, lapse) {
         (Cause::ReadFault, Some(Lapse::Idle)) => Parting::Idle,
         (Cause::ReadFault, Some(Lapse::Slow)) => Parting::Slow,

@@ -1,3 +1,4 @@
+pub mod Sources
 pub mod Ranges
 pub mod Lf
 pub mod Writes

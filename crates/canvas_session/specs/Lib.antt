@@ -1,3 +1,4 @@
+pub mod Source
 pub mod Line
 pub mod Next
 pub mod Pending
