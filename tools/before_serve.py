@@ -6,22 +6,28 @@ usage: tools/before_serve.py ADDRESS FILE
 Prints on standard error what is wrong with the file or the address, with status 4. It opens no file, and gives the address back at once.
 """
 
+import errno
 import os
 import socket
 import sys
 
 
+NEXT = {errno.EADDRINUSE: "ss -ltnp tells which program listens there", errno.EADDRNOTAVAIL: "ip addr tells the addresses of this machine",
+        errno.EACCES: "only root may have a port below 1024"}
+"""What to do about a fault of an address."""
+
+
 class Wrong(Exception):
-    """What is wrong, in words."""
+    """What is wrong, in words, and what to do."""
 
 
 def look_at_file(name):
     if not os.path.exists(name):
-        raise Wrong(f"there is no file {name}")
+        raise Wrong(f"there is no file {name}; serve a saved document, as examples/poster.json")
     if os.path.isdir(name):
-        raise Wrong(f"{name} is a folder, and no saved document")
+        raise Wrong(f"{name} is a folder, and no saved document; canvasd serves a folder")
     if not os.access(name, os.R_OK):
-        raise Wrong(f"the file {name} can't be read: permission denied")
+        raise Wrong(f"the file {name} can't be read: permission denied; ls -l tells whom it belongs to")
 
 
 def parts_of(address):
@@ -47,7 +53,7 @@ def places_of(address):
             return [(it[0], it[4]) for it in socket.getaddrinfo(host, port, type=socket.SOCK_STREAM)]
     except (OSError, UnicodeError):
         pass
-    raise Wrong(f"the host of the address {address} is not known")
+    raise Wrong(f"the host of the address {address} is not known; 127.0.0.1 is this machine")
 
 
 def fault_of(family, place):
@@ -64,7 +70,7 @@ def fault_of(family, place):
 def look_at_address(address):
     faults = [fault_of(*it) for it in places_of(address)]
     if all(faults):
-        raise Wrong(f"the address {address} can't be used: {faults[-1].strerror.lower()}")
+        raise Wrong("; ".join([f"the address {address} can't be used: {faults[-1].strerror.lower()}", *filter(None, [NEXT.get(faults[-1].errno)])]))
 
 
 def main():

@@ -68,8 +68,16 @@ if command -v py3clean >/dev/null; then
     py3clean -p canvas
 fi
 """
-OF_SCRIPTS = ("bin/canvas", "bin/canvasd", "tools/program.sh", "tools/command.sh", "tools/canvas.help", "tools/canvasd.help", "tools/before_serve.py")
+OF_CANVAS = ("VERSION", "bin/canvas", "tools/program.sh", "tools/canvas.help", "tools/before_serve.py")
+"""What bin/canvas is, which both packages have over the program: it answers --help, and says what is wrong with an address or a file."""
+OF_SCRIPTS = (*OF_CANVAS, "bin/canvasd", "tools/command.sh", "tools/canvasd.help")
 """What the commands in bin/ are, which the tarball has over the programs and the package in Python."""
+UNDER_DEBIAN = {"canvas": "usr/lib/canvas/libexec/canvas", "canvasd": "usr/bin/canvasd"}
+"""Where the Debian package has each program. Over `canvas` stands its script; `canvasd` answers --help itself."""
+COMPLETION = "packaging/bash-completion.sh"
+"""What bash completes behind the commands. It is looked for by the name of each."""
+COMPLETED = (*PROGRAMS, "canvas-admin", *COMMANDS)
+"""The commands that it is for."""
 CONTROL = f"""Package: canvas
 Version: {VERSION}
 Architecture: amd64
@@ -161,6 +169,20 @@ def put_commands(folder):
         put(folder, target, COMMAND.format(module=module, function=function).encode(), True)
 
 
+def link(folder, name, target):
+    """Makes a link to a file beside it, or to one that stands by a relative path."""
+    (folder / name).parent.mkdir(parents=True, exist_ok=True)
+    (folder / name).symlink_to(target)
+
+
+def put_completion(folder):
+    """Writes what bash completes, under the name of each command."""
+    first, *others = COMPLETED
+    put(folder, first, (TOP / COMPLETION).read_bytes())
+    for name in others:
+        link(folder, name, first)
+
+
 def checksums(folder, names):
     return "".join(f"{hashlib.sha256((folder / it).read_bytes()).hexdigest()}  {it}\n" for it in names).encode()
 
@@ -180,8 +202,11 @@ def fill_tarball(folder, programs, pages):
 
 def fill_package(folder, programs, pages):
     put_files(folder / "usr/share/canvas", SHARED)
+    put_files(folder / "usr/lib/canvas", OF_CANVAS)
+    link(folder, "usr/bin/canvas", "../lib/canvas/bin/canvas")
+    put_completion(folder / "usr/share/bash-completion/completions")
     for name in PROGRAMS:
-        put(folder, f"usr/bin/{name}", programs[name], True)
+        put(folder, UNDER_DEBIAN[name], programs[name], True)
         put(folder, f"usr/share/man/man1/{name}.1.gz", gzip.compress(pages[name], mtime=0))
     put_python(folder / "usr/lib/python3/dist-packages/canvas")
     put_commands(folder)

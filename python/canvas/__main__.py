@@ -47,6 +47,15 @@ def session(address: str | None) -> Canvas:
         sys.exit(f"canvas-client: there is no program {PROGRAM}; docs/INSTALL.md says how to install it")
 
 
+def next_step(fault: Exception) -> str:
+    """What to do about a fault, for the end of its line."""
+    if isinstance(fault, (ConnectionRefusedError, FileNotFoundError)):
+        return "; `canvasd FOLDER` starts a server, and says where it listens"
+    if isinstance(fault, EOFError):
+        return "; an edit without a reply may have been made: look before it is sent again"
+    return ""
+
+
 def main() -> None:
     description, _, more = (__doc__ or "").partition("\n\nusage: ")
     words = argparse.ArgumentParser("canvas-client", description=description, epilog=more.partition("\n\n")[2],
@@ -65,7 +74,7 @@ def main() -> None:
     except KeyboardInterrupt:
         sys.exit(130)
     except (OSError, EOFError, ValueError) as fault:
-        sys.exit(f"canvas-client: {getattr(fault, 'strerror', None) or fault}")
+        sys.exit(f"canvas-client: {getattr(fault, 'strerror', None) or fault}{next_step(fault)}")
 
 
 if __name__ == "__main__":

@@ -154,7 +154,8 @@ class Copy:
             found = [int(it) for it in names if NUMBER.fullmatch(it) and (self.folder / it / JOURNAL).is_file()]
             foreign = [it for it in names if it != LOCK and not UNDONE.fullmatch(it)]
             if foreign and not found:
-                raise Wrong(f"{folder} is no folder of a document, and it has other files, as {min(foreign)}")
+                raise Wrong(f"{folder} is no folder of a document, and it has other files, as {min(foreign)}: "
+                            "name a new one")
             self._hold()
             if found:
                 self._take(max(found))
@@ -169,7 +170,7 @@ class Copy:
         with disk(self.folder):
             room, target = self.folder / f"{generation}.new", self.folder / str(generation)
             if target.exists():
-                raise Wrong(f"{target} is in the way: it is no generation that is whole")
+                raise Wrong(f"{target} is in the way: it is no generation that is whole; move it away")
             if room.exists():
                 shutil.rmtree(room)  # what a crash left
             room.mkdir()
@@ -193,14 +194,16 @@ class Copy:
 
     def stranger(self, why: object) -> Wrong:
         """The server's document is no continuation of this copy."""
-        return Wrong(f"{self.folder} is the copy of another document, or the server was set back: {why}")
+        return Wrong(f"{self.folder} is the copy of another document, or the server was set back: {why}; "
+                     "a new folder begins a new copy")
 
     def _hold(self) -> None:
         self._lock = open(self.folder / LOCK, "ab")
         try:
             fcntl.flock(self._lock, fcntl.LOCK_EX | fcntl.LOCK_NB)
         except BlockingIOError:
-            raise Wrong(f"{self.folder} is in use: another process serves it or copies into it") from None
+            raise Wrong(f"{self.folder} is in use: another process serves it or copies into it; "
+                        "stop that first") from None
 
     def _take(self, generation: int) -> None:
         folder = self.folder / str(generation)
@@ -254,7 +257,7 @@ class Source:
         except (OSError, EOFError) as fault:
             raise Lost(f"{self.address}: {getattr(fault, 'strerror', None) or fault}") from fault
         except ValueError as fault:
-            raise Wrong(f"{self.address} is no feed door: {fault}") from fault
+            raise Wrong(f"{self.address} is no feed door: {fault}; `canvasd --feed ADDRESS` opens one") from fault
 
 
 def followed(source: Source, copy: Copy) -> Feed:
@@ -306,7 +309,7 @@ def follow(source: Source, copy: Copy, is_once: bool) -> None:
             is_done, told = copy_until_it_ends(source, copy, is_once), ""
         except Lost as lost:
             if is_once:
-                raise Wrong(str(lost)) from lost
+                raise Wrong(f"{lost}; without --once it is tried again") from lost
             if told != str(lost):
                 print(f"canvas-backup: {lost}; it is tried again", file=sys.stderr, flush=True)
             told = str(lost)

@@ -105,7 +105,7 @@ def start(name: str, words: list[str], *patterns: str) -> tuple[subprocess.Popen
     if len(found) < len(patterns):
         process.terminate()
         process.wait()
-        sys.exit(f"canvas-demo: the {name} did not start")
+        sys.exit(f"canvas-demo: the {name} did not start; the line above says why, and docs/STATUS.md what to do")
     return process, found
 
 
@@ -120,7 +120,7 @@ def wait_for_any(running: Running) -> None:
             status = process.poll()
             if status is not None:
                 how = f"by signal {-status}" if status < 0 else f"with status {status}"
-                sys.exit(f"canvas-demo: the {name} ended {how}")
+                sys.exit(f"canvas-demo: the {name} ended {how}; docs/STATUS.md says why; canvas-demo goes on from it")
 
 
 def folder_of(given: argparse.Namespace) -> Path:
@@ -179,7 +179,7 @@ def main() -> None:
     except KeyboardInterrupt:
         print(f"\nthe drawing is kept in {folder}")
     except (OSError, EOFError) as fault:
-        sys.exit(f"canvas-demo: the server ended while the examples were drawn: {fault}")
+        sys.exit(f"canvas-demo: the server ended while the examples were drawn: {fault}; docs/STATUS.md says why")
     finally:
         for number in (signal.SIGINT, signal.SIGTERM):
             signal.signal(number, signal.SIG_IGN)

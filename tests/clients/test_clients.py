@@ -176,7 +176,8 @@ def test_the_command_sends_requests_and_saves_bodies(program, tmp_path, is_serve
     assert (tmp_path / "saved" / "2.ppm").read_bytes() == b"P6\n3 1\n255\n" + bytes.fromhex("ff0000 ff0000 ffffff")
 
 
-@pytest.mark.parametrize("where, why", [("no-address", "'no-address' is neither HOST:PORT nor unix:PATH"), ("unix:none", "No such file or directory")])
+@pytest.mark.parametrize("where, why", [("no-address", "'no-address' is neither HOST:PORT nor unix:PATH"),
+                                        ("unix:none", "No such file or directory; `canvasd FOLDER` starts a server, and says where it listens")])
 def test_the_command_says_what_is_wrong(tmp_path, where, why):
     done = run([COMMAND, where], tmp_path)
     assert (done.returncode, done.stderr) == (1, f"canvas-client: {why}\n")

@@ -6,12 +6,13 @@
 - each name in those definitions stands on the page before it, or is linked, if the page has an index (tools/homes.py);
 - each file, crate and command that README.md, CHANGELOG.md, docs/*.md or a crate's README.md names exists, and each function that is named
   behind its file;
-- no page, and not all together, have more words than MOST and MOST_OF_ALL say (count_of says what counts);
+- no page, and not all together, have more words than MOST, MOST_AS_IT_STANDS and MOST_OF_ALL say (count_of says what counts);
+- each link to a heading leads to one, and the pages of CONTENTS begin with links to all their headings;
 - no more lines of clauses are wide than MOST_WIDE says;
 - tools/README.md and examples/README.md name each file beside them;
 - docs/PROOFS.md names each crate of the kit that crates.txt has among those that are trusted;
 - each heading that docs/QUESTIONS.md names stands in its page;
-- each number of docs/LIMITS.md stands in the sources that its row names (tools/limits.py);
+- each number of docs/LIMITS.md stands in the sources that its row names, and the programs' help and man pages have the same (tools/limits.py);
 - the gate that README.md names is what .ci/run runs (tests/program runs its example);
 - CHANGELOG.md begins with the version in the file VERSION, and the packages that README.md and docs/INSTALL.md name are of that version;
 - the minutes of a first build that README.md names are at most FACTOR from what tools/build_times.py gives for four processors.
@@ -29,7 +30,7 @@ from edits import BadEdit
 from excerpts import faults_of_excerpts
 from functions import clause_lines
 from homes import faults_of_homes
-from limits import faults_of_limits
+from limits import faults_of_helps, faults_of_limits
 from repository import PROGRAMS, TOP, below, lines
 from try_wrong_bodies import edited
 from write_docs import INDEXES, PAGES
@@ -42,11 +43,16 @@ PARTS = ("src", "specs", "proofs", "must-fail", "wrong-bodies")
 VERBS = "all check ci doc expand fmt lemma lib must-fail new plant run seed test tidy try verdict version".split()
 
 
-MOST = {"README.md": 1_000, "docs/ARCHITECTURE.md": 1_500, "docs/DECISIONS.md": 3_000, "docs/HEADLINE.md": 1_500, "docs/PROOFS.md": 4_500, "docs/RUNNING.md": 1_500,
+MOST = {"docs/ARCHITECTURE.md": 1_500, "docs/DECISIONS.md": 3_000, "docs/HEADLINE.md": 1_500, "docs/PROOFS.md": 4_500, "docs/RUNNING.md": 1_500,
         "docs/SPEED.md": 2_000, "docs/VIEWER.md": 700}
 """How many words a page may have."""
+MOST_AS_IT_STANDS = {"README.md": 800, "docs/TUTORIAL.md": 1_500}
+"""The same as `wc -w` counts, commands and code too."""
 MOST_OF_ALL = 30_000
 """How many words README.md, docs/ and the READMEs of crates, tools, tests, python, web and examples may have together."""
+
+CONTENTS = ("PROTOCOL.md", "RUNNING.md", "PROOFS.md", "HEADLINE.md")
+"""The pages of docs/ that begin with a list of their contents."""
 
 FACTOR = 1.5
 """How far the minutes that README.md names may be from those that are reckoned."""
@@ -60,6 +66,12 @@ def count_of(text):
     for part in (r"^```.*?^```$", r"<!--.*?-->", r"`[^`\n]*`"):
         text = re.sub(part, "", text, flags=re.M | re.S)
     return sum(bool(re.search(r"[A-Za-z]", it)) for it in text.split())
+
+
+def headings(text, signs="#{1,6}"):
+    """The names by which links lead to a page's headings."""
+    plain = re.sub(r"^```.*?^```", "", text, flags=re.M | re.S)
+    return [re.sub(r"[^\w -]", "", it).lower().replace(" ", "-") for it in re.findall(rf"^{signs} (.*)$", plain, re.M)]
 
 
 def code_words(text):
@@ -141,6 +153,22 @@ def faults_of_questions():
         yield None if heading in headings else f"docs/QUESTIONS.md: {page.relative_to(TOP)} has no heading '{heading}'"
 
 
+def faults_of_links(page):
+    """What is wrong with the links of a page to headings, of its own and of others."""
+    for file, name in re.findall(r"\]\((?!https?:)([^)#]*)#([^)]+)\)", page.read_text()):
+        target = page.parent / file if file else page
+        is_there = target.is_file() and name in headings(target.read_text())
+        yield None if is_there else f"{page.relative_to(TOP)}: {file} has no heading #{name}"
+
+
+def faults_of_contents(page):
+    """What is wrong with the list of a page's contents, which stands before its first part."""
+    text = page.read_text()
+    named = re.findall(r"\]\(#([^)]+)\)", re.split(r"^## ", text, maxsplit=1, flags=re.M)[0])
+    for name in headings(text, "##"):
+        yield None if name in named else f"{page.relative_to(TOP)}: its contents do not lead to #{name}"
+
+
 def faults_of_index(page):
     """What is wrong with a page that names each file beside it."""
     named = {it.rstrip("/") for it in code_words(page.read_text())}
@@ -155,6 +183,9 @@ def faults_of_lengths(pages):
     for page, most in [*MOST.items(), ("all pages", MOST_OF_ALL)]:
         count = counts.get(page, sum(counts.values()))
         yield None if count <= most else f"{page}: {count} words, and {most} may be"
+    for page, most in MOST_AS_IT_STANDS.items():
+        count = len((TOP / page).read_text().split())
+        yield None if count <= most else f"{page}: {count} words with its commands and code, and {most} may be"
 
 
 def faults_of_widths():
@@ -206,8 +237,8 @@ def faults_of_times():
 
 
 WHOLE = (faults_of_bodies, faults_of_lists, faults_of_questions, faults_of_trusted, faults_of_gate, faults_of_version, faults_of_times, faults_of_limits,
-         faults_of_widths)
-OF_PAGES = (faults_of_page, faults_of_functions, faults_of_excerpts, faults_of_homes)
+         faults_of_helps, faults_of_widths)
+OF_PAGES = (faults_of_page, faults_of_functions, faults_of_links, faults_of_excerpts, faults_of_homes)
 
 
 @pytest.mark.parametrize("faults_of", WHOLE, ids=lambda it: it.__name__.removeprefix("faults_of_"))
@@ -217,6 +248,11 @@ def test_all_of_it(faults_of):
 
 def test_lengths():
     assert [*filter(None, faults_of_lengths(PAGES))] == []
+
+
+@pytest.mark.parametrize("page", CONTENTS)
+def test_contents(page):
+    assert [*filter(None, faults_of_contents(TOP / "docs" / page))] == []
 
 
 @pytest.mark.parametrize("page", INDEXES, ids=lambda it: str(it.relative_to(TOP)))

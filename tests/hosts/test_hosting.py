@@ -270,8 +270,9 @@ async def test_admin(host):
 
     host.machine.must("sh", "-euc", commands_of("canvas-admin create"))
     assert [name.partition(".")[0] for name in os.listdir(folder / ".removed")] == ["chart"], "the page's own document is gone, and kept"
-    for words in ([], ["make"], ["create"], ["create", "a", "b", "c"], ["list", "a"], ["move", "a"], ["remove", "--all", "a"], ["--help"]):
+    for words in ([], ["make"], ["create"], ["create", "a", "b", "c"], ["list", "a"], ["move", "a"], ["remove", "--all", "a"]):
         assert host.admin(*words)[0] == 2, f"the words {words}"
+    assert host.admin("--help")[0] == 0, "canvas-admin --help"
     for name in NO_NAMES:
         for words in (["create", name], ["remove", name], ["move", name, "b"], ["move", "b", name]):
             if words[:2] != ["move", "b"]:

@@ -3,8 +3,8 @@
 A comment of the page says what is done with the block or the paragraph behind it:
 
 - `run`: commands in the reader's first terminal. They end well; a block of text behind them is what they write.
-- `run in a terminal of its own`: a command that goes on until Ctrl-C; the text is what it writes first.
-- `run on the machine`: commands in a container (harness/machine.py) that has the Debian package, but for those that fetch packages.
+- `terminal`: a command for a terminal of its own, which goes on until Ctrl-C; the text is what it writes first.
+- `machine`: commands in a container (harness/machine.py) that has the Debian package, but for those that fetch packages.
 - `file: NAME`: the block is saved as that file.
 - `try: NAME`: the function of that name does what the paragraph tells the reader to do by hand, or looks whether it is as it says.
 
@@ -129,10 +129,10 @@ class Reader:
         kind, _, name = mark.partition(": ")
         if kind == "run":
             return self._first.run(block, told)
-        if kind == "run in a terminal of its own":
+        if kind == "terminal":
             self.others.append(self._terminal("-c", f"exec {block}"))
             return self.others[-1].fault(lambda: is_as_told(self.others[-1].said(), told))
-        if kind == "run on the machine":
+        if kind == "machine":
             return self._run_on_machine(block)
         if kind == "file":
             (self._folder / name).write_text(block)

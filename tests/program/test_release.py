@@ -23,7 +23,7 @@ from canvas import Canvas
 from harness.examples import EXAMPLE, readme_example
 from harness.running import free_port, port_of
 from harness.trees import TAKEN, packed, take, unbuilt
-from release import COMMANDS, INSTALLED, OF_SCRIPTS, PYTHON, SHARED, files_of, put_python
+from release import COMMANDS, COMPLETED, COMPLETION, INSTALLED, OF_CANVAS, OF_SCRIPTS, PYTHON, SHARED, UNDER_DEBIAN, files_of, put_python
 from repository import BUILT, BUILT_KEEPER, PROGRAMS, TOP
 
 pytestmark = pytest.mark.slow
@@ -207,7 +207,7 @@ def test_tarball(made):
     for word, rest in (("--unproved", ["script"]), ("--libraries", ["file"])):
         refused = f"canvas: {word} builds the program, and there are no sources here (docs/INSTALL.md)\n".encode()
         assert call([str(top / "bin" / "canvas"), word, *rest], top) == (b"", refused, 4), f"{word} in a release"
-    assert call([str(top / "bin" / "canvas"), "serve", "127.0.0.1:0", "none"])[1:] == (b"canvas: there is no file none\n", 4), "a document that is none"
+    assert call([str(top / "bin" / "canvas"), "serve", "127.0.0.1:0", "none"])[1:] == (b"canvas: there is no file none; serve a saved document, as examples/poster.json\n", 4), "a document that is none"
     served_by_tarball(top)
     kept("the tarball", ["bin/canvasd"], "drawing", "examples/poster.json", top)
     copied(top)
@@ -246,7 +246,7 @@ def test_package(made):
     assert told == ["Package: canvas", f"Version: {VERSION}", "Architecture: amd64", needs], "what the package says of itself"
     assert call(["dpkg-deb", "--extract", str(file), str(root)]) == (b"", b"", 0), "the package is unpacked"
     for name in PROGRAMS:
-        used = {tuple(map(int, it)) for it in re.findall(rb"GLIBC_(\d+)\.(\d+)", (root / "usr" / "bin" / name).read_bytes())}
+        used = {tuple(map(int, it)) for it in re.findall(rb"GLIBC_(\d+)\.(\d+)", (root / UNDER_DEBIAN[name]).read_bytes())}
         assert (bool(used) and max(used) <= NEWEST_GLIBC) == True, f"the newest version of the C library that {name} uses"
         page = gzip.decompress((root / "usr" / "share" / "man" / "man1" / f"{name}.1.gz").read_bytes()).decode()
         assert words_missing(name, page) == [], f"the man page of {name} in the package"
@@ -260,20 +260,36 @@ def test_package(made):
     environment = {**PLAIN, "PATH": f"{root}/usr/bin:{PLAIN['PATH']}", "PYTHONPATH": f"{root}/usr/lib/python3/dist-packages"}
     commands(root / "usr", environment)
     shown(root / "usr" / "bin" / "canvas-demo", environment)
+    answers(root)
     bare_root(root, made / "bare")
 
 
+def answers(root):
+    """The command `canvas` of the package is the tarball's; what bash completes is there by the name of each command."""
+    top, canvas = root / "usr" / "lib" / "canvas", str(root / "usr" / "bin" / "canvas")
+    assert [it for it in OF_CANVAS if (top / it).read_bytes() != (TOP / it).read_bytes()] == [], "the script and what it reads"
+    told = (TOP / "tools" / "canvas.help").read_text().replace("VERSION", VERSION, 1).encode()
+    assert call([canvas, "--help"]) == (told, b"", 0), "canvas --help of the package"
+    assert call([canvas, "--version"]) == (f"canvas {VERSION}\n".encode(), b"", 0), "canvas --version of the package"
+    assert call([canvas, "serve", "127.0.0.1:0", "none"])[1:] == (b"canvas: there is no file none; serve a saved document, as examples/poster.json\n", 4), "a document that is none"
+    with (TOP / "examples" / "red-rectangle.jsonl").open("rb") as given:
+        assert call([canvas, "script"], stdin=given) == (readme_example(), b"", 0), "README.md's example by the package's command"
+    folder = root / "usr" / "share" / "bash-completion" / "completions"
+    assert sorted(os.listdir(folder)) == sorted(COMPLETED), "what bash completes"
+    assert [it for it in COMPLETED if (folder / it).read_bytes() != (TOP / COMPLETION).read_bytes()] == [], "how"
+
+
 def bare_root(unpacked, root):
-    """The program of the package and the poster, with the C library alone."""
+    """The programs of the package and the poster, with the C library alone."""
     for name in C_LIBRARY:
         (root / name[1:]).parent.mkdir(parents=True, exist_ok=True)
         shutil.copy(name, root / name[1:])
     shutil.copytree(unpacked / "usr", root / "usr", symlinks=True)
     outside = [*([] if os.geteuid() == 0 else ["unshare", "--map-root-user"]), "chroot", str(root)]
-    inside = [*outside, "/usr/bin/canvas"]
+    inside = [*outside, f"/{UNDER_DEBIAN['canvas']}"]
     with (TOP / "examples" / "red-rectangle.jsonl").open("rb") as given:
         assert call([*inside, "script"], stdin=given) == (readme_example(), b"", 0), "README.md's example in a bare root"
     assert call(inside)[::2] == (b"", 2), "a command that is none in a bare root"
     with serving([*inside, "serve", "ADDRESS", "/usr/share/canvas/examples/poster.json"]) as address:
         assert served(address) == SERVED, "a server in a bare root"
-    kept("a bare root", [*outside, "/usr/bin/canvasd"], "/drawing", "/usr/share/canvas/examples/poster.json")
+    kept("a bare root", [*outside, f"/{UNDER_DEBIAN['canvasd']}"], "/drawing", "/usr/share/canvas/examples/poster.json")

@@ -295,7 +295,8 @@ def test_unproved(name):
 def test_an_unproved_program_looks_before_it_serves():
     with tree() as made:
         out, said, status = made.run("--unproved", "serve", "127.0.0.1:0", "/nowhere/at.json")
-        assert (said, status, made.calls()) == ("canvas: there is no file /nowhere/at.json\n", 4, []), "canvas --unproved looks before it serves"
+        why = "canvas: there is no file /nowhere/at.json; serve a saved document, as examples/poster.json\n"
+        assert (said, status, made.calls()) == (why, 4, []), "canvas --unproved looks before it serves"
 
 
 # -- signals -----------------------------------------------------------------------------------------------------------
@@ -365,23 +366,25 @@ def test_servings():
         def started(*words):
             return f"first program: {' '.join(words)}\n", "", 7
 
-        assert served("127.0.0.1:0", "/nowhere/at.json") == refused("there is no file /nowhere/at.json"), "no file"
-        assert served("127.0.0.1:0", "/") == refused("/ is a folder, and no saved document"), "a folder"
+        no_file = refused("there is no file /nowhere/at.json; serve a saved document, as examples/poster.json")
+        assert served("127.0.0.1:0", "/nowhere/at.json") == no_file, "no file"
+        assert served("127.0.0.1:0", "/") == refused("/ is a folder, and no saved document; canvasd serves a folder"), "a folder"
         secret = made.write("secret", "")
         secret.chmod(0)
         other = {"user": 65534, "group": 65534, "extra_groups": []} if os.geteuid() == 0 else {}
-        assert served("127.0.0.1:0", str(secret), **other) == refused(f"the file {secret} can't be read: permission denied"), "a file of others"
+        no_right = refused(f"the file {secret} can't be read: permission denied; ls -l tells whom it belongs to")
+        assert served("127.0.0.1:0", str(secret), **other) == no_right, "a file of others"
         assert served("7878") == refused("the address 7878 has no port: it is HOST:PORT, as 127.0.0.1:7878"), "no port"
         assert served(":7878") == refused("the address :7878 has no host: it is HOST:PORT, as 127.0.0.1:7878"), "no host"
         for address in ("127.0.0.1:", "127.0.0.1:65536", "127.0.0.1:http", "127.0.0.1:-1", "127.0.0.1:1 "):
             assert served(address) == refused(f"the address {address} has no port from 0 to 65535 behind its colon"), f"the address {address}"
         for address in ("*:7878", "no host:7878"):
-            assert served(address) == refused(f"the host of the address {address} is not known"), f"the address {address}"
+            assert served(address) == refused(f"the host of the address {address} is not known; 127.0.0.1 is this machine"), f"the address {address}"
         for address in (f"127.0.0.1:{port}", f"0.0.0.0:{port}", f"localhost:{port}"):
             is_there = served(address)
-            wanted = refused(f"the address {address} can't be used: address already in use")
+            wanted = refused(f"the address {address} can't be used: address already in use; ss -ltnp tells which program listens there")
             assert is_there == (started("serve", address, good) if has_other_place(address) else wanted), f"a port that is taken, as {address[:9]}"
-        other = refused("the address 192.0.2.1:7878 can't be used: cannot assign requested address")
+        other = refused("the address 192.0.2.1:7878 can't be used: cannot assign requested address; ip addr tells the addresses of this machine")
         assert served("192.0.2.1:7878") == other, "an address of another machine"
         for address in ("127.0.0.1:0", "localhost:0", "127.0.0.1:+0", "127.0.0.1:00000"):
             assert served(address) == started("serve", address, good), f"the address {address}"
@@ -443,7 +446,8 @@ def test_demos():
                 os.kill(started[killed], signal.SIGKILL)
                 _, said = process.communicate(timeout=SECONDS)
                 alive = [it for it in started.values() if Path(f"/proc/{it}").exists()]
-                assert (said, process.returncode, alive) == (f"canvas-demo: the {name} ended by signal 9\n", 1, []), f"a demo whose {name} dies"
+                why = f"canvas-demo: the {name} ended by signal 9; docs/STATUS.md says why; canvas-demo goes on from it\n"
+                assert (said, process.returncode, alive) == (why, 1, []), f"a demo whose {name} dies"
         for name, number, send in (("Ctrl-C", signal.SIGINT, os.killpg), ("SIGTERM", signal.SIGTERM, os.kill)):
             with demo(made) as process:
                 process.stdout.readline()
@@ -454,4 +458,5 @@ def test_demos():
                 assert (len(started), said, process.returncode, alive) == (2, "", 0, []), f"a demo at {name}"
         with demo(made, "--folder", str(made.top / "other"), "--document", "/nowhere/at.json") as process:
             _, said = process.communicate(timeout=SECONDS)
-            assert (said.splitlines()[-1], process.returncode) == ("canvas-demo: the server did not start", 1), "a demo without its document"
+            why = "canvas-demo: the server did not start; the line above says why, and docs/STATUS.md what to do"
+            assert (said.splitlines()[-1], process.returncode) == (why, 1), "a demo without its document"

@@ -609,17 +609,17 @@ def test_folders(bench):
             for number in range(50):
                 canvas.create({"kind": "rect", "w": 5 + number, "h": 5, "fill": "ff0000"})
             saved = canvas.export()
-        assert store("import", str(folder), "drawn") == (1, f"canvas-store: {folder} is served"), "a folder that is served is not imported"
+        assert store("import", str(folder), "drawn") == (1, f"canvas-store: {folder} is served: stop its canvasd first"), "a folder that is served is not imported"
     assert store("import", str(folder), "drawn") == (0, ""), "a folder is imported"
-    assert store("import", str(folder), "drawn") == (1, "canvas-store: there is a document drawn already"), "once"
+    assert store("import", str(folder), "drawn") == (1, "canvas-store: there is a document drawn already: choose another name"), "once"
     assert store("import", str(folder), "A b")[0] == 1, "a name that is none"
     assert store("list")[1].count("drawn 1 1 -") == 1, "it is listed"
     with bench.first.hold("drawn") as held:
         assert (held.journal == (folder / "1" / "journal.jsonl").read_bytes()) is True, "it is what the folder has"
-        wanted = 1, "canvas-store: there is no document drawn that nobody serves"
+        wanted = 1, "canvas-store: there is no document drawn that nobody serves: `canvas-store list` says who serves it"
         assert store("remove", "drawn") == wanted, "one that is served is not removed"
         assert store("export", "drawn", str(out)) == (0, ""), "it is exported meanwhile"
-    assert store("export", "drawn", str(out)) == (1, f"canvas-store: there is a {out} already"), "not over what is there"
+    assert store("export", "drawn", str(out)) == (1, f"canvas-store: there is a {out} already: name a new folder"), "not over what is there"
     done = subprocess.run([BUILT_KEEPER, "check", out], capture_output=True, text=True)
     assert difference(done.returncode, 0) is None, ("canvasd finds it good", done.stdout + done.stderr)
     with Running(kept_words(out)) as server, server.connect() as canvas:

@@ -80,7 +80,7 @@ def parts_of(address: str) -> tuple[str, int]:
     """Host and port of HOST:PORT."""
     host, colon, port = address.rpartition(":")
     if not colon or not port.isdigit() or int(port) > 65_535:
-        raise argparse.ArgumentTypeError(f"{address!r} is not HOST:PORT")
+        raise argparse.ArgumentTypeError(f"{address!r} is neither HOST:PORT, as 127.0.0.1:7878, nor unix:PATH")
     return host.strip("[]"), int(port)
 
 

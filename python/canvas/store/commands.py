@@ -35,7 +35,7 @@ def list_all() -> None:
 def checked(name: str) -> str:
     """A name of a document. Raises Refused where it is none."""
     if not re.fullmatch(NAME, name):
-        raise Refused(f"{name!r} is no name: a-z, 0-9 and -, and no - at the beginning")
+        raise Refused(f"{name!r} is no name: 1 to 63 of a-z, 0-9 and -, and no - at the beginning")
     return name
 
 
@@ -43,7 +43,7 @@ def create(name: str) -> None:
     """Makes a document, which begins empty."""
     with connected() as connection:
         if not connection.execute(statements.CREATE, (checked(name),)).fetchone():
-            raise Refused(f"there is a document {name} already")
+            raise Refused(f"there is a document {name} already: choose another name")
 
 
 def generation_of(folder: Path) -> tuple[int, bytes, bytes]:
@@ -53,11 +53,11 @@ def generation_of(folder: Path) -> tuple[int, bytes, bytes]:
     try:
         fcntl.flock(lock, fcntl.LOCK_EX | fcntl.LOCK_NB)
     except BlockingIOError:
-        raise Refused(f"{folder} is served") from None
+        raise Refused(f"{folder} is served: stop its canvasd first") from None
     names = {it.name for it in folder.iterdir() if (it / "opening.json").is_file() and (it / "journal.jsonl").is_file()}
     numbers = [int(it) for it in names if re.fullmatch("[1-9][0-9]{0,8}", it)]
     if not numbers:
-        raise Refused(f"{folder} has no generation that is whole")
+        raise Refused(f"{folder} has no generation that is whole: `canvasd check {folder}` says what is there")
     place = folder / str(max(numbers))
     return max(numbers), (place / "opening.json").read_bytes(), (place / "journal.jsonl").read_bytes()
 
@@ -69,7 +69,7 @@ def import_folder(folder: str, name: str) -> None:
     with connected() as connection:
         made = connection.execute(statements.CREATE_OF, (checked(name), generation, len(pieces))).fetchone()
         if not made:
-            raise Refused(f"there is a document {name} already")
+            raise Refused(f"there is a document {name} already: choose another name")
         connection.execute(statements.PUT_OPENING, (*made, generation, opening))
         for number, at in enumerate(pieces, 1):
             part = journal[at: at + LARGE]
@@ -80,12 +80,12 @@ def export_to(name: str, folder: str) -> None:
     """Makes such a folder of a document."""
     target, part = Path(folder), Path(f"{folder}.part")
     if target.exists():
-        raise Refused(f"there is a {folder} already")
+        raise Refused(f"there is a {folder} already: name a new folder")
     with connected() as connection:
         connection.isolation_level = psycopg.IsolationLevel.REPEATABLE_READ
         row = connection.execute(statements.BEGUN, (name,)).fetchone()
         if not row:
-            raise Refused(f"there is no document {name} that has begun")
+            raise Refused(f"there is no document {name} that has begun: `canvas-store list` names those there are")
         values = {"id": row[0], "generation": row[1], "after": 0}
         (opening,), = connection.execute(statements.OPENING, values, binary=True)
         journal = journal_of(joined(connection.execute(statements.TURNS, values, binary=True)))
@@ -104,7 +104,7 @@ def remove(name: str) -> None:
     with connected() as connection:
         (count,), = connection.execute(statements.REMOVE, (name,))
         if not count:
-            raise Refused(f"there is no document {name} that nobody serves")
+            raise Refused(f"there is no document {name} that nobody serves: `canvas-store list` says who serves it")
 
 
 def schema() -> None:

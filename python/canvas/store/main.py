@@ -40,7 +40,7 @@ try:
     import psycopg
 
     from canvas.store import commands
-    from canvas.store.database import one_line
+    from canvas.store.database import DATABASE, one_line
     from canvas.store.serving import serve
 except ModuleNotFoundError as missing:
     end_without("canvas-store", missing)
@@ -51,8 +51,11 @@ PARTS = {"list": (), "create": ("name",), "import": ("folder", "name"), "export"
 
 
 def words() -> argparse.Namespace:
-    found = argparse.ArgumentParser("canvas-store", usage=(__doc__ or "").partition("usage: ")[2].partition("\n\n")[0])
-    parsers = found.add_subparsers(dest="word", required=True)
+    description, _, more = (__doc__ or "").partition("\n\nusage: ")
+    usage, _, meaning = more.partition("\n\n")
+    found = argparse.ArgumentParser("canvas-store", usage=usage, description=description, epilog=meaning,
+                                    formatter_class=argparse.RawDescriptionHelpFormatter)
+    parsers = found.add_subparsers(dest="word", required=True, prog="canvas-store")
     agent = parsers.add_parser("serve")
     agent.add_argument("--socket", default="/run/canvas-store/door")
     agent.add_argument("--status")
@@ -89,5 +92,7 @@ def main() -> None:
     logging.getLogger("psycopg").setLevel(logging.CRITICAL)
     try:
         run(given)
+    except psycopg.OperationalError as fault:
+        sys.exit(f"canvas-store: {one_line(fault)}; CANVAS_DATABASE, or else {DATABASE}, names the database")
     except (commands.Refused, OSError, ValueError, psycopg.Error) as fault:
         sys.exit(f"canvas-store: {one_line(fault)}")
