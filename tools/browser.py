@@ -202,10 +202,10 @@ class Tab:
         await self.touch("touchEnd")
 
     async def key(self, key, modifiers=0, **more):
-        """Presses a key: a character, or a name of KEYS; `commands` names what the browser does with it, as copy or paste."""
+        """Presses a key: a character, or a name of KEYS; `commands` names what the browser does with it, as copy or paste, and `code` its place."""
         code, number, text = KEYS.get(key, (key, ord(key[0].upper()), key))
         text = "" if modifiers & CONTROL else text
-        values = {**more, "key": key, "code": code, "windowsVirtualKeyCode": number, "modifiers": modifiers}
+        values = {"code": code, **more, "key": key, "windowsVirtualKeyCode": number, "modifiers": modifiers}
         await self.command("Input.dispatchKeyEvent", type="keyDown" if text else "rawKeyDown", **values, **({"text": text} if text else {}))
         await self.command("Input.dispatchKeyEvent", type="keyUp", **values)
 

@@ -65,8 +65,7 @@ async def draw(tab):
     await tab.drag([await spot(tab, (2750, 900))], CONTROL)
     await tab.value("app.notes.hide()")
     await save(tab, "draw", has_focus=True)
-    await tab.key("Escape")
-    await tab.key("Escape")
+    await tab.value("app.state.enter(null), app.state.select([])")
 
 
 async def past(tab):

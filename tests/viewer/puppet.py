@@ -16,6 +16,12 @@ import aiohttp
 from harness.running import SECONDS, until
 
 
+async def connected(address):
+    """A reader and a writer of a connection to HOST:PORT; raises OSError where nobody is there."""
+    host, _, port = address.rpartition(":")
+    return await asyncio.open_connection(host, int(port))
+
+
 class Counter:
     """Passes connections on to a server, and counts the requests by their verbs."""
 
@@ -37,9 +43,8 @@ class Counter:
         self._server.close()
 
     async def _pass_on(self, reader, writer):
-        host, _, port = self._server_address.rpartition(":")
-        other_reader, other_writer = await asyncio.open_connection(host, int(port))
-        with contextlib.suppress(OSError):
+        with contextlib.suppress(OSError), contextlib.closing(writer):
+            other_reader, other_writer = await connected(self._server_address)
             await asyncio.gather(self._copy(reader, other_writer, self._count), self._copy(other_reader, writer, lambda _: b""))
 
     def _count(self, begun):
@@ -64,6 +69,10 @@ class Cable:
     def __init__(self, address):
         self._to, self._port, self._writers, self._server = address, 0, set(), None
 
+    def lead_to(self, address):
+        """Leads to another address from the next connection on."""
+        self._to = address
+
     async def mend(self):
         """Listens, always at the same address, and gives it."""
         self._server = await asyncio.start_server(self._pass_on, "127.0.0.1", self._port)
@@ -76,13 +85,12 @@ class Cable:
             writer.close()
 
     async def _pass_on(self, reader, writer):
-        host, _, port = self._to.rpartition(":")
-        other_reader, other_writer = await asyncio.open_connection(host, int(port))
-        both = {writer, other_writer}
-        self._writers |= both
-        with contextlib.suppress(OSError):
+        with contextlib.suppress(OSError), contextlib.closing(writer):
+            other_reader, other_writer = await connected(self._to)
+            both = {writer, other_writer}
+            self._writers |= both
             await asyncio.gather(self._copy(reader, other_writer), self._copy(other_reader, writer))
-        self._writers -= both
+            self._writers -= both
 
     @staticmethod
     async def _copy(reader, writer):

@@ -16,7 +16,10 @@ from browser import Browser
 from stages.desk import POSTER, Desk, Gateway, Server
 
 pytestmark = [pytest.mark.slow, pytest.mark.browser, pytest.mark.xdist_group("stages")]
-MODULES = ("drawing", "undo", "selecting", "drags", "grid", "files", "svg", "small_things", "looking", "layers", "night", "sharing", "outages", "live", "past", "demo")
+MODULES = (
+    "drawing", "undo", "selecting", "keys", "drags", "stretching", "frames", "drafts", "grid", "files", "svg", "small_things", "menu", "finding", "looking",
+    "layers", "naming", "night", "sharing", "company", "readers", "outages", "live", "backwards", "past", "demo",
+)
 STAGES = [pytest.param(stage, id=f"{name}-{stage.__name__}") for name in MODULES for stage in importlib.import_module(f"stages.{name}").STAGES]
 
 

@@ -1,6 +1,7 @@
 // What keys and buttons do, by the names of acts; the names of edges align what is selected.
 
 import { part } from "./elements.js";
+import { wordsOfKey } from "./told.js";
 import { DRAWING } from "./tools.js";
 
 export class Acts {
@@ -22,8 +23,8 @@ export class Acts {
       hide: () => editor.hide(),
       turn: () => editor.turn(),
       flip: () => editor.flip(),
-      delete: () => app.tool.back?.() || editor.delete(),
-      put: () => editor.putIn(),
+      delete: () => (app.tool.back?.() ? null : editor.delete()),
+      put: () => this.#putIn(),
       take: () => editor.takeOut(),
       group: () => editor.group(),
       ungroup: () => editor.ungroup(),
@@ -34,6 +35,7 @@ export class Acts {
       further: () => app.zoom(view.levelBeside(1)),
       nearest: () => app.zoom(0),
       fit: () => app.fit(),
+      "fit-selection": () => app.fit(app.state.box ?? undefined),
       grid: () => this.#toggleGrid(),
       centre: () => app.centre(app.state.selection),
       cancel: () => this.#cancel(),
@@ -42,6 +44,12 @@ export class Acts {
       picture: () => files.picture(),
       svg: () => files.svg(),
       open: () => files.choose(),
+      cut: () => app.clipboard.copy(true),
+      copy: () => app.clipboard.copy(false),
+      paste: () => app.clipboard.paste(),
+      "copy-png": () => app.clipboard.copyPng(),
+      "copy-svg": () => app.clipboard.copySvg(),
+      link: () => app.clipboard.copyLink(),
       search: () => this.#search(),
       past: () => past.toggle(),
       play: () => past.play(),
@@ -51,11 +59,24 @@ export class Acts {
     };
   }
 
-  /** Does what a name says. */
+  /** Does what a name says; gives what was done, where that is an edit. */
   do(name) {
-    if (this.#acts[name]) this.#acts[name]();
-    else this.#app.editor.align(name);
+    const done = this.#acts[name] ? this.#acts[name]() : this.#app.editor.align(name);
     this.#app.stage.draw();
+    return done;
+  }
+
+  /** Does what a key says, and tells which edit that was. */
+  async doByKey(name) {
+    const { state, editor, notes } = this.#app;
+    const words = wordsOfKey(name, state, editor.behind), done = await this.do(name);
+    if (words && (done?.ok || done?.changes?.length)) notes.say(words);
+  }
+
+  #putIn() {
+    const { editor, state, notes } = this.#app;
+    if (!state.records.length || editor.behind) return editor.putIn();
+    return notes.say("There is no frame or group behind what is selected, and beside it.");
   }
 
   async #back(isRedo) {
@@ -86,7 +107,7 @@ export class Acts {
     const app = this.#app, { state } = app;
     app.notes.hide();
     document.body.classList.remove("has-panel");
-    if (app.stage.drop()) return;
+    if (app.stage.drop() || app.company.leave()) return;
     if (app.past.isOn) app.past.leave();
     else if (DRAWING.has(app.toolName)) app.choose("select");
     else if (state.entered !== null) this.#goOut(state.entered);

@@ -1,11 +1,16 @@
 // Copies of shapes, as a text that can be pasted here or into another document.
 
-import { compose } from "./plane.js";
+import { givenName } from "./names.js";
+import { STILL, apply, around, boxOf, compose, corners } from "./plane.js";
 
 /** Copies of shapes, each with all that is below it, where they lie on the page; from back to front. */
 export function copiesOf(tree, ids) {
-  const inside = (id) => tree.children(id).slice().reverse().map(copy);
-  const copy = ({ id, pose, hidden, shape }) => ({ shape, pose, hidden, children: inside(id) });
+  const named = (name) => (name ? { name } : {});
+  const copy = (record) => {
+    const { id, pose, hidden, shape } = record;
+    const children = tree.children(id).slice().reverse().map(copy);
+    return { shape, pose, hidden, ...named(givenName(record)), children };
+  };
   const outer = ({ parent, pose }) => compose(tree.poseOf(parent), pose);
   return inOrder(tree, ids).map((record) => ({ ...copy(record), parent: record.parent, pose: outer(record) }));
 }
@@ -42,7 +47,10 @@ export function copiesIn(text) {
   return Array.isArray(found?.shapes) && [1, 2].includes(found.format) ? saved(found.shapes) : null;
 }
 
-const isCopy = (copy) => Boolean(copy?.shape?.kind && copy.pose) && (copy.children ?? []).every(isCopy);
+function isCopy(copy) {
+  const isOne = Boolean(copy?.shape?.kind && copy.pose) && typeof (copy.name ?? "") === "string";
+  return isOne && (copy.children ?? []).every(isCopy);
+}
 
 function saved(records) {
   const places = records.map((record) => record?.place ?? record), below = new Map();
@@ -51,6 +59,20 @@ function saved(records) {
   for (const k of order) below.set(places[k].parent, [...(below.get(places[k].parent) ?? []), records[k]]);
   const copy = ({ id, shape, pose, hidden }) => ({ shape, pose, hidden, children: (below.get(id) ?? []).map(copy) });
   return (below.get(null) ?? []).map(copy);
+}
+
+/**
+ * The box on the page of copies, or null where they show nothing.
+ * @param {any[]} copies
+ * @param {any} outer
+ */
+export function boxOfCopies(copies, outer = STILL) {
+  return copies.reduce((all, { shape, pose, children = [] }) => {
+    const own = compose(outer, { ...STILL, ...pose }), { kind, w, h, points } = shape;
+    if (kind === "group") return around(all, boxOfCopies(children, own));
+    const outline = points ?? corners({ left: 0, top: 0, right: w, bottom: h });
+    return around(all, boxOf(outline.map((point) => apply(own, point))));
+  }, null);
 }
 
 /**
@@ -65,9 +87,9 @@ export function requestsFor(copies, parent, into, by) {
     return { copy: { ...copy, pose }, parent };
   });
   while (level.length) {
-    level = level.flatMap(({ copy: { shape, pose, hidden = false, children = [] }, parent: outer }) => {
+    level = level.flatMap(({ copy: { shape, pose, hidden = false, name, children = [] }, parent: outer }) => {
       const as = --number;
-      found.push({ verb: "create", shape, pose, hidden, parent: outer, spot: "front", as });
+      found.push({ verb: "create", shape, pose, hidden, parent: outer, spot: "front", as, ...(name ? { name } : {}) });
       return children.map((child) => ({ copy: child, parent: as }));
     });
   }

@@ -1,6 +1,7 @@
 // The edits that people make of the document and of the selected shapes. A refusal is told in words.
 
 import { copiesOf, inOrder, requestsFor } from "./clip.js";
+import { frameAt, homesOf } from "./frames.js";
 import { isThere, stepFrom } from "./order.js";
 import { STILL, apply, boxOf, compose, corners, inverse } from "./plane.js";
 import { aligned, distributed, fitted, shifted } from "./resize.js";
@@ -47,17 +48,17 @@ export class Editor extends Steps {
   // -- new shapes -----------------------------------------------------------------------------------------------------
 
   /**
-   * What a shape that begins at a point goes into: the innermost container there that is selected or entered, or null
-   * for the page.
+   * What a shape that begins at a point goes into: the innermost container there that is selected or entered, or else
+   * the innermost frame, or null for the page.
    */
   parentAt([x, y]) {
     const { tree, selected, entered } = this.state, from = selected ?? entered;
-    if (!tree || from === null) return null;
     const has = ({ id }) => {
       const box = tree.isContainer(id) && tree.boxOf(id);
       return box && x >= box.left && x < box.right && y >= box.top && y < box.bottom;
     };
-    return tree.line(from).find(has)?.id ?? null;
+    const outer = from === null || !tree ? undefined : tree.line(from).find(has);
+    return outer?.id ?? frameAt(tree, [x, y]);
   }
 
   async #create(name, parent, pagePoints, shapeOf) {
@@ -163,11 +164,13 @@ export class Editor extends Steps {
 
   // -- what shapes lie in ---------------------------------------------------------------------------------------------
 
-  /** The frame or group next behind the selected shape, beside it. */
+  /** The frame or group next behind all selected shapes, beside them. */
   get behind() {
-    const { record, tree } = this.state;
-    const beside = record ? tree.children(record.parent) : [];
-    return beside.slice(beside.findIndex(({ id }) => id === record.id) + 1).find(({ id }) => tree.isContainer(id));
+    const { records, tree } = this.state, parent = records[0]?.parent;
+    if (!records.length || records.some((record) => record.parent !== parent)) return undefined;
+    const beside = tree.children(parent), all = new Set(records);
+    const last = beside.findLastIndex((record) => all.has(record));
+    return beside.slice(last + 1).find(({ id }) => tree.isContainer(id));
   }
 
   // The requests that give a shape another parent, and a pose in it by which it stays where it is on the page.
@@ -196,7 +199,27 @@ export class Editor extends Steps {
     return place && this.putAt(place);
   }
 
-  /** Puts the selected shape into the frame or group next behind it. */
+  /**
+   * What shapes would go into, if they were let go at a point: a frame, or null for the page; undefined where all would
+   * stay in what they lie in.
+   */
+  homeAt(point, ids) {
+    const { tree } = this.state, moved = ids.map((id) => tree?.record(id)).filter(Boolean);
+    const homes = homesOf(tree, moved, point, ids), k = moved.findIndex(({ parent }, at) => homes[at] !== parent);
+    return k < 0 ? undefined : homes[k];
+  }
+
+  /**
+   * The requests that put shapes, which are let go at a point, into the frame there, or out of the one that they were
+   * dragged out of.
+   */
+  carriedHome(tree, ids, point) {
+    const records = inOrder(tree, ids), homes = homesOf(tree, records, point, ids);
+    const carried = (record, home) => (home === record.parent ? [] : this.#carry(tree, record, home, "front"));
+    return records.flatMap((record, k) => carried(record, homes[k]));
+  }
+
+  /** Puts the selected shapes into the frame or group next behind them. */
   putIn() {
     const outer = this.behind;
     const plan = (record, tree) => (tree.record(outer.id) ? this.#carry(tree, record, outer.id, "front") : []);
@@ -214,7 +237,7 @@ export class Editor extends Steps {
   /** Puts the selected shapes into a new group in their place. */
   async group() {
     const ids = this.state.selection;
-    if (!ids.length) return;
+    if (!ids.length) return null;
     const done = await this.perform("group", (tree) => {
       const records = inOrder(tree, ids), front = records.at(-1);
       if (!front) return null;
@@ -223,18 +246,20 @@ export class Editor extends Steps {
       return [made, ...records.flatMap((record) => this.#carry(tree, record, -1, "front", into))];
     });
     if (done?.made.has(-1)) this.select(done.made.get(-1));
+    return done;
   }
 
   /** Takes all shapes out of the selected groups, which go. */
   async ungroup() {
     const ids = this.state.records.filter(({ shape }) => shape.kind === "group").map(({ id }) => id);
     const inner = ids.flatMap((id) => this.state.tree.children(id).map((child) => child.id));
-    if (!ids.length) return;
-    await this.perform("ungroup", (tree) => inOrder(tree, ids).flatMap((record) => [
+    if (!ids.length) return null;
+    const done = await this.perform("ungroup", (tree) => inOrder(tree, ids).flatMap((record) => [
       ...tree.children(record.id).flatMap((child) => this.#carry(tree, child, record.parent, { over: record.id })),
       { verb: "delete", id: record.id },
     ]));
     this.state.select(inner);
+    return done;
   }
 
   /** Gives the shapes beside the selected one new index keys, so that there is room between them. */
@@ -292,20 +317,23 @@ export class Editor extends Steps {
    * @param {number[]} by
    * @param {string} name
    * @param {(tree: any) => object[]} first what is done before
+   * @param {((tree: any) => number | null) | null} home what they go into, where that is another parent
    */
-  async paste(copies, by, name = "paste", first = () => []) {
+  async paste(copies, by, name = "paste", first = () => [], home = null) {
     if (!copies?.length) return null;
     const done = await this.perform(name, (tree) => {
       const parents = [...new Set(copies.map(({ parent }) => parent ?? null))];
-      const parent = parents.length === 1 && tree.isContainer(parents[0]) ? parents[0] : null;
+      const parent = home ? home(tree) : parents.length === 1 && tree.isContainer(parents[0]) ? parents[0] : null;
       return [...first(tree), ...requestsFor(copies, parent, intoOf(tree, parent), by)];
     });
     if (done) this.state.select(copies.map((_, k) => done.made.get(-1 - k)).filter((id) => id !== undefined));
     return done;
   }
 
-  duplicate(by = [ASIDE, ASIDE]) {
-    return this.paste(this.copies(), by, "duplicate");
+  duplicate(by = [ASIDE, ASIDE], point = null) {
+    const ids = this.state.selection, first = this.state.records[0];
+    const home = point && first ? (tree) => homesOf(tree, [first], point, ids)[0] : null;
+    return this.paste(this.copies(), by, "duplicate", undefined, home);
   }
 
   /** Draws the copies that a file holds into this document, or in the place of all that is there. */

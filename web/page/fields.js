@@ -49,13 +49,13 @@ export class Fields {
   /** Shows what is so, but in a field that is being filled in, unless all are to be shown. */
   show(isAll = false) {
     const { tree, selection, box, record } = this.#app.state;
-    this.#name.disabled = !record;
+    this.#name.disabled = !record || this.#app.isReader;
     this.#name.placeholder = record ? plainName(record) : "";
     if (isAll || document.activeElement !== this.#name) this.#name.value = record ? givenName(record) : "";
-    const values = box ? [box.left, box.top, box.right - box.left, box.bottom - box.top] : [];
+    const values = this.#values();
     const hasSize = box && members(tree, selection).length > 0;
     this.#inputs.forEach((input, k) => {
-      input.disabled = !box || (k > 1 && !hasSize);
+      input.disabled = !box || this.#app.isReader || (k > 1 && !hasSize);
       if (document.activeElement !== input) input.value = values[k] ?? "";
     });
   }
@@ -65,17 +65,27 @@ export class Fields {
     this.#app.stage.focus();
   }
 
-  #take(k) {
-    const value = Math.round(this.#inputs[k].valueAsNumber), { box } = this.#app.state;
-    if (box && Number.isFinite(value)) this.#set(box, k, value);
+  // What is typed is rounded, and shown so; what was refused gives way to what is so.
+  async #take(k) {
+    const input = this.#inputs[k], value = Math.round(input.valueAsNumber), { box } = this.#app.state;
+    if (Number.isFinite(value)) input.value = value;
     else this.#app.notes.tell("A place and a size are whole numbers of pixels.");
+    const done = box && Number.isFinite(value) ? await this.#set(box, k, value) : null;
+    if (!done || done.refusal) input.value = this.#values()[k] ?? "";
+  }
+
+  #values() {
+    const { box } = this.#app.state;
+    return box ? [box.left, box.top, box.right - box.left, box.bottom - box.top] : [];
   }
 
   #set(box, k, value) {
     const { editor, notes } = this.#app;
-    if (k === 0) editor.moveBy([value - box.left, 0]);
-    else if (k === 1) editor.moveBy([0, value - box.top]);
-    else if (value < 1 || value > MOST) notes.tell("A side has to be 1 to 65,536 pixels long.");
-    else editor.fitTo(k === 2 ? { ...box, right: box.left + value } : { ...box, bottom: box.top + value });
+    if (k === 0) return editor.moveBy([value - box.left, 0]);
+    if (k === 1) return editor.moveBy([0, value - box.top]);
+    const sized = k === 2 ? { ...box, right: box.left + value } : { ...box, bottom: box.top + value };
+    if (value >= 1 && value <= MOST) return editor.fitTo(sized);
+    notes.tell("A side has to be 1 to 65,536 pixels long.");
+    return null;
   }
 }

@@ -18,7 +18,9 @@ export class Files {
   constructor(app) {
     this.#app = app;
     this.#print = new Print(app);
-    this.#input.addEventListener("change", () => this.#read());
+    this.#input.addEventListener("change", () => this.#read(this.#input.files));
+    document.addEventListener("dragover", (event) => event.preventDefault());
+    document.addEventListener("drop", (event) => this.#drop(event));
   }
 
   /** Begins anew with another server: what was downloaded is of another history. */
@@ -72,8 +74,17 @@ export class Files {
     this.#input.click();
   }
 
-  async #read() {
-    const [file] = this.#input.files, { notes, state } = this.#app;
+  // What is dropped from elsewhere is opened as if it was chosen.
+  #drop(event) {
+    event.preventDefault();
+    const { past, notes } = this.#app;
+    if (past.isOn) notes.say("This is the past, where nothing can be changed. Esc goes back to now.");
+    else if (event.dataTransfer.files.length > 1) notes.tell("One file at a time.");
+    else this.#read(event.dataTransfer.files);
+  }
+
+  async #read([file]) {
+    const { notes, state } = this.#app;
     if (!file) return;
     const copies = copiesIn(await file.text());
     if (!copies) notes.tell(`“${file.name}” is no saved document.`);
@@ -111,7 +122,11 @@ export class Files {
 
   // With a feed, all that is told of is kept, and each edit is kept before it is answered.
   #kept() {
-    const { journal, editor } = this.#app;
+    const { journal, editor, link, waiting } = this.#app;
+    const waits = "What you did since the server went away is not kept yet. Leave this page open.";
+    if (waiting.isOn) return { words: waits, short: "not kept yet", isSafe: false };
+    const seen = `kept to version ${journal.end}, when last seen`;
+    if (!link.isHere) return { words: "The server is away.", short: seen, isSafe: false };
     const words = "The server keeps each edit in its folder before it answers. There is nothing to save.";
     const { isMaking } = editor;
     return { words, short: isMaking ? "keeping…" : `all kept, to version ${journal.end}`, isSafe: !isMaking };

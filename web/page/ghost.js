@@ -16,6 +16,11 @@ export class Ghost {
 
   /** Whether the drag is over, and all of it made. */
   isOver = false;
+  /**
+   * Whether the shapes are on their way out of what they lie in, or into something: that may cut them off until the
+   * drag is over.
+   */
+  isLeaving = false;
 
   /** Shapes that `drag` moves, or copies of them where that is null. */
   constructor(app, ids, drag = null) {
@@ -42,6 +47,7 @@ export class Ghost {
 
   /** Whether the picture shows all of it in its place. */
   get isShown() {
+    if (this.isLeaving && !this.isOver) return false;
     const { made, version } = this.isOver ? { made: this.#by, version: this.#version } : this.#drag ?? { made: [] };
     return made[0] === this.#by[0] && made[1] === this.#by[1] && (this.#app.picture.versions[0] ?? Infinity) >= version;
   }

@@ -1,8 +1,9 @@
 // The tab's WebSocket to the gateway: sends batches of requests, and tells what the gateway says of the server.
 //
-// Events: `here` (the server is there; where detail.goesOn is false its versions begin anew), `version` (the document
-// has changed), `people` (others have come, moved or gone), `away` (the server or the gateway is not there; detail.why
-// says which).
+// Events: `here` (the server is there; where detail.goesOn is false the page begins anew, and detail.isSame tells
+// whether the history is the one that it knew, and detail.isNext whether it is the next generation of that), `version`
+// (the document has changed), `people` (others have come, moved or gone), `away` (the server or the gateway is not
+// there; detail.why says which).
 
 const RETRY = 700;
 /** How many of the pictures that came last are kept: more than the gateway believes. */
@@ -30,10 +31,16 @@ export class Link extends EventTarget {
   #waiting = new Map();
   #pictures = new Map();
 
-  /** `journal` gets the edits that the gateway tells of. */
-  constructor(journal) {
+  #known;
+
+  /**
+   * `journal` gets the edits that the gateway tells of; `known` is the end of a history that the page knew before, as
+   * {history, end, mark}, or null.
+   */
+  constructor(journal, known = null) {
     super();
     this.#journal = journal;
+    this.#known = known;
   }
 
   /** Whether the server is there. */
@@ -44,8 +51,9 @@ export class Link extends EventTarget {
   taken = 0;
 
   open() {
-    const scheme = location.protocol === "https:" ? "wss:" : "ws:", { isLive, history, end } = this.#journal;
-    const known = isLive ? `?live=${encodeURIComponent(history)}&since=${end}` : "";
+    const scheme = location.protocol === "https:" ? "wss:" : "ws:";
+    const { history, end, mark } = this.#journal.isLive ? this.#journal : this.#known ?? { history: null };
+    const known = history === null ? "" : `?live=${encodeURIComponent(history)}&since=${end}&mark=${mark}`;
     this.#socket = new WebSocket(`${scheme}//${location.host}${location.pathname}session${known}`);
     this.#socket.binaryType = "arraybuffer";
     this.#socket.onmessage = ({ data }) => {
@@ -114,12 +122,12 @@ export class Link extends EventTarget {
     this.dispatchEvent(new CustomEvent(name, { detail }));
   }
 
-  #arrive({ version, live, since }) {
+  #arrive({ version, live, since, goes }) {
     this.#drop();
     this.isHere = true;
-    const goesOn = this.#journal.isFollowedBy(since, live);
-    if (!goesOn) this.#journal.begin(since, live);
-    this.#pass("here", { version, goesOn });
+    const isSame = live !== null && goes === "on", goesOn = this.#journal.isFollowedBy(since, live, isSame);
+    if (!goesOn) this.#journal.begin(since, live, isSame && since === this.#known?.end ? this.#known.mark : "");
+    this.#pass("here", { version, live, goesOn, isSame, isNext: goes === "next" });
   }
 
   #takeEdits(edits) {

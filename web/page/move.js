@@ -29,10 +29,15 @@ export class Move extends Tool {
     this.app.ghost ??= new Ghost(this.app, this.touched, this.#move);
     this.app.ghost.go(this.by);
     this.#move.to(this.by);
+    this.point = at.page;
+    this.home = this.app.editor.homeAt(this.point, this.touched);
+    this.app.ghost.isLeaving = this.home !== undefined;
   }
 
   release() {
-    const made = this.begin && this.#move.end(this.by);
+    const { editor } = this.app, { touched, point } = this, hasMoved = this.app.ghost !== null;
+    const carried = hasMoved ? (tree) => editor.carriedHome(tree, touched, point) : undefined;
+    const made = this.begin && this.#move.end(this.by, carried);
     if (made) this.app.ghost?.end(made);
     this.begin = null;
   }
@@ -41,6 +46,10 @@ export class Move extends Tool {
     if (this.begin) this.#move.end([0, 0]);
     if (this.begin) this.app.ghost = null;
     return super.drop();
+  }
+
+  marks() {
+    return this.begin && this.app.ghost ? this.intoMark(this.home ?? null) : [];
   }
 
   lost() {

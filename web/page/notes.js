@@ -48,8 +48,14 @@ export class Notes {
     this.#refusal.show(head, isReply ? wordsOf(refusal.name) : refusal, code);
   }
 
-  /** Says something that is no fault; with an offer, a button that does it. */
-  say(text, offer = null) {
+  /** Says something that is no fault; the last refusal is over then. */
+  say(text) {
+    this.#refusal.hide();
+    this.add(text);
+  }
+
+  /** The same beside a refusal; with an offer, a button that does it. */
+  add(text, offer = null) {
     const button = document.createElement("button");
     button.textContent = offer?.words ?? "";
     button.addEventListener("click", () => offer.act());
@@ -63,10 +69,11 @@ export class Notes {
 
   // -- whether the server is there ------------------------------------------------------------------------------------
 
-  away({ head, why }) {
+  away({ head, why }, canWait = false) {
     document.body.classList.add("is-away");
     part("away-head").textContent = why === "NoSeats" ? "The server is full." : `${head}.`;
-    part("away-why").textContent = why ? `${wordsOfWhy(why)} Trying again…` : "Trying again…";
+    const waits = canWait ? " What you do now is done when it is back." : "";
+    part("away-why").textContent = `${why ? `${wordsOfWhy(why)} ` : ""}Trying again…${waits}`;
     part("away").hidden = false;
     part("version").textContent = "away";
   }

@@ -23,7 +23,7 @@ export class Panel {
     const none = several ? `${count(records.length, "shape")} are selected` : "Nothing is selected";
     part("shape-head").textContent = record ? nameOf(record) : none;
     const needs = {
-      put: Boolean(record && editor.behind), take: records.some(({ parent }) => parent !== null),
+      put: Boolean(editor.behind), take: records.some(({ parent }) => parent !== null),
       ungroup: records.some(({ shape }) => shape.kind === "group"),
     };
     for (const it of all("#actions button")) it.disabled = isPast || !(needs[it.dataset.act] ?? records.length > 0);

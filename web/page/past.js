@@ -17,8 +17,12 @@ const grouped = (number) => number.toLocaleString("en");
 
 /** Looks: a drag pans, and a click selects what lies outermost. */
 class Look extends Tool {
-  hint = "This is the past, where nothing can be changed. Drag to pan, click to select; , and . go from edit to edit, "
-    + "Esc goes back to now.";
+  get hint() {
+    const looking = "This page is for looking: nothing can be changed by it. Drag to pan, click to select.";
+    if (!this.app.past?.isOn) return looking;
+    return "This is the past, where nothing can be changed. Drag to pan, click to select; , and . go from edit to "
+      + "edit, Esc goes back to now.";
+  }
 
   press(at) {
     this.begin = this.last = at.window;

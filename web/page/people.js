@@ -20,11 +20,15 @@ function markOf({ name, colour }) {
   return mark;
 }
 
-/** A name with its colour, for the list. */
-function chipOf({ name, colour }) {
-  const chip = document.createElement("li");
+/** A name with its colour, for the list. It is pressed to see what they see. */
+function chipOf({ name, colour, isFollowed, follow }) {
+  const chip = document.createElement("li"), button = document.createElement("button");
   chip.style.setProperty("--own", `#${colour}`);
-  chip.textContent = name;
+  button.textContent = name;
+  button.title = `See what ${name} looks at`;
+  button.setAttribute("aria-pressed", isFollowed);
+  button.addEventListener("click", follow);
+  chip.append(button);
   return chip;
 }
 
@@ -36,6 +40,7 @@ export class People {
   #sent = -Infinity;
   #next = 0;
   #timer = 0;
+  #listed = "";
   #layer = part("people");
   #input = part("own-name");
   #switch = part("bots");
@@ -81,11 +86,24 @@ export class People {
     this.#forget(gone);
     for (const person of people) this.#put(person);
     if (you !== undefined) this.#begin(you);
-    part("people-list").replaceChildren(...this.others.map(chipOf));
+    this.#app.company.lead(people);
+    this.#app.company.see(this.others);
+    this.list();
     part("people-count").textContent = this.#them.size || "";
     this.#switch.hidden = !this.#bots.length;
     this.#switch.textContent = this.#bots.some(({ bot }) => bot) ? "Stop the bots" : "Let the bots draw";
     this.show();
+  }
+
+  /** Lists the others, where that has changed. */
+  list() {
+    const { company } = this.#app;
+    const found = this.others.map((person) => ({ ...person, isFollowed: company.isFollowing(person.id) }));
+    const text = JSON.stringify(found.map(({ id, name, colour, isFollowed }) => [id, name, colour, isFollowed]));
+    if (text === this.#listed) return;
+    this.#listed = text;
+    const follow = ({ id }) => () => company.follow(this.#them.get(id));
+    part("people-list").replaceChildren(...found.map((person) => chipOf({ ...person, follow: follow(person) })));
   }
 
   // With each connection the gateway gives a number, and has to be told the name again.

@@ -27,17 +27,6 @@ function versionsOf(tiles, tree) {
   return [...found].sort((a, b) => a - b);
 }
 
-/** A tree after the edits up to a version; null where they don't fit. */
-function brought(tree, version, journal) {
-  while (tree && tree.version < version) {
-    const kept = journal.at(tree.version + 1);
-    if (!kept) break;
-    if (!tree.make(kept.edit, kept)) return null;
-    tree.version++;
-  }
-  return tree;
-}
-
 export class Picture extends EventTarget {
   #link;
   #journal;
@@ -197,7 +186,7 @@ export class Picture extends EventTarget {
     this.#shownFor = wanted;
     this.versions = version !== null ? [version] : versionsOf(tiles, tree);
     const newest = this.versions.at(-1) ?? tree?.version ?? 0;
-    this.tree = brought(tree, newest, journal);
+    this.tree = journal.bring(tree, newest);
     // What lies beside the view is kept for a way back, while it looks as before.
     for (const [key, tile] of this.#tiles) {
       age(tile, journal);

@@ -38,11 +38,9 @@ export class Print {
 
   // The view that was chosen, or null where nothing is drawn there.
   get #view() {
-    const { view, state } = this.#app, { left, top, width, height, scale } = view;
-    const level = Number(this.#level.value), which = this.#dialog.querySelector("input:checked").value;
-    const right = (left + width) * scale, bottom = (top + height) * scale;
-    const shown = { left: left * scale, top: top * scale, right, bottom };
-    const box = { view: shown, selection: state.box, all: state.tree?.boxOf(null) ?? null }[which];
+    const { view, state } = this.#app, level = Number(this.#level.value);
+    const which = this.#dialog.querySelector("input:checked").value;
+    const box = { view: view.box, selection: state.box, all: state.tree?.boxOf(null) ?? null }[which];
     return box && viewOf(box, level);
   }
 

@@ -11,37 +11,39 @@ export function handlesOf({ left, top, right, bottom }) {
   return HANDLES.map(([across, down]) => [x[across], y[down]]);
 }
 
-/** A side that is moved by so much, and at least one pixel long: its begin and its end. */
-function side(from, to, edge, by) {
-  if (edge < 0) return [Math.min(to - 1, from + by), to];
-  return edge > 0 ? [from, Math.max(from + 1, to + by)] : [from, to];
-}
+/** How long a side gets of which an edge is moved by so much: negative where it goes over to the other side. */
+/** @type {(side: any[], edge: number, by: number, isMiddle: boolean) => number} */
+const lengthOf = ([from, to], edge, by, isMiddle) => to - from + edge * by * (isMiddle ? 2 : 1);
 
-/** A side that has another length: the edge that is dragged moves, or else both by the same. */
-function stretched(edge, from, to, size, wide) {
-  if (edge < 0) return [to - wide, to];
-  return edge > 0 ? [from, from + wide] : grown(from, size, wide);
-}
-
-/** A box of which a handle is dragged by so much; `isEven` keeps the ratio of its sides. */
-export function dragged(box, [across, down], [dx, dy], isEven) {
-  let [left, right] = side(box.left, box.right, across, dx);
-  let [top, bottom] = side(box.top, box.bottom, down, dy);
-  if (isEven) {
-    const w = box.right - box.left, h = box.bottom - box.top;
-    const by = [across && (right - left) / w, down && (bottom - top) / h];
-    const factor = Math.max(...by.filter(Boolean));
-    const wide = Math.max(1, Math.round(w * factor)), high = Math.max(1, Math.round(h * factor));
-    [left, right] = stretched(across, box.left, box.right, w, wide);
-    [top, bottom] = stretched(down, box.top, box.bottom, h, high);
+/**
+ * A side that gets another length, at least one pixel, and keeps the edge that is not moved, or its middle: its begin,
+ * its end, and whether it is mirrored.
+ * @type {(side: any[], edge: number, length: number, isMiddle: boolean) => any[]}
+ */
+function side([from, to], edge, length, isMiddle) {
+  const is = Math.max(1, Math.abs(length)), isMirrored = length < 0;
+  if (!edge || isMiddle) {
+    const begin = from - Math.floor((is - (to - from)) / 2);
+    return [begin, begin + is, isMirrored];
   }
-  return { left, top, right, bottom };
+  const isOnward = edge > 0 !== isMirrored, still = edge > 0 ? from : to;
+  return isOnward ? [still, still + is, isMirrored] : [still - is, still, isMirrored];
 }
 
-// A side that grows to both sides.
-function grown(from, was, is) {
-  const begin = from - Math.floor((is - was) / 2);
-  return [begin, begin + is];
+/**
+ * A box of which a handle is dragged by so much, and which of its sides are mirrored, as the handle went over to the
+ * other side. `isEven` keeps the ratio of its sides, `isMiddle` its middle.
+ */
+export function dragged(box, edges, by, { isEven = false, isMiddle = false } = {}) {
+  const sides = [[box.left, box.right], [box.top, box.bottom]], long = sides.map(([from, to]) => to - from);
+  let lengths = sides.map((it, k) => lengthOf(it, edges[k], by[k], isMiddle));
+  if (isEven) {
+    const factor = Math.max(...[0, 1].filter((k) => edges[k]).map((k) => Math.abs(lengths[k]) / Math.max(1, long[k])));
+    lengths = long.map((it, k) => Math.round(it * factor) * (lengths[k] < 0 ? -1 : 1));
+  }
+  const found = sides.map((it, k) => side(it, edges[k], lengths[k], isMiddle));
+  const [[left, right, isAcross], [top, bottom, isDown]] = found;
+  return { box: { left, top, right, bottom }, isMirrored: [isAcross, isDown] };
 }
 
 /** A shape with a box of these sides in its own coordinates. */
@@ -99,6 +101,38 @@ export function fitted(tree, ids, to) {
   if (ids.length === 1 && tree.record(ids[0]).shape.kind !== "group") return resized(tree, ids[0], to);
   const from = tree.boxAround(ids);
   return members(tree, ids).flatMap((id) => resized(tree, id, mapped(tree.boxOf(id), from, to), false));
+}
+
+/** A pose that mirrors a box in itself. */
+function mirror({ left, top, right, bottom }, [isAcross, isDown]) {
+  const dx = isAcross ? left + right : 0, dy = isDown ? top + bottom : 0;
+  return { dx, dy, flip: isAcross !== isDown, quarter: isDown ? 2 : 0 };
+}
+
+/**
+ * The requests that give shapes another box on the page, and mirror them in it. What looks the same from both sides is
+ * not turned, nor is a frame alone.
+ */
+export function stretched(tree, ids, to, isMirrored) {
+  if (!isMirrored.some(Boolean)) return fitted(tree, ids, to);
+  const from = tree.boxAround(ids), turn = mirror(to, isMirrored);
+  const isAlone = ids.length === 1 && tree.record(ids[0]).shape.kind !== "group";
+  return members(tree, ids).flatMap((id) => {
+    const { left, top, right, bottom } = isAlone ? to : mapped(tree.boxOf(id), from, to);
+    const box = boxOf([[left, top], [right, bottom]].map((point) => apply(turn, point)));
+    const found = resized(tree, id, box, isAlone), { kind } = tree.record(id).shape;
+    const isTurned = kind === "polygon" || (kind === "frame" && !isAlone);
+    return isTurned ? turnedIn(tree, id, found, mirror(box, isMirrored)) : found;
+  });
+}
+
+// The same requests, after which a shape is carried by one more pose of the page.
+function turnedIn(tree, id, requests, turn) {
+  const record = tree.record(id), outer = tree.poseOf(record.parent);
+  const isPose = (request) => request.verb === "pose" && request.id === id;
+  const last = requests.find(isPose)?.pose ?? record.pose;
+  const pose = compose(inverse(outer), compose(turn, compose(outer, last)));
+  return [...requests.filter((request) => !isPose(request)), { verb: "pose", id, pose }];
 }
 
 /** Whether several shapes get another box on the page with no edge rounded to a whole pixel. */

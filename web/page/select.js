@@ -1,10 +1,12 @@
 // The tool that selects, moves and resizes.
 
 import { Drag } from "./drag.js";
+import { frameAt, reachedFrame } from "./frames.js";
 import { Ghost } from "./ghost.js";
 import { dot, handle, outline, small } from "./overlay.js";
 import { boxOf, corners } from "./plane.js";
 import { HANDLES, dragged, handlesOf, isExact, members } from "./resize.js";
+import { Stretch } from "./stretch.js";
 import { FEWEST, JOIN, SLOP, Tool, distance } from "./tools.js";
 
 const ROOM = 28;
@@ -18,8 +20,8 @@ function cursorOf([across, down]) {
 
 /** Selects, moves and resizes shapes. What a press begins is one of the modes below. */
 export class Select extends Tool {
-  hint = "Click or drag a shape; drag beside them to select several; double click to go into a group. Space or two "
-    + "fingers pan, Ctrl and the wheel zoom.";
+  hint = "Click or drag a shape; drag beside them, or in a frame, to select several; double click to go into a group "
+    + "or frame. Space or two fingers pan, Ctrl and the wheel zoom.";
   mode = null;
   /** The polygon of which the points are edited, or null. */
   edited = null;
@@ -29,6 +31,11 @@ export class Select extends Tool {
   kept = [];
   /** What was selected when it began. */
   touched = [];
+  /** What a marquee takes shapes of, and what lies under its begin; and what a drag of a handle makes. */
+  within = null;
+  ground = null;
+  /** @type {Stretch | null} */
+  stretch = null;
   #point = null;
   #move = null;
 
@@ -42,7 +49,7 @@ export class Select extends Tool {
     this.by = [0, 0];
     if (this.#pressPoint(at, keys)) return;
     const found = this.#handleAt(at.window);
-    if (found) this.#begin("resize", { handle: found, from: this.state.box, to: this.state.box });
+    if (found) this.#begin("resize", { handle: found, from: this.state.box, stretch: null });
     else this.#pressShape(at, keys);
   }
 
@@ -50,20 +57,47 @@ export class Select extends Tool {
     Object.assign(this, { mode, touched: this.state.selection, ...values });
   }
 
-  #pressShape(at, { isShift, isDeep, isAlt }) {
-    const { state } = this, { tree, selection } = state, hit = tree?.at(at.page) ?? null;
-    if (hit === null || hit === state.entered) {
-      if (!isShift) this.#leave(at.page);
-      this.#begin("marquee", { kept: isShift ? selection : [] });
+  #pressShape(at, keys) {
+    const { tree, selection, entered } = this.state, under = tree?.at(at.page) ?? null;
+    const grip = this.#gripAt(at, under), hit = grip ?? under;
+    if (hit === null) {
+      this.#pressGround(at, hit, keys);
       return;
     }
     const held = tree.line(hit).find(({ id }) => selection.includes(id))?.id;
-    const id = isDeep ? hit : held ?? this.#reach(hit);
-    this.again = held !== undefined && !isDeep ? { id, isShift } : null;
-    if (!this.again) state.select(isShift ? [...selection, id] : [id]);
+    const id = keys.isDeep || grip !== null ? hit : held ?? this.#reach(hit);
+    const isFrame = id === hit && held === undefined && !keys.isDeep && tree.record(id).shape.kind === "frame";
+    if (grip === null && (hit === entered || isFrame)) this.#pressGround(at, hit, keys);
+    else this.#pressOne(id, held === id && !keys.isDeep, keys);
+  }
+
+  // A press on no shape, or on the ground of a frame: a click selects the frame, and a drag what lies there.
+  #pressGround(at, hit, { isShift }) {
+    const { state } = this, { selection, entered } = state;
+    if (!isShift) this.#leave(at.page);
+    const within = reachedFrame(state.tree, at.page, state.entered);
+    this.#begin("marquee", { kept: isShift ? selection : [], within, ground: hit === entered ? null : hit });
+  }
+
+  #pressOne(id, isHeld, { isShift, isAlt }) {
+    const { state } = this, { tree, selection } = state;
+    this.again = isHeld ? { id, isShift } : null;
+    if (!isHeld) {
+      const { parent } = tree.record(id), isElsewhere = parent !== state.entered;
+      const isInFrame = isElsewhere && tree.record(parent)?.shape.kind === "frame";
+      state.select(isShift ? [...selection, id] : [id]);
+      if (isInFrame && !isShift) state.enter(parent);
+    }
     this.#move = isAlt ? null : new Drag(this.app.editor, state.selection);
     this.app.ghost = null;
-    this.#begin("move", { from: state.box });
+    this.#begin("move", { from: state.box, home: undefined });
+  }
+
+  // The frame that is taken by its name, or by its edge where no other shape than a frame is hit there; or null.
+  #gripAt({ window }, hit) {
+    const { tree } = this.state, grip = this.app.frames.at(window, this.app.stage.isTouched);
+    const isFree = grip && (grip.isName || hit === null || tree.record(hit).shape.kind === "frame");
+    return isFree && tree.record(grip.id) ? grip.id : null;
   }
 
   // What lies at a press beside all shapes: the selection goes, and so does what was entered, unless the press was in
@@ -74,20 +108,29 @@ export class Select extends Tool {
     if (!(box && x >= box.left && x < box.right && y >= box.top && y < box.bottom)) state.enter(null);
   }
 
-  /** What a click on a shape selects: the outermost one that lies in what is entered. */
+  /** What a click on a shape selects: the outermost one that lies in what is entered, or in frames there. */
   #reach(hit) {
     const { tree, entered } = this.state, line = tree.line(hit), at = line.findIndex(({ id }) => id === entered);
-    return (at < 0 ? line.at(-1) : line[Math.max(0, at - 1)]).id;
+    const within = (at < 0 ? line : line.slice(0, at)).reverse();
+    return (within.find(({ shape }) => shape.kind !== "frame") ?? line[0]).id;
   }
 
-  /** Goes into the selected group or frame, to what lies there; or to the points of a polygon. */
+  /** Goes into a group or frame, to what lies there; or to the points of a polygon, or the name of a frame. */
   enter(at) {
-    const { state } = this, { tree, selected } = state, hit = tree?.at(at.page) ?? null;
-    if (hit === null || selected === null) return;
+    const { state } = this, { tree, selected } = state, grip = this.app.frames.at(at.window, this.app.stage.isTouched);
+    if (grip?.isName && grip.id === selected) {
+      this.app.fields.name();
+      return;
+    }
+    const hit = tree?.at(at.page) ?? frameAt(tree, at.page);
+    if (hit === null) return;
     const line = tree.line(hit), k = line.findIndex(({ id }) => id === selected);
     if (k > 0) {
       state.enter(selected);
       state.select([line[k - 1].id]);
+    } else if (line[0].shape.kind === "frame" && (k === 0 || selected === null)) {
+      state.select([]);
+      state.enter(hit);
     } else if (k === 0) {
       this.editPoints();
     }
@@ -105,9 +148,14 @@ export class Select extends Tool {
     else if (this.mode === "point") this.points[this.#point] = this.grid.snap(at.page, keys);
   }
 
+  // It is drawn and sent at once. With Alt the middle stays.
   #resize(keys) {
     const { from, handle, by } = this;
-    this.to = dragged(from, handle, this.grid.pulled(from, handle, by, keys), keys.isShift);
+    const how = { isEven: keys.isShift, isMiddle: keys.isAlt };
+    this.goal = dragged(from, handle, this.grid.pulled(from, handle, by, keys), how);
+    this.stretch ??= new Stretch(this.app, this.touched);
+    this.app.ghost = this.stretch;
+    this.stretch.to(this.goal);
   }
 
   // What is dragged with Alt from its begin is a copy, which is made at the end; all else is moved at once.
@@ -118,23 +166,33 @@ export class Select extends Tool {
     this.app.ghost ??= new Ghost(this.app, this.state.selection, this.#move);
     this.app.ghost.go(this.by);
     this.#move?.to(this.by);
+    this.home = this.app.editor.homeAt(this.now.page, this.state.selection);
+    this.app.ghost.isLeaving = this.home !== undefined;
   }
 
   #mark() {
     const { state } = this, box = boxOf([this.begin.page, this.now.page]);
-    const found = state.tree?.within(state.entered, box) ?? [];
+    const found = state.tree?.within(this.within, box) ?? [];
     state.select([...this.kept, ...found.filter((id) => !this.kept.includes(id)).reverse()]);
+    if (!this.kept.length) state.enter(this.within);
   }
 
   release(at, keys = {}) {
     if (!this.begin) return;
     this.drag(at, keys);
-    const { mode, isMoved, by, to } = this;
+    const { mode, isMoved, by } = this;
     this.begin = this.mode = null;
     if (mode === "point") this.#setPoints();
     else if (!isMoved && this.again && mode === "move") this.#clickAgain();
-    else if (isMoved && mode === "resize") this.#fit(to);
+    else if (!isMoved && mode === "marquee" && this.ground !== null) this.#takeGround();
+    else if (isMoved && mode === "resize") this.#fit(this.goal.box);
     else if (isMoved && mode === "move") this.#endMove(by);
+  }
+
+  // A click on the ground of a frame.
+  #takeGround() {
+    const { state } = this;
+    if (state.tree?.record(this.ground)) state.select([...this.kept, this.ground]);
   }
 
   #fit(to) {
@@ -142,18 +200,30 @@ export class Select extends Tool {
     if (!isExact(tree, selection, to)) {
       this.app.say("Not all of these edges fall on whole pixels at this size: each was put on the nearest one.");
     }
-    this.app.editor.fitTo(to);
+    this.stretch.end();
   }
 
   #endMove(by) {
-    const made = this.#move ? this.#move.end(by) : this.app.editor.duplicate(by);
+    const { editor } = this.app, ids = this.state.selection, point = this.now.page;
+    const carried = (tree) => editor.carriedHome(tree, ids, point);
+    const made = this.#move ? this.#move.end(by, carried) : editor.duplicate(by, point);
     this.app.ghost?.end(made);
     this.#move = null;
+    made?.then(() => this.#goAfter());
+  }
+
+  // Goes into the frame where what was dragged lies now, or out of the one where it lies no more.
+  #goAfter() {
+    const { state } = this, { tree, entered, selected } = state, line = tree?.line(selected) ?? [];
+    if (entered === null || !line.length || line.some(({ id }) => id === entered)) return;
+    state.enter(line[1]?.shape.kind === "frame" ? line[1].id : null);
+    this.app.stage.draw();
   }
 
   /** Gives up a move: what is moved already goes back by all of the way, or stays where it is. */
   #leaveMove(by = [0, 0]) {
     if (this.mode === "move" && this.isMoved) this.#move?.end(by);
+    if (this.mode === "resize") this.stretch?.drop();
     this.#move = this.app.ghost = null;
   }
 
@@ -214,8 +284,9 @@ export class Select extends Tool {
     if (this.edited !== null) return this.#pointAt(at.window) === null ? "default" : "crosshair";
     const found = this.#handleAt(at.window);
     if (found) return cursorOf(found);
-    const hit = this.state.tree?.at(at.page) ?? null;
-    return hit === null || hit === this.state.entered ? "default" : "move";
+    const { tree, entered, selection } = this.state, under = tree?.at(at.page) ?? null;
+    const hit = this.#gripAt(at, under) ?? under;
+    return hit === null || (hit === entered && !selection.includes(hit)) ? "default" : "move";
   }
 
   // -- the points of a polygon ----------------------------------------------------------------------------------------
@@ -290,13 +361,10 @@ export class Select extends Tool {
 
   marks() {
     if (this.edited !== null) return this.#pointMarks();
-    const around = (box) => this.toWindow(corners(box));
     if (this.mode === "marquee" && this.isMoved) {
-      return [outline("marquee", around(boxOf([this.begin.page, this.now.page])))];
+      return [outline("marquee", this.toWindow(corners(boxOf([this.begin.page, this.now.page]))))];
     }
-    if (this.mode === "resize" && this.isMoved) {
-      return [outline("halo", around(this.to)), outline("mark", around(this.to))];
-    }
+    if (this.mode === "move" && this.isMoved) return this.intoMark(this.home ?? null);
     return this.#handles().map(({ place }) => handle(place));
   }
 

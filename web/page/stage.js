@@ -2,14 +2,20 @@
 // of.
 
 import { part } from "./elements.js";
+import { Edge } from "./edge.js";
 import { cross, outline, showMarks } from "./overlay.js";
 import { corners } from "./plane.js";
 import { DRAWING } from "./tools.js";
 
 const STEP = 8;
+/**
+ * How many pixels of a pinch on a touch pad make a level; and for how many a mouse wheel turns by a notch, which is a
+ * step of 1.2.
+ */
 const LEVEL = 100;
+const NOTCH = 100;
+const NOTCH_LEVEL = Math.log2(1.2);
 const LINE = 33;
-const PAUSE = 300;
 const MOST_OUTLINES = 200;
 const ARROWS = { ArrowLeft: [-1, 0], ArrowRight: [1, 0], ArrowUp: [0, -1], ArrowDown: [0, 1] };
 
@@ -27,7 +33,9 @@ export class Stage {
   #cross = null;
   #fingers = new Map();
   #pinch = null;
-  #wheel = { time: 0 };
+  #wheel = null;
+  #edge;
+  #last = null;
 
   /** How many frames were drawn. */
   frames = 0;
@@ -36,6 +44,7 @@ export class Stage {
 
   constructor(app) {
     this.app = app;
+    this.#edge = new Edge(app, () => this.#dragOn());
     const element = this.#element;
     element.addEventListener("pointerdown", (event) => this.#down(event));
     element.addEventListener("pointermove", (event) => this.#moved(event));
@@ -44,7 +53,6 @@ export class Stage {
     element.addEventListener("pointerleave", () => this.app.people.point(null));
     element.addEventListener("dblclick", (event) => this.#twice(event));
     element.addEventListener("wheel", (event) => this.#turnWheel(event), { passive: false });
-    element.addEventListener("contextmenu", (event) => event.preventDefault());
     document.addEventListener("keydown", (event) => this.#key(event));
     document.addEventListener("keyup", (event) => this.#keyUp(event));
     window.addEventListener("blur", () => { this.#isSpace = false; });
@@ -70,8 +78,11 @@ export class Stage {
     requestAnimationFrame(() => {
       this.#isAsked = false;
       this.frames++;
-      this.app.picture.draw(this.#context, this.app.view);
-      this.app.grid.show(this.#grid, this.app.view);
+      const { picture, past, state, view } = this.app;
+      picture.draw(this.#context, view);
+      if (!past.isOn) state.drafts.draw(this.#context, view, picture.versions[0] ?? -1);
+      this.app.grid.show(this.#grid, view);
+      this.app.frames.draw();
       showMarks(this.#overlay, this.#marks());
       this.app.people.show();
     });
@@ -91,6 +102,7 @@ export class Stage {
     const shown = (id) => app.outlineOf(id)?.map((point) => app.view.toWindow(point));
     const { entered, selection } = app.state, outer = entered === null ? null : shown(entered);
     if (outer) marks.push(outline("entered", outer));
+    marks.push(...app.company.marks());
     const still = app.isMoving ? [] : selection.slice(0, MOST_OUTLINES);
     for (const points of still.map(shown).filter(Boolean)) marks.push(outline("halo", points), outline("mark", points));
     if (still.length > 1 && app.state.box) {
@@ -145,13 +157,26 @@ export class Stage {
       this.#panFrom = at.window;
     } else {
       this.app.tool.hover?.(at, keysOf(event));
-      if (event.buttons & 1) this.app.tool.drag(at, keysOf(event));
+      if (event.buttons & 1) this.#drag(at, keysOf(event));
       else this.#element.style.cursor = this.app.tool.cursor?.(at) ?? "";
       this.draw();
     }
   }
 
+  #drag(at, keys) {
+    this.#last = { window: at.window, keys };
+    this.app.tool.drag(at, keys);
+    if (this.app.tool.begin && !this.app.past.isOn) this.#edge.at(at.window);
+  }
+
+  // The view was moved under what is dragged.
+  #dragOn() {
+    this.app.tool.drag(this.#at(this.#last.window), this.#last.keys);
+    this.draw();
+  }
+
   #up(event) {
+    this.#edge.stop();
     this.#fingers.delete(event.pointerId);
     if (this.#pinch) {
       if (this.#fingers.size === 0) this.#pinch = null;
@@ -185,6 +210,7 @@ export class Stage {
   // What one finger had begun is given up.
   #beginPinch() {
     this.app.tool.drop();
+    this.#edge.stop();
     this.#panFrom = null;
     const { middle, apart } = this.#two();
     this.#pinch = { point: this.app.view.pointAt(middle), level: this.app.view.level, apart };
@@ -203,18 +229,18 @@ export class Stage {
   #turnWheel(event) {
     event.preventDefault();
     const unit = event.deltaMode === 1 ? LINE : 1, across = event.deltaX * unit, down = event.deltaY * unit;
-    if (event.ctrlKey || event.metaKey) this.#zoomBy(down, this.#spot(event).window, event.timeStamp);
+    if (event.ctrlKey || event.metaKey) this.#zoomBy(down, this.#spot(event).window);
     else if (event.shiftKey && !across) this.app.pan(down, 0);
     else this.app.pan(across, down);
   }
 
   // The point under the pointer stays there, over all turns that follow each other.
-  #zoomBy(down, window, time) {
-    const { view } = this.app, last = this.#wheel;
-    const isOn = time - last.time < PAUSE && last.window[0] === window[0] && last.window[1] === window[1];
-    const point = isOn ? last.point : view.pointAt(window);
-    this.#wheel = { time, window, point };
-    this.app.zoom(view.level + down / LEVEL, window, point);
+  #zoomBy(down, window) {
+    const { view } = this.app, at = () => [...window, view.level, view.left, view.top].join();
+    const point = this.#wheel?.at === at() ? this.#wheel.point : view.pointAt(window);
+    const notches = Math.sign(down) * Math.max(1, Math.round(Math.abs(down) / NOTCH));
+    this.app.zoom(view.level + (Math.abs(down) < NOTCH / 2 ? down / LEVEL : notches * NOTCH_LEVEL), window, point);
+    this.#wheel = { at: at(), point };
   }
 
   // -- the keys -------------------------------------------------------------------------------------------------------
@@ -279,6 +305,7 @@ export class Stage {
 
   /** Gives up what is being drawn or dragged; tells whether anything was. */
   drop() {
+    this.#edge.stop();
     this.#panFrom = null;
     this.#cross = null;
     this.#element.classList.remove("panning");

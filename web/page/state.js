@@ -6,6 +6,7 @@
 // Events: `tree` (the tree has changed), `selected` (the selection, or the colour, has changed), `history` (there is
 // another step to take back), `making` (edits go on their way, or are answered).
 
+import { Drafts } from "./drafts.js";
 import { History } from "./history.js";
 import { View } from "./view.js";
 
@@ -16,6 +17,8 @@ export class State extends EventTarget {
 
   view = new View();
   history = new History();
+  /** What own edits look like until they are shown. */
+  drafts = new Drafts(this);
   tree = null;
   /** The ids of the selected shapes; none lies in another one. */
   selection = [];
@@ -27,6 +30,11 @@ export class State extends EventTarget {
   isDrawing = false;
   /** Whether an earlier version is shown, in which nothing can be changed. */
   isPast = false;
+
+  /** The tree of the document as it is shown, without own edits that came since; or null. */
+  get base() {
+    return this.#base;
+  }
 
   /** The selected shape, or the last one of several; null where there is none. */
   get selected() {
@@ -71,13 +79,17 @@ export class State extends EventTarget {
     this.dispatchEvent(new Event("selected"));
   }
 
-  /** Forgets what was selected and done, since another server, or another session with it, is there. */
-  begin() {
+  /**
+   * Forgets what was selected and done, since another server, or another session with it, is there; but not what was
+   * done, where that `isKnown` there.
+   */
+  begin(isKnown = false) {
     this.#base = null;
     this.#ahead = [];
     this.tree = null;
     this.entered = null;
-    this.history.clear();
+    this.drafts.clear();
+    if (!isKnown) this.history.clear();
     this.select([]);
     this.dispatchEvent(new Event("history"));
   }
@@ -111,6 +123,7 @@ export class State extends EventTarget {
   #take(tree, edits) {
     for (const [request, reply] of edits) tree.make(request, reply);
     this.tree = tree;
+    this.drafts.renew();
     this.#box = undefined;
     if (this.entered !== null && !this.tree.record(this.entered)) this.entered = null;
     const before = this.selection;

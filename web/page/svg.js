@@ -2,6 +2,7 @@
 // lies.
 
 import { inOrder } from "./clip.js";
+import { givenName } from "./names.js";
 import { STILL, apply, around, boxOf, compose } from "./plane.js";
 
 /** The `transform` of a pose, or nothing where it does not move. */
@@ -19,19 +20,32 @@ const LEAVES = {
   polygon: ({ points }) => `polygon fill-rule="evenodd" points="${points.join(" ")}"`,
 };
 
-const leafOf = (shape, more = "") => `<${LEAVES[shape.kind](shape)} fill="#${shape.fill}"${more}/>`;
+const ENTITIES = { "&": "&amp;", "<": "&lt;", ">": "&gt;" };
+
+/** The `title` of a shape that was given a name. */
+function titleOf(record) {
+  const name = givenName(record);
+  return name ? `<title>${name.replace(/[&<>]/g, (sign) => ENTITIES[sign])}</title>` : "";
+}
+
+function leafOf(record, transform) {
+  const { shape } = record, title = titleOf(record);
+  const begin = `<${LEAVES[shape.kind](shape)} fill="#${shape.fill}"${transform}`;
+  return title ? `${begin}>${title}</${shape.kind}>` : `${begin}/>`;
+}
 
 /** The lines of a shape and of what lies in it; none of what is hidden. */
 function linesOf(tree, record, pose, indent) {
   const { id, shape, hidden } = record, transform = transformOf(pose);
   if (hidden) return [];
-  if (!tree.isContainer(id)) return [indent + leafOf(shape, transform)];
+  if (!tree.isContainer(id)) return [indent + leafOf(record, transform)];
   const inner = tree.children(id).slice().reverse(), isFrame = shape.kind === "frame";
   const within = (deeper) => inner.flatMap((child) => linesOf(tree, child, child.pose, indent + deeper));
-  if (!isFrame) return [`${indent}<g${transform}>`, ...within("  "), `${indent}</g>`];
+  const begin = `${indent}<g${transform}>${titleOf(record)}`;
+  if (!isFrame) return [begin, ...within("  "), `${indent}</g>`];
   const box = `<rect width="${shape.w}" height="${shape.h}"`;
   return [
-    `${indent}<g${transform}>`,
+    begin,
     ...(shape.fill ? [`${indent}  ${box} fill="#${shape.fill}"/>`] : []),
     `${indent}  <clipPath id="frame-${id}">${box}/></clipPath>`,
     `${indent}  <g clip-path="url(#frame-${id})">`, ...within("    "), `${indent}  </g>`,

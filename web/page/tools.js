@@ -57,7 +57,12 @@ export class Tool {
 
   /** The outline of the frame or group that a new shape goes into, where it begins at a point. */
   into(point) {
-    const parent = this.app.editor.parentAt(point), points = parent !== null && this.app.outlineOf(parent);
+    return this.intoMark(this.app.editor.parentAt(point));
+  }
+
+  /** The outline of a frame or group that something goes into; none where that is null. */
+  intoMark(parent) {
+    const points = parent !== null && this.app.outlineOf(parent);
     return points ? [outline("into", this.toWindow(points))] : [];
   }
 

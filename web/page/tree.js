@@ -4,6 +4,7 @@
 
 import { freshKeys, keyBetween } from "./index_keys.js";
 import { STILL, apply, around, boxOf, compose, inverse, polygonHolds } from "./plane.js";
+import { SharedMap } from "./shared_map.js";
 
 let orders = 0;
 
@@ -35,6 +36,19 @@ function placeIn(list, spot = "front") {
   return { before, index: keyBetween(list[before]?.index ?? null, list[before - 1]?.index ?? null) };
 }
 
+/**
+ * At which place of a list of siblings a record lies: they go by their index keys, but for while those are given anew.
+ */
+function rankOf(list, record) {
+  let low = 0;
+  for (let high = list.length - 1; low < high;) {
+    const middle = (low + high) >> 1;
+    if (list[middle].index > record.index) low = middle + 1;
+    else high = middle;
+  }
+  return list[low] === record ? low : list.indexOf(record);
+}
+
 /** Whether a leaf or a frame holds a point of its own coordinates. */
 function holds(shape, point) {
   if (shape.kind === "polygon") return polygonHolds(shape.points, point);
@@ -44,6 +58,10 @@ function holds(shape, point) {
 }
 
 export class Tree {
+  #frames = null;
+  /** The parents of which the lists of children are this tree's alone. */
+  #own = new Set();
+
   constructor(document, version) {
     this.version = version;
     /** The id of the next new shape. */
@@ -53,24 +71,44 @@ export class Tree {
      * of them are hidden.
      */
     this.order = ++orders;
-    this.records = new Map();
-    this.below = new Map([[null, []]]);
-    for (const saved of document.shapes) this.records.set(saved.id, readRecord(saved));
-    for (const record of this.records.values()) {
-      if (!this.below.has(record.parent)) this.below.set(record.parent, []);
-      this.below.get(record.parent).push(record);
+    const records = document.shapes.map(readRecord), below = new Map([[null, []]]);
+    for (const record of records) {
+      if (!below.has(record.parent)) below.set(record.parent, []);
+      below.get(record.parent).push(record);
     }
     // Index keys are ASCII, so that they compare as texts; the greater key is in front.
-    for (const list of this.below.values()) list.sort((a, b) => (a.index < b.index ? 1 : -1));
+    for (const list of below.values()) list.sort((a, b) => (a.index < b.index ? 1 : -1));
+    this.records = new SharedMap(records.map((record) => [record.id, record]));
+    this.below = new SharedMap(below);
   }
 
-  /** A tree of its own, that can be changed by `make`. */
+  /** A tree of its own, that can be changed by `make`. What stays the same is shared by both. */
   copy() {
     const found = new Tree({ shapes: [], next: this.next }, this.version);
-    found.records = new Map(this.records);
-    found.below = new Map([...this.below].map(([parent, list]) => [parent, [...list]]));
+    found.records = this.records.copy();
+    found.below = this.below.copy();
+    this.#own.clear();
     found.order = this.order;
+    found.#frames = this.#frames;
     return found;
+  }
+
+  // The list of a parent's children, which this tree may change.
+  #listOf(parent) {
+    if (!this.#own.has(parent)) {
+      this.#own.add(parent);
+      this.below.set(parent, [...this.children(parent)]);
+    }
+    return this.below.get(parent);
+  }
+
+  /** The ids of all frames. */
+  get frames() {
+    if (this.#frames?.order !== this.order) {
+      const ids = [...this.records.values()].filter(({ shape }) => shape.kind === "frame").map(({ id }) => id);
+      this.#frames = { order: this.order, ids };
+    }
+    return this.#frames.ids;
   }
 
   /** The document as `export` saves it, in format 2. */
@@ -94,27 +132,26 @@ export class Tree {
     else if (verb === "reshape") this.#replace({ ...record, shape: request.shape });
     else if (verb === "show") this.#replace({ ...record, hidden: request.hidden });
     else if (verb === "respace") this.#respace(parent);
-    if (REORDERS.has(verb)) this.order = ++orders;
+    if (REORDERS.has(verb) || (verb === "reshape" && record.shape.kind !== request.shape.kind)) this.order = ++orders;
     return true;
   }
 
   #replace(record) {
-    const list = this.below.get(record.parent);
-    list[list.indexOf(this.record(record.id))] = record;
+    const list = this.#listOf(record.parent);
+    list[rankOf(list, this.record(record.id))] = record;
     this.records.set(record.id, record);
   }
 
   #insert(record, spot) {
-    if (!this.below.has(record.parent)) this.below.set(record.parent, []);
-    const list = this.below.get(record.parent), { before, index } = placeIn(list, spot), found = { ...record, index };
+    const list = this.#listOf(record.parent), { before, index } = placeIn(list, spot), found = { ...record, index };
     list.splice(before, 0, found);
     this.records.set(record.id, found);
     this.next = Math.max(this.next, record.id + 1);
   }
 
   #takeOut(record) {
-    const list = this.below.get(record.parent);
-    list.splice(list.indexOf(record), 1);
+    const list = this.#listOf(record.parent);
+    list.splice(rankOf(list, record), 1);
   }
 
   #move(record, { parent, spot }) {
@@ -123,7 +160,7 @@ export class Tree {
   }
 
   #respace(parent) {
-    const list = this.below.get(parent) ?? [], keys = freshKeys(list.length).reverse();
+    const list = this.children(parent), keys = freshKeys(list.length).reverse();
     list.slice().forEach((record, k) => this.#replace({ ...record, index: keys[k] }));
   }
 
@@ -132,6 +169,7 @@ export class Tree {
     for (const { id } of this.subtree(record.id)) {
       this.records.delete(id);
       this.below.delete(id);
+      this.#own.delete(id);
     }
   }
 

@@ -78,14 +78,17 @@ export class View {
     return by < 0 ? Math.ceil(this.level) - 1 : Math.floor(this.level) + 1;
   }
 
-  /**
-   * Shows a whole box, as near as it goes: at one of the server's levels, unless a good part of the window would be
-   * empty there.
-   */
-  fit(box, margin = 24) {
+  /** The part of the page that is seen. */
+  get box() {
+    const { left, top, width, height, scale } = this;
+    return { left: left * scale, top: top * scale, right: (left + width) * scale, bottom: (top + height) * scale };
+  }
+
+  /** Shows a whole box, as near as it goes: at a whole level, unless a good part of the window would be empty there. */
+  fit(box, nearest = NEAREST, margin = 24) {
     const needed = (side, room) => Math.log2(side / Math.max(1, room - 2 * margin));
     const across = needed(box.right - box.left, this.width), down = needed(box.bottom - box.top, this.height);
-    const exact = Math.max(across, down, 0), whole = Math.ceil(exact);
+    const exact = Math.max(across, down, nearest), whole = Math.ceil(exact);
     this.level = Math.min(FURTHEST, whole - exact > EMPTY ? exact : whole);
     this.centre((box.left + box.right) / 2, (box.top + box.bottom) / 2);
   }

@@ -9,6 +9,7 @@ import re
 import secrets
 import sys
 from collections.abc import AsyncIterator
+from typing import NamedTuple
 
 from canvas.gateway.session import BUFFER, Address, opened
 
@@ -26,6 +27,23 @@ SERVED = re.compile(r"generation (\d+) is served")
 KEPT = re.compile(r"history: (\d+) edits are kept")
 
 
+def mark_of(line: str) -> str:
+    """A short mark of an edit's line, as journal.js makes it too."""
+    found = [2_166_136_261, 40_389]
+    for byte in line.encode():
+        found = [(it ^ byte) * 16_777_619 & 0xFFFFFFFF for it in found]
+    return "".join(f"{it:08x}" for it in found)
+
+
+class Known(NamedTuple):
+    """What a tab knows: the history that it followed, or None, up to which version it knows all edits, and the mark of
+    the last one."""
+
+    history: str | None = None
+    version: int = 0
+    mark: str = ""
+
+
 class Refused(Exception):
     """The feed was refused, in the server's words."""
 
@@ -34,7 +52,8 @@ class Feed:
     """Follows a feed door for ever. Edits are kept as the lines that came, by their versions.
 
     `history` names the history that is followed; it is None while the door is away, and the same one after an outage
-    only where the server's last edits are those that are known. `version` is that of the last edit.
+    only where the server's last edits are those that are known. `version` is that of the last edit. `before` names the
+    history that ended when this one's generation was begun, or is None.
     """
 
     def __init__(self, address: Address) -> None:
@@ -46,6 +65,7 @@ class Feed:
         self._complaint: str | None = None
         self._changed = asyncio.Event()
         self.version = 0
+        self.before: str | None = None
 
     @property
     def history(self) -> str | None:
@@ -54,6 +74,32 @@ class Feed:
     def has(self, version: int) -> bool:
         """Whether all edits behind a version are kept here."""
         return self.version - len(self._lines) <= version <= self.version
+
+    async def recalls(self, known: Known) -> bool:
+        """Whether a history that another run of the gateway named is this one: it is of the same generation, and the
+        edit of its version has the mark that is known. The edits behind it are kept then, where they are not too
+        many."""
+        version = known.version
+        is_of_this = known.history is not None and known.history.partition("-")[0] == str(self._generation)
+        if self.history is None or not is_of_this or not 0 < version <= self.version:
+            return False
+        try:
+            line, = await self._some(1, since=version - 1, generation=self._generation)
+            if mark_of(line) != known.mark:
+                return False
+            await self._reach_back(version)
+        except (OSError, EOFError, ValueError, Refused, asyncio.TimeoutError):
+            return False
+        return True
+
+    async def _reach_back(self, version: int) -> None:
+        """Keeps all edits behind a version, where they are not too many."""
+        first = self.version - len(self._lines)
+        if not version < first or self.version - version > MOST_KEPT:
+            return
+        lines = await self._some(first - version, since=version, generation=self._generation)
+        if first == self.version - len(self._lines) and len(lines) + len(self._lines) <= MOST_KEPT:
+            self._lines.extendleft(reversed(lines))
 
     async def is_there(self, seconds: float) -> bool:
         """Whether the door is there, at the latest after so many seconds."""
@@ -157,7 +203,8 @@ class Feed:
         if served is None:
             raise ValueError("this is no feed")
         self._lines.clear()
-        self._generation = int(served[1])
+        ended, self._generation = self._generation, int(served[1])
+        self.before = self._name if self._generation == ended + 1 else None
         self.version = await self._newest(self._generation) or 0
         self._name = f"{self._generation}-{secrets.token_hex(6)}"
 

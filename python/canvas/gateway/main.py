@@ -1,14 +1,16 @@
 """The viewer's gateway: gives browsers the page, and passes on what their tabs ask of a server. The tabs of a document
 share a few sessions.
 
-usage: canvas-gateway ADDRESS [--feed ADDRESS] [--listen 127.0.0.1:8080] [--name NAME]
-       canvas-gateway --documents FOLDER [--moves] [--listen 127.0.0.1:8080]
+usage: canvas-gateway ADDRESS [--feed ADDRESS] [--listen 127.0.0.1:8080] [--host NAME ..] [--name NAME]
+       canvas-gateway --documents FOLDER [--moves] [--listen 127.0.0.1:8080] [--host NAME ..]
 
 The server is at HOST:PORT or unix:PATH; so is the feed of a canvasd (--feed), which tells of each edit at once, and
 without which the gateway asks. With --documents there are many: each folder /FOLDER/NAME has the sockets `door` and
 `feed` of its canvasd, and its page is at /d/NAME/. The gateway listens at HOST:PORT, or at unix:PATH for what stands
-before it, as nginx, and says who may see what. With --moves documents move between hosts, and a tab whose server is
-away is sent away, so that it comes back by the host that has the document.
+before it, as nginx, and says who may see what. At HOST:PORT browsers find the page by an IP address, as localhost, or
+by HOST; by another name only where --host names it, so that no page of another site can pass for this one. With --moves
+documents move between hosts, and a tab whose server is away is sent away, so that it comes back by the host that has
+the document.
 
 A tab opens a WebSocket at /session (below /d/NAME/, if there are many documents) and sends batches of requests, as
 docs/PROTOCOL.md has them:
@@ -27,7 +29,10 @@ for once (`Looks` says when). What a tab did not ask for is one of these:
     {"say": "here", "version": 3, "live": "1-5f0c", "since": 3}
         The server is there. `live` names the history of which all edits above `since` will be told; it is null where
         there is no feed. A tab that knows this history up to there goes on; for any other one all begins anew. A tab
-        that comes back says what it knows in its address, as /session?live=1-5f0c&since=3.
+        that comes back says what it knows in its address, as /session?live=1-5f0c&since=3&mark=8d1f1c9b00aa12cd, where
+        `mark` is that of its last edit. Then "goes" is "on" where that is the history that is told now, also under
+        another name, since the gateway was started anew; and "next" where its generation has ended, and this is the
+        next one.
     {"say": "edits", "edits": [{"damage": [0, 0, 5, 1], "edit": {..}, "id": null, "version": 4}]}
         What the feed tells, as docs/PROTOCOL.md has it. Each edit is told once, in order.
     {"say": "version", "version": 4}
@@ -41,12 +46,18 @@ has the `edits` that led there from that version. Where it can't be shown, `repl
 A tab that looks at the past no longer says {"past": "left"}.
 
 A tab may say of itself {"me": {"name": "Ann", "colour": "b3261e"}} and {"pointer": [120, 80]}, a place on the page, or
-{"pointer": null}. All tabs are told of it, at most twenty times a second. A bot says "bot": true in its `me`, and is to
-draw while its own `bot` is true: each tab may say {"bots": false}, or true. `you` is the tab's own number, told once;
-with `all` nobody else is there:
+{"pointer": null}; {"selection": [7, 9]}, the numbers of some shapes, and {"view": [120, 80, 0]}, the middle of what it
+looks at and the level. All tabs are told of it, at most twenty times a second. A bot says "bot": true in its `me`, and
+is to draw while its own `bot` is true: each tab may say {"bots": false}, or true. `you` is the tab's own number, told
+once; with `all` nobody else is there:
 
     {"say": "people", "people": [{"id": 2, "name": "Ann", "colour": "b3261e", "at": [120, 80]}], "gone": [1], "you": 2,
      "all": true}
+
+A tab may tell what shapes are called, by their numbers and kinds, as {"names": [[7, "rect", "Logo"]]}, with "" for no
+name. The gateway keeps that while it runs, and tells all tabs; with `all` these are all that it has:
+
+    {"say": "names", "names": [[7, "rect", "Logo"]], "all": true}
 """
 
 from __future__ import annotations
@@ -99,6 +110,8 @@ def given_words() -> argparse.Namespace:
     words.add_argument("--moves", action="store_true", help="a document whose server is away may be at another host")
     words.add_argument("--listen", type=door_of, default=("127.0.0.1", 8080), metavar="ADDRESS",
                        help="where the page is: HOST:PORT or unix:PATH")
+    words.add_argument("--host", action="append", default=[], metavar="NAME",
+                       help="by which other name browsers may find the page; may be given again")
     words.add_argument("--name", default="drawing", help="what the document is called in the title of each tab")
     given = words.parse_args()
     is_foreign = given.feed if given.documents else given.moves  # a word of the other form
@@ -159,5 +172,5 @@ def main() -> None:
         listener, address = listener_at(given.listen)
     except OSError as fault:
         sys.exit(f"gateway: {fault.strerror}")
-    host = None if isinstance(given.listen, str) else given.listen[0]
-    asyncio.run(serve(application(documents_of(given), host), listener, address))
+    hosts = None if isinstance(given.listen, str) else {given.listen[0], *(name.lower() for name in given.host)}
+    asyncio.run(serve(application(documents_of(given), hosts), listener, address))

@@ -13,6 +13,8 @@ PAUSE = 0.05
 """Seconds between two times that tabs are told of pointers."""
 LONGEST = 40
 REACH = 1 << 21
+MOST_SELECTED = 50
+"""Of how many selected shapes the others are told."""
 COLOURS = ("b3261e", "1f5fd0", "146c43", "7b3fa0", "a34700", "00677d", "8a1c5c", "4a5a00")
 
 
@@ -55,8 +57,8 @@ class People:
             self._tell_soon()
 
     def take(self, tab: Listener, message: dict[str, Any]) -> None:
-        """Takes what a tab says of itself: `me`, with a name and a colour, or `pointer`, a place on the page or null;
-        or whether the bots are to draw."""
+        """Takes what a tab says of itself: `me`, with a name and a colour; `pointer`, a place on the page or null;
+        `selection`, the numbers of shapes; `view`, the middle and the level; or whether the bots are to draw."""
         found, me = self._them[tab], message.get("me")
         if isinstance(me, dict):
             found["name"] = name_in(me.get("name")) or found["name"]
@@ -67,6 +69,10 @@ class People:
             self._switch(message["bots"])
         if "pointer" in message:
             found["at"] = place_in(message["pointer"])
+        if "selection" in message:
+            found["selection"] = selection_in(message["selection"])
+        if "view" in message:
+            found["view"] = view_in(message["view"])
         self._change(tab)
 
     def _switch(self, is_on: bool) -> None:
@@ -108,6 +114,18 @@ def name_in(value: Any) -> str:
 def colour_in(value: Any) -> str | None:
     """A colour of six digits, or None."""
     return value if isinstance(value, str) and re.fullmatch("[0-9a-f]{6}", value) else None
+
+
+def selection_in(value: Any) -> list[int]:
+    """The numbers of shapes, not too many."""
+    numbers = value if isinstance(value, list) else []
+    return [it for it in numbers if type(it) is int and 0 < it < 1 << 32][:MOST_SELECTED]
+
+
+def view_in(value: Any) -> list[float] | None:
+    """The middle of a view and its level, or None."""
+    is_view = isinstance(value, list) and len(value) == 3 and place_in(value[:2]) is not None
+    return value if is_view and type(value[2]) in (int, float) and -10 < value[2] < 10 else None
 
 
 def place_in(value: Any) -> list[int] | None:

@@ -12,8 +12,9 @@ from typing import Any
 
 from aiohttp import WSCloseCode, WSMsgType, web
 
-from canvas.gateway.feed import Feed
+from canvas.gateway.feed import Feed, Known
 from canvas.gateway.looks import Looks, is_look
+from canvas.gateway.names import Names
 from canvas.gateway.past import Past, Unseen, Visit
 from canvas.gateway.people import People
 from canvas.gateway.pictures import Answer, Pictures, keep
@@ -37,6 +38,9 @@ MOST_PICTURES = 512
 keeps."""
 AWAY_WAIT = 2
 """How long the gateway waits, when it ends, for a tab to say that it has heard so."""
+LOOKING = ("tile", "export", "point", "patch")
+"""The verbs of a tab that may only look."""
+READ_ONLY = {"ok": False, "code": 0, "name": "ReadOnly"}
 FEED_WAIT = 2
 """How long a tab waits for the feed, when the server is there."""
 
@@ -93,31 +97,60 @@ class Room:
         self.name, self.seats, self.moves = name, Seats(address, own), moves
         self.feed = Feed(feed_address) if feed_address else None
         self.looks, self.news, self.people, self.past = Looks(pictures), News(), People(), Past(feed_address)
+        self.names = Names()
 
     async def close(self) -> None:
         await self.past.close()
         self.seats.close()
 
 
+def is_looking(message: dict[str, Any]) -> bool:
+    """Whether a message changes nothing, neither of the document nor of what others see of it."""
+    verbs = [it.get("verb") if isinstance(it, dict) else None for it in message.get("requests", ())]
+    return not {"names", "bots"} & message.keys() and all(verb in LOOKING for verb in verbs)
+
+
+class Lane:
+    """Tells a tab of one matter: nothing where it has not taken the last news yet, and all of it as soon as it has."""
+
+    def __init__(self, start: Callable[[Coroutine[Any, Any, None]], asyncio.Task[None]],
+                 send: Callable[[str], Coroutine[Any, Any, None]]) -> None:
+        self._start, self._send = start, send
+        self._saying: asyncio.Task[None] | None = None
+        self._missed: Callable[[], str] | None = None
+
+    def say(self, text: str, all_of_it: Callable[[], str]) -> None:
+        if self._saying is None or self._saying.done():
+            self._saying = self._start(self._say(text))
+        else:
+            self._missed = all_of_it
+
+    async def _say(self, text: str) -> None:
+        await self._send(text)
+        while self._missed is not None:
+            all_of_it, self._missed = self._missed, None
+            await self._send(all_of_it())
+
+
 class Tab:
     """A browser's tab: its WebSocket, and its session while the server is there, which others may have too.
 
-    `history` and `told` are the history and the version up to which the tab knows all edits, where it followed the
-    feed. `seen` is the newest version that it was told of.
+    `known` is what it knows, where it followed the feed before. `seen` is the newest version that it was told of. A
+    reader's edits are handed to nobody.
     """
 
     _seat: Session
     """The session that it has taken, which it keeps while the server is away."""
 
-    def __init__(self, socket: web.WebSocketResponse, room: Room, history: str | None = None, told: int = 0) -> None:
-        self._socket, self._room, self._history, self._told = socket, room, history, told
+    def __init__(self, socket: web.WebSocketResponse, room: Room, known: Known = Known(),
+                 is_reader: bool = False) -> None:
+        self._socket, self._room, self._known, self._is_reader = socket, room, known, is_reader
         self._session: Session | None = None
         self.seen = 0
         self._is_live = self._is_gone = False
         self._edits = self._on_way = 0
         self._tasks: set[asyncio.Task[None]] = set()
-        self._saying: asyncio.Task[None] | None = None
-        self._has_missed = False
+        self._people, self._names = (Lane(self._start, self._send) for _ in range(2))
         self._visit = Visit(room.past)
         self._pictures: collections.OrderedDict[str, None] = collections.OrderedDict()
 
@@ -126,6 +159,7 @@ class Tab:
         self._start(self._watch())
         self._room.news.tabs.add(self)
         self._room.people.join(self)
+        self._room.names.join(self)
         try:
             async for message in self._socket:
                 if message.type == WSMsgType.TEXT:
@@ -139,6 +173,7 @@ class Tab:
             self._is_gone = True
             self._room.news.tabs.discard(self)
             self._room.people.leave(self)
+            self._room.names.leave(self)
             for task in [*self._tasks]:
                 task.cancel()
             await self._visit.leave()
@@ -149,13 +184,17 @@ class Tab:
             await asyncio.wait_for(self._socket.close(code=WSCloseCode.GOING_AWAY), AWAY_WAIT)
 
     def _take(self, message: dict[str, Any]) -> None:
-        if "at" in message:
+        if self._is_reader and not is_looking(message):
+            self._start(self._refuse(message))
+        elif "at" in message:
             self._start(self._look_back(message))
         elif "batch" in message:
             self._on_way += len(message["requests"])
             self._start(self._answer(message))
         elif message.get("past") == "left":
             self._start(self._visit.leave())
+        elif "names" in message:
+            self._room.names.take(message["names"])
         else:
             self._room.people.take(self, message)
 
@@ -174,11 +213,12 @@ class Tab:
         await self._send(json.dumps(what, separators=(",", ":")))
 
     def say_people(self, text: str, all_of_them: Callable[[], str]) -> None:
-        """Tells the tab of people: nothing, where it has not taken the last ones yet, and all of them the next time."""
-        self._has_missed = self._has_missed or self._saying is not None and not self._saying.done()
-        if self._saying is None or self._saying.done():
-            self._saying = self._start(self._send(all_of_them() if self._has_missed else text))
-            self._has_missed = False
+        """Tells the tab of people."""
+        self._people.say(text, all_of_them)
+
+    def say_names(self, text: str, all_of_them: Callable[[], str]) -> None:
+        """Tells the tab of the names of shapes."""
+        self._names.say(text, all_of_them)
 
     # -- the session ---------------------------------------------------------------------------------------------------
 
@@ -211,7 +251,7 @@ class Tab:
 
     async def _poll(self, feed: Feed | None, version: int) -> None:
         """Asks for the newest version again and again, while there is no feed."""
-        self._history, self._session, self.seen = None, self._seat, version
+        self._known, self._session, self.seen = Known(), self._seat, version
         await self._say(say="here", version=self.seen, live=None, since=self.seen)
         while not self._is_gone and (feed is None or feed.history is None):
             await asyncio.sleep(POLL)
@@ -221,11 +261,14 @@ class Tab:
     async def _follow_feed(self, feed: Feed, version: int) -> None:
         """Tells the tab of each edit, from the version on that it has, while the feed goes on and the session is
         there."""
-        if self._history != feed.history or not feed.has(self._told):
-            self._history, self._told, self.seen = feed.history, feed.version, 0
-        self._session, self._is_live = self._seat, True
-        self.seen = max(self.seen, version, self._told)
-        await self._say(say="here", version=self.seen, live=self._history, since=self._told)
+        goes = await self._goes(feed)
+        told = self._known.version
+        if goes != "on" or not feed.has(told):
+            told, self.seen = feed.version, 0
+        self._known, self._session, self._is_live = Known(feed.history, told), self._seat, True
+        self.seen = max(self.seen, version, told)
+        how = {"goes": goes} if goes else {}
+        await self._say(say="here", version=self.seen, live=self._known.history, since=told, **how)
         telling = asyncio.create_task(self._tell_edits(feed))
         try:
             while not self._is_gone and not telling.done():
@@ -235,10 +278,20 @@ class Tab:
             self._is_live = False
             telling.cancel()
 
+    async def _goes(self, feed: Feed) -> str | None:
+        """Whether the history that the tab knows goes "on" in the feed, or the feed tells the "next" one."""
+        history = self._known.history
+        if history is None:
+            return None
+        if history == feed.history or await feed.recalls(self._known):
+            return "on"
+        return "next" if history == feed.before else None
+
     async def _tell_edits(self, feed: Feed) -> None:
-        while lines := await feed.beyond(self._told):
-            self._told += len(lines)
-            self.seen = max(self.seen, self._told)
+        while lines := await feed.beyond(self._known.version):
+            told = self._known.version + len(lines)
+            self._known = Known(self._known.history, told)
+            self.seen = max(self.seen, told)
             await self._send(f'{{"say":"edits","edits":[{",".join(lines)}]}}')
 
     async def _newest(self) -> int:
@@ -285,6 +338,11 @@ class Tab:
         finally:
             self._on_way -= len(requests)
         await self._send(f'{{"batch":{json.dumps(number)},"replies":{told}}}')
+
+    async def _refuse(self, message: dict[str, Any]) -> None:
+        """Answers a reader that wants more than to look."""
+        if "batch" in message:
+            await self._say(batch=message["batch"], replies=[READ_ONLY for _ in message["requests"]])
 
     async def _ask(self, session: Session, requests: list[Any], lines: list[bytes]) -> list[Answer]:
         """The answers to a batch. Looks are shared with other tabs, but while an edit of the tab's own is on its way

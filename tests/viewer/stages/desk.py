@@ -68,14 +68,14 @@ class Server:
 class Keeper(Server):
     """A run of canvasd over a folder, which begins with the document of a file, or empty, with a feed."""
 
-    def __init__(self, folder, file=None):
+    def __init__(self, folder, file=None, *words):
         super().__init__(file)
-        self.folder = Path(folder) / "kept"
+        self.folder, self.words = Path(folder) / "kept", words
         self.feed = f"127.0.0.1:{free_port()}"
 
     def start(self):
         opening = ["--open", str(self.file)] if self.file and not self.folder.exists() else []
-        words = [str(BUILT_KEEPER), str(self.folder), "--listen", self.address, "--feed", self.feed, "--workers", "1", "--log", "error", *opening]
+        words = [str(BUILT_KEEPER), str(self.folder), "--listen", self.address, "--feed", self.feed, "--workers", "1", "--log", "error", *self.words, *opening]
         self._run(words, f"listening on {self.address}\n".encode(), f"feeding on {self.feed}\n".encode())
 
 
@@ -156,8 +156,9 @@ class Desk:
         await self.settle(0)
 
     async def picture(self):
-        """What the canvas shows, with no marks and no pointers above it; two frames after the last change."""
-        await self.tab.value("document.getElementById('people').style.visibility = 'hidden'")
+        """What the canvas shows, with no marks, edges of frames and pointers above it; two frames after the last change."""
+        await self.tab.value("for (const name of ['people', 'frames', 'lost']) document.getElementById(name).style.visibility = 'hidden'")
+        await self.tab.value("document.styleSheets[0].insertRule('#overlay .theirs { visibility: hidden; }')")
         await self.tab.value("app.choose('select'), app.stage.drop(), app.editor.select(null), app.state.enter(null), app.notes.hide(), document.activeElement.blur()")
         await self.tab.value("new Promise((done) => requestAnimationFrame(() => requestAnimationFrame(done)))")
         return Image.open(io.BytesIO(await self.tab.screenshot(await self.tab.box_of("#stage")))).convert("RGB")

@@ -23,10 +23,10 @@ DOCUMENT = "app.picture.tree.document"
 class House:
     """canvasd over a folder, a gateway that follows its feed, and cables and counters between them."""
 
-    def __init__(self, folder):
+    def __init__(self, folder, *words):
         file = Path(folder) / "document.json"
         file.write_bytes(POSTER.read_bytes())
-        self.server = Keeper(folder, file)
+        self.server = Keeper(folder, file, *words)
         self.gateway = None
 
     async def __aenter__(self):
@@ -44,6 +44,14 @@ class House:
             await asyncio.to_thread(self.gateway.close)  # (what it has open goes through here)
         self.counter.close()
         self.server.kill()
+
+    async def another_gateway(self):
+        """Ends the gateway, and starts another one in its place."""
+        self.cable.cut()
+        await asyncio.to_thread(self.gateway.close)
+        self.gateway = Gateway(self.counter, self.server.feed)
+        self.cable.lead_to(self.gateway.page.removeprefix("http://").rstrip("/"))
+        await self.cable.mend()
 
     async def open(self, browser):
         desk = Desk(await browser.open(self.page), self.server)

@@ -7,7 +7,7 @@ import aiohttp
 
 from browser import CONTROL
 from harness.running import difference
-from stages.desk import EDGE, LEVELS, SECONDS
+from stages.desk import EDGE, LEVELS, MIDDLE, SECONDS, sheet
 
 
 async def panned_and_pinched(ann, server):
@@ -41,7 +41,7 @@ async def panned_and_pinched(ann, server):
 
 
 async def zoomed(ann, server):
-    """All seven levels by the wheel, out and in, and by keys; the picture of each."""
+    """All seven levels by a touch pad, out and in, and by keys; the picture of each."""
     x, y, width, height = await ann.tab.box_of("#stage")
     await ann.look_at(0, (128, 128))
     here = (x + 300, y + 200)
@@ -52,7 +52,8 @@ async def zoomed(ann, server):
         yield f"the picture of level {level}", await ann.wrong_pixels()
         now = await ann.tab.value(point)
         yield f"the wheel keeps its point at level {level}", None if max(abs(a - b) for a, b in zip(now, begin)) <= 2**level else f"{now} for {begin}"
-        await ann.tab.wheel(*here, 100, modifiers=CONTROL)
+        for _ in range(4):
+            await ann.tab.wheel(*here, 25, modifiers=CONTROL)
         await ann.tab.until(f"app.view.level === {min(level + 1, LEVELS - 1)}")
         await ann.settle(0)
     for level in reversed(range(LEVELS - 1)):
@@ -64,6 +65,29 @@ async def zoomed(ann, server):
     await ann.tab.value("app.zoom(Math.ceil(app.view.level))")
     await ann.settle(0)
     yield "the whole document", await ann.wrong_pixels()
+
+
+async def by_the_wheel(ann, server):
+    """A notch of a mouse's wheel is a step of 1.2; keys come near to what is selected, and to a small document as near as it goes."""
+    x, y, *_ = await ann.tab.box_of("#stage")
+    await ann.look_at(0, (128, 128))
+    point = await ann.tab.value("app.view.pointAt([300, 200])")
+    for down, wanted in [(120, 1.2), (100, 1.44), (-120, 1.2), (240, 1.728), (-240, 1.2), (-100, 1)]:
+        await ann.tab.wheel(x + 300, y + 200, down, modifiers=CONTROL)
+        await ann.tab.until(f"Math.abs(app.view.scale - {wanted}) < 0.001")
+    now = await ann.tab.value("app.view.pointAt([300, 200])")
+    yield "it comes back to where it began", None if max(abs(a - b) for a, b in zip(now, point)) <= 1 else f"{now} for {point}"
+    _, (one, two), corner = await sheet(ann, server, (20, 20, 60, 40), (300, 20, 60, 40))
+    for ids, box in [([one], (20, 20, 80, 60)), ([one, two], (20, 20, 360, 60))]:
+        await ann.tab.value(f"app.state.select({ids})")
+        await ann.look_at(2, (4000, 4000))
+        await ann.press("8")
+        middle = [(corner[0] + (box[0] + box[2]) // 2), (corner[1] + (box[1] + box[3]) // 2)]
+        yield f"8 shows the middle of {ids}", difference(await ann.tab.value(MIDDLE % tuple(middle)), True)
+        scale = await ann.tab.value("app.view.scale")
+        fits = (box[2] - box[0]) / scale <= await ann.tab.value("app.view.width")
+        yield f"8 comes near to {ids}", None if fits and scale <= 0.5 else f"1:{scale}"
+    await ann.press("Delete")
 
 
 async def panned(ann, server):
@@ -150,4 +174,4 @@ async def one_version(ann, server, seconds=4):
     yield "the last picture", await ann.wrong_pixels()
 
 
-STAGES = (panned_and_pinched, zoomed, panned, sent_once, one_version)
+STAGES = (panned_and_pinched, zoomed, by_the_wheel, panned, sent_once, one_version)

@@ -112,6 +112,55 @@ async def by_finger(browser, gateway, server):
     await tab.close()
 
 
+BESIDE = """[...document.querySelectorAll('header button, #files button')].filter((it) => it.offsetParent !== null).filter((it) => {
+  const {left, right, top, bottom} = it.getBoundingClientRect();
+  return left < 0 || right > innerWidth || top < 0 || bottom > innerHeight || !it.contains(document.elementFromPoint((left + right) / 2, (top + bottom) / 2));
+}).map((it) => it.outerHTML.slice(0, 60))"""
+
+
+async def any_width(browser, gateway):
+    """At each width of a window all buttons of the bar are seen, and the page does not slide; the files' too, on a low screen."""
+    tab = await browser.open(gateway.page)
+    await tab.until("window.app.picture.isSettled")
+    for width, height in [(1280, 720), (1100, 800), (900, 1100), (857, 1180), (820, 1180), (768, 1024), (721, 1000)]:
+        await tab.command("Emulation.setDeviceMetricsOverride", width=width, height=height, deviceScaleFactor=1, mobile=False)
+        await tab.until(f"innerWidth === {width} && app.view.width < {width}")
+        await asyncio.sleep(0.1)
+        yield f"what is not seen at {width} by {height}", difference(await tab.value(BESIDE), [])
+        yield f"how wide the page is at {width}", difference(await tab.value("document.documentElement.scrollWidth"), width)
+    await tab.close()
+
+
+async def few_colours(ann):
+    """Where the system has few colours of its own, the swatches keep theirs, and what is chosen is still seen."""
+    await ann.tab.command("Emulation.setEmulatedMedia", features=[{"name": "forced-colors", "value": "active"}])
+    await asyncio.sleep(0.3)
+    colours = await ann.tab.value("[...document.querySelectorAll('#swatches button')].map((it) => getComputedStyle(it).backgroundColor)")
+    yield "each swatch has its colour", difference(len(set(colours)), 16)
+    kinds = await ann.tab.value("[...document.querySelectorAll('.row .kind')].map((it) => getComputedStyle(it).fill)")
+    yield "so have the layers", None if len(set(kinds)) > 1 else f"{set(kinds)}"
+    looks = "[...document.querySelectorAll('header [data-tool]')].map((it) => getComputedStyle(it).outlineStyle + getComputedStyle(it).outlineWidth)"
+    yield "the chosen tool stands out", difference(len(set(await ann.tab.value(looks))), 2)
+    await ann.tab.command("Emulation.setEmulatedMedia", features=[])
+
+
+FIELD = """(() => { const it = document.getElementById('field-%s'); it.focus(); it.value = '%s'; it.dispatchEvent(new Event('change')); })()"""
+
+
+async def stale(ann, server):
+    """A field shows what is so, not what was refused or rounded; a note takes away the refusal before it."""
+    _, (one,), corner = await sheet(ann, server, (20, 20, 60, 40))
+    await ann.tab.value(f"app.state.select([{one}])")
+    for name, typed, shown, width in [("w", "0", "60", 60), ("w", "99999", "60", 60), ("w", "", "60", 60), ("w", "12.6", "13", 13), ("w", "60", "60", 60), ("x", "9999999", str(corner[0] + 20), 60)]:
+        await ann.tab.value(FIELD % (name, typed))
+        await ann.tab.value("app.editor.inTurn(() => new Promise((done) => setTimeout(done)))")
+        await asyncio.sleep(0.05)
+        yield f"{typed!r} in {name}", difference([await ann.tab.value(f"document.getElementById('field-{name}').value"), server.records()[one]["shape"]["w"]], [shown, width])
+    await ann.tab.value("document.activeElement.blur(), app.notes.tell('something'), app.notes.say('something else')")
+    yield "a note takes the refusal away", difference(await ann.tab.value("[document.getElementById('refusal').hidden, document.getElementById('note').hidden]"), [True, False])
+    await ann.tab.value("app.notes.hide(), app.stage.focus()")
+
+
 async def everywhere(browser, gateway, ann):
     """Dark colours, and a phone."""
     await ann.tab.command("Emulation.setEmulatedMedia", features=[{"name": "prefers-color-scheme", "value": "dark"}])
@@ -155,14 +204,15 @@ async def refused(ann, server):
 
 async def without_a_mouse(ann, server):
     """Drawing, moving, selecting and deleting by keys alone."""
+    await ann.look_at(0, (9000, 9000))  # (where what is drawn lies in no frame)
     await ann.tab.value("app.editor.select(null)")
     await ann.press("f", "Enter", *["ArrowRight"] * 5, *["ArrowDown"] * 4, "Enter")
     frame = await ann.made(None)
     record = server.records()[frame]
     yield "a frame by keys", difference([record["shape"]["kind"], record["shape"]["w"], record["shape"]["h"]], ["frame", 40, 32])
     await ann.press("m", *["ArrowRight"] * 3, "ArrowUp")
-    await ann.press("ArrowLeft", modifiers=SHIFT)
-    wanted = [record["pose"]["dx"] + 3 - 10, record["pose"]["dy"] - 1]
+    await ann.press(*["ArrowLeft"] * 5, modifiers=SHIFT)  # (so that what is drawn next lies beside it)
+    wanted = [record["pose"]["dx"] + 3 - 50, record["pose"]["dy"] - 1]
     await ann.tab.until(f"(({{dx, dy}}) => dx === {wanted[0]} && dy === {wanted[1]})(app.editor.record.pose)")
     await ann.press("Escape", "p", "Enter", *["ArrowRight"] * 5, "Enter", *["ArrowDown"] * 4, "Enter", "Enter")
     polygon = await ann.made(None)
@@ -209,4 +259,4 @@ async def readable(ann):
     yield "contrast", difference(await ann.tab.value(FAINT), [])
 
 
-STAGES = (small_things, everywhere, by_finger, refused, without_a_mouse, readable)
+STAGES = (small_things, any_width, few_colours, stale, everywhere, by_finger, refused, without_a_mouse, readable)

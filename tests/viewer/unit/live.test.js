@@ -47,6 +47,22 @@ test("a history goes on where it is the same, and nothing is left out", () => {
   assert.ok(!journal.isLive && !journal.isFollowedBy(0, null));
 });
 
+test("the mark of the last edit is what the gateway makes of its line", () => {
+  const journal = new Journal();
+  journal.begin(3, "one");
+  assert.equal(journal.mark, "");
+  journal.add([{ damage: [0, 0, 5, 1], edit: { hidden: true, id: 7, verb: "show" }, id: null, version: 4 }]);
+  journal.drop(4);
+  assert.equal(journal.mark, "b618d308fadcd308");
+});
+
+test("a history goes on under another name, and so it does in its forks", () => {
+  const journal = journalOf(3, edit(4)), fork = journal.fork();
+  assert.ok(!journal.isFollowedBy(3, "two", true) && !journal.isFollowedBy(4, "two"));
+  assert.ok(journal.isFollowedBy(4, "two", true));
+  assert.deepEqual([journal.history, fork.history, journal.end], ["two", "two", 4]);
+});
+
 test("a version is waited for, and no longer than so long", async () => {
   const journal = journalOf(0);
   let reached = false;

@@ -6,8 +6,8 @@ import { test } from "node:test";
 import { copiesIn, copiesOf, inOrder, requestsFor, textOf } from "../../../web/page/clip.js";
 import { lossBetween, wordsOfLoss } from "../../../web/page/loss.js";
 import { textOf as addressOf, placeIn } from "../../../web/page/place.js";
-import { STILL, apply, boxOf, compose } from "../../../web/page/plane.js";
-import { aligned, distributed, dragged, fitted, isExact, resized, shifted } from "../../../web/page/resize.js";
+import { STILL, apply, boxOf, compose, inverse } from "../../../web/page/plane.js";
+import { aligned, distributed, dragged, fitted, isExact, resized, shifted, stretched } from "../../../web/page/resize.js";
 import { Tree } from "../../../web/page/tree.js";
 import { View } from "../../../web/page/view.js";
 
@@ -21,13 +21,41 @@ function make(tree, requests) {
   return tree;
 }
 
-test("a handle moves its edges, never past the other ones", () => {
-  const begin = box(0, 0, 40, 20);
-  assert.deepEqual(dragged(begin, [1, 1], [5, -3], false), box(0, 0, 45, 17));
-  assert.deepEqual(dragged(begin, [-1, 0], [100, 9], false), box(39, 0, 40, 20));
-  assert.deepEqual(dragged(begin, [1, 1], [40, 1], true), box(0, 0, 80, 40));
-  assert.deepEqual(dragged(begin, [-1, -1], [20, 10], true), box(20, 10, 40, 20));
-  assert.deepEqual(dragged(begin, [1, 0], [40, 0], true), box(0, -10, 80, 30));
+test("a handle moves its edges, and mirrors what it goes over", () => {
+  const begin = box(0, 0, 40, 20), still = [false, false];
+  const even = { isEven: true }, middle = { isMiddle: true };
+  assert.deepEqual(dragged(begin, [1, 1], [5, -3]), { box: box(0, 0, 45, 17), isMirrored: still });
+  assert.deepEqual(dragged(begin, [-1, 0], [40, 9]), { box: box(39, 0, 40, 20), isMirrored: still });
+  assert.deepEqual(dragged(begin, [-1, 0], [100, 9]), { box: box(40, 0, 100, 20), isMirrored: [true, false] });
+  assert.deepEqual(dragged(begin, [1, 1], [-70, -50]), { box: box(-30, -30, 0, 0), isMirrored: [true, true] });
+  assert.deepEqual(dragged(begin, [1, 1], [40, 1], even), { box: box(0, 0, 80, 40), isMirrored: still });
+  assert.deepEqual(dragged(begin, [-1, -1], [20, 10], even), { box: box(20, 10, 40, 20), isMirrored: still });
+  assert.deepEqual(dragged(begin, [1, 0], [40, 0], even), { box: box(0, -10, 80, 30), isMirrored: still });
+  assert.deepEqual(dragged(begin, [1, 1], [-80, 0], even), { box: box(-40, 0, 0, 20), isMirrored: [true, false] });
+  assert.deepEqual(dragged(begin, [1, 1], [5, 3], middle), { box: box(-5, -3, 45, 23), isMirrored: still });
+  assert.deepEqual(dragged(begin, [-1, 0], [30, 0], middle), { box: box(10, 0, 30, 20), isMirrored: [true, false] });
+  assert.deepEqual(dragged(begin, [1, 1], [20, 0], { ...even, ...middle }), { box: box(-20, -10, 60, 30), isMirrored: still });
+});
+
+test("what is mirrored lies in the same box, the other way round", () => {
+  const triangle = { kind: "polygon", points: [[0, 0], [40, 0], [0, 20]], fill: "00ff00" };
+  const outline = (tree, id) => tree.outline(tree.record(id)).map((point) => apply(tree.poseOf(id), point).map((part) => part + 0));
+  for (let k = 0; k < 8; k++) {
+    const outer = { dx: 7, dy: -9, quarter: k % 4, flip: k > 3 };
+    const tree = treeOf(saved(1, null, { kind: "group" }, outer), saved(2, 1, triangle, { ...inverse(outer) }));
+    const [across, down, both] = [[true, false], [false, true], [true, true]]
+      .map((isMirrored) => outline(make(tree.copy(), stretched(tree, [2], box(0, 0, 80, 20), isMirrored)), 2));
+    assert.deepEqual(across, [[80, 0], [0, 0], [80, 20]]);
+    assert.deepEqual(down, [[0, 20], [80, 20], [0, 0]]);
+    assert.deepEqual(both, [[80, 20], [0, 20], [80, 0]]);
+    const group = make(tree.copy(), stretched(tree, [1], box(-40, 0, 0, 20), [true, false]));
+    assert.deepEqual(outline(group, 2), [[0, 0], [-40, 0], [0, 20]]);
+  }
+  const pair = treeOf(saved(1, null, { kind: "group" }), saved(2, 1, rect(10, 10)), saved(3, 1, rect(20, 10), { dx: 30 }));
+  const found = make(pair.copy(), stretched(pair, [1], box(0, 0, 100, 10), [true, false]));
+  assert.deepEqual([found.boxOf(2), found.boxOf(3)], [box(80, 0, 100, 10), box(0, 0, 40, 10)]);
+  const frame = treeOf(saved(1, null, { kind: "frame", w: 50, h: 50, fill: null }), saved(2, 1, rect(10, 10), { dx: 5, dy: 5 }));
+  assert.deepEqual(make(frame.copy(), stretched(frame, [1], box(-30, 0, 0, 50), [true, false])).boxOf(2), frame.boxOf(2));
 });
 
 test("a shape in any pose gets the box that is asked for", () => {

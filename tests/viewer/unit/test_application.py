@@ -5,6 +5,7 @@ import asyncio
 import re
 import subprocess
 import sys
+from http.client import HTTPConnection
 from types import SimpleNamespace
 
 import pytest
@@ -24,7 +25,7 @@ def request(host, origin=None):
     ("drawing:8080", "http://drawing:8080"), ("127.0.0.1:8080", None),
 ])
 def test_the_own_page_may(host, origin):
-    assert is_own(request(host, origin), "drawing")
+    assert is_own(request(host, origin), {"drawing"})
 
 
 @pytest.mark.parametrize("host, origin", [
@@ -32,7 +33,33 @@ def test_the_own_page_may(host, origin):
     ("elsewhere.example:8080", "http://elsewhere.example:8080"), ("elsewhere.example", None), ("", None),
 ])
 def test_other_pages_may_not(host, origin):
-    assert not is_own(request(host, origin), "127.0.0.1")
+    assert not is_own(request(host, origin), {"127.0.0.1"})
+
+
+def page_at(name, *words):
+    """The status and the text of the page, asked for by a name of a gateway with these words more."""
+    command = [sys.executable, "-m", "canvas.gateway", "127.0.0.1:1", "--listen", "127.0.0.1:0", *words]
+    with subprocess.Popen(command, stdout=subprocess.PIPE) as run:
+        port = int(run.stdout.readline().decode().strip(" /\n").rpartition(":")[2])
+        connection = HTTPConnection("127.0.0.1", port)
+        connection.request("GET", "/", headers={"Host": f"{name}:{port}"})
+        answer = connection.getresponse()
+        found = answer.status, answer.read().decode()
+        connection.close()
+        run.terminate()
+    return found
+
+
+def test_a_name_that_is_not_allowed_is_told_so():
+    status, text = page_at("mybox")
+    assert (status, text) == (421, "This gateway does not answer to the name 'mybox'. Whoever started it may add: --host mybox\n")
+
+
+def test_a_name_that_is_allowed():
+    status, text = page_at("mybox", "--host", "other", "--host", "MyBox")
+    assert status == 200 and "<title>" in text
+    assert is_own(request("mybox:8080", "http://mybox:8080"), {"127.0.0.1", "mybox"})
+    assert not is_own(request("mybox:8080", "http://elsewhere.example"), {"127.0.0.1", "mybox"})
 
 
 @pytest.mark.parametrize("text, wanted", [("127.0.0.1:80", ("127.0.0.1", 80)), ("[::1]:8080", ("::1", 8080)), (":0", ("", 0))])

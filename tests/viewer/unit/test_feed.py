@@ -9,7 +9,7 @@ import pytest
 
 from canvas.gateway import feed as module
 from canvas.gateway import tabs
-from canvas.gateway.feed import Feed
+from canvas.gateway.feed import Feed, Known, mark_of
 from canvas.gateway.session import Away, Presence
 from canvas.gateway.tabs import Room, Tab
 from harness.running import SECONDS, until
@@ -148,6 +148,39 @@ async def test_another_history(change, version):
         assert await after_outage(feed, door, change) == (False, version)
 
 
+@pytest.mark.parametrize("change, wanted", [(lambda door: door.lines.pop(), False), (lambda door: setattr(door, "generation", 2), True),
+                                            (lambda door: setattr(door, "generation", 3), False)],
+                         ids=["an earlier copy", "the next generation", "the one after that"])
+async def test_the_next_generation_goes_on_with_the_one_before(change, wanted):
+    door = Door()
+    async with followed(door) as feed:
+        before = feed.history
+        await after_outage(feed, door, change)
+        assert (feed.before == before) == wanted
+
+
+async def test_a_history_that_another_run_named_is_known_by_its_last_edit():
+    door = Door(line_of(1), line_of(2), line_of(3))
+    rows = [("1-old", 1, line_of(1, "b")), ("2-old", 1, line_of(1)), ("1-old", 4, line_of(4)), ("1-old", 0, line_of(1)), (None, 1, line_of(1))]
+    async with followed(door) as feed:
+        assert [await feed.recalls(Known(name, version, mark_of(line))) for name, version, line in rows] == [False] * len(rows)
+        assert not feed.has(1)
+        assert await feed.recalls(Known("1-old", 1, mark_of(line_of(1))))
+        assert (feed.has(1), await feed.beyond(1)) == (True, [line_of(2), line_of(3)])
+
+
+async def test_what_is_too_far_back_is_not_reached_for(monkeypatch):
+    monkeypatch.setattr(module, "MOST_KEPT", 1)
+    door = Door(line_of(1), line_of(2), line_of(3))
+    async with followed(door) as feed:
+        assert (await feed.recalls(Known("1-old", 1, mark_of(line_of(1)))), feed.has(1)) == (True, False)
+
+
+def test_a_mark_is_what_the_page_makes_of_an_edit():
+    line = '{"damage":[0,0,5,1],"edit":{"hidden":true,"id":7,"verb":"show"},"id":null,"version":4}'
+    assert mark_of(line) == "b618d308fadcd308"
+
+
 async def test_what_is_no_feed_is_said_once(capsys):
     async def serve(reader, writer):
         await reader.readline()
@@ -203,8 +236,8 @@ def edits(*versions):
     return {"say": "edits", "edits": [json.loads(line_of(version)) for version in versions]}
 
 
-def here(version, since, live="some"):
-    return {"say": "here", "version": version, "live": live, "since": since}
+def here(version, since, live="some", **more):
+    return {"say": "here", "version": version, "live": live, "since": since, **more}
 
 
 async def test_a_tab_is_told_of_each_edit():
@@ -220,8 +253,11 @@ async def test_a_tab_that_comes_back_is_told_of_what_it_missed():
     async with followed(door) as feed:
         door.add(line_of(1), line_of(2))
         await until(lambda: feed.version == 2)
-        for history, told, wanted in [(feed.history, 1, [here(2, 1), edits(2)]), ("other", 1, [here(2, 2)]), (feed.history, 9, [here(2, 2)])]:
-            async with following(feed, Stub(2), history, told) as (said, _):
+        mark, missed = mark_of(line_of(1)), [here(2, 1, goes="on"), edits(2)]
+        rows = [(Known(feed.history, 1), missed), (Known("other", 1, mark), [here(2, 2)]), (Known("1-other", 1, mark), missed),
+                (Known("1-other", 1), [here(2, 2)]), (Known(feed.history, 9), [here(2, 2, goes="on")])]
+        for known, wanted in rows:
+            async with following(feed, Stub(2), known) as (said, _):
                 await until(lambda: len(said) >= len(wanted))
                 await asyncio.sleep(0.05)
                 assert said == wanted

@@ -6,7 +6,7 @@ import json
 import pytest
 
 from canvas.gateway import people as module
-from canvas.gateway.people import People, colour_in, name_in, place_in
+from canvas.gateway.people import MOST_SELECTED, People, colour_in, name_in, place_in, selection_in, view_in
 from harness.running import until
 
 
@@ -33,6 +33,16 @@ def test_a_colour(value, wanted):
 @pytest.mark.parametrize("value, wanted", [([1, -2], [1, -2]), ([1], None), ([1, 2.5], None), (["1", 2], None), ([1 << 30, 0], None), (None, None)])
 def test_a_place(value, wanted):
     assert place_in(value) == wanted
+
+
+@pytest.mark.parametrize("value, wanted", [([7, 9], [7, 9]), ([7, "9", -1, True, 1 << 40], [7]), (7, []), ([1] * 99, [1] * MOST_SELECTED)])
+def test_a_selection(value, wanted):
+    assert selection_in(value) == wanted
+
+
+@pytest.mark.parametrize("value, wanted", [([1, -2, 0.5], [1, -2, 0.5]), ([1, 2], None), ([1, 2, 99], None), ([1, 2, "0"], None), ([1.5, 2, 0], None), (None, None)])
+def test_a_view(value, wanted):
+    assert view_in(value) == wanted
 
 
 async def told(monkeypatch, work):

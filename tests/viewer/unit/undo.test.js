@@ -3,8 +3,9 @@
 import assert from "node:assert/strict";
 import { test } from "node:test";
 
-import { batches, changeOf, planBack, poseBack, shapeBack } from "../../../web/page/changes.js";
+import { batches, makeNoted, planBack } from "../../../web/page/changes.js";
 import { History } from "../../../web/page/history.js";
+import { partsBack } from "../../../web/page/parts.js";
 import { Tree } from "../../../web/page/tree.js";
 
 const STILL = { dx: 0, dy: 0, quarter: 0, flip: false };
@@ -16,13 +17,7 @@ const tree = () => new Tree({ shapes: [saved(1, null, "a0", "group"), saved(2, 1
 const same = (id) => id;
 
 /** Makes requests in a tree, and gives their changes. */
-function make(found, requests) {
-  return requests.map((request, k) => {
-    const reply = { id: request.as ?? 100 + k }, change = changeOf(found, request, reply);
-    found.make(request, reply);
-    return change;
-  });
-}
+const make = (found, requests) => makeNoted(found, requests.map((request, k) => [request, { id: request.as ?? 100 + k }]));
 
 const bare = (found) => [...found.records.values()].map(({ id, parent, hidden, pose, shape }) => [id, parent, hidden, pose, shape]).sort((a, b) => a[0] - b[0]);
 const order = (found, parent) => found.children(parent).map(({ id }) => id);
@@ -97,20 +92,55 @@ test("what is gone, moved by others or holds what others made is passed over", (
 });
 
 test("what others did to a pose or a shape stays", () => {
-  const from = { ...STILL, dx: 5 }, to = { ...STILL, dx: 105, quarter: 1 };
-  assert.deepEqual(poseBack(to, { from, to }), from);
-  assert.deepEqual(poseBack({ ...to, dy: 120 }, { from, to }), { ...from, dy: 120 });
-  assert.deepEqual(poseBack({ ...to, quarter: 2 }, { from, to }), { ...from, quarter: 1 });
+  const from = { ...STILL, dx: 5 }, to = { ...STILL, dx: 105 }, turned = { ...STILL, dx: 105, dy: 7, quarter: 1 };
+  assert.deepEqual(partsBack(to, { from, to }), { value: from, stays: [] });
+  assert.deepEqual(partsBack({ ...to, dy: 120 }, { from, to }), { value: { ...from, dy: 120 }, stays: [] });
+  assert.deepEqual(partsBack({ ...to, dx: 70 }, { from, to }), { value: { ...to, dx: 70 }, stays: ["dx"] });
+  assert.deepEqual(partsBack(turned, { from, to }), { value: turned, stays: ["dx"] });
+  assert.deepEqual(partsBack(turned, { from, to: turned }), { value: from, stays: [] });
+  for (const now of [{ ...turned, quarter: 2 }, { ...turned, dx: 3 }]) assert.deepEqual(partsBack(now, { from, to: turned }), { value: now, stays: ["turn", "dx", "dy"] });
   const shape = (w, fill) => ({ kind: "rect", w, h: 1, fill });
-  assert.deepEqual(shapeBack(shape(7, "bb"), { from: shape(1, "aa"), to: shape(1, "bb") }), shape(7, "aa"));
-  assert.deepEqual(shapeBack(shape(1, "cc"), { from: shape(1, "aa"), to: shape(1, "bb") }), shape(1, "cc"));
+  assert.deepEqual(partsBack(shape(7, "bb"), { from: shape(1, "aa"), to: shape(1, "bb") }), { value: shape(7, "aa"), stays: [] });
+  assert.deepEqual(partsBack(shape(1, "cc"), { from: shape(1, "aa"), to: shape(1, "bb") }), { value: shape(1, "cc"), stays: ["fill"] });
+});
+
+test("what others changed since stays, and is taken back when they have taken back theirs", () => {
+  const found = tree(), [change] = make(found, [{ verb: "pose", id: 5, pose: { ...STILL, dx: 77, dy: 8 } }]);
+  make(found, [{ verb: "pose", id: 5, pose: { ...STILL, dx: 99, dy: 8 } }]);
+  const plan = planBack(found, [change], same);
+  assert.deepEqual(plan.requests, [{ verb: "pose", id: 5, pose: { ...STILL, dx: 99 } }]);
+  assert.deepEqual([plan.passed, plan.kept.map(({ own }) => own)], [["Rectangle 5 was changed by others since."], [["dx"]]]);
+  make(found, plan.requests);
+  assert.deepEqual(planBack(found, plan.kept, same).requests, []);
+  make(found, [{ verb: "pose", id: 5, pose: { ...STILL, dx: 77 } }]);
+  assert.deepEqual(planBack(found, plan.kept, same).requests, [{ verb: "pose", id: 5, pose: { ...STILL, dx: 50 } }]);
+});
+
+test("a shape goes back to its key, or beside what others have put there", () => {
+  const found = tree(), [change] = make(found, [{ verb: "move", id: 4, parent: null, spot: "front" }]);
+  assert.deepEqual(planBack(found, [change], same).requests, [{ verb: "move", id: 4, parent: null, spot: { at: "a1" } }]);
+  make(found, [{ verb: "move", id: 1, parent: null, spot: { at: "a1" } }]);
+  const plan = planBack(found, [change], same);
+  assert.deepEqual(plan.requests, [{ verb: "move", id: 4, parent: null, spot: { over: 1 } }]);
+  make(found, [...plan.requests, { verb: "move", id: 1, parent: null, spot: { at: "a0" } }]);
+  make(found, planBack(found, plan.kept, same).requests);
+  assert.deepEqual(found.children(null).map(({ id, index }) => [id, index]), [[5, "a2"], [4, "a1"], [1, "a0"]]);
+});
+
+test("a pose is taken back only in the parent that it was given in", () => {
+  const found = tree(), changes = make(found, [{ verb: "move", id: 4, parent: 1, spot: "front" }, { verb: "pose", id: 4, pose: { ...STILL, dx: 30 } }]);
+  const [other] = make(found, [{ verb: "move", id: 4, parent: null, spot: "back" }]), plan = planBack(found, changes, same);
+  assert.deepEqual([plan.requests, plan.kept.length], [[], 2]);
+  make(found, planBack(found, [other], same).requests);
+  make(found, planBack(found, changes, same).requests);
+  assert.deepEqual([bare(found), order(found, null)], [bare(tree()), order(tree(), null)]);
 });
 
 test("all turns and flips are taken back", () => {
   for (let k = 0; k < 64; k++) {
     const pose = (bits) => ({ dx: bits, dy: 0 - bits, quarter: bits % 4, flip: bits > 3 });
     const from = pose(k % 8), to = pose(k >> 3);
-    assert.deepEqual(poseBack(to, { from, to }), from);
+    assert.deepEqual(partsBack(to, { from, to }), { value: from, stays: [] });
   }
 });
 
@@ -122,19 +152,23 @@ test("batches name nothing that they make themselves", () => {
 });
 
 test("the history: steps, what was taken back, and what follows soon", () => {
-  const history = new History(), pose = (from, to) => ({ verb: "pose", id: 1, from, to });
+  const history = new History(), at = (dx) => ({ ...STILL, dx }), pose = (from, to) => ({ verb: "pose", id: 1, from: at(from), to: at(to) });
+  const take = (isRedo) => {
+    const [step] = history.steps(isRedo);
+    history.take(step, [], isRedo);
+    return step;
+  };
   history.note({ name: "move", kind: "nudge 1", changes: [pose(1, 2)] }, 0);
   history.note({ name: "move", kind: "nudge 1", changes: [pose(2, 3)] }, 500);
   assert.equal(history.length, 1);
   history.note({ name: "move", kind: "nudge 1", changes: [pose(3, 4)] }, 5000);
   assert.equal(history.length, 2);
-  const step = history.take(false);
-  history.noteBack(step, false);
+  history.noteBack(take(false), false);
   assert.deepEqual([history.undoName, history.redoName], ["move", "move"]);
   history.note({ name: "draw", changes: [{ verb: "create", id: 2 }] });
   assert.deepEqual([history.undoName, history.redoName], ["draw", undefined]);
-  assert.deepEqual(history.take(false).changes[0].verb, "create");
-  assert.deepEqual(history.take(false).changes, [pose(1, 3)]);
+  assert.deepEqual(take(false).changes[0].verb, "create");
+  assert.deepEqual(take(false).changes.map(({ from, to, trail }) => [from.dx, to.dx, trail.dx]), [[1, 3, [2]]]);
 });
 
 test("at least 200 steps are kept", () => {
