@@ -111,19 +111,19 @@ class Journal:
 
     def append(self, lines: list[bytes]) -> None:
         """Puts lines behind the others. They are put on the disk behind a closed gate, which is an LF in the place of
-        the first blank, so that none of them counts before all are there."""
+        the first blank, so that none of them counts before all are there. The next closed gate is behind them."""
         text = b"".join(lines)
         self._cut()
-        self._put(b"\n" + text[1:])
+        self._put(b"\n" + text[1:] + b"\n")
         self._put(b" ")
         for line in lines:
             self._note(line)
 
     def _cut(self) -> None:
-        """Takes away, once, what a crash left behind the last line that counts."""
+        """Closes the gate, once, in place of what a crash left behind the last line that counts."""
         if not self._is_cut:
             self._file.truncate(self._end)
-            os.fdatasync(self._file.fileno())
+            self._put(b"\n")
             self._is_cut = True
 
     def _put(self, text: bytes) -> None:

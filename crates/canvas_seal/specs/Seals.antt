@@ -1,5 +1,5 @@
 -- Names of histories, and lines that end in seals.
-use Rattle.std.specs.Prelude.{◌≡◌, ◌≢◌, ℕ, ◌-◌, List, [], ◌∷◌, ◌++◌, length, take, map, slice_get, Option, Some, None}
+use Rattle.std.specs.Prelude.{◌≡◌, ◌≢◌, ℕ, ◌-◌, ◌<◌, List, [], ◌∷◌, ◌++◌, length, take, map, slice_get, slice_index, Option, Some, None}
 use Rattle.hex.specs.Hex.{encode_lower}
 use Rattle.sha2.specs.Sha256.{sha256}
 
@@ -43,6 +43,10 @@ next_of (Some name) text = Some (next_name name text)
 abbrev pub later_of : Option (List ℕ) → List (List ℕ) → Option (List ℕ)
 later_of None texts = None
 later_of (Some name) texts = Some (later_name name texts)
+
+-- bytes without an LF (10)
+abbrev pub HasNoEnd : List ℕ → Type 0
+HasNoEnd text = (k : ℕ) → k < length text → slice_index text k ≢ 10
 
 -- the text of a line
 abbrev pub text_in : Option (List ℕ) → List ℕ → List ℕ

@@ -1,7 +1,7 @@
 //! Seals, which stand behind the texts of lines.
 ghost use Rattle.std.specs.Prelude.{◌≡◌, ◌≢◌, ◌<◌, ◌++◌, ◌-◌, List, ℕ, Some, None, length, slice_index, take, OnOk, IfSome, IfNone};
 ghost use Rattle.hex.specs.Hex.{encode_lower};
-ghost use Rattle.canvas_seal.specs.Seals.{line_of, next_name, next_of, seal_of, sealed_line, text_in};
+ghost use Rattle.canvas_seal.specs.Seals.{HasNoEnd, line_of, next_name, next_of, seal_of, sealed_line, text_in};
 
 use crate::names::{Name, name_with};
 use std::alloc::AllocError;
@@ -28,11 +28,13 @@ fn seal_text(name: &Name) -> [u8; SEAL_LEN]
     seal
 }
 
-/// Makes the line of a text, and goes on to the name after it. Where there are no seals, the text is
+/// Makes the line of a text, which has no LF, and goes on to the name after it. Where there are no seals, the text is
 /// the line.
 pub fn seal_line(name: &mut Option<Name>, text: &mut Vec<u8>) -> Result<(), AllocError>
+    requires { HasNoEnd text.old.items }
     ensures line { OnOk result (text.new.items ≡ line_of name.old text.old.items) }
     ensures name { OnOk result (name.new ≡ next_of name.old text.old.items) }
+    ensures no_end { OnOk result (HasNoEnd text.new.items) }
 {
     if let Some(before) = name {
         let next = name_with(before, text.as_slice());

@@ -3,7 +3,9 @@
 use crate::fault::{Deed, Fault, Place, refused};
 use crate::folder::path_in;
 use crate::journal::read_all;
+use crate::sealing::start_of;
 use canvas_folder::{JOURNAL, OPENING};
+use canvas_seal::text_of;
 use std::alloc::{AllocError, Global};
 use std::fs::File;
 use std::io::{BufRead, BufReader};
@@ -69,6 +71,7 @@ impl Recent {
             Ok(reader) => reader,
             Err(error) => return Err(refused(Place::Journal(number), Deed::Read, error)),
         };
+        let start = start_of(rt, alloc, folder, number)?;
         let mut recent = Recent::none(alloc)?;
         let mut line = Vec::new(alloc);
         for _ in 0..edits {
@@ -76,7 +79,7 @@ impl Recent {
             if let Err(error) = reader.read_until(b'\n', &mut line) {
                 return Err(refused(Place::Journal(number), Deed::Read, error));
             }
-            recent.note(line.trim_ascii())?;
+            recent.note(text_of(&start, line.trim_ascii()))?;
         }
         Ok(recent)
     }

@@ -6,6 +6,7 @@ use crate::folder::path_in;
 use crate::gate::Kept;
 use canvas_feed::{FeedFault, Scribe};
 use canvas_folder::JOURNAL;
+use canvas_seal::Name;
 use log::{Log, error};
 use std::alloc::Global;
 use std::fs::File;
@@ -16,16 +17,25 @@ use std::sync::Wait;
 // How many bytes of the journal are read at once. No line of an edit is nearly as long.
 const PIECE: usize = 65_536;
 
+/// The lines of a generation's journal.
+#[derive(Drop)]
+pub struct JournalLines {
+    file: File,
+    // What their seals go on from, where they have seals.
+    start: Option<Name>,
+}
+
 /// The journal of a generation, to be read while it is written.
 pub fn open_to_read<H: Files<File = File>>(
     rt: &H,
     alloc: Global,
     folder: &str,
     number: u32,
-) -> Result<File, Fault> {
+    start: Option<Name>,
+) -> Result<JournalLines, Fault> {
     let path = path_in(alloc, folder, number, JOURNAL)?;
     match File::open(rt, path.as_str()) {
-        Ok(file) => Ok(file),
+        Ok(file) => Ok(JournalLines { file, start }),
         Err(error) => Err(refused(Place::Journal(number), Deed::Read, error)),
     }
 }
@@ -37,7 +47,7 @@ pub fn keep_feed<G: Kept, H: Wait, K: Log>(
     alloc: Global,
     gate: &G,
     feed: &Feed,
-    journal: &File,
+    journal: &JournalLines,
     scribe: Scribe,
 ) {
     if let Err(fault) = tell_all(rt, alloc, gate, feed, journal, scribe) {
@@ -52,7 +62,7 @@ fn tell_all<G: Kept, H: Wait>(
     alloc: Global,
     gate: &G,
     feed: &Feed,
-    journal: &File,
+    journal: &JournalLines,
     mut scribe: Scribe,
 ) -> Result<(), FeedFault> {
     let mut piece = vec![in alloc; 0u8; PIECE]?;
@@ -64,10 +74,10 @@ fn tell_all<G: Kept, H: Wait>(
             return Ok(());
         };
         let most = kept.saturating_sub(scribe.version());
-        let Ok(count) = journal.read_at(&mut piece, at) else {
+        let Ok(count) = journal.file.read_at(&mut piece, at) else {
             return Err(FeedFault::Unread);
         };
-        let len = scribe.tell(alloc, &piece[..count], most)?;
+        let len = scribe.tell(alloc, &journal.start, &piece[..count], most)?;
         if len == 0 {
             return Err(FeedFault::Strange);
         }
