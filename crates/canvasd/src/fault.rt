@@ -96,6 +96,8 @@ pub enum Strange {
     Opening(u32),
     /// Its edit of this version is another one.
     Edit(u64),
+    /// Its edits up to this version are others.
+    History(u64),
     /// It has only so many edits.
     Fewer(u64),
     /// It has not begun the generation of this number.

@@ -149,6 +149,9 @@ impl<'a> Told<'a> {
                 "{feed}: generation {number} began otherwise there"
             )?,
             Strange::Edit(version) => write!(f, "{feed}: edit {version} is another one there")?,
+            Strange::History(version) => {
+                write!(f, "{feed}: the first {version} edits are others there")?
+            }
             Strange::Fewer(kept) => write!(f, "{feed}: it has only {kept} edits")?,
             Strange::Early(number) => write!(f, "{feed}: it has no generation {number}")?,
         }

@@ -39,6 +39,12 @@ pub fn start_of<H: Files<File = File>>(
     }
 }
 
+/// The line that tells a follower the name of the history as of a version.
+pub fn name_line(alloc: Global, name: &Name, version: u64) -> Result<String, AllocError> {
+    let digits = hex::encode(alloc, name.as_slice())?;
+    format!(in alloc; "{{\"name\":\"{digits}\",\"version\":{version}}}\n")
+}
+
 // The text of the file of the hash, if there is one.
 fn hash_of<H: Files<File = File>>(
     rt: &H,
@@ -55,8 +61,8 @@ fn hash_of<H: Files<File = File>>(
     }
 }
 
-// The text of the document with which a generation begins.
-fn read_opening<H: Files<File = File>>(
+/// The text of the document with which a generation begins.
+pub fn read_opening<H: Files<File = File>>(
     rt: &H,
     alloc: Global,
     folder: &str,
