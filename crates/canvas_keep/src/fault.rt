@@ -93,14 +93,6 @@ impl From<OpenError> for OpenFault {
     }
 }
 
-impl From<ReplayFault> for OpenFault {
-    ghost from_gives = { λ e f. f ≡ open_fault.Replay e };
-
-    fn from(fault: ReplayFault) -> OpenFault {
-        OpenFault::Replay(fault)
-    }
-}
-
 impl From<LineFault> for OpenFault {
     ghost from_gives = { λ e f. f ≡ open_fault.Line e };
 

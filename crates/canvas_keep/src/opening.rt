@@ -51,7 +51,9 @@ pub fn open<D: Device + Drop, B: Lines, R: Wait>(
 {
     let (journal, lines) = Journal::open(alloc, device, start)?;
     let opened = Snapshot::of(&journal.device);
-    replay(rt, alloc, &mut seat, start, lines.lines.as_slice())?;
+    if let Err(fault) = replay(rt, alloc, &mut seat, start, lines.lines.as_slice()) {
+        return Err(OpenFault::Replay(fault));
+    }
     let kept = seat.number();
     seat.start_recording(rt)?;
     if seat.number() != kept {
