@@ -8,9 +8,9 @@ from concurrent.futures import ThreadPoolExecutor
 import pytest
 
 from harness.folders import (
-    EDITS, GROUP, HASH, JOURNAL, POSTER, content, counted, fault_of, make, models, refused, run, sealed, served, start_of, started, unseal, whole_lines,
+    EDITS, GROUP, HASH, JOURNAL, POSTER, content, counted, fault_of, make, models, next_is_served, refused, run, sealed, served, start_of, started, unseal, whole_lines,
 )
-from harness.running import BAD_DOCUMENT, EMPTY
+from harness.running import BAD_DOCUMENT, EMPTY, wait_for
 from canvas.client import line_of
 
 SMALL = EDITS[:2]
@@ -49,11 +49,11 @@ def test_each_bit_of_a_small_journal(tmp_path):
     assert opened_with(tmp_path, folder, JOURNAL, range(8 * lines)) == []
 
 
-def test_bits_of_a_large_journal(tmp_path, times, seed):
+def test_bits_of_a_large_journal(tmp_path, pytestconfig, seed):
     folder = make(tmp_path / "large", [GROUP] * LARGE)
     lines = sum(len(line) + 2 for line in whole_lines((folder / "1" / JOURNAL).read_bytes()))
     chance = random.Random(f"{seed} bits")
-    assert opened_with(tmp_path, folder, JOURNAL, [chance.randrange(8 * lines) for _ in range(CHANGES * times)]) == []
+    assert opened_with(tmp_path, folder, JOURNAL, [chance.randrange(8 * lines) for _ in range(CHANGES * pytestconfig.getoption("times"))]) == []
 
 
 @pytest.mark.quick
@@ -89,7 +89,7 @@ def test_lines_that_were_moved(tmp_path):
 @pytest.mark.quick
 def test_the_form_of_a_journal(tmp_path):
     """Each line is a text and its seal; the hash is what sha256sum writes; `check` tells the name of the history."""
-    folder = make(tmp_path / "form", EDITS, "--open", POSTER)
+    folder = make(tmp_path / "form", [GROUP] * 10, "--open", POSTER)
     place, texts = folder / "1", counted((folder / "1" / JOURNAL).read_bytes())
     digits = start_of(place).hex()
     assert (place / HASH).read_bytes() == b"%s  opening.json\n" % digits.encode()
@@ -98,7 +98,7 @@ def test_the_form_of_a_journal(tmp_path):
     for text in texts:
         name = hashlib.sha256(name + text).digest()
     out, _, status = run("check", folder)
-    assert (status, f"{len(EDITS)} edits, sealed, {name.hex()}\n" in out.decode()) == (0, True), out
+    assert (status, f"10 edits, sealed, {name.hex()}\n" in out.decode()) == (0, True), out
     assert run("requests", folder) == (b"".join(text + b"\n" for text in texts), b"", 0)
 
 
@@ -118,7 +118,7 @@ def test_a_folder_without_seals(tmp_path):
     with started(folder, "--limit", len(EDITS) + 2) as server, server.connect() as canvas:
         canvas.ask(**GROUP)
     with started(folder, "--limit", len(EDITS) + 2) as server:
-        assert server.port
+        assert wait_for(lambda: next_is_served(server))
     assert (folder / "2" / HASH).exists(), "the next generation has seals"
 
 
