@@ -128,7 +128,8 @@ def test_torn_ends(tmp_path):
         kept = len(counted(whole[:end]))
         assert served(folder) == (kept, texts[kept]), f"a journal of {end} of {len(whole)} bytes"
     told = sum(len(line) + 2 for line in lines)
-    for behind in (b"", b"\n", b"\n\n", b"\n" + b"\0" * 9, b"\n{\"verb\":\"create\"", b"\n" + b" {\"verb\":\"paint\"}\n" * 9, b"\nx\n {}\n", b" {\"verb\":", b"\n\xff\xfe"):
+    torn = b"\n{\"verb\":\"create\"", b"\n" + b" {\"verb\":\"paint\"}\n" * 9, b" {\"verb\":"
+    for behind in (b"", b"\n", b"\n\n", b"\n" + b"\0" * 9, b"\nx\n {}\n", b"\n\xff\xfe", *torn):
         journal.write_bytes(whole[:told] + behind)
         assert served(folder) == (len(EDITS), texts[-1]), f"behind the end {behind!r}"
     for behind in (b"\0" * 9, b"x\n {}\n", b"\xff\xfe", b"{\"verb\":\"create\"", b"\r\n"):

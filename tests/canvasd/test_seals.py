@@ -8,7 +8,8 @@ from concurrent.futures import ThreadPoolExecutor
 import pytest
 
 from harness.folders import (
-    EDITS, GROUP, HASH, JOURNAL, POSTER, content, counted, fault_of, make, models, next_is_served, refused, run, sealed, served, start_of, started, unseal, whole_lines,
+    EDITS, GROUP, HASH, JOURNAL, POSTER, content, counted, fault_of, make, models, next_is_served, refused, run, sealed, served, start_of, started, unseal,
+    whole_lines,
 )
 from harness.running import BAD_DOCUMENT, EMPTY, wait_for
 from canvas.client import line_of
@@ -74,7 +75,8 @@ def test_lines_that_were_moved(tmp_path):
     other = whole_lines(sealed(hashlib.sha256(b"another document").digest(), counted(journal.read_bytes())))
     for number in range(1, len(lines)):
         one, next_one = lines[number - 1], lines[number]
-        for what, there in {"swapped": [next_one, one], "doubled": [one, one, next_one], "left out": [next_one], "another's": [other[number - 1], next_one]}.items():
+        ways = {"swapped": [next_one, one], "doubled": [one, one, next_one], "left out": [next_one], "another's": [other[number - 1], next_one]}
+        for what, there in ways.items():
             journal.write_bytes(b"".join(b" %s\n" % line for line in [*lines[: number - 1], *there, *lines[number + 1 :]]) + b"\n")
             before = content(folder)
             at = number + (what == "doubled")
