@@ -216,6 +216,11 @@ def test_long_ones(tmp_path):
         before = content(other)
         assert fault_of(copied(server.feeds[0], other), "edit 504 of generation 1 is another one") is None, "another edit in the middle"
         assert content(other) == before, "that one stays"
+        journal = copy / "1" / JOURNAL
+        journal.write_bytes(sealed(start_of(copy / "1"), [text.replace(b'"dx":3,', b'"dx":4,') for text in counted(journal.read_bytes())]))
+        before = content(copy)
+        assert fault_of(copied(server.feeds[0], copy), "the first 2001 edits of generation 1 are others") is None, "another edit long ago"
+        assert content(copy) == before, "that one stays too"
 
 
 # -- crashes -----------------------------------------------------------------------------------------------------------

@@ -130,11 +130,7 @@ impl<D: Device> Journal<D> {
 
 // Reads the lines that count, and writes them into a new file. It may itself crash at any moment,
 // and be begun again.
-fn renew<D: Device>(
-    alloc: Global,
-    device: &mut D,
-    start: &Option<Name>,
-) -> Result<Lines, OpenError>
+fn renew<D: Device>(alloc: Global, device: &mut D, start: &Option<Name>) -> Result<Lines, OpenError>
     ensures lines { IfOk result
         (λ r. map (λ v. v.items) r.lines.items ≡ recovered (D.seen device.old)) }
     ensures sealed { IfOk result

@@ -55,11 +55,7 @@ pub fn read_lines(alloc: Global, bytes: &[u8]) -> Result<Lines, AllocError>
 /// The lines of a file that count, each of which has its seal where `start` is the name that their
 /// seals go on from. A file is damaged where a line has not, or where no crash leaves what stands
 /// behind them.
-pub fn read_sealed(
-    alloc: Global,
-    bytes: &[u8],
-    start: &Option<Name>,
-) -> Result<Lines, OpenError>
+pub fn read_sealed(alloc: Global, bytes: &[u8], start: &Option<Name>) -> Result<Lines, OpenError>
     ensures lines { IfOk result (λ r. map (λ v. v.items) r.lines.items ≡ recovered bytes.now) }
     ensures end { IfOk result (λ r. r.end ≡ length (text (recovered bytes.now))) }
     ensures within { IfOk result (λ r. r.end ≤ length bytes.now) }

@@ -25,7 +25,12 @@ fn check_byte(rt: &impl Abort, alloc: Global, file: &[u8], place: usize) {
     let mut changed = file.to_vec(alloc).expect(rt, "memory");
     for bit in [1u8, 2, 4, 8, 16, 32, 64, 128] {
         flip(&mut changed, place, bit);
-        holds_at(rt, "a bit of byte", place as u64, is_damaged(alloc, &changed));
+        holds_at(
+            rt,
+            "a bit of byte",
+            place as u64,
+            is_damaged(alloc, &changed),
+        );
         flip(&mut changed, place, bit);
     }
 }

@@ -7,7 +7,7 @@ returns-in_default-clause-damaged c = (
   c.loop-line.line-index,
   ap (λ n. n + 1) c.loop-line.invariant.number,
   stopped_at (λ v. v.items) c.args.start.now c.args.lines.now c.loop-line.line-index c.line-item.result c.loop-line.name c.as_slice.result.now
-  c.loop-line-test.true c.line-item.is c.as_slice.ensures.value c.loop-line.invariant.checked c.in_default.ensures.none,
+      c.loop-line-test.true c.line-item.is c.as_slice.ensures.value c.loop-line.invariant.checked c.in_default.ensures.none,
 )
 
 pub loop-line-preserved : goal.loop-line-preserved
