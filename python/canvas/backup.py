@@ -15,7 +15,7 @@ serves it. A folder that is not there is made.
 
 A copy has one process at a time, and a copy that is served is not written to. Where the server's document is no
 continuation of the copy, because it is another one or was set back, this ends with an error, and the copy stays as it
-is. For that the openings and the last 1,000 edits of the copy are compared.
+is. For that the openings, the names of the histories and the last 1,000 edits of the copy are compared.
 
 The status is 0 where --once is done, and 1 where something is wrong, which is told on standard error.
 """
@@ -25,6 +25,7 @@ from __future__ import annotations
 import argparse
 import contextlib
 import fcntl
+import hashlib
 import os
 import re
 import shutil
@@ -36,11 +37,13 @@ from pathlib import Path
 
 from canvas.client import Feed, FeedRefused, KeptEdit, place_of
 
-OPENING, JOURNAL, LOCK = "opening.json", "journal.jsonl", "lock"
+OPENING, HASH, JOURNAL, LOCK = "opening.json", "opening.json.sha256", "journal.jsonl", "lock"
 NUMBER, UNDONE = re.compile("[1-9][0-9]{0,9}"), re.compile(r"[1-9][0-9]{0,9}\.new")
 """The names of a generation's folder, when it is whole and before."""
 COMPARED = 1000
 """How many edits of a copy, the last ones, are compared with the server's."""
+SEAL_BYTES = 8
+"""How many bytes of a name stand in a seal, two digits each."""
 MOST_EDITS = 1_000_000
 PAUSE = 1
 """How many seconds after a lost connection it tries again."""
@@ -49,6 +52,7 @@ SILENCE = 600
 PATIENCE = 60
 """How many seconds it waits for what is there, where it has to end."""
 IS_OVER = re.compile(r"generation \d+ is over: generation \d+ is served")
+IS_NONE = re.compile("this is no request of a feed")
 IS_BEYOND = re.compile(r"since \d+ is beyond the history: (\d+) edits are kept")
 
 
@@ -90,12 +94,15 @@ def new_file(path: Path, content: bytes) -> None:
 
 class Journal:
     """The open journal of a copy. A line counts if it stands behind a blank, ends with an LF, and all lines before it
-    count."""
+    count. Where the hash of the opening is there, each line ends in a seal: a blank, and 16 digits of the name that the
+    history has then."""
 
-    def __init__(self, path: Path) -> None:
+    def __init__(self, path: Path, opening: str) -> None:
+        self._has_seals = (path.parent / HASH).exists()
         self._file = open(path, "r+b", buffering=0)
         self.count, self._end, self._is_cut = 0, 0, False
         self._last: deque[bytes] = deque(maxlen=COMPARED)
+        self._names = deque([hashlib.sha256(opening.encode()).digest()], maxlen=COMPARED + 1)
         with open(path, "rb") as lines:
             for line in lines:
                 if not (line.startswith(b" ") and line.endswith(b"\n")):
@@ -107,23 +114,35 @@ class Journal:
 
     def text(self, version: int) -> str:
         """The text of one of the last edits."""
-        return self._last[version - self.count - 1][1:-1].decode()
+        return self._last[version - self.count - 1].decode()
 
-    def append(self, lines: list[bytes]) -> None:
-        """Puts lines behind the others. They are put on the disk behind a closed gate, which is an LF in the place of
-        the first blank, so that none of them counts before all are there."""
-        text = b"".join(lines)
+    def name(self) -> str:
+        """The name of the history before the last edits, which are compared."""
+        return self._names[0].hex()
+
+    def append(self, texts: list[bytes]) -> None:
+        """Puts the lines of texts behind the others. They are put on the disk behind a closed gate, which is an LF in the place of
+        the first blank, so that none of them counts before all are there. The next closed gate is behind them."""
+        lines = self._lines_of(texts)
         self._cut()
-        self._put(b"\n" + text[1:])
+        self._put(b"\n" + b"".join(lines)[1:] + b"\n")
         self._put(b" ")
         for line in lines:
             self._note(line)
 
+    def _lines_of(self, texts: list[bytes]) -> list[bytes]:
+        lines, name = [], self._names[-1]
+        for text in texts:
+            name = hashlib.sha256(name + text).digest()
+            seal = b" " + name[:SEAL_BYTES].hex().encode() if self._has_seals else b""
+            lines.append(b" %s%s\n" % (text, seal))
+        return lines
+
     def _cut(self) -> None:
-        """Takes away, once, what a crash left behind the last line that counts."""
+        """Closes the gate, once, in place of what a crash left behind the last line that counts."""
         if not self._is_cut:
             self._file.truncate(self._end)
-            os.fdatasync(self._file.fileno())
+            self._put(b"\n")
             self._is_cut = True
 
     def _put(self, text: bytes) -> None:
@@ -135,7 +154,9 @@ class Journal:
     def _note(self, line: bytes) -> None:
         self.count += 1
         self._end += len(line)
-        self._last.append(line)
+        text = line[1 : -2 - 2 * SEAL_BYTES] if self._has_seals else line[1:-1]
+        self._last.append(text)
+        self._names.append(hashlib.sha256(self._names[-1] + text).digest())
 
 
 class Copy:
@@ -165,6 +186,11 @@ class Copy:
         """How many edits it has."""
         return self._journal.count if self._journal else 0
 
+    @property
+    def name(self) -> str | None:
+        """The name of its history before the edits that are compared."""
+        return self._journal.name() if self._journal else None
+
     def begin(self, generation: int, opening: str) -> None:
         """Begins a generation. Its folder gets its name when all of it is on the disk."""
         with disk(self.folder):
@@ -175,6 +201,7 @@ class Copy:
                 shutil.rmtree(room)  # what a crash left
             room.mkdir()
             new_file(room / OPENING, opening.encode())
+            new_file(room / HASH, f"{hashlib.sha256(opening.encode()).hexdigest()}  {OPENING}\n".encode())
             new_file(room / JOURNAL, b"")
             sync_folder(room)
             room.rename(target)
@@ -187,7 +214,7 @@ class Copy:
         for kept in edits:
             if kept.version <= self.count and kept.text != self._journal.text(kept.version):
                 raise self.stranger(f"edit {kept.version} of generation {self.generation} is another one")
-        new = [b" %s\n" % kept.text.encode() for kept in edits if kept.version > self.count]
+        new = [kept.text.encode() for kept in edits if kept.version > self.count]
         if new:
             with disk(self.folder / str(self.generation) / JOURNAL):
                 self._journal.append(new)
@@ -210,7 +237,7 @@ class Copy:
         self.opening = (folder / OPENING).read_bytes().decode()
         if self._journal:
             self._journal.close()
-        self.generation, self._journal = generation, Journal(folder / JOURNAL)
+        self.generation, self._journal = generation, Journal(folder / JOURNAL, self.opening)
 
 
 # -- the server --------------------------------------------------------------------------------------------------------
@@ -219,20 +246,27 @@ class Source:
     """A feed door. What it waits for comes within so many seconds, or it is lost."""
 
     def __init__(self, address: str, seconds: float) -> None:
-        self.address, self._seconds = address, seconds
+        self.address, self._seconds, self._is_named = address, seconds, True
         if not address.startswith("unix:"):
             with self._as_a_door():
                 place_of(address)
 
     def feed(self, since: int, generation: int | None) -> Feed:
-        """A feed with its opening document. Raises FeedRefused."""
+        """A feed with its opening document, and the name of its history: a server of version 0.5 tells none. Raises
+        FeedRefused."""
         try:
-            with self._as_a_door():
-                return Feed.connect(self.address, since, opening=True, generation=generation, seconds=self._seconds)
+            return self._asked(since, generation)
         except FeedRefused as refused:
+            if self._is_named and IS_NONE.match(str(refused)):
+                self._is_named = False
+                return self.feed(since, generation)
             if "feeds are taken" in str(refused):
                 raise Lost(f"{self.address}: {refused}") from refused
             raise
+
+    def _asked(self, since: int, generation: int | None) -> Feed:
+        with self._as_a_door():
+            return Feed.connect(self.address, since, opening=True, generation=generation, seconds=self._seconds, named=self._is_named)
 
     def kept(self, generation: int | None) -> int | None:
         """How many edits of a generation are kept, which the refusal of a feed of what lies beyond them tells. None
@@ -271,6 +305,8 @@ def followed(source: Source, copy: Copy) -> Feed:
         else:
             if feed.opening != copy.opening:
                 raise copy.stranger(f"generation {copy.generation} began otherwise")
+            if feed.name not in (None, copy.name):
+                raise copy.stranger(f"the first {feed.version} edits of generation {copy.generation} are others")
             return feed
     try:
         feed = source.feed(0, None)

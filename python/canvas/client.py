@@ -52,6 +52,7 @@ MOST_OPENING = 134_217_728 + 100
 """No line of a feed that has a saved document is longer."""
 NUMBER = "(-?[0-9]{1,10})"
 OPENING_LINE = re.compile(rf'{{"generation":{NUMBER},"opening":({{.*}})}}\n')
+NAME_LINE = re.compile(rf'{{"name":"([0-9a-f]{{64}})","version":{NUMBER}}}\n')
 DAMAGE = rf"\[{NUMBER},{NUMBER},{NUMBER},{NUMBER}\]"
 EDIT_LINE = re.compile(rf'{{"damage":{DAMAGE},"edit":({{.*}}),"id":(?:null|{NUMBER}),"version":{NUMBER}}}\n')
 KEEP_ALIVE = {"TCP_KEEPIDLE": 60, "TCP_KEEPINTVL": 10, "TCP_KEEPCNT": 6}
@@ -348,32 +349,37 @@ class Feed:
     version      that of the edit which was given last, or `since` before the first one
     generation   which generation is followed, and
     opening      the saved text of the document with which it began; both None where `opening` was not asked for
+    name         the name of the history as of `since`, 64 digits; None where `named` was not asked for
     """
 
     version: int
     generation: int | None
     opening: str | None
+    name: str | None
     _rest: bytearray
     _seconds: float | None
     _socket: socket.socket
 
     @classmethod
     def connect(cls, address: str, since: int = 0, opening: bool = False, generation: int | None = None,
-                seconds: float | None = None) -> Feed:
+                seconds: float | None = None, named: bool = False) -> Feed:
         """A feed of all edits behind the version `since`, from a door at `host:port` or `unix:path`.
 
         It asks for the generation's opening document too where `opening` is true, and is refused where another
-        generation than the one named is served. A refusal is raised as FeedRefused: here where an opening was asked
+        generation than the one named is served. Where `named` is true it asks for the name of the history, which a
+        server of version 0.5 refuses. A refusal is raised as FeedRefused: here where an opening or a name was asked
         for, or else in the place of the first edit. Where a call waits and nothing comes for so many seconds (None: for
         ever) it raises TimeoutError, and the feed is over.
         """
         feed = cls.__new__(cls)
-        feed.version, feed.generation, feed.opening = since, None, None
+        feed.version, feed.generation, feed.opening, feed.name = since, None, None, None
         feed._rest, feed._seconds = bytearray(), seconds
         feed._socket = connected(address, seconds)
         feed._keep_alive()
         wanted = {} if generation is None else {"generation": generation}
-        feed._ask({"since": since, **({"opening": True} if opening else {}), **wanted})
+        feed._ask({"since": since, **({"opening": True} if opening else {}), **wanted, **({"named": True} if named else {})})
+        if named:
+            feed._read_name()
         if opening:
             feed._open()
         return feed
@@ -427,6 +433,15 @@ class Feed:
     def _ask(self, request: Request) -> None:
         with suppress(ConnectionError):  # a refusal may be there to be read
             self._socket.sendall(line_of(request))
+
+    def _read_name(self) -> None:
+        line = self._line(MOST_LINE)
+        if line is None:
+            raise EOFError("the feed has ended before the name of its history")
+        found = NAME_LINE.fullmatch(line)
+        if found is None:
+            raise self._fault(line)
+        self.name = found[1]
 
     def _open(self) -> None:
         line = self._line(MOST_OPENING)

@@ -19,7 +19,7 @@ import pytest
 
 from canvas.backup import Journal
 from harness.folders import (
-    EDITS, GROUP, JOURNAL, POSTER, content, counted, exported, make, models, newest, next_is_served, run,
+    EDITS, GROUP, JOURNAL, POSTER, content, counted, exported, make, models, newest, next_is_served, run, sealed, start_of,
     until_it_ends,
 )
 from harness.lossy_disk import Disk
@@ -139,7 +139,7 @@ def test_going_on(tmp_path):
                 said, *end = copied(address, copy)
                 assert (difference(end, ["", 0]) or copy_fault(folder, copy, count)) is None, f"a copy of {count} edits by {address}"
                 assert f"has {count} edits of generation 1\n" in said, (f"what it says of {count} edits", said)
-    assert sorted(content(copy)) == ["1/journal.jsonl", "1/opening.json", "lock"], "what is in a copy"
+    assert sorted(content(copy)) == ["1/journal.jsonl", "1/opening.json", "1/opening.json.sha256", "lock"], "what is in a copy"
     with started(copy) as server:
         assert exported(server)[0] == 10, "a copy that is served"
 
@@ -212,10 +212,15 @@ def test_long_ones(tmp_path):
         edited(server, [{"verb": "pose", "id": 1, "pose": {"dx": k}} for k in range(1500)])
         assert (difference(copied(server.feeds[0], copy)[1:], ("", 0)) or copy_fault(folder, copy, 3001)) is None, "it goes on"
         journal = other / "1" / JOURNAL
-        journal.write_bytes(journal.read_bytes().replace(b'"dx":502,', b'"dx":503,'))
+        journal.write_bytes(sealed(start_of(other / "1"), [text.replace(b'"dx":502,', b'"dx":503,') for text in counted(journal.read_bytes())]))
         before = content(other)
         assert fault_of(copied(server.feeds[0], other), "edit 504 of generation 1 is another one") is None, "another edit in the middle"
         assert content(other) == before, "that one stays"
+        journal = copy / "1" / JOURNAL
+        journal.write_bytes(sealed(start_of(copy / "1"), [text.replace(b'"dx":3,', b'"dx":4,') for text in counted(journal.read_bytes())]))
+        before = content(copy)
+        assert fault_of(copied(server.feeds[0], copy), "the first 2001 edits of generation 1 are others") is None, "another edit long ago"
+        assert content(copy) == before, "that one stays too"
 
 
 # -- crashes -----------------------------------------------------------------------------------------------------------
@@ -276,7 +281,7 @@ class Torn(Journal):
     """A journal that notes what crashes may leave of it while it writes: of what is not synced any parts, with zeros for those that are missing."""
 
     def __init__(self, path):
-        super().__init__(path)
+        super().__init__(path, "{}")
         self._path, self._chance, self.states = path, random.Random(1), []
 
     def _put(self, text):
@@ -294,7 +299,8 @@ class Torn(Journal):
 class OneWrite(Torn):
     """The control: it writes the lines as they are, without a gate."""
 
-    def append(self, lines):
+    def append(self, texts):
+        lines = self._lines_of(texts)
         self._put(b"".join(lines))
         for line in lines:
             self._note(line)
@@ -302,11 +308,11 @@ class OneWrite(Torn):
 
 def test_tears(tmp_path):
     """What a crash leaves of a batch counts as a whole or not at all; without the gate it does not."""
-    batches = [[b' {"verb":"delete","id":%d}\n' % (9 * batch + k) for k in range(9)] for batch in range(5)]
+    batches = [[b'{"verb":"delete","id":%d}' % (9 * batch + k) for k in range(9)] for batch in range(5)]
     for kind, is_sound in ((Torn, True), (OneWrite, False)):
         path = tmp_path / kind.__name__
         path.write_bytes(b"")
-        journal, sound = kind(path), [[line[1:-1] for batch in batches[:k] for line in batch] for k in range(len(batches) + 1)]
+        journal, sound = kind(path), [[text for batch in batches[:k] for text in batch] for k in range(len(batches) + 1)]
         for batch in batches:
             journal.append(batch)
         journal.close()

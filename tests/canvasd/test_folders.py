@@ -11,7 +11,7 @@ import pytest
 
 from harness.documents import bad_documents
 from harness.folders import (
-    EDITS, GROUP, JOURNAL, POSTER, content, counted, exported, fault_of, make, models, refused, run, saved,
+    EDITS, GROUP, JOURNAL, POSTER, content, counted, exported, fault_of, make, models, refused, run, saved, sealed, start_of, unseal, whole_lines,
     saved_groups, served, started,
 )
 from harness.lossy_disk import Disk
@@ -30,7 +30,7 @@ def test_a_new_folder(tmp_path, file):
     folder, opening = tmp_path / "new", ["--open", file] if file else []
     assert served(folder, *opening) == (0, saved(file))
     there = content(folder)
-    assert sorted(there) == ["1/journal.jsonl", "1/opening.json", "lock"]
+    assert sorted(there) == ["1/journal.jsonl", "1/opening.json", "1/opening.json.sha256", "lock"]
     assert there["1/opening.json"] == saved(file)
     assert counted(there["1/journal.jsonl"]) == []
     assert served(folder) == (0, saved(file)), "again"
@@ -120,7 +120,7 @@ def test_torn_ends(tmp_path):
     folder = make(tmp_path / "torn", EDITS)
     journal = folder / "1" / JOURNAL
     whole, texts = journal.read_bytes(), models(EDITS)
-    lines = counted(whole)
+    lines = whole_lines(whole)
     assert len(lines) == len(EDITS), "a journal of each verb"
     ends = [0, 1, 2, len(lines[0]), len(lines[0]) + 1, len(lines[0]) + 2, *range(len(whole) - len(lines[-1]) - 5, len(whole), 9)]
     for end in ends:
@@ -128,9 +128,15 @@ def test_torn_ends(tmp_path):
         kept = len(counted(whole[:end]))
         assert served(folder) == (kept, texts[kept]), f"a journal of {end} of {len(whole)} bytes"
     told = sum(len(line) + 2 for line in lines)
-    for behind in (b"", b"\n", b"\n\n", b"\0" * 9, b"\n{\"verb\":\"create\"", b"\n" + b" {\"verb\":\"paint\"}\n" * 9, b"x\n {}\n", b" {\"verb\":", b"\xff\xfe"):
+    torn = b"\n{\"verb\":\"create\"", b"\n" + b" {\"verb\":\"paint\"}\n" * 9, b" {\"verb\":"
+    for behind in (b"", b"\n", b"\n\n", b"\n" + b"\0" * 9, b"\nx\n {}\n", b"\n\xff\xfe", *torn):
         journal.write_bytes(whole[:told] + behind)
         assert served(folder) == (len(EDITS), texts[-1]), f"behind the end {behind!r}"
+    for behind in (b"\0" * 9, b"x\n {}\n", b"\xff\xfe", b"{\"verb\":\"create\"", b"\r\n"):
+        journal.write_bytes(whole[:told] + behind)
+        assert refused(folder, BAD_DOCUMENT, journal, f"line {len(EDITS) + 1}", f"byte {told}") is None, f"no gate behind the end: {behind!r}"
+        assert journal.read_bytes() == whole[:told] + behind, "it is left as it is"
+    journal.write_bytes(whole)
     make(folder, [GROUP])
     assert served(folder)[0] == len(EDITS) + 1, "the journal goes on"
 
@@ -140,20 +146,25 @@ BAD_LINES = [(b"{", ""), (b'{"verb":"point","x":0,"y":0}', ""), (b'{"verb":"dele
 """Lines that are no edit, and what refuses them."""
 
 
+@pytest.mark.parametrize("has_seals", [True, False], ids=["with seals", "without seals"])
 @pytest.mark.parametrize("bad, refusal", BAD_LINES)
-def test_bad_lines(tmp_path, bad, refusal):
+def test_bad_lines(tmp_path, bad, refusal, has_seals):
     """A line in the middle that is no edit which is accepted there: nothing is served, and nothing is changed."""
     folder = make(tmp_path / "bad line", EDITS)
     journal = folder / "1" / JOURNAL
-    lines = counted(journal.read_bytes())
-    for number in (1, 4, len(lines)):
-        journal.write_bytes(b"".join(b" " + (bad if k == number else line) + b"\n" for k, line in enumerate(lines, 1)) + b"\n")
+    texts = counted(journal.read_bytes())
+    if not has_seals:
+        unseal(folder)
+    for number in (1, 4, len(texts)):
+        others = [bad if k == number else text for k, text in enumerate(texts, 1)]
+        journal.write_bytes(sealed(start_of(folder / "1"), others) if has_seals else b"".join(b" %s\n" % text for text in others) + b"\n")
         before = content(folder)
         assert refused(folder, BAD_DOCUMENT, journal, f"line {number}", refusal) is None, number
         assert fault_of((b"", *run("check", folder)[1:]), BAD_DOCUMENT, f"line {number}", refusal) is None, number
         assert content(folder) == before, number
     (folder / "1" / "opening.json").write_bytes(b"{}")
-    assert refused(folder, BAD_DOCUMENT, folder / "1" / "opening.json", "60 BadFormat") is None, "an opening that is none"
+    reason = "opening.json.sha256" if has_seals else "60 BadFormat"
+    assert refused(folder, BAD_DOCUMENT, folder / "1" / "opening.json", reason) is None, "an opening that is none"
 
 
 # -- check and history -------------------------------------------------------------------------------------------------

@@ -9,7 +9,7 @@ import pytest
 
 from canvas.client import line_of
 from harness.folders import (
-    GROUP, JOURNAL, content, exported, make, next_is_served, run, saved_groups, served, started, until_it_ends,
+    GROUP, HASH, JOURNAL, content, exported, make, next_is_served, run, saved_groups, served, started, until_it_ends,
 )
 from harness.lossy_disk import Disk
 from harness.running import BAD_PLACE, LOST_JOURNAL, POINT, SECONDS, read_all, read_line, wait_for
@@ -34,7 +34,7 @@ def test_generations(tmp_path):
         assert until_it_ends(server, 9)[0] == [1, 2, 3, 4, 5], "its versions"
         wait_for(lambda: next_is_served(server))
         assert until_it_ends(server, 2)[0] == [1, 2], "two edits more"
-    assert sorted(content(folder)) == sorted([*(f"{k}/{it}" for k in (1, 2, 3) for it in (JOURNAL, "opening.json")), "lock"]), "what is in the folder"
+    assert sorted(content(folder)) == sorted([*(f"{k}/{it}" for k in (1, 2, 3) for it in (JOURNAL, HASH, "opening.json")), "lock"]), "what is in the folder"
     assert served(folder, "--limit", "5") == (2, saved_groups(12)), "the folder again"
     assert run("history", folder, 1) == (saved_groups(11), b"", 0), "its history"
     assert served(folder, "--limit", "1") == (0, saved_groups(12)), "with a lower limit"

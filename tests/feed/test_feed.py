@@ -11,7 +11,7 @@ import pytest
 
 from canvas import Refused
 from harness.feeding import Feeding, MOST_FEEDS, THREADS, answered, asked, lines_from
-from harness.folders import EDITS, GROUP, JOURNAL, POSTER
+from harness.folders import EDITS, GROUP, HASH, JOURNAL, POSTER
 from harness.running import BAD_JSON, SECONDS, read_all, wait_for
 from plain_model import Model
 
@@ -218,7 +218,7 @@ def test_the_end_of_a_generation(tmp_path):
         head, line = asked(server, {"since": 0, "opening": True, "generation": 2}, 2)
         assert head == b'{"generation":2,"opening":%s}\n' % server.opening(2), "the opening of the next generation"
         assert json.loads(line)["version"] == 1, "its first line"
-        assert sorted(it.name for it in (server.folder / "2").iterdir()) == [JOURNAL, "opening.json"], "the folder"
+        assert sorted(it.name for it in (server.folder / "2").iterdir()) == [JOURNAL, "opening.json", HASH], "the folder"
         with server.follower({"since": 0}) as sock:
             lines_from(sock, 1)
             server.kill()

@@ -31,7 +31,7 @@ import pytest
 
 from canvas import Canvas, Feed, Refused
 from canvas.client import line_of
-from harness.folders import JOURNAL, counted, newest
+from harness.folders import JOURNAL, counted, newest, sealed, start_of
 from harness.lossy_disk import Disk
 from harness.random_requests import Requests
 from harness.running import Running, SECONDS, difference
@@ -416,8 +416,8 @@ def write_long_history(folder):
     with start(folder) as server, server.connect() as canvas:
         canvas.ask(verb="create", shape={"kind": "rect", "w": 9, "h": 9, "fill": "ff0000"})
     poses = ({"dx": k % 90, "dy": 0, "flip": False, "quarter": 0} for k in range(1, LONG))
-    lines = [line + b"\n" for line in kept_lines(folder)] + [line_of({"id": 1, "pose": pose, "verb": "pose"}) for pose in poses]
-    (folder / "1" / JOURNAL).write_bytes(b"".join(b" " + line for line in lines))
+    texts = kept_lines(folder) + [line_of({"id": 1, "pose": pose, "verb": "pose"}).rstrip(b"\n") for pose in poses]
+    (folder / "1" / JOURNAL).write_bytes(sealed(start_of(folder / "1"), texts))
 
 
 def test_a_long_history(tmp_path):

@@ -32,7 +32,9 @@ import aiohttp
 import pytest
 
 from canvas import Refused
+from canvas.client import line_of
 from harness.family import FOLLOWERS, Follower, RECT, Server, family, servers
+from harness.folders import JOURNAL, sealed, start_of
 from harness.running import BAD_DOCUMENT, BAD_PLACE, wait_for
 from harness.tab import Tab
 from repository import BUILT_KEEPER, TOP
@@ -312,7 +314,8 @@ def test_the_next_generation(tmp_path):
 
 
 class FakeFeed:
-    """A feed door that sends each follower these lines, whatever it asks for; a feed of what lies beyond is refused with so many kept."""
+    """A feed door that sends each follower these lines, whatever it asks for; a feed of what lies beyond is refused with so many kept. As one of version
+    0.5 it tells no names."""
 
     def __init__(self, path, opening, lines):
         self.address = f"unix:{path}"
@@ -330,6 +333,9 @@ class FakeFeed:
     def _answer(self, connection):
         with connection, connection.makefile("rb") as file, contextlib.suppress(OSError, ValueError):
             asked = json.loads(file.readline())
+            if "named" in asked:
+                connection.sendall(b'{"error":"this is no request of a feed: one line {\\"since\\":N} is wanted","ok":false}\n')
+                return
             if asked["since"] == 1_000_000:
                 connection.sendall(b'{"error":"since 1000000 is beyond the history: %d edits are kept","ok":false}\n' % len(self.lines))
                 return
@@ -390,6 +396,53 @@ def test_strange_feeds(tmp_path):
     good = Server(tmp_path, "good2", "follow", feed.address)
     with servers(good):
         assert good.reaches(9), good.said()[-400:]
+
+
+RESPACE = b'{"parent":null,"verb":"respace"}'
+
+
+def rectangle(fill):
+    return line_of({"hidden": False, "parent": None, "pose": {"dx": 0, "dy": 0, "flip": False, "quarter": 0},
+                    "shape": {"fill": fill, "h": 9, "kind": "rect", "w": 9}, "spot": "front", "verb": "create"}).rstrip(b"\n")
+
+
+def poses(count):
+    return [line_of({"id": 1, "pose": {"dx": k % 8, "dy": 0, "flip": False, "quarter": 0}, "verb": "pose"}).rstrip(b"\n") for k in range(count)]
+
+
+SET_BACK = {
+    "fewer edits": [rectangle("ff0000")],
+    "other edits lately": [rectangle("ff0000"), *poses(1200), *poses(3), *[RESPACE] * 400],
+    "another edit long ago, then the same ones": [rectangle("0000ff"), *poses(1200), *[RESPACE] * 300],
+    "another edit long ago, then the same ones and more": [rectangle("0000ff"), *poses(1200), *[RESPACE] * 700],
+    "other edits long ago between the same ones": [rectangle("ff0000"), *[RESPACE] * 80, *poses(1200)[80:], *[RESPACE] * 300, *poses(9)],
+}
+"""Histories of a leader that was set back and went on, where its followers have the one below."""
+KNOWN = [rectangle("ff0000"), *poses(1200), *[RESPACE] * 300]
+
+
+@pytest.mark.parametrize("other", SET_BACK.values(), ids=[*SET_BACK])
+def test_a_leader_that_was_set_back(tmp_path, other):
+    """A follower that was on its way and one that begins anew stop, and keep what they have."""
+    leader = Server(tmp_path, "leader")
+    with servers(leader):
+        pass
+    place = leader.folder / "1"
+    (place / JOURNAL).write_bytes(sealed(start_of(place), KNOWN))
+    leader.start()
+    followers = [Follower(tmp_path, name, leader) for name in ("one", "two")]
+    with servers(*followers):
+        assert all(it.reaches(len(KNOWN)) for it in followers), [it.said()[-300:] for it in followers]
+        followers[1].kill()
+        leader.kill()
+        (place / JOURNAL).write_bytes(sealed(start_of(place), other))
+        leader.start()
+        followers[1].start(wait=False)
+        for it in followers:
+            assert it.end() == BAD_PLACE, it.said()[-400:]
+            assert "or the leader was set back" in it.said().splitlines()[-1], it.said()[-400:]
+            assert it.journal() == KNOWN, "it is as it was"
+    leader.kill()
 
 
 def test_edits_without_a_leader(tmp_path):

@@ -1,6 +1,8 @@
 """Folders of canvasd: what is in them, what a run on them serves, and how it ends."""
 
 import contextlib
+import hashlib
+import re
 import subprocess
 from pathlib import Path
 
@@ -10,20 +12,50 @@ from harness.running import BAD_WORDS, EMPTY, Running, kept_words
 from plain_model import Model
 from repository import BUILT_KEEPER, TOP
 
-JOURNAL = "journal.jsonl"
+JOURNAL, HASH = "journal.jsonl", "opening.json.sha256"
+SEAL = re.compile(rb" [0-9a-f]{16}\Z")
 POSTER = TOP / "examples" / "poster.json"
 GROUP = {"verb": "create", "shape": {"kind": "group"}}
 GROUP_LINE = line_of(GROUP)
 MOST_SECONDS = 120
 
 
-def counted(data):
+def whole_lines(data):
     """The lines of a journal that count: each stands behind a blank and ends with an LF, up to the first that does not."""
     lines, at = [], 0
     while data[at : at + 1] == b" " and (end := data.find(b"\n", at)) >= 0:
         lines.append(data[at + 1 : end])
         at = end + 1
     return lines
+
+
+def counted(data):
+    """The texts of these lines: a seal, which may stand behind a text, is left out."""
+    return [SEAL.sub(b"", line) for line in whole_lines(data)]
+
+
+def sealed(start, texts):
+    """The journal of texts whose seals go on from a name, with a closed gate behind them."""
+    lines, name = [], start
+    for text in texts:
+        name = hashlib.sha256(name + text).digest()
+        lines.append(b" %s %s\n" % (text, name[:8].hex().encode()))
+    return b"".join(lines) + b"\n"
+
+
+def start_of(generation):
+    """The name that the seals of a generation go on from."""
+    return hashlib.sha256((Path(generation) / "opening.json").read_bytes()).digest()
+
+
+def unseal(folder):
+    """Makes a folder one without seals, as version 0.5 wrote them."""
+    for hash_file in Path(folder).glob(f"*/{HASH}"):
+        journal = hash_file.parent / JOURNAL
+        hash_file.unlink()
+        if journal.exists():
+            journal.write_bytes(b"".join(b" %s\n" % text for text in counted(journal.read_bytes())) + b"\n")
+    return folder
 
 
 def newest(folder):

@@ -8,7 +8,7 @@ import subprocess
 
 import pytest
 
-from harness.folders import JOURNAL, counted, newest
+from harness.folders import HASH, JOURNAL, counted, newest
 from harness.lossy_disk import preload
 from harness.running import LOST_JOURNAL, Running, kept_words
 
@@ -111,7 +111,7 @@ def test_a_start_whose_disk_fails_leaves_the_journal_as_it_was(tmp_path):
     with Running(kept_words(parted.folder), parted.environment(fails=1)) as server:
         assert server.end() == LOST_JOURNAL and server.port is None
         assert server.errors().count(b"\n") == 1 and b"Input/output error" in server.errors(), server.errors()
-    assert sorted(it.name for it in newest(parted.folder).iterdir()) == [JOURNAL, "opening.json"]
+    assert sorted(it.name for it in newest(parted.folder).iterdir()) == [JOURNAL, "opening.json", HASH]
     assert bytes_in(parted.folder) == before
     parted.reboot()
     check_all_there(parted.folder, version, counted(before))
@@ -220,6 +220,6 @@ def test_a_start_on_a_full_disk_leaves_the_journal_as_it_was(thin):
         assert server.end() == LOST_JOURNAL
         assert server.errors().count(b"\n") == 1 and b"No space left on device" in server.errors(), server.errors()
     assert bytes_in(folder) == before
-    assert sorted(it.name for it in newest(folder).iterdir()) == [JOURNAL, "opening.json"]
+    assert sorted(it.name for it in newest(folder).iterdir()) == [JOURNAL, "opening.json", HASH]
     (thin.disk / "rest").unlink()
     check_all_there(folder, version, counted(before))

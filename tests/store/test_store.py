@@ -113,7 +113,7 @@ def test_folders(tmp_path):
     with Place(tmp_path, "folders") as place:
         folder = place.host()
         assert served(folder, *place.words()) == (0, EMPTY), "a new document"
-        assert sorted(content(folder)) == ["1/journal.jsonl", "1/opening.json", "lock", "store"], "what is in its folder"
+        assert sorted(content(folder)) == ["1/journal.jsonl", "1/opening.json", "1/opening.json.sha256", "lock", "store"], "what is in its folder"
         place.is_free()
         before = content(folder)
         assert refused(folder, BAD_PLACE, f"serve it with --store ({folder}/store says which)") is None, "without its store"

@@ -17,7 +17,7 @@ generation_of d = option_map Some (u32_of d)
 
 -- the names that a request's members may have
 abbrev pub request_members : List (List ℕ)
-request_members = codes "since" ∷ codes "opening" ∷ codes "generation" ∷ []
+request_members = codes "since" ∷ codes "opening" ∷ codes "generation" ∷ codes "named" ∷ []
 
 -- the request of a value
 unfoldable pub request_in : Data → Option FeedRequest
@@ -25,7 +25,8 @@ request_in d =
     required since_of (codes "since") d >>= (λ since.
     optional as_bool false (codes "opening") d >>= (λ opening.
     optional generation_of None (codes "generation") d >>= (λ generation.
-    if has_others request_members d then None else Some (record { since = since; opening = opening; generation = generation }))))
+    optional as_bool false (codes "named") d >>= (λ named.
+    if has_others request_members d then None else Some (record { since = since; opening = opening; generation = generation; named = named })))))
 
 -- the request of a line
 unfoldable pub request_of : List ℕ → Option FeedRequest

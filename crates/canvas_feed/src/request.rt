@@ -20,6 +20,8 @@ pub struct FeedRequest {
     pub opening: bool,
     /// The generation that it believes is served, if it names one.
     pub generation: Option<u32>,
+    /// Whether the name of the history as of that version is wanted before all else.
+    pub named: bool,
 }
 
 /// Why a line was not read as a request.
@@ -32,7 +34,7 @@ pub enum Unread {
 }
 
 /// The request of a line, which stands without its LF: one JSON object with the member `since`, and
-/// with no others than `opening` and `generation`. Of members of one name the last counts.
+/// with no others than `opening`, `generation` and `named`. Of members of one name the last counts.
 #[tactic(auto, unfolding(crate::specs::Request::request_of))]
 pub fn read_request(alloc: Global, line: &[u8]) -> Result<FeedRequest, Unread>
     ensures { Gives result (request_of line.now) }
@@ -53,13 +55,15 @@ fn request_in(value: &Given<'_, '_>) -> Option<FeedRequest>
     let since = since_at(value)?;
     let opening = bool_or_false(value, "opening")?;
     let generation = generation_at(value)?;
-    if has_others(&["since", "opening", "generation"], value) {
+    let named = bool_or_false(value, "named")?;
+    if has_others(&["since", "opening", "generation", "named"], value) {
         return None;
     }
     Some(FeedRequest {
         since,
         opening,
         generation,
+        named,
     })
 }
 

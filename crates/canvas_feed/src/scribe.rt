@@ -1,6 +1,7 @@
 //! From the lines of a journal to the lines of its feed.
 ghost use Rattle.std.specs.Prelude.{◌≡◌, ◌∷◌, ◌++◌, [], Some, length, take, IfOk, MatchResult, Ok, OnOk};
-ghost use Rattle.canvas_journal.specs.Lines.{recovered, text as text_of};
+ghost use Rattle.canvas_journal.specs.Lines.{recovered, text as lines_text};
+ghost use Rattle.canvas_seal.specs.Seals.{texts_in};
 ghost use Rattle.canvas_record.specs.Effect.{Fits};
 ghost use Rattle.canvas_wire.specs.Requests.{request_of};
 ghost use Rattle.canvas_wire.specs.declared.request.Request.TheVariants as requests;
@@ -11,6 +12,7 @@ use crate::line::{push_line, push_number};
 use canvas_doc::{Change, Document, Edit, Refusal};
 use canvas_journal::first_line;
 use canvas_saved::export;
+use canvas_seal::{Name, text_of};
 use canvas_wire::{Request, RequestReader, WireFault};
 use std::alloc::Global;
 use std::marker::Model;
@@ -90,11 +92,19 @@ impl Scribe {
     }
 
     /// Tells the whole lines with which these bytes of a journal begin, so many at most, and says
-    /// how many bytes they take there. After a fault the scribe is told nothing more.
-    pub fn tell(&mut self, alloc: Global, bytes: &[u8], most: u64) -> Result<usize, FeedFault>
-        ensures told { OnOk result (Tells (take most (recovered bytes.now)) self.old self.new) }
+    /// how many bytes they take there. Where `start` is a name, their texts stand before their
+    /// seals. After a fault the scribe is told nothing more.
+    pub fn tell(
+        &mut self,
+        alloc: Global,
+        start: &Option<Name>,
+        bytes: &[u8],
+        most: u64,
+    ) -> Result<usize, FeedFault>
+        ensures told { OnOk result
+            (Tells (texts_in start.now (take most (recovered bytes.now))) self.old self.new) }
         ensures len { IfOk result
-            (λ len. len ≡ length (text_of (take most (recovered bytes.now)))) }
+            (λ len. len ≡ length (lines_text (take most (recovered bytes.now)))) }
     {
         let mut rest = bytes;
         let mut left = most;
@@ -102,15 +112,15 @@ impl Scribe {
             let Some((line, after)) = first_line(rest) else {
                 break;
             };
-            self.tell_line(alloc, line)?;
+            self.tell_text(alloc, text_of(start, line))?;
             rest = after;
             left -= 1;
         }
         Ok(bytes.len() - rest.len())
     }
 
-    // Tells one line of a journal.
-    fn tell_line(&mut self, alloc: Global, line: &[u8]) -> Result<(), FeedFault>
+    // Tells the text of one line of a journal.
+    fn tell_text(&mut self, alloc: Global, line: &[u8]) -> Result<(), FeedFault>
         ensures { OnOk result (Tells (line.now ∷ []) self.old self.new) }
     {
         let change = change_told(alloc, &mut self.reader, &self.document, line)?;

@@ -3,8 +3,10 @@
 
 ghost use Rattle.std.specs.Prelude.{◌≡◌, ◌⊎◌, ◌≤◌, List, ℕ, length, take, IfOk, OnOk};
 ghost use Rattle.canvas_journal.specs.declared.device.DeviceError.TheVariants.{Memory};
+ghost use Rattle.canvas_journal.specs.declared.device.OpenError.TheVariants.{Damaged, Device};
 ghost use Rattle.canvas_journal.specs.Device.{Only, Follows, Torn, Holds, Elapses, HasCause};
 
+use canvas_seal::Damage;
 use std::alloc::{AllocError, Global};
 use thiserror::Error;
 
@@ -20,6 +22,41 @@ pub enum DeviceError {
     /// The journal has more than 2^60 bytes.
     #[error("the journal is full")]
     Full,
+}
+
+/// Why a journal was not opened.
+#[derive(Clone, Copy, Debug, Drop, PartialEq, Eq, Error)]
+pub enum OpenError {
+    /// The device did not do what it was asked.
+    #[error(transparent)]
+    Device(DeviceError),
+    /// The file has what no crash leaves. Nothing was written.
+    #[error(transparent)]
+    Damaged(Damage),
+}
+
+impl From<DeviceError> for OpenError {
+    ghost from_gives = { λ error e. e ≡ Device error };
+
+    fn from(error: DeviceError) -> OpenError {
+        OpenError::Device(error)
+    }
+}
+
+impl From<AllocError> for OpenError {
+    ghost from_gives = { λ _ e. e ≡ Device Memory };
+
+    fn from(_error: AllocError) -> OpenError {
+        OpenError::Device(DeviceError::Memory)
+    }
+}
+
+impl From<Damage> for OpenError {
+    ghost from_gives = { λ damage e. e ≡ Damaged damage };
+
+    fn from(damage: Damage) -> OpenError {
+        OpenError::Damaged(damage)
+    }
 }
 
 impl From<AllocError> for DeviceError {

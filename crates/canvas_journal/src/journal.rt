@@ -6,16 +6,19 @@
 //! counts, whatever a crash left there. So no checksum is trusted, and one sync serves two batches:
 //! it keeps the blank of the one before and the bytes of the new one.
 
-ghost use Rattle.std.specs.Prelude.{◌≡◌, ◌⊎◌, ◌*◌, ◌+◌, ◌<◌, ◌≤◌, ◌^◌, ◌++◌, [], ◌∷◌, List, ℕ, length, map, IfOk, OnOk, IsErrOf};
+ghost use Rattle.std.specs.Prelude.{◌≡◌, ◌⊎◌, ◌*◌, ◌+◌, ◌<◌, ◌≤◌, ◌^◌, ◌++◌, [], ◌∷◌, List, ℕ, length, map, IfOk, IfErr, OnOk, IsErrOf};
 ghost use Rattle.canvas_journal.specs.Device.{Only, LeavesOnly};
 ghost use Rattle.canvas_journal.specs.Lines.{recovered, text};
 ghost use mathlib.Core.List.{IsPrefix};
+ghost use Rattle.canvas_seal.specs.Seals.{AreSealed, later_of, texts_in};
+ghost use Rattle.canvas_journal.specs.Damaged.{EndsWell, IsRefused};
 ghost use Rattle.canvas_journal.specs.Journal.{at_rest, done_of, IsKeptOr, IsSettled, IsWithOrWithout, Renews};
 ghost use Rattle.canvas_journal.specs.Runs.{handed_of, HasKept, Lasts};
 
 use crate::batch::Batch;
-use crate::reading::{Lines, read_lines};
-use crate::{Device, DeviceError};
+use crate::reading::{Lines, read_sealed};
+use crate::{Device, DeviceError, OpenError};
+use canvas_seal::Name;
 use std::alloc::Global;
 use std::mem::replace;
 
@@ -37,9 +40,21 @@ impl<D: Device + Drop> Journal<D> {
     /// Opens a journal over a file, with the lines that count in what a read returns. They are
     /// written into a new file, for what a read returns may not be on the disk. Then they are
     /// acknowledged: each later crash leaves them.
-    pub fn open(alloc: Global, mut device: D) -> Result<(Journal<D>, Lines), DeviceError>
+    ///
+    /// Where `start` is a name, each of these lines has its seal, which go on from that name. A file
+    /// that is damaged is not written.
+    pub fn open(
+        alloc: Global,
+        mut device: D,
+        start: &Option<Name>,
+    ) -> Result<(Journal<D>, Lines), OpenError>
         ensures lines { IfOk result
             (λ r. map (λ v. v.items) r.1.lines.items ≡ recovered (D.seen device)) }
+        ensures sealed { IfOk result
+            (λ r. AreSealed start.now (recovered (D.seen device)) × (r.1.name ≡ later_of start.now (texts_in start.now (recovered (D.seen device))))) }
+        ensures ended { IfOk result (λ r. EndsWell (D.seen device)) }
+        // Nothing is called damaged that is not.
+        ensures damaged { IfErr result (λ e. IsRefused start.now (D.seen device) e) }
         ensures settled { IfOk result (λ r. IsSettled D.seen D.may_leave r.0) }
         ensures done { IfOk result
             (λ r. (done_of D.seen r.0 ≡ recovered (D.seen device)) × (r.0.staged ≡ [])) }
@@ -53,7 +68,7 @@ impl<D: Device + Drop> Journal<D> {
             (λ r. (known : List (List ℕ)) → IsPrefix known (recovered (D.seen device))
             → HasKept D.seen D.moment D.left_since r.0 (D.moment r.0.device) known) }
     {
-        let lines = renew(alloc, &mut device)?;
+        let lines = renew(alloc, &mut device, start)?;
         let staged = Batch::new(alloc)?;
         let journal = Journal {
             device,
@@ -115,9 +130,13 @@ impl<D: Device> Journal<D> {
 
 // Reads the lines that count, and writes them into a new file. It may itself crash at any moment,
 // and be begun again.
-fn renew<D: Device>(alloc: Global, device: &mut D) -> Result<Lines, DeviceError>
+fn renew<D: Device>(alloc: Global, device: &mut D, start: &Option<Name>) -> Result<Lines, OpenError>
     ensures lines { IfOk result
         (λ r. map (λ v. v.items) r.lines.items ≡ recovered (D.seen device.old)) }
+    ensures sealed { IfOk result
+        (λ r. AreSealed start.now (recovered (D.seen device.old)) × (r.name ≡ later_of start.now (texts_in start.now (recovered (D.seen device.old))))) }
+    ensures ended { OnOk result (EndsWell (D.seen device.old)) }
+    ensures damaged { IfErr result (λ e. IsRefused start.now (D.seen device.old) e) }
     ensures end { IfOk result (λ r. r.end ≡ length (text (recovered (D.seen device.old)))) }
     ensures at_rest { OnOk result (D.seen device.new ≡ at_rest (recovered (D.seen device.old)) []) }
     ensures same { OnOk result (recovered (D.seen device.new) ≡ recovered (D.seen device.old)) }
@@ -128,11 +147,12 @@ fn renew<D: Device>(alloc: Global, device: &mut D) -> Result<Lines, DeviceError>
     ensures any_moment { LeavesOnly D.moment D.left_since device.old device.new
         (IsKeptOr (D.may_leave device.old) (recovered (D.seen device.old))) }
 
-    ensures failed { IsErrOf result DeviceError.Failed → D.faults device.old < D.faults device.new }
-    ensures full { IsErrOf result DeviceError.Full → ⊥ }
+    ensures failed { IsErrOf result (OpenError.Device DeviceError.Failed)
+        → D.faults device.old < D.faults device.new }
+    ensures full { IsErrOf result (OpenError.Device DeviceError.Full) → ⊥ }
 {
     let mut bytes = device.read(alloc)?;
-    let lines = read_lines(alloc, &bytes)?;
+    let lines = read_sealed(alloc, &bytes, start)?;
     // What is not acknowledged is left out, and the gate behind the lines is closed.
     bytes.truncate(lines.end);
     bytes.extend_from_slice(b"\n")?;

@@ -8,6 +8,6 @@ mod journal;
 mod reading;
 
 pub use batch::Batch;
-pub use device::{Device, DeviceError};
+pub use device::{Device, DeviceError, OpenError};
 pub use journal::Journal;
-pub use reading::{Lines, first_line, read_lines};
+pub use reading::{Lines, first_line, read_lines, read_sealed};

@@ -1,6 +1,6 @@
 -- Lines that tell a history, longer and shorter ones.
-use Rattle.std.proofs.Common.{◌≡◌, ℕ, suc, ◌+◌, ◌-◌, ◌<◌, ◌≤◌, List, [], ◌∷◌, ◌++◌, length, take, map, Ok, Some, refl, ap, sym, ◌∙◌, subst, arith, append_assoc, length-append}
-use Rattle.std.proofs.lemmas.List.{map-append, take_more, take-map, take_all}
+use Rattle.std.proofs.Common.{◌≡◌, ℕ, suc, ◌+◌, ◌-◌, ◌<◌, ◌≤◌, Option, List, [], ◌∷◌, ◌++◌, length, take, map, Ok, Some, refl, ap, sym, ◌∙◌, subst, arith, append_assoc, length-append}
+use Rattle.std.proofs.lemmas.List.{length-map, map-append, take_more, take-map, take_all}
 use Rattle.std.proofs.lemmas.Option.{slice_get-map, slice_get_read}
 use Rattle.std.specs.Prelude.{option_map, get_or}
 use mathlib.Core.List.{IsPrefix}
@@ -14,13 +14,15 @@ use Rattle.canvas_record.proofs.Histories.{replay-append}
 use Rattle.canvas_wire.specs.EditTexts.{edit_text}
 use Rattle.canvas_wire.specs.Requests.{request_of}
 use Rattle.canvas_wire.specs.declared.request.Request.TheVariants as requests
+use Rattle.canvas_seal.specs.Seals.{AreSealed, lines_of, later_of, line_of, next_of, text_in, texts_in}
+use Rattle.canvas_seal.proofs.Sealing.{sealed_beginning, lines_more, later_more}
 use Rattle.canvas_journal.specs.Lines.{recovered}
 use Rattle.canvas_look.specs.declared.answers.Edited.{Edited}
 use Rattle.canvas_line.specs.Lines.{Sight, with_front}
 use Rattle.canvas_line.specs.Recording.{Makes}
 use Rattle.canvas_line.specs.Seats.{EditAccepted}
 use Rattle.canvas_look.proofs.Prefixes.{prefix_whole, prefix_length}
-use Rattle.canvas_keep.specs.Telling.{Tells, TellsBeginning, Replays, StopsAt, Stops, AreReadBack}
+use Rattle.canvas_keep.specs.Telling.{Tells, TellsIn, TellsBeginning, Replays, StopsAt, Stops, AreReadBack}
 use Rattle.canvas_keep.specs.declared.fault.ReplayFault.{ReplayFault}
 
 -- as many lines as changes
@@ -47,8 +49,28 @@ tells_prefix d (l ∷ ls) (c ∷ cs) (k ∷ ks) t p =
     let same : k ≡ l = cc (p.1) in
     (t.0, ap request_of same ∙ t.1, t.2, tells_prefix (effect_of c d) ls cs ks t.3 (p.0, cc (p.1)))
 
-pub tells_beginning : (d : Contents) (ls : List (List ℕ)) (cs : List Change) (file : List ℕ) → Tells d ls cs → IsPrefix (recovered file) ls → TellsBeginning d file cs
-tells_beginning d ls cs file t p = (omega (arith, tells_length d ls cs t, prefix_length (recovered file) ls p), tells_prefix d ls cs (recovered file) t p)
+-- ---- the same of lines that have seals
+
+-- as many lines as changes
+pub told_length : (start : Option (List ℕ)) (d : Contents) (ls : List (List ℕ)) (cs : List Change) → TellsIn start d ls cs → length ls ≡ length cs
+told_length start d ls cs t = sym (length-map ls (text_in start)) ∙ tells_length d (texts_in start ls) cs t.1
+
+-- a beginning of the lines tells a beginning of the history
+pub told_prefix : (start : Option (List ℕ)) (d : Contents) (ls : List (List ℕ)) (cs : List Change) (ks : List (List ℕ)) → TellsIn start d ls cs → IsPrefix ks ls → TellsIn start d ks (take (length ks) cs)
+told_prefix start d ls cs ks t p =
+    let texts : texts_in start ks ++ texts_in start p.0 ≡ texts_in start ls = sym (map-append (text_in start) ks p.0) ∙ ap (texts_in start) p.1 in
+    let told : Tells d (texts_in start ks) (take (length (texts_in start ks)) cs) = tells_prefix d (texts_in start ls) cs (texts_in start ks) t.1 (texts_in start p.0, texts) in (
+      sealed_beginning start ks p.0 (subst (AreSealed start) (sym p.1) t.0),
+      subst (λ (n : ℕ). Tells d (texts_in start ks) (take n cs)) (length-map ks (text_in start)) told,
+    )
+
+pub told_beginning : (start : Option (List ℕ)) (d : Contents) (ls : List (List ℕ)) (cs : List Change) (file : List ℕ) → TellsIn start d ls cs → IsPrefix (recovered file) ls → TellsBeginning start d file cs
+told_beginning start d ls cs file t p = (omega (arith, told_length start d ls cs t, prefix_length (recovered file) ls p), told_prefix start d ls cs (recovered file) t p)
+
+-- the texts of lines, taken in one step or in two
+pub texts_of_items : {V : Type 0} (items : V → List ℕ) (start : Option (List ℕ)) (xs : List V) → map (λ v. text_in start (items v)) xs ≡ texts_in start (map items xs)
+texts_of_items items start [] = refl
+texts_of_items items start (x ∷ xs) = ap (λ (ls : List (List ℕ)). text_in start (items x) ∷ ls) (texts_of_items items start xs)
 
 -- ---- the lines that are written
 
@@ -109,10 +131,18 @@ replays_stop text s m t lines k line l f within is seen number so_far stop = (
 
 -- ---- the loop over edits
 
-pub texts_next : (edits : List Edit) (k : ℕ) (e : Edit) (old new : List (List ℕ)) (line : List ℕ) → k < length edits → e ≡ get_or edits k e → old ≡ map edit_text (take k edits) → new ≡ old ++ line ∷ []
-    → line ≡ edit_text e → new ≡ map edit_text (take (k + 1) edits)
-texts_next edits k e old new line within is so_far added text =
-    added ∙ ap (λ ls. ls ++ line ∷ []) so_far ∙ sym (map_next edit_text edits k e line within is text)
+pub lines_next : (start name : Option (List ℕ)) (edits : List Edit) (k : ℕ) (e : Edit) (old new : List (List ℕ)) (text line : List ℕ) → k < length edits → e ≡ get_or edits k e → old ≡ lines_of start (map edit_text (take k edits))
+    → name ≡ later_of start (map edit_text (take k edits)) → new ≡ old ++ line ∷ [] → text ≡ edit_text e → line ≡ line_of name text → new ≡ lines_of start (map edit_text (take (k + 1) edits))
+lines_next start name edits k e old new text line within is so_far named added told sealed =
+    let ts = map edit_text (take k edits) in
+    let here : line ≡ line_of (later_of start ts) text = sealed ∙ ap (λ (n : Option (List ℕ)). line_of n text) named in
+    added ∙ ap (λ ls. ls ++ line ∷ []) so_far ∙ ap (λ (l : List ℕ). lines_of start ts ++ l ∷ []) here ∙ sym (lines_more start ts text) ∙ ap (lines_of start) (sym (map_next edit_text edits k e text within is told))
+
+pub name_next : (start name next : Option (List ℕ)) (edits : List Edit) (k : ℕ) (e : Edit) (text : List ℕ) → k < length edits → e ≡ get_or edits k e → name ≡ later_of start (map edit_text (take k edits))
+    → text ≡ edit_text e → next ≡ next_of name text → next ≡ later_of start (map edit_text (take (k + 1) edits))
+name_next start name next edits k e text within is named told goes =
+    let ts = map edit_text (take k edits) in
+    goes ∙ ap (λ (n : Option (List ℕ)). next_of n text) named ∙ sym (later_more start ts text) ∙ ap (later_of start) (sym (map_next edit_text edits k e text within is told))
 
 pub read_next : (edits : List Edit) (k : ℕ) (e : Edit) (line : List ℕ) → k < length edits → e ≡ get_or edits k e → AreReadBack (take k edits)
     → ((d : Contents) (c : Change) → decision_of e d ≡ Ok c → request_of line ≡ Ok (requests.Edit e)) → line ≡ edit_text e → AreReadBack (take (k + 1) edits)
@@ -120,7 +150,5 @@ read_next edits k e line within is so_far reads text =
     let more : take (k + 1) edits ≡ take k edits ++ e ∷ [] = take_more edits k e within ∙ ap (λ x. take k edits ++ x ∷ []) (sym is) in
     subst AreReadBack (sym more) (read_more (take k edits) e so_far (λ d c h. ap request_of (sym text) ∙ reads d c h, tt))
 
-pub texts_told : (edits : List Edit) (k : ℕ) (lines : List (List ℕ)) (d : Contents) (cs : List Change) → length edits ≤ k → lines ≡ map edit_text (take k edits) → AreReadBack (take k edits) → Makes d edits cs → Tells d lines cs
-texts_told edits k lines d cs whole texts read makes =
-    let all : take k edits ≡ edits = take_all k edits whole in
-    subst (λ (ls : List (List ℕ)). Tells d ls cs) (sym (texts ∙ ap (map edit_text) all)) (texts_tell edits d cs (subst AreReadBack all read) makes)
+pub texts_told : (edits : List Edit) (k : ℕ) (d : Contents) (cs : List Change) → length edits ≤ k → AreReadBack (take k edits) → Makes d edits cs → Tells d (map edit_text edits) cs
+texts_told edits k d cs whole read makes = texts_tell edits d cs (subst AreReadBack (take_all k edits whole) read) makes

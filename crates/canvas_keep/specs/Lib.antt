@@ -1,3 +1,4 @@
+pub mod Refusing
 pub mod Telling
 pub mod Keeping
 pub mod Settling

@@ -1,5 +1,5 @@
 -- Lines of a journal, and the histories that they tell.
-use Rattle.std.specs.Prelude.{ℕ, ◌≡◌, ◌≢◌, ◌+◌, ◌<◌, ◌≤◌, List, [], ◌∷◌, ◌++◌, length, take, slice_get, Some, Ok}
+use Rattle.std.specs.Prelude.{ℕ, ◌≡◌, ◌≢◌, ◌+◌, ◌<◌, ◌≤◌, List, [], ◌∷◌, ◌++◌, length, take, slice_get, Option, Some, Ok}
 use Rattle.canvas_record.specs.declared.edits.Change.{Change}
 use Rattle.canvas_record.specs.declared.edits.Edit.{Edit}
 use Rattle.canvas_record.specs.Contents.{Contents}
@@ -9,6 +9,7 @@ use Rattle.canvas_record.specs.History.{replay_of}
 use Rattle.canvas_wire.specs.EditTexts.{edit_text}
 use Rattle.canvas_wire.specs.Requests.{request_of}
 use Rattle.canvas_wire.specs.declared.request.Request.TheVariants as requests
+use Rattle.canvas_seal.specs.Seals.{AreSealed, texts_in}
 use Rattle.canvas_journal.specs.Lines.{recovered}
 use Rattle.canvas_line.specs.Lines.{Sight, with_front}
 use Rattle.canvas_line.specs.Seats.{EditRefused}
@@ -23,9 +24,13 @@ Tells d (l ∷ ls) (c ∷ cs) = (e : Edit) × (request_of l ≡ Ok (requests.Edi
 Tells d [] (c ∷ cs) = ⊥
 Tells d (l ∷ ls) [] = ⊥
 
+-- the lines are texts that tell a history, each with its seal where these go on from a name
+abbrev pub TellsIn : Option (List ℕ) → Contents → List (List ℕ) → List Change → Type 0
+TellsIn start d ls cs = AreSealed start ls × Tells d (texts_in start ls) cs
+
 -- the lines of the file tell the first changes of a history
-abbrev pub TellsBeginning : Contents → List ℕ → List Change → Type 0
-TellsBeginning d file cs = (length (recovered file) ≤ length cs) × Tells d (recovered file) (take (length (recovered file)) cs)
+abbrev pub TellsBeginning : Option (List ℕ) → Contents → List ℕ → List Change → Type 0
+TellsBeginning start d file cs = (length (recovered file) ≤ length cs) × TellsIn start d (recovered file) (take (length (recovered file)) cs)
 
 -- the text of each of these edits is read as the edit, where some document accepts it
 abbrev pub AreReadBack : List Edit → Type 0

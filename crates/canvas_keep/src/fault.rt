@@ -2,10 +2,12 @@
 ghost use Rattle.std.specs.Prelude.{◌≡◌};
 ghost use Rattle.canvas_keep.specs.declared.fault.KeepFault.TheVariants as keep_fault;
 ghost use Rattle.canvas_keep.specs.declared.fault.OpenFault.TheVariants as open_fault;
+ghost use Rattle.canvas_keep.specs.Refusing.{open_fault_of};
 
 use canvas_code::OutOfMemory;
-use canvas_journal::DeviceError;
+use canvas_journal::{DeviceError, OpenError};
 use canvas_line::LineFault;
+use canvas_seal::Damage;
 use thiserror::Error;
 
 /// Why a document is kept no longer. After any of them nothing more is answered.
@@ -66,6 +68,9 @@ pub enum OpenFault {
     /// The device has failed, or memory could not be had.
     #[error(transparent)]
     Device(DeviceError),
+    /// The journal has what no crash leaves of it.
+    #[error(transparent)]
+    Damaged(Damage),
     /// A line of the journal could not be replayed.
     #[error(transparent)]
     Replay(ReplayFault),
@@ -77,19 +82,14 @@ pub enum OpenFault {
     Busy,
 }
 
-impl From<DeviceError> for OpenFault {
-    ghost from_gives = { λ e f. f ≡ open_fault.Device e };
+impl From<OpenError> for OpenFault {
+    ghost from_gives = { λ e f. f ≡ open_fault_of e };
 
-    fn from(error: DeviceError) -> OpenFault {
-        OpenFault::Device(error)
-    }
-}
-
-impl From<ReplayFault> for OpenFault {
-    ghost from_gives = { λ e f. f ≡ open_fault.Replay e };
-
-    fn from(fault: ReplayFault) -> OpenFault {
-        OpenFault::Replay(fault)
+    fn from(error: OpenError) -> OpenFault {
+        match error {
+            OpenError::Device(error) => OpenFault::Device(error),
+            OpenError::Damaged(damage) => OpenFault::Damaged(damage),
+        }
     }
 }
 

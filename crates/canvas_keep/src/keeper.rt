@@ -6,12 +6,13 @@ ghost use Rattle.canvas_journal.specs.Journal.{done_of};
 ghost use Rattle.canvas_journal.specs.Runs.{handed_of, HasKept};
 ghost use Rattle.canvas_line.specs.Seats.{GoesOn};
 ghost use Rattle.canvas_keep.specs.Keeping.{StandsFor};
-ghost use Rattle.canvas_keep.specs.Telling.{Tells, TellsBeginning};
+ghost use Rattle.canvas_keep.specs.Telling.{TellsBeginning, TellsIn};
 
 use crate::fault::KeepFault;
-use crate::texts::texts_of;
+use crate::texts::lines_of_edits;
 use canvas_journal::{Device, Journal};
 use canvas_line::{Lines, Seat};
+use canvas_seal::Name;
 use std::alloc::Global;
 use std::marker::Model;
 use std::snapshot::Snapshot;
@@ -28,6 +29,9 @@ pub struct Keeper<D: Device, B: Lines> {
     // How many lines count.
     kept: u64,
     opened: Snapshot<D>,
+    // The names that the seals of the lines go on from: the first one's, and the next one's.
+    start: Option<Name>,
+    name: Option<Name>,
 }
 
 impl<D: Device, B: Lines> Model for Keeper<D, B> {
@@ -36,10 +40,10 @@ impl<D: Device, B: Lines> Model for Keeper<D, B> {
     ghost Value = { Keeping D };
 
     ghost view = { λ k.
-        record { line = k.seat; kept = k.kept; journal = k.journal; opened = k.opened.value } };
+        record { line = k.seat; kept = k.kept; journal = k.journal; opened = k.opened.value; start = k.start } };
 
     ghost invariant = { λ k. StandsFor D.seen D.may_leave D.moment D.left_since k.journal k.seat
-        k.kept k.opened.value };
+        k.kept k.opened.value k.start k.name };
 }
 
 impl<D: Device + Drop, B: Lines> Keeper<D, B> {
@@ -49,17 +53,21 @@ impl<D: Device + Drop, B: Lines> Keeper<D, B> {
         seat: Seat<B>,
         kept: u64,
         opened: Snapshot<D>,
+        start: Option<Name>,
+        name: Option<Name>,
     ) -> Keeper<D, B>
         requires { StandsFor D.seen D.may_leave D.moment D.left_since journal seat kept
-            opened.value }
+            opened.value start name }
         ensures { result
-            ≡ record { line = seat; kept = kept; journal = journal; opened = opened.value } }
+            ≡ record { line = seat; kept = kept; journal = journal; opened = opened.value; start = start } }
     {
         Keeper {
             journal,
             seat,
             kept,
             opened,
+            start,
+            name,
         }
     }
 
@@ -68,12 +76,12 @@ impl<D: Device + Drop, B: Lines> Keeper<D, B> {
     pub fn kept(&self) -> u64
         ensures kept { result ≡ self.now.kept }
         ensures within { result ≤ length self.now.line.front }
-        ensures tells { Tells self.now.line.opening (done_of D.seen self.now.journal)
-            (take result self.now.line.front) }
+        ensures tells { TellsIn self.now.start self.now.line.opening
+            (done_of D.seen self.now.journal) (take result self.now.line.front) }
         // Each crash since the journal was opened leaves the lines of a beginning of the history.
         ensures crash { (c : List ℕ)
             → D.left_since self.now.journal.device (D.moment self.now.opened) c
-            → TellsBeginning self.now.line.opening c self.now.line.front }
+            → TellsBeginning self.now.start self.now.line.opening c self.now.line.front }
     {
         self.kept
     }
@@ -103,6 +111,7 @@ impl<D: Device + Drop, B: Lines> Keeper<D, B> {
         ensures kept { IfOk result (λ k. k.kept ≡ length self.line.front) }
         ensures goes_on { IfOk result (λ k. GoesOn self.line k.line) }
         ensures opened { IfOk result (λ k. k.opened ≡ self.opened) }
+        ensures start { IfOk result (λ k. k.start ≡ self.start) }
         ensures acknowledged { IfOk result
             (λ k. done_of D.seen k.journal ≡ handed_of D.seen self.journal) }
         // What was known of each crash since some moment goes on to be so, and from now on each
@@ -117,6 +126,8 @@ impl<D: Device + Drop, B: Lines> Keeper<D, B> {
             mut journal,
             mut seat,
             opened,
+            start,
+            mut name,
             ..
         } = self;
         let kept = seat.number();
@@ -127,13 +138,15 @@ impl<D: Device + Drop, B: Lines> Keeper<D, B> {
         if taken.before != kept {
             return Err(KeepFault::Strangers);
         }
-        let batch = texts_of(alloc, &taken.edits)?;
+        let batch = lines_of_edits(alloc, &mut name, &taken.edits)?;
         journal.turn(batch)?;
         Ok(Keeper {
             journal,
             seat,
             kept,
             opened,
+            start,
+            name,
         })
     }
 

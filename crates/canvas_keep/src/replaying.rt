@@ -2,33 +2,39 @@
 ghost use Rattle.std.specs.Prelude.{◌≡◌, [], ◌∷◌, map, OnOk, MatchResult, Ok};
 ghost use Rattle.canvas_wire.specs.Requests.{request_of};
 ghost use Rattle.canvas_wire.specs.declared.request.Request.TheVariants as requests;
+ghost use Rattle.canvas_seal.specs.Seals.{text_in};
 ghost use Rattle.canvas_keep.specs.Telling.{IsUnread, Replays, Stops, StopsAt};
 
 use crate::fault::{ReplayFault, ReplayWhy};
 use canvas_doc::Edit;
 use canvas_line::{LineFault, Lines, Seat};
+use canvas_seal::{Name, text_of};
 use canvas_wire::{Request, RequestReader, WireFault};
 use std::alloc::Global;
 use std::sync::Wait;
 
-/// Makes the edits of lines through a seat, one after another. It stops at the first line that is
+/// Makes the edits of lines through a seat, one after another. Where `start` is a name, their texts
+/// stand before their seals, which are not compared. It stops at the first line that is
 /// no edit, or one that is refused where it stands, and tells which line it is; the edits of the
 /// lines before it are made.
 pub fn replay<B: Lines, R: Wait>(
     rt: &R,
     alloc: Global,
     seat: &mut Seat<B>,
+    start: &Option<Name>,
     lines: &[Vec<u8>],
 ) -> Result<(), ReplayFault>
-    ensures replayed { OnOk result (Replays seat.old (map (λ v. v.items) lines.now) seat.new) }
+    ensures replayed { OnOk result
+        (Replays seat.old (map (λ v. text_in start.now v.items) lines.now) seat.new) }
     ensures stopped { MatchResult result (λ _. Unit {0})
-        (λ f. Stops seat.old (map (λ v. v.items) lines.now) f seat.new) }
+        (λ f. Stops seat.old (map (λ v. text_in start.now v.items) lines.now) f seat.new) }
 {
     let mut reader = RequestReader::new(alloc);
     let mut number = 0;
     for line in lines {
         number += 1;
-        if let Err(why) = replay_line(rt, alloc, &mut reader, seat, line.as_slice()) {
+        let text = text_of(start, line.as_slice());
+        if let Err(why) = replay_line(rt, alloc, &mut reader, seat, text) {
             return Err(ReplayFault { line: number, why });
         }
     }

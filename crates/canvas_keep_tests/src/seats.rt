@@ -7,6 +7,7 @@ use canvas_journal::DeviceError;
 use canvas_journal_file::Asked;
 use canvas_keep::{Keeper, OpenFault, open};
 use canvas_line::{Line, LineFault, Lines, Opened, Seat};
+use canvas_seal::{Name, first_name};
 use std::alloc::Global;
 use std::sync::Wait;
 
@@ -45,12 +46,17 @@ pub(crate) fn kept_line<B: Lines, H: Wait>(
     let Ok((held, bytes)) = disk.held() else {
         return Err(OpenFault::Device(DeviceError::Memory));
     };
-    let keeper = open(rt, alloc, Asked::new(held, bytes), keeper)?;
+    let keeper = open(rt, alloc, Asked::new(held, bytes), keeper, &start())?;
     Ok(Kept {
         keeper,
         watch,
         two: Two { first, second },
     })
+}
+
+/// What the seals of the lines go on from.
+pub(crate) fn start() -> Option<Name> {
+    Some(first_name(b"an empty document"))
 }
 
 /// Takes one of the seats of a line at its beginning.

@@ -4,6 +4,7 @@
 use crate::asserts::{equal, holds, holds_at};
 use crate::disk::Disk;
 use crate::runs::{Run, reopened, whole_run};
+use crate::seats::start;
 use canvas_journal::Journal;
 use canvas_journal_file::Asked;
 use std::alloc::Global;
@@ -106,7 +107,8 @@ fn check_openings(rt: &impl Abort, alloc: Global, disk: &Disk) {
 // The lines that a journal on a disk has.
 fn lines_of(rt: &impl Abort, alloc: Global, disk: &Disk) -> Vec<Vec<u8>> {
     let (held, bytes) = disk.held().expect(rt, "memory");
-    let (_, lines) = Journal::open(alloc, Asked::new(held, bytes)).expect(rt, "a journal");
+    let opened = Journal::open(alloc, Asked::new(held, bytes), &start());
+    let (_, lines) = opened.expect(rt, "a journal");
     lines.lines
 }
 

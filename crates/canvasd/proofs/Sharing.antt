@@ -26,6 +26,7 @@ use Rattle.canvas_keep.specs.contracts.settling.Keep.TheInside as keep_inside
 use Rattle.canvas_follow.proofs.turns.Turns.TheSendSync as turns
 use Rattle.canvas_doors.proofs.ending.Ending.TheSendSync as ending
 use Rattle.canvasd.specs.contracts.gate.Gate as gate
+use Rattle.canvasd.proofs.gate.Limits.TheSendSync as limits
 use Rattle.canvasd.specs.contracts.follow_gate.FollowGate as follow_gate
 use Rattle.canvasd.specs.contracts.yard.Yard as yard
 use Rattle.canvasd.proofs.fault.Fault.TheSendSync as why
@@ -39,7 +40,7 @@ asked-send F s = view_send (asked_inside.the_row F) _ _ _ _ (declared_send (aske
 
 module _ (D B : RattleType) (d : device.Ghosts D.Denot) (l : lines.Ghosts B.Denot) (s : IsSend D) where
   keeper-send : IsSend (keeper.the_row D B d l)
-  keeper-send = view_send (keeper_inside.the_row D B d l) _ _ _ _ (declared_send (keeper_inside.the_type D B d l) (journal.the_send D s, (seat.the_send B l, (search sendable, (search (sendable, crosses), tt)))))
+  keeper-send = view_send (keeper_inside.the_row D B d l) _ _ _ _ (declared_send (keeper_inside.the_type D B d l) (journal.the_send D s, (seat.the_send B l, (search sendable, (search (sendable, crosses), (search (sendable, crosses), (search (sendable, crosses), tt)))))))
 
   slot-send : IsSend (slot.the_row D B d l)
   slot-send = declared_send (slot.the_type D B d l) (option.the_send (keeper.the_row D B d l) keeper-send, (search sendable, (option.the_send _ fault.the_send, (seat.the_send B l, (search sendable, tt)))))
@@ -53,7 +54,7 @@ module _ (D B : RattleType) (d : device.Ghosts D.Denot) (l : lines.Ghosts B.Deno
       ))
 
   pub gate-sync : IsSync (gate.the_row D B d l)
-  gate-sync = declared_sync (gate.the_type D B d l) (keep-sync, (search sendable, (search (sendable, crosses), (search (sendable, crosses), tt))))
+  gate-sync = declared_sync (gate.the_type D B d l) (keep-sync, (limits.the_sync, (search (sendable, crosses), (search (sendable, crosses), tt))))
 
   pub follow_gate-sync : (a : NamedLft) → IsSync (follow_gate.the_row a D B d l)
   follow_gate-sync a = let held = gate-sync in declared_sync (follow_gate.the_type a D B d l) (search (sendable, held) depth 40, (search (sendable, crosses) depth 40, (search (sendable, crosses), tt)))

@@ -39,6 +39,8 @@ abbrev pub status_at : Fault → ℕ
 status_at (fault.Io place deed error) = 4
 status_at (fault.Document place code) = status_of (Some code)
 status_at (fault.Line number line why) = line_status why
+status_at (fault.Damaged number damage) = 3
+status_at (fault.Unlike n) = 3
 status_at fault.Locked = 4
 status_at fault.Begun = 4
 status_at (fault.Strange n) = 4

@@ -44,8 +44,15 @@ fn check_generation<H: Files<File = File> + Print + Wait>(
         let has = parts_name(generation);
         return said(println!(rt; "{folder}/{number}: unfinished, has {has}"));
     }
-    let (edits, _) = replayed(rt, alloc, folder, number, None)?;
-    said(println!(rt; "{folder}/{number}: opens, {edits} edits"))
+    let past = replayed(rt, alloc, folder, number, None)?;
+    let edits = past.newest;
+    match past.name {
+        None => said(println!(rt; "{folder}/{number}: opens, {edits} edits, without seals")),
+        Some(name) => {
+            let name = hex::encode(alloc, name.as_slice())?;
+            said(println!(rt; "{folder}/{number}: opens, {edits} edits, sealed, {name}"))
+        }
+    }
 }
 
 fn parts_name(generation: &Generation) -> &'static str {

@@ -132,9 +132,26 @@ fn follow_once<
     unreachable!()
 }
 
-// A connection to the feed, from the first edit that is compared. The first one shows whether the
-// generation began there as here.
+// A connection to the feed, from the first edit that is compared. It shows whether the edits before
+// that are the same there, and the first one whether the generation began there as here. A leader of
+// version 0.5 does not tell names.
 fn open_source<
+    D: Device + Drop,
+    L: Lines,
+    K: Log,
+    H: Clock + Net<Listener = TcpListener, Stream = TcpStream>,
+>(rt: &H, yard: &Yard<'_, D, L, K>, own: &mut Own) -> Result<Source, Stop> {
+    if own.is_named {
+        match ask_source(rt, yard, own) {
+            Err(Stop::Away(Away::NoFeed)) => own.is_named = false,
+            answer => return answer,
+        }
+    }
+    ask_source(rt, yard, own)
+}
+
+// The same, with the name of the history or without it.
+fn ask_source<
     D: Device + Drop,
     L: Lines,
     K: Log,
@@ -147,7 +164,10 @@ fn open_source<
         ..
     } = *yard;
     let before = own.recent.before();
-    let mut source = Source::open(rt, alloc, feed, before, own.opening.is_some(), Some(number))?;
+    let wants_opening = own.opening.is_some();
+    let named = own.is_named;
+    let mut source = Source::open(rt, alloc, feed, before, wants_opening, named, Some(number))?;
+    let is_same = !named || source.has_name(rt, alloc, own, yard.gate.over_mark())?;
     if let Some(text) = &own.opening {
         let opening = source.opening(rt, alloc, yard.gate.over_mark())?;
         if text.as_slice() != opening.text.as_slice() {
@@ -155,7 +175,11 @@ fn open_source<
         }
     }
     own.opening = None;
-    Ok(source)
+    if is_same {
+        Ok(source)
+    } else {
+        Err(Stop::Fault(Fault::Stranger(Strange::History(before))))
+    }
 }
 
 fn since<H: Clock>(rt: &H, moment: Instant) -> Result<u64, Away> {

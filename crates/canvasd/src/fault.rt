@@ -4,6 +4,7 @@ ghost use Rattle.canvasd.specs.Statuses.{course_status, line_status, status_at, 
 
 use canvas_follow::CourseFault;
 use canvas_keep::{KeepFault, ReplayWhy};
+use canvas_seal::Damage;
 use canvas_server::{ServerFault, exit_status};
 use canvas_store::StoreFault;
 use std::alloc::{AllocError, AllocFailed};
@@ -24,6 +25,8 @@ pub enum Place {
     Opening(u32),
     /// The same, before it has its name.
     Temporary(u32),
+    /// The file of the hash of that document.
+    Hash(u32),
     /// The edits of a generation.
     Journal(u32),
     /// The lines that leave of them.
@@ -93,6 +96,8 @@ pub enum Strange {
     Opening(u32),
     /// Its edit of this version is another one.
     Edit(u64),
+    /// Its edits up to this version are others.
+    History(u64),
     /// It has only so many edits.
     Fewer(u64),
     /// It has not begun the generation of this number.
@@ -119,6 +124,13 @@ pub enum Fault {
         line: u64,
         why: ReplayWhy,
     },
+    /// The journal of a generation has what no crash leaves of it.
+    Damaged {
+        number: u32,
+        damage: Damage,
+    },
+    /// The document with which a generation begins is not the one of the hash beside it.
+    Unlike(u32),
     /// Another process serves the folder.
     Locked,
     /// The folder has a document, and the words name another to begin with.
@@ -175,6 +187,8 @@ impl Fault {
             Fault::Io { .. } => 4,
             Fault::Document { code, .. } => exit_status(Some(*code)),
             Fault::Line { why, .. } => line_status(*why),
+            Fault::Damaged { .. } => 3,
+            Fault::Unlike(_) => 3,
             Fault::Locked => 4,
             Fault::Begun => 4,
             Fault::Strange(_) => 4,

@@ -5,6 +5,7 @@ ghost use Rattle.canvasd.specs.Feed.{IsBeyond};
 use crate::fault::{Deed, Fault, Place, refused};
 use crate::folder::path_in;
 use canvas_feed::{FeedIndex, Shelf};
+use canvas_seal::Name;
 use std::alloc::{AllocError, Global};
 use std::fs::{File, OpenOptions};
 use std::os::unix::fs::FileExt;
@@ -43,6 +44,8 @@ pub enum More {
 #[derive(Drop)]
 struct Told {
     index: FeedIndex,
+    // The name of the history as of each version.
+    names: Vec<Name>,
     has_ended: bool,
 }
 
@@ -94,6 +97,7 @@ impl Feed {
         }
         let told = Told {
             index: FeedIndex::new(alloc),
+            names: Vec::new(alloc),
             has_ended: false,
         };
         Ok(Feed {
@@ -108,9 +112,13 @@ impl Feed {
         self.file.write_all_at(text, at)
     }
 
-    /// Shows all that was written, by the ends of the lines that come next.
-    pub fn show<H: Wait>(&self, rt: &H, ends: &[u64]) -> Result<(), AllocError> {
-        self.told.lock(rt).index.append(ends)?;
+    /// Shows all that was written, by the ends of the lines that come next and the names of the
+    /// history behind them.
+    pub fn show<H: Wait>(&self, rt: &H, ends: &[u64], names: &[Name]) -> Result<(), AllocError> {
+        let mut told = self.told.lock(rt);
+        told.names.extend_from_slice(names)?;
+        told.index.append(ends)?;
+        drop(told);
         self.word.notify_all();
         Ok(())
     }
@@ -135,6 +143,11 @@ impl Feed {
             told = self.word.wait(rt, told);
         }
         unreachable!()
+    }
+
+    /// The name of the history as of a version that was told.
+    pub fn name_as_of<H: Wait>(&self, rt: &H, version: u64) -> Option<Name> {
+        self.told.lock(rt).names.get(version as usize).copied()
     }
 
     /// Waits for a while until more was told than a follower was sent, and says what it is sent next.

@@ -6,7 +6,7 @@ ghost use denote.Param.Send.{IsSend, IsSync};
 use crate::feed::Feed;
 use crate::following::{Parted, Progress, follow, refuse};
 use crate::gate::Kept;
-use crate::scribing::keep_feed;
+use crate::scribing::{JournalLines, keep_feed};
 use canvas_doors::{
     Arrival, Call, Door, Ending, Events, NoEntry, Settles, Settling, Stream, close_doors,
     next_stream, settle_counted,
@@ -17,7 +17,6 @@ use canvas_server::{DoorSettings, Ended, ServerFault, serve_boards_at};
 use canvas_status::{Counts, MOST_FOLLOWERS};
 use log::{Log, debug, error};
 use std::alloc::Global;
-use std::fs::File;
 use std::net::Net;
 use std::sync::{Mutex, Wait};
 use std::thread;
@@ -29,7 +28,7 @@ use std::time::Clock;
 pub struct Fed<'a> {
     pub feed: &'a Feed,
     /// The journal, to be read while it is written.
-    pub journal: &'a File,
+    pub journal: &'a JournalLines,
     /// The number of the generation.
     pub number: u32,
     /// Where followers come.
@@ -125,7 +124,7 @@ fn start_scribe<'s, 'e: 's, G: Kept + Sync, K: Log + Sync, H: Threads + Wait + C
     rt: &'e H,
     scope: &'s Scope<'s, &'e ()>,
     hall: &'e Hall<'e, G, K>,
-    journal: &'e File,
+    journal: &'e JournalLines,
     scribe: Scribe,
 )
     requires { IsSync H.row × IsSync G.row × IsSync K.row }

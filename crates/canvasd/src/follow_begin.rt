@@ -125,6 +125,6 @@ fn opening_served<H: Clock + Net<Listener = TcpListener, Stream = TcpStream>>(
     following: &Following<'_>,
 ) -> Result<Opening, Away> {
     let never = AtomicBool::new(false);
-    let mut source = Source::open(rt, alloc, following.feed, 0, true, None)?;
+    let mut source = Source::open(rt, alloc, following.feed, 0, true, false, None)?;
     source.opening(rt, alloc, &never)
 }

@@ -2,6 +2,7 @@
 
 use crate::feed::{Feed, More, Reach};
 use crate::gate::Kept;
+use crate::sealing::name_line;
 use canvas_doors::{Stream, Timely, is_foreign, refuse_foreign, set_up};
 use canvas_feed::{FeedRequest, LINE_ROOM, Refusal, Unread, read_line, read_request, send};
 use canvas_status::Counts;
@@ -131,13 +132,18 @@ fn send_all<H: Wait + Clock>(
     progress.counts.follow(progress.place, since);
     let mut piece = vec![in alloc; 0u8; PIECE].ok()?;
     let opening = feed.place_behind(rt, 0)?;
-    if request.opening {
-        send(feed, 0, opening, &mut piece, &mut writer).ok()?;
-    }
     let sent = Reach {
         version: since,
         end: feed.place_behind(rt, since)?,
     };
+    if request.named {
+        let name = feed.name_as_of(rt, since)?;
+        let line = name_line(alloc, &name, since).ok()?;
+        writer.write_all(line.as_bytes()).ok()?;
+    }
+    if request.opening {
+        send(feed, 0, opening, &mut piece, &mut writer).ok()?;
+    }
     send_more(rt, feed, sent, kept, progress, &mut piece, stream)
 }
 

@@ -1,8 +1,9 @@
 //! What a session asks before its bytes leave, and what a feed asks before it tells.
-ghost use Rattle.std.specs.Prelude.{◌≡◌, ◌<◌, IfSome};
+ghost use Rattle.std.specs.Prelude.{◌≡◌, ◌<◌, ◌≤◌, true, IfSome};
 
 use crate::feeding::{Fed, serve_fed};
 use crate::guard::{Ground, Loses, start_guard};
+use crate::journal::Extent;
 use crate::names::Names;
 use crate::watch::{Standing, Watch, Watched, start_watch};
 use canvas_doors::{Door, Ending, Events, Settles};
@@ -21,34 +22,54 @@ use std::sync::atomic::{AtomicBool, Ordering};
 use std::thread::{Scope, Threads};
 use std::time::Clock;
 
-/// A line that is kept, up to so many edits.
+/// With what a generation ends.
+#[derive(Drop)]
+pub struct Limits {
+    /// With so many edits.
+    pub edits: u64,
+    /// With so many bytes of its journal.
+    pub bytes: u64,
+    /// How many bytes that has.
+    pub extent: Extent,
+}
+
+impl Limits {
+    // Whether a generation of which so many edits are kept has ended.
+    fn are_reached(&self, kept: u64) -> bool
+        ensures { self.now.edits ≤ kept → result ≡ true }
+    {
+        self.edits <= kept || self.bytes <= self.extent.bytes()
+    }
+}
+
+/// A line that is kept, up to the limits of a generation.
 #[derive(Drop)]
 pub struct Gate<D: Device, B: Lines> {
     pub keep: Keep<D, B>,
-    // With how many edits the generation ends.
-    limit: u64,
-    // Whether so many are kept, or the journal is lost. Each reply asks for it.
+    // With what the generation ends.
+    limits: Limits,
+    // Whether it has ended, or the journal is lost. Each reply asks for it.
     is_over: AtomicBool,
     // Whether what keeps the line is lost. Nobody is answered then.
     is_lost: AtomicBool,
 }
 
 impl<D: Device + Drop, B: Lines> Gate<D, B> {
-    /// The gate of a keeper's line, whose generation ends with so many edits. `watch` is another
-    /// seat of the line.
+    /// The gate of a keeper's line, whose generation has these limits. `watch` is another seat of the
+    /// line.
     pub fn new<R: Wait>(
         rt: &R,
         alloc: Global,
         keeper: Keeper<D, B>,
         watch: Seat<B>,
-        limit: u64,
+        limits: Limits,
     ) -> Result<Gate<D, B>, LineFault>
         requires { watch.name ≡ keeper.line.name }
     {
-        let is_over = AtomicBool::new(limit <= keeper.kept());
+        let is_over = AtomicBool::new(limits.are_reached(keeper.kept()));
         Ok(Gate {
             keep: Keep::new(rt, alloc, keeper, watch)?,
-            limit,
+            limits,
             is_over,
             is_lost: AtomicBool::new(false),
         })
@@ -64,7 +85,7 @@ impl<D: Device + Drop, B: Lines> Settles for Gate<D, B> {
             return Err(io::Error::other("nothing is kept any more"));
         }
         match kept {
-            Ok(kept) if kept < self.limit => Ok(()),
+            Ok(kept) if !self.limits.are_reached(kept) => Ok(()),
             Ok(_) => {
                 self.is_over.store(true, Ordering::SeqCst);
                 Ok(())

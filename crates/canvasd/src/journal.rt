@@ -13,7 +13,7 @@ use std::fs::{File, OpenOptions};
 use std::io::{Read, Write};
 use std::os::unix::fs::FileExt;
 use std::rt::Files;
-use std::sync::atomic::{AtomicI32, Ordering};
+use std::sync::atomic::{AtomicI32, AtomicU64, Ordering};
 use std::sync::{Arc, Wait};
 use std::time::{Clock, Instant};
 use std::{fs, io};
@@ -56,6 +56,39 @@ impl Reason {
     }
 }
 
+/// How many bytes a journal has.
+#[derive(Drop)]
+pub struct Extent {
+    bytes: Arc<AtomicU64, Global>,
+}
+
+impl Extent {
+    /// It has none.
+    pub fn none(alloc: Global) -> Result<Extent, AllocError> {
+        Ok(Extent {
+            bytes: Arc::new(alloc, AtomicU64::new(0))?,
+        })
+    }
+
+    /// The same place for it, in other hands.
+    pub fn shared(&self) -> Result<Extent, AllocError> {
+        Ok(Extent {
+            bytes: Arc::try_clone(&self.bytes)?,
+        })
+    }
+
+    /// How many it has.
+    pub fn bytes(&self) -> u64 {
+        self.bytes.load(Ordering::SeqCst)
+    }
+
+    // Notes where what was written ends.
+    fn note(&self, at: usize, bytes: &[u8]) {
+        let end = (at as u64).saturating_add(bytes.len() as u64);
+        let _ = self.bytes.fetch_max(end, Ordering::SeqCst);
+    }
+}
+
 // The paths of a generation's folder, of its journal, and of a new one that has not got its name yet.
 #[derive(Drop)]
 struct Paths {
@@ -75,6 +108,7 @@ pub struct JournalFile<'a, H: Names + Clock> {
     paths: Paths,
     held: &'a HeldJournal,
     reason: Reason,
+    extent: Extent,
     rt: &'a H,
     counts: &'a Counts,
     link: Option<&'a Link>,
@@ -135,6 +169,7 @@ impl<H: Names + Clock + Wait> Backing for JournalFile<'_, H> {
         if bytes.is_empty() {
             return true;
         }
+        self.extent.note(at, bytes);
         let is_done = self.reason.note(self.file.write_all_at(bytes, at as u64));
         match self.link {
             Some(link) => is_done && link.write(self.rt, at, bytes),
@@ -156,6 +191,7 @@ impl<H: Names + Clock + Wait> Backing for JournalFile<'_, H> {
 
     // A store has all or nothing of what it is told between two syncs, so it needs no new file.
     fn write_new(&mut self, same: usize, bytes: &[u8]) -> bool {
+        self.extent.note(0, bytes);
         match self.link {
             Some(link) => self.write_tail(link, same, bytes),
             None => {
@@ -201,6 +237,7 @@ pub fn open_journal<'a, H: Files<File = File> + Names + Clock + Wait>(
     folder: &str,
     number: u32,
     reason: &Reason,
+    extent: &Extent,
     counts: &'a Counts,
     held: &'a HeldJournal,
     link: Option<&'a Link>,
@@ -229,6 +266,7 @@ pub fn open_journal<'a, H: Files<File = File> + Names + Clock + Wait>(
         paths,
         held,
         reason,
+        extent: extent.shared()?,
         rt,
         counts,
         link,

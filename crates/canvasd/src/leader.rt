@@ -1,6 +1,8 @@
 //! The feed of a leader, as a follower reads it.
 
 use crate::lanes::connect_to;
+use crate::recent::Own;
+use crate::sealing::name_line;
 use canvas_doors::Stream;
 use std::alloc::{AllocError, Global};
 use std::io::{ErrorKind, Read, Write};
@@ -102,13 +104,14 @@ pub struct Opening {
 
 impl Source {
     /// Connects, and asks for the edits behind a version of a generation, or of the one that is
-    /// served, and for its opening.
+    /// served, for its opening, and for the name of the history as of that version.
     pub fn open<H: Net<Listener = TcpListener, Stream = TcpStream>>(
         rt: &H,
         alloc: Global,
         feed: &str,
         since: u64,
         opening: bool,
+        named: bool,
         generation: Option<u32>,
     ) -> Result<Source, Away> {
         let stream = connect_to(rt, feed)?;
@@ -116,6 +119,9 @@ impl Source {
         stream.set_read_timeout(Duration::from_millis(GLANCE))?;
         stream.set_write_timeout(Duration::from_secs(PATIENCE))?;
         let line = match generation {
+            Some(number) if named => format!(in alloc;
+                "{{\"since\":{since},\"opening\":{opening},\"generation\":{number},\"named\":true}}\n"
+            )?,
             Some(number) => format!(in alloc;
                 "{{\"since\":{since},\"opening\":{opening},\"generation\":{number}}}\n"
             )?,
@@ -133,6 +139,26 @@ impl Source {
     /// The bytes that have come and were not taken.
     pub fn bytes(&self) -> &[u8] {
         &self.bytes
+    }
+
+    /// Whether the history there has the name that a follower's has before the first edit that it
+    /// compares. The name is taken.
+    pub fn has_name<H: Clock>(
+        &mut self,
+        rt: &H,
+        alloc: Global,
+        own: &Own,
+        is_over: &AtomicBool,
+    ) -> Result<bool, Away> {
+        let count = self.first_line(rt, is_over)?;
+        let line = self.bytes.get(..count).unwrap_or(&[]);
+        if let Some(refusal) = refusal_in(line) {
+            return Err(refusal);
+        }
+        let name = own.recent.name_before();
+        let is_same = line == name_line(alloc, &name, own.recent.before())?.as_bytes();
+        self.take(count);
+        Ok(is_same)
     }
 
     /// Takes the first bytes.
@@ -206,7 +232,7 @@ pub fn kept_there<H: Clock + Net<Listener = TcpListener, Stream = TcpStream>>(
     generation: u32,
     is_over: &AtomicBool,
 ) -> Result<u64, Away> {
-    let mut source = Source::open(rt, alloc, feed, BEYOND, false, Some(generation))?;
+    let mut source = Source::open(rt, alloc, feed, BEYOND, false, false, Some(generation))?;
     let count = source.first_line(rt, is_over)?;
     let line = source.bytes.get(..count).unwrap_or(&[]);
     match refusal_in(line) {

@@ -1,8 +1,8 @@
 //! The program `canvasd`: one design document in a folder, where nothing that was answered is lost.
 //!
 //! `canvasd FOLDER` serves the document of a folder. `canvasd check FOLDER` tells what is in it,
-//! and `canvasd history FOLDER [VERSION]` writes the document as it was. `canvasd follow FEED
-//! FOLDER` serves it as another server's feed tells it.
+//! and `canvasd history FOLDER [VERSION]` writes the document as it was, `canvasd requests FOLDER` the
+//! edits. `canvasd follow FEED FOLDER` serves it as another server's feed tells it.
 #![tactic(auto)]
 
 mod addresses;
@@ -32,6 +32,7 @@ mod names;
 mod opening;
 mod recent;
 mod scribing;
+mod sealing;
 mod seats;
 mod serving;
 mod status_doors;
@@ -77,6 +78,7 @@ fn main(rt: HostRuntime) -> ExitCode {
         Order::History { folder, version } => {
             history::write_version(&rt, rt.alloc(), folder, *version)
         }
+        Order::Requests { folder } => history::write_requests(&rt, rt.alloc(), folder),
     };
     match ended {
         Ok(()) => ExitCode::SUCCESS,

@@ -2,6 +2,7 @@
 
 use crate::fault::{Deed, Fault, Place, refused};
 use crate::folder::{keep_folder, path_in, path_of};
+use crate::sealing::{HASH, hash_text};
 use canvas_folder::{JOURNAL, Maker, OPENING, Step, TEMPORARY, make};
 use std::alloc::{AllocError, Global};
 use std::fs::File;
@@ -52,8 +53,11 @@ struct Making<'a, H: Files<File = File>> {
     opening_path: String,
     temporary_path: String,
     journal_path: String,
+    hash_path: String,
     opening: &'a [u8],
+    hash: String,
     temporary: Option<File>,
+    hash_file: Option<File>,
     journal: Option<File>,
 }
 
@@ -73,8 +77,11 @@ impl<'a, H: Files<File = File>> Making<'a, H> {
             opening_path: path_in(alloc, folder, number, OPENING)?,
             temporary_path: path_in(alloc, folder, number, TEMPORARY)?,
             journal_path: path_in(alloc, folder, number, JOURNAL)?,
+            hash_path: path_in(alloc, folder, number, HASH)?,
             opening,
+            hash: hash_text(alloc, opening)?,
             temporary: None,
+            hash_file: None,
             journal: None,
         })
     }
@@ -87,17 +94,20 @@ impl<'a, H: Files<File = File>> Making<'a, H> {
         }
     }
 
+    // The opening and its hash, of which each gets its name before there is a journal.
     fn write_opening(&mut self) -> Result<(), Fault> {
         let place = Place::Temporary(self.number);
-        let mut file = match File::create(self.rt, self.temporary_path.as_str()) {
-            Ok(file) => file,
-            Err(error) => return Err(refused(place, Deed::Make, error)),
-        };
-        if let Err(error) = file.write_all(self.opening) {
-            return Err(refused(place, Deed::Write, error));
-        }
-        self.temporary = Some(file);
+        let path = self.temporary_path.as_str();
+        self.temporary = Some(written(self.rt, path, self.opening, place)?);
+        let place = Place::Hash(self.number);
+        let path = self.hash_path.as_str();
+        self.hash_file = Some(written(self.rt, path, self.hash.as_bytes(), place)?);
         Ok(())
+    }
+
+    fn keep_opening(&self) -> Result<(), Fault> {
+        keep_file(&self.temporary, Place::Temporary(self.number))?;
+        keep_file(&self.hash_file, Place::Hash(self.number))
     }
 
     fn name_opening(&self) -> Result<(), Fault> {
@@ -129,7 +139,7 @@ impl<'a, H: Files<File = File>> Making<'a, H> {
             Step::MakeFolder => self.make_folder(),
             Step::KeepFolder => keep_folder(self.rt, self.folder, Place::Folder),
             Step::WriteOpening => self.write_opening(),
-            Step::KeepOpening => keep_file(&self.temporary, Place::Temporary(number)),
+            Step::KeepOpening => self.keep_opening(),
             Step::NameOpening => self.name_opening(),
             Step::KeepNames => {
                 keep_folder(self.rt, self.generation.as_str(), Place::Generation(number))
@@ -137,6 +147,23 @@ impl<'a, H: Files<File = File>> Making<'a, H> {
             Step::MakeJournal => self.make_journal(),
             Step::KeepJournal => keep_file(&self.journal, Place::Journal(number)),
         }
+    }
+}
+
+// A new file with these bytes, in place of any that is there.
+fn written<H: Files<File = File>>(
+    rt: &H,
+    path: &str,
+    bytes: &[u8],
+    place: Place,
+) -> Result<File, Fault> {
+    let mut file = match File::create(rt, path) {
+        Ok(file) => file,
+        Err(error) => return Err(refused(place, Deed::Make, error)),
+    };
+    match file.write_all(bytes) {
+        Ok(()) => Ok(file),
+        Err(error) => Err(refused(place, Deed::Write, error)),
     }
 }
 

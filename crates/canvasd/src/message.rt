@@ -1,12 +1,14 @@
 //! What the program says of a fault.
 
 use crate::fault::{Astray, Deed, Fault, Place, Strange};
+use crate::sealing::HASH;
 use crate::store_words::{write_lost, write_misfit, write_unheld};
 use crate::words::Order;
 use canvas_code::{Coded, name_of};
 use canvas_folder::{JOURNAL, LOCK, OPENING, STORE, TEMPORARY};
 use canvas_journal::DeviceError;
 use canvas_keep::{KeepFault, ReplayWhy};
+use canvas_seal::Damage;
 use std::fmt::{Display, Formatter, Write};
 use std::{fmt, io};
 
@@ -31,6 +33,7 @@ pub fn tell<H: Eprint>(rt: &H, order: &Order<'_>, fault: &Fault) -> io::Result<(
         ),
         Order::Check { folder } => eprintln!(rt; "canvasd: {}", Told::of(folder, *fault)),
         Order::History { folder, .. } => eprintln!(rt; "canvasd: {}", Told::of(folder, *fault)),
+        Order::Requests { folder } => eprintln!(rt; "canvasd: {}", Told::of(folder, *fault)),
     }
 }
 
@@ -72,6 +75,7 @@ impl<'a> Told<'a> {
             Place::Generation(number) => write!(f, "the folder {folder}/{number}"),
             Place::Opening(number) => write!(f, "{folder}/{number}/{OPENING}"),
             Place::Temporary(number) => write!(f, "{folder}/{number}/{TEMPORARY}"),
+            Place::Hash(number) => write!(f, "{folder}/{number}/{HASH}"),
             Place::Journal(number) => write!(f, "the journal {folder}/{number}/{JOURNAL}"),
             Place::Feed(number) => write!(f, "the feed of {folder}/{number}"),
             Place::Given => f.write_str(self.given),
@@ -117,6 +121,20 @@ impl<'a> Told<'a> {
         }
     }
 
+    // Writes where a journal is damaged.
+    fn write_damage<W: Write>(
+        &self,
+        number: u32,
+        damage: Damage,
+        f: &mut Formatter<W>,
+    ) -> fmt::Result {
+        let (folder, Damage { line, at }) = (self.folder, damage);
+        write!(
+            f,
+            "{folder}/{number}/{JOURNAL} is damaged: line {line}, which begins at byte {at}, is not what was written there, and nothing was changed"
+        )
+    }
+
     // Writes how a leader's document is not that of the folder.
     fn write_strange<W: Write>(&self, strange: Strange, f: &mut Formatter<W>) -> fmt::Result {
         let (feed, folder) = (self.feed, self.folder);
@@ -131,6 +149,9 @@ impl<'a> Told<'a> {
                 "{feed}: generation {number} began otherwise there"
             )?,
             Strange::Edit(version) => write!(f, "{feed}: edit {version} is another one there")?,
+            Strange::History(version) => {
+                write!(f, "{feed}: the first {version} edits are others there")?
+            }
             Strange::Fewer(kept) => write!(f, "{feed}: it has only {kept} edits")?,
             Strange::Early(number) => write!(f, "{feed}: it has no generation {number}")?,
         }
@@ -194,6 +215,11 @@ impl Display for Told<'_> {
                 write!(f, " is no saved document: {code} {}", name_of(code))
             }
             Fault::Line { number, line, why } => self.write_line(number, line, why, f),
+            Fault::Damaged { number, damage } => self.write_damage(number, damage, f),
+            Fault::Unlike(number) => write!(
+                f,
+                "{folder}/{number}/{OPENING} is not the document of {HASH}: one of them is damaged, and nothing was changed"
+            ),
             Fault::Locked => write!(f, "another process serves the folder {folder}"),
             Fault::Begun => write!(
                 f,

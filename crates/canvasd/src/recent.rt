@@ -3,7 +3,9 @@
 use crate::fault::{Deed, Fault, Place, refused};
 use crate::folder::path_in;
 use crate::journal::read_all;
+use crate::sealing::{read_opening, start_of};
 use canvas_folder::{JOURNAL, OPENING};
+use canvas_seal::{Name, first_name, name_with, text_of};
 use std::alloc::{AllocError, Global};
 use std::fs::File;
 use std::io::{BufRead, BufReader};
@@ -19,6 +21,8 @@ pub struct Own {
     pub opening: Option<Vec<u8>>,
     /// The last edits.
     pub recent: Recent,
+    /// Whether the leader tells the names of its history, as far as is known.
+    pub is_named: bool,
 }
 
 impl Own {
@@ -39,6 +43,7 @@ impl Own {
         Ok(Own {
             opening: Some(opening),
             recent: Recent::read(rt, alloc, folder, number, kept)?,
+            is_named: true,
         })
     }
 }
@@ -46,9 +51,13 @@ impl Own {
 /// The texts of the last edits, by their versions.
 #[derive(Drop)]
 pub struct Recent {
-    // The text of version v stands at v modulo the number of these.
+    // The text of version v stands at v modulo the number of these, and so does the name of the
+    // history before it.
     texts: Vec<Vec<u8>>,
+    names: Vec<Name>,
     newest: u64,
+    // The name of the history as of the newest version.
+    name: Name,
 }
 
 impl Recent {
@@ -69,30 +78,44 @@ impl Recent {
             Ok(reader) => reader,
             Err(error) => return Err(refused(Place::Journal(number), Deed::Read, error)),
         };
-        let mut recent = Recent::none(alloc)?;
+        let start = start_of(rt, alloc, folder, number)?;
+        let first = match start {
+            Some(name) => name,
+            None => first_name(&read_opening(rt, alloc, folder, number)?),
+        };
+        let mut recent = Recent::none(alloc, first)?;
         let mut line = Vec::new(alloc);
         for _ in 0..edits {
             line.clear();
             if let Err(error) = reader.read_until(b'\n', &mut line) {
                 return Err(refused(Place::Journal(number), Deed::Read, error));
             }
-            recent.note(line.trim_ascii())?;
+            recent.note(text_of(&start, line.trim_ascii()))?;
         }
         Ok(recent)
     }
 
-    fn none(alloc: Global) -> Result<Recent, AllocError> {
+    fn none(alloc: Global, name: Name) -> Result<Recent, AllocError> {
         let mut texts = Vec::with_capacity(alloc, COMPARED as usize)?;
         for _ in 0..COMPARED {
             texts.push(Vec::new(alloc))?;
         }
-        Ok(Recent { texts, newest: 0 })
+        Ok(Recent {
+            texts,
+            names: vec![in alloc; name; COMPARED as usize]?,
+            newest: 0,
+            name,
+        })
     }
 
     /// Notes the text of the next edit.
     pub fn note(&mut self, text: &[u8]) -> Result<(), AllocError> {
         self.newest = self.newest.saturating_add(1);
         let at = (self.newest % COMPARED) as usize;
+        if let Some(place) = self.names.get_mut(at) {
+            *place = self.name;
+        }
+        self.name = name_with(&self.name, text);
         if let Some(place) = self.texts.get_mut(at) {
             place.clear();
             place.extend_from_slice(text)?;
@@ -108,6 +131,15 @@ impl Recent {
     /// The version before the first edit that is compared.
     pub fn before(&self) -> u64 {
         self.newest.saturating_sub(COMPARED)
+    }
+
+    /// The name of the history before the first edit that is compared.
+    pub fn name_before(&self) -> Name {
+        let at = (self.before().saturating_add(1) % COMPARED) as usize;
+        if self.newest == 0 {
+            return self.name;
+        }
+        self.names.get(at).copied().unwrap_or(self.name)
     }
 
     /// The text of an edit, if it is one of the last.

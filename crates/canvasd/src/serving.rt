@@ -10,15 +10,16 @@ use crate::feeding::Fed;
 use crate::folder::{hold, look, path_in};
 use crate::follow_begin::{first_followed, judge_addresses, next_followed};
 use crate::follower::{Follows, serve_followed};
-use crate::gate::{Gate, Kept, guard_gate, serve_behind, serve_behind_fed, watch_gate};
+use crate::gate::{Gate, Kept, Limits, guard_gate, serve_behind, serve_behind_fed, watch_gate};
 use crate::guard::Ground;
 use crate::holding::HeldJournal;
-use crate::journal::{JournalFile, Reason, open_journal};
+use crate::journal::{Extent, JournalFile, Reason, open_journal};
 use crate::maker::begin;
 use crate::names::Names;
 use crate::opening::{read_document, saved};
 use crate::recent::Own;
 use crate::scribing::open_to_read;
+use crate::sealing::start_of;
 use crate::seats::{line_fault, take_seat};
 use crate::status_doors::{Desk, close_status, open_status};
 use crate::store::Link;
@@ -33,6 +34,7 @@ use canvas_journal::DeviceError;
 use canvas_journal_file::Asked;
 use canvas_keep::{KeepFault, OpenFault, open};
 use canvas_line::{Line, LineFault, Lines, Opened, Seat};
+use canvas_seal::Name;
 use canvas_server::{DoorSettings, Ended, ServerFault};
 use canvas_status::Counts;
 use log::{Log, info};
@@ -205,7 +207,7 @@ fn begin_next<H: Files<File = File> + Wait, K: Log>(
     opening: &[u8],
 ) -> Result<u32, Fault> {
     let service = house.service;
-    info!(*log; "generation {whole} has all its {} edits, and generation {next} begins", service.limit);
+    info!(*log; "generation {whole} is full, and generation {next} begins");
     if let Some(link) = house.link {
         link.begin(rt, next, opening)?;
     }
@@ -278,6 +280,10 @@ struct Run<'a> {
     number: u32,
     ground: Ground<'a>,
     reason: Reason,
+    // How many bytes the journal has.
+    extent: Extent,
+    // What the seals of its lines go on from, where they have seals.
+    start: Option<Name>,
     begun: Instant,
     // Whether the doors are told once the journal is open.
     is_first: bool,
@@ -305,14 +311,17 @@ fn serve_generation<
 ) -> Result<Vec<u8>, Fault> {
     let begun = now(rt)?;
     let service = house.service;
+    let start = start_of(rt, alloc, service.folder, number)?;
     let document = opening_document(rt, alloc, service.folder, number)?;
     let reason = Reason::none(alloc)?;
+    let extent = Extent::none(alloc)?;
     let (device, lines) = open_journal(
         rt,
         alloc,
         service.folder,
         number,
         &reason,
+        &extent,
         house.counts,
         house.held,
         house.link,
@@ -326,6 +335,8 @@ fn serve_generation<
             link: house.link,
         },
         reason,
+        extent,
+        start,
         begun,
         is_first,
     };
@@ -383,12 +394,13 @@ fn serve_line<
     let Some(watch) = take_seat(&mut seats) else {
         return Err(Fault::Server(ServerFault::NoSeats));
     };
-    let keeper = match open(rt, alloc, device, keeper) {
+    let keeper = match open(rt, alloc, device, keeper, &run.start) {
         Ok(keeper) => keeper,
         Err(fault) => return Err(open_fault(rt, &fault, run)),
     };
     tell_recovery(rt, log, keeper.kept(), run);
-    let gate = match Gate::new(rt, alloc, keeper, watch, run.house.service.limit) {
+    let limits = run.limits()?;
+    let gate = match Gate::new(rt, alloc, keeper, watch, limits) {
         Ok(gate) => gate,
         Err(fault) => return Err(line_fault(&fault)),
     };
@@ -607,7 +619,7 @@ fn serve_at_doors<
     };
     let fed = Fed {
         feed: &Feed::open(rt, alloc, service.folder, run.number)?,
-        journal: &open_to_read(rt, alloc, service.folder, run.number)?,
+        journal: &open_to_read(rt, alloc, service.folder, run.number, run.start)?,
         number: run.number,
         doors: feeds,
         counts,
@@ -710,6 +722,16 @@ fn newest_text<L: Lines, H: Names + Wait + Clock>(
 }
 
 impl Run<'_> {
+    // With what the generation ends.
+    fn limits(&self) -> Result<Limits, Fault> {
+        let service = self.house.service;
+        Ok(Limits {
+            edits: service.limit,
+            bytes: service.limit_bytes,
+            extent: self.extent.shared()?,
+        })
+    }
+
     // The journal is lost, or what it stands on.
     fn lost<H: Wait>(&self, rt: &H, fault: KeepFault) -> Fault {
         if let Some(fault) = self.ground.fault(rt) {
@@ -728,6 +750,10 @@ fn open_fault<H: Wait>(rt: &H, fault: &OpenFault, run: &Run<'_>) -> Fault {
     match fault {
         OpenFault::Device(DeviceError::Memory) => Fault::Memory,
         OpenFault::Device(error) => run.lost(rt, KeepFault::Device(*error)),
+        OpenFault::Damaged(damage) => Fault::Damaged {
+            number: run.number,
+            damage: *damage,
+        },
         OpenFault::Replay(fault) => Fault::Line {
             number: run.number,
             line: fault.line,

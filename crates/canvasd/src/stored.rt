@@ -6,10 +6,12 @@ use crate::folder::{Found, keep_folder, look, path_in};
 use crate::journal::read_all;
 use crate::maker::begin;
 use crate::opening::saved;
+use crate::sealing::HASH;
 use crate::serving::first_document;
 use crate::store::Link;
 use crate::words::Service;
 use canvas_folder::{JOURNAL, STORE, State, state_of};
+use canvas_journal::first_line;
 use canvas_store::{Held, StoreFault, name_of};
 use log::{Log, info, warn};
 use std::alloc::{AllocError, Global};
@@ -119,6 +121,28 @@ fn begin_held<H: Files<File = File> + Wait>(
     Ok(1)
 }
 
+// Whether lines have no seals: the first one ends as the text of an edit does.
+fn is_plain(journal: &[u8]) -> bool {
+    match first_line(journal) {
+        Some((line, _)) => line.ends_with(b"}"),
+        None => false,
+    }
+}
+
+// Takes the hash of an opening away, since no seals go on from it.
+fn forget_hash<H: Files<File = File>>(
+    rt: &H,
+    alloc: Global,
+    folder: &str,
+    number: u32,
+) -> Result<(), Fault> {
+    let path = path_in(alloc, folder, number, HASH)?;
+    match fs::remove_file(rt, path.as_str()) {
+        Ok(()) => Ok(()),
+        Err(error) => Err(refused(Place::Hash(number), Deed::Make, error)),
+    }
+}
+
 // Makes a generation of the folder anew of what the store has kept.
 fn remake<H: Files<File = File> + Alloc + Clone + Drop>(
     rt: &H,
@@ -134,6 +158,9 @@ fn remake<H: Files<File = File> + Alloc + Clone + Drop>(
         Err(error) => return Err(refused(Place::Journal(number), Deed::Make, error)),
     }
     begin(rt, alloc, folder, number, &held.opening)?;
+    if is_plain(&held.journal) {
+        forget_hash(rt, alloc, folder, number)?;
+    }
     let mut how = OpenOptions::new();
     how.write(true);
     let mut file = match how.open(rt, path.as_str()) {

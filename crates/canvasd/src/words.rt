@@ -13,6 +13,9 @@ pub const DEFAULT_ADDRESS: &str = "127.0.0.1:7878";
 /// The most sessions at once.
 const MOST_SEATS: u32 = 62;
 
+/// With how many bytes of its journal a generation ends.
+const MOST_BYTES: u64 = 1_073_741_824;
+
 /// What the program is asked for.
 #[derive(Drop)]
 pub enum Order<'a> {
@@ -26,6 +29,10 @@ pub enum Order<'a> {
     History {
         folder: &'a str,
         version: Option<u64>,
+    },
+    /// Writes the edits of the newest generation as requests.
+    Requests {
+        folder: &'a str,
     },
 }
 
@@ -63,6 +70,8 @@ pub struct Service<'a> {
     pub share: u32,
     /// How many edits a generation takes.
     pub limit: u64,
+    /// With how many bytes of its journal it ends, too.
+    pub limit_bytes: u64,
     /// How many pictures are kept for each seat; all seats share them.
     pub keep: u32,
     /// How many threads paint a picture.
@@ -82,6 +91,7 @@ pub fn read_order<'a>(alloc: Global, words: &'a [&'a str]) -> Result<Order<'a>, 
         let folder = inner.get_str("folder").unwrap_or("");
         return match verb {
             "check" => Ok(Order::Check { folder }),
+            "requests" => Ok(Order::Requests { folder }),
             "follow" => Ok(Order::Serve(follower_of(alloc, inner)?)),
             _ => Ok(Order::History {
                 folder,
@@ -119,6 +129,7 @@ fn service_of<'a>(alloc: Global, matches: &ArgMatches<'a>) -> Result<Service<'a>
         seats,
         share: share_of(matches, seats),
         limit: matches.get_one::<u64>("limit").unwrap_or(1_000_000),
+        limit_bytes: matches.get_one::<u64>("limit-bytes").unwrap_or(MOST_BYTES),
         keep: matches.get_one::<u32>("keep").unwrap_or(8),
         workers: matches.get_one::<u32>("workers").unwrap_or(2),
         idle: matches.get_one::<u64>("idle").unwrap_or(600),
@@ -135,6 +146,8 @@ fn follower_of<'a>(alloc: Global, matches: &ArgMatches<'a>) -> Result<Service<'a
         feed: matches.get_str("source").unwrap_or(""),
         leader: matches.get_str("leader"),
     });
+    // It has the generations of its leader.
+    service.limit_bytes = u64::MAX;
     service.seats = matches.get_one::<u32>("seats").unwrap_or(MOST_SEATS - 1);
     service.share = share_of(matches, service.seats);
     Ok(service)
@@ -169,6 +182,9 @@ fn whole_command<'a>(alloc: Global) -> Result<Command<'a>, AllocError> {
         .about("Writes the document as of a version of the newest generation to standard output")
         .arg(folder_word(alloc))?
         .arg(version_word(alloc))?;
+    let requests = Command::new(alloc, "requests")
+        .about("Writes the edits of the newest generation to standard output, as requests")
+        .arg(folder_word(alloc))?;
     let follow = Command::new(alloc, "follow")
         .about("Serves a document as another server's feed tells it, and keeps it in a folder")
         .arg(source_word(alloc))?
@@ -188,10 +204,12 @@ fn whole_command<'a>(alloc: Global) -> Result<Command<'a>, AllocError> {
         .arg(folder_word(alloc))?
         .subcommand(check)?
         .subcommand(history)?
+        .subcommand(requests)?
         .subcommand(with_options(alloc, follow)?)?
         .arg(opening_word(alloc))?
         .arg(store_word(alloc))?
         .arg(limit_word(alloc))?
+        .arg(limit_bytes_word(alloc))?
         .arg(seats_word(alloc))?;
     with_options(alloc, command)
 }
@@ -199,7 +217,8 @@ fn whole_command<'a>(alloc: Global) -> Result<Command<'a>, AllocError> {
 const USAGE: &str = "canvasd FOLDER [OPTIONS]
        canvasd follow FEED FOLDER [--leader ADDRESS] [OPTIONS]
        canvasd check FOLDER
-       canvasd history FOLDER [VERSION]";
+       canvasd history FOLDER [VERSION]
+       canvasd requests FOLDER";
 
 const AFTER_HELP: &str =
     "Whoever can reach an address may edit: there are no passwords and no encryption.
@@ -258,6 +277,15 @@ fn limit_word<'a>(alloc: Global) -> Arg<'a> {
         "Edits of a generation, 1 to 1000000 [default: 1000000]",
     )
     .value_parser(value_parser!(u64).range(1..=1_000_000))
+}
+
+fn limit_bytes_word<'a>(alloc: Global) -> Arg<'a> {
+    number_word(
+        alloc,
+        "limit-bytes",
+        "Bytes of a generation's journal, 1 to 2^60 [default: 1073741824]",
+    )
+    .value_parser(value_parser!(u64).range(1..=1_152_921_504_606_846_976))
 }
 
 fn seats_word<'a>(alloc: Global) -> Arg<'a> {

@@ -4,6 +4,7 @@ from __future__ import annotations
 
 import asyncio
 import collections
+import hashlib
 import json
 import re
 import secrets
@@ -25,6 +26,8 @@ BEYOND = 1_000_000
 VERSION = re.compile(rb'"version":(\d+)}\Z')
 SERVED = re.compile(r"generation (\d+) is served")
 KEPT = re.compile(r"history: (\d+) edits are kept")
+NAME = re.compile(r'{"name":"([0-9a-f]{64})","version":\d+}')
+TEXT = re.compile(rb'"edit":({.*}),"id":')
 
 
 def mark_of(line: str) -> str:
@@ -52,14 +55,16 @@ class Feed:
     """Follows a feed door for ever. Edits are kept as the lines that came, by their versions.
 
     `history` names the history that is followed; it is None while the door is away, and the same one after an outage
-    only where the server's last edits are those that are known. `version` is that of the last edit. `before` names the
-    history that ended when this one's generation was begun, or is None.
+    only where the server's history has the name that is known, or, at a server of version 0.5, where its last edits are
+    those that are known. `version` is that of the last edit. `before` names the history that ended when this one's
+    generation was begun, or is None.
     """
 
     def __init__(self, address: Address) -> None:
         self._address = address
         self._lines: collections.deque[str] = collections.deque(maxlen=MOST_KEPT)
         self._name: str | None = None
+        self._digest: bytes | None = None
         self._generation = 0
         self._is_here = False
         self._complaint: str | None = None
@@ -168,14 +173,32 @@ class Feed:
             if number_of(line) != self.version + 1:
                 raise ValueError("a version is left out")
             self._lines.append(line.decode())
+            self._note(line)
             self.version += 1
         self._tell()
 
+    def _note(self, line: bytes) -> None:
+        """Notes the name that the history has behind a line."""
+        found = TEXT.search(line)
+        if self._digest is not None and found is not None:
+            self._digest = hashlib.sha256(self._digest + found[1]).digest()
+
+    async def _digest_there(self) -> bytes | None:
+        """The name of the server's history as of the last version that is known; None where it tells none."""
+        try:
+            line, = await self._some(1, since=self.version, generation=self._generation, named=True)
+        except Refused:
+            return None
+        found = NAME.fullmatch(line)
+        return bytes.fromhex(found[1]) if found else None
+
     async def _goes_on(self) -> bool:
-        """Whether the history of the server goes on where this one ends: its last edits are those that are known."""
+        """Whether the history of the server goes on where this one ends."""
         newest = await self._newest(self._generation)
         if newest is None or newest < self.version:
             return False
+        if self._digest is not None and (there := await self._digest_there()) is not None:
+            return there == self._digest
         count = min(MOST_COMPARED, len(self._lines))
         known = [self._lines[k] for k in range(len(self._lines) - count, len(self._lines))]
         try:
@@ -206,6 +229,7 @@ class Feed:
         ended, self._generation = self._generation, int(served[1])
         self.before = self._name if self._generation == ended + 1 else None
         self.version = await self._newest(self._generation) or 0
+        self._digest = await self._digest_there()
         self._name = f"{self._generation}-{secrets.token_hex(6)}"
 
     async def _refusal(self, **request: int) -> str:

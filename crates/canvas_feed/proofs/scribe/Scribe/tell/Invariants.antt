@@ -1,6 +1,7 @@
 use Rattle.std.proofs.Common.{◌≡◌, ◌+◌, ◌++◌, List, ℕ, length}
 use Rattle.canvas_journal.specs.Lines.{recovered}
 use Rattle.canvas_journal.specs.Lines.{text as text_of}
+use Rattle.canvas_seal.specs.Seals.{texts_in}
 use Rattle.canvas_feed.specs.Feed.{Tells}
 use Rattle.canvas_feed.proofs.scribe.Scribe.tell.Given as goal
 
@@ -10,7 +11,7 @@ invariant-loop-left l = record {
   count : length done + l.left ≡ l.most;
   read : recovered l.bytes ≡ done ++ recovered l.rest;
   size : length (text_of done) + length l.rest ≡ length l.bytes;
-  told : Tells done l.initial.self l.self;
+  told : Tells (texts_in l.start done) l.initial.self l.self;
 }
 
 abbrev pub decreases-loop-left : goal.decreases-loop-left

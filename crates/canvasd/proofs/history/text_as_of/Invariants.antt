@@ -1,4 +1,4 @@
-use Rattle.canvasd.proofs.history.replayed.Given as goal
+use Rattle.canvasd.proofs.history.text_as_of.Given as goal
 
 -- the line that is opened here
 abbrev pub ghosts-text_after : goal.ghosts-text_after

@@ -1,0 +1,2 @@
+mod OneLine
+pub mod Sealing
