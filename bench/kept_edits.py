@@ -25,6 +25,7 @@ from requests import TOP
 from serve import asked, document, over_turns, served
 
 sys.path[:0] = [str(TOP / it) for it in ("python", "tools", "tests", "tests/models")]
+from harness.folders import sealed, start_of  # noqa: E402
 from harness.running import Running, kept_words  # noqa: E402
 
 TURNS = 3
@@ -105,7 +106,8 @@ def measure_replay(room, file):
         pass
     journal = folder / "1" / "journal.jsonl"
     none = statistics.median(listens_after(folder) for _ in range(5))
-    journal.write_text("".join(POSE % (1 + k % 10, k % 200, k % 7) for k in range(EDITS)) + "\n")
+    texts = [(POSE % (1 + k % 10, k % 200, k % 7)).strip().encode() for k in range(EDITS)]
+    journal.write_bytes(sealed(start_of(journal.parent), texts))
     size = journal.stat().st_size
     many = statistics.median(listens_after(folder) for _ in range(5))
     print(f"a journal of {EDITS:,} edits, {size:,} bytes: canvasd listens after {many:.3f} s, with none after {none:.3f} s: {many - none:.3f} s for the edits")

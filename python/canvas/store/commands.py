@@ -3,6 +3,7 @@
 from __future__ import annotations
 
 import fcntl
+import hashlib
 import os
 import re
 from pathlib import Path
@@ -76,6 +77,11 @@ def import_folder(folder: str, name: str) -> None:
             connection.execute(statements.PUT_TURN, (*made, generation, number, [at], [part], len(part)))
 
 
+def has_seals(journal: bytes) -> bool:
+    """Whether the lines of a journal end in seals: one that ends as the text of an edit does has none."""
+    return not journal.partition(b"\n")[0].endswith(b"}")
+
+
 def export_to(name: str, folder: str) -> None:
     """Makes such a folder of a document."""
     target, part = Path(folder), Path(f"{folder}.part")
@@ -91,7 +97,10 @@ def export_to(name: str, folder: str) -> None:
         journal = journal_of(joined(connection.execute(statements.TURNS, values, binary=True)))
     place = part / str(row[1])
     place.mkdir(parents=True)
-    for path, data in ((place / "opening.json", opening), (place / "journal.jsonl", journal), (part / "lock", b"")):
+    files = [(place / "opening.json", opening), (place / "journal.jsonl", journal), (part / "lock", b"")]
+    if has_seals(journal):
+        files.append((place / "opening.json.sha256", f"{hashlib.sha256(opening).hexdigest()}  opening.json\n".encode()))
+    for path, data in files:
         with path.open("xb") as file:
             file.write(data)
             os.fsync(file.fileno())
