@@ -81,10 +81,11 @@ fn tell_all<G: Kept, H: Wait>(
     for _ in rt.forever() {
         end = show_page(rt, feed, &mut scribe, &names, end)?;
         names.clear();
-        let Some(kept) = gate.wait_beyond(rt, scribe.version()) else {
+        let version = scribe.version();
+        let Some(kept) = gate.wait_beyond(rt, version) else {
             return Ok(());
         };
-        let most = kept.saturating_sub(scribe.version());
+        let most = kept.saturating_sub(version);
         let Ok(count) = journal.file.read_at(&mut piece, at) else {
             return Err(FeedFault::Unread);
         };
@@ -92,22 +93,24 @@ fn tell_all<G: Kept, H: Wait>(
         if len == 0 {
             return Err(FeedFault::Strange);
         }
-        name = note_names(&mut names, name, &journal.start, &piece[..len])?;
+        let told = scribe.version().saturating_sub(version);
+        name = note_names(&mut names, name, &journal.start, &piece[..count], told)?;
         at = at.checked_add(len as u64).ok_or(FeedFault::Full)?;
     }
     unreachable!()
 }
 
-// Notes the names of the history behind the lines with which these bytes begin, and gives the last one.
+// Notes the names of the history behind so many lines, with which these bytes begin, and gives the last one.
 fn note_names(
     names: &mut Vec<Name>,
     before: Name,
     start: &Option<Name>,
     bytes: &[u8],
+    count: u64,
 ) -> Result<Name, AllocError> {
     let mut name = before;
     let mut rest = bytes;
-    for _ in 0..u64::MAX {
+    for _ in 0..count {
         let Some((line, after)) = first_line(rest) else {
             break;
         };
