@@ -376,8 +376,8 @@ class Feed:
         feed._rest, feed._seconds = bytearray(), seconds
         feed._socket = connected(address, seconds)
         feed._keep_alive()
-        wanted = {} if generation is None else {"generation": generation}
-        feed._ask({"since": since, **({"opening": True} if opening else {}), **wanted, **({"named": True} if named else {})})
+        wanted = {"opening": opening or None, "generation": generation, "named": named or None}
+        feed._ask({"since": since, **{name: value for name, value in wanted.items() if value is not None}})
         if named:
             feed._read_name()
         if opening:
