@@ -24,7 +24,7 @@ use canvas_doc::Document;
 use canvas_look::BoardFault;
 use canvas_saved::StoreFault;
 use canvas_server::{Command, ServerFault, Settings, exit_status, serve_connections};
-use canvas_session::{Heard, Hears, Served, SessionFault, Told, serve};
+use canvas_session::{Served, SessionFault, serve};
 use opening::read_document;
 use std::alloc::{AllocError, AllocFailed, Global};
 use std::fs::{File, Files};
@@ -125,7 +125,7 @@ fn main(rt: HostRuntime) -> ExitCode {
     let end = match command_of(rt.alloc(), &words) {
         Err(fault) => Err(fault),
         Ok(Command::Script { workers }) => {
-            script(&rt, rt.alloc(), workers, rt.stdin(), rt.stdout())
+            script(&rt, rt.alloc(), workers, &mut rt.stdin(), rt.stdout())
         }
         Ok(
             Command::Serve {
@@ -168,22 +168,21 @@ fn command_of(alloc: Global, words: &[String]) -> Result<Command<'_>, Fault> {
     Command::read(&texts).ok_or(Fault::Usage)
 }
 
-/// Serves an input to an output over a document of its own, in large pieces.
-fn script<H: Threads + Wait + Sync, R: Read + Drop, W: Write + Drop>(
+/// Serves a reader to an output over a document of its own, in large pieces.
+fn script<H: Threads + Wait + Sync, R: Read, W: Write + Drop>(
     rt: &H,
     alloc: Global,
     workers: u32,
-    input: R,
+    reader: &mut R,
     output: W,
 ) -> Result<(), Fault> {
-    let mut reader = Heard::new(input);
-    let mut writer = BufWriter::new(alloc, Told::new(output))?;
-    serve_empty(rt, alloc, workers, &mut reader, &mut writer)?;
+    let mut writer = BufWriter::new(alloc, output)?;
+    serve_empty(rt, alloc, workers, reader, &mut writer)?;
     Ok(())
 }
 
 /// Serves a reader to a writer over a document of its own, which begins empty.
-fn serve_empty<H: Threads + Wait + Sync, R: Hears, W: Write>(
+fn serve_empty<H: Threads + Wait + Sync, R: Read, W: Write>(
     rt: &H,
     alloc: Global,
     workers: u32,
@@ -191,8 +190,8 @@ fn serve_empty<H: Threads + Wait + Sync, R: Hears, W: Write>(
     writer: &mut W,
 ) -> Result<Served, Fault>
     ensures { IfOk result (λ served. (after : Seen) × Serves workers (record {
-      input = R.source reader.old;
-      unread = R.source reader.new;
+      input = R.remaining reader.old;
+      unread = R.remaining reader.new;
       held = W.contents writer.old;
       output = W.contents writer.new;
       before = alone_board (record { records = []; next = 1 }) 1000000 [];

@@ -1,5 +1,6 @@
 -- What a beginning of the input tells of the whole input.
-use Rattle.std.proofs.Common.{◌≡◌, ℕ, ◌+◌, ◌<◌, ◌≤◌, List, [], ◌∷◌, ◌++◌, Bool, true, false, ◌&&◌, ◌||◌, nat_eq, nat_le, length, take, drop, refl, Option, None, Some, sym, ap, ◌∙◌, arith, append_assoc, append-nil, length-append, length-take-le, length-drop}
+use Rattle.std.proofs.Common.{◌≡◌, ℕ, ◌+◌, ◌<◌, ◌≤◌, List, [], ◌∷◌, ◌++◌, Bool, true, false, ◌&&◌, ◌||◌, nat_eq, nat_le, length, take, drop, refl, Option, None, Some, sym, ap, ◌∙◌, arith, append_assoc, length-append, length-take-le, length-drop}
+use Rattle.std.proofs.KnownBytes.{Consumes-trans}
 use Rattle.std.proofs.lemmas.Bool.Decides.{Decides-eqb, nat_tests}
 use Rattle.std.proofs.lemmas.List.{take-append-drop, take-append-le}
 use Rattle.std.proofs.lemmas.List.Folds.{prefix_len-append}
@@ -7,11 +8,9 @@ use Rattle.std.proofs.lemmas.Slice.Eq.{starts_is}
 use Rattle.std.proofs.Math.Seq.{take-append-add, take-length}
 use Rattle.std.specs.Cmp.Lexicographic.{pointwise}
 use Rattle.std.specs.List.{starts_with}
-use Rattle.canvas_session.specs.Source.{Source, Takes}
-use Rattle.canvas_session.proofs.Sources.{takes-trans}
-use Rattle.canvas_doors.specs.Beginning.{Begins, Brings, Tells, TellsOf}
-use Rattle.canvas_doors.specs.declared.first_line.Beginning.{Beginning}
-use Rattle.canvas_doors.specs.declared.first_line.Beginning.TheVariants.{Foreign, Session, Unread}
+use Rattle.std.specs.Io.KnownBytes.{Consumes}
+use Rattle.canvas_doors.specs.Beginning.{Brings, TellsOf}
+use Rattle.canvas_doors.specs.declared.first_line.Beginning.TheVariants.{Session}
 use Rattle.canvas_doors.specs.Foreign.{begins_with_control, begins_with_method, begins_with_one, first_line, has_line, is_foreign, is_http, is_inside, line_len, methods}
 
 -- bytes without an LF, and others behind them
@@ -134,18 +133,12 @@ line_len-none xs more seen n within front is counts most none =
     line_len-more xs seen within front (ap line_len (sym is) ∙ sym counts ∙ omega (arith, most, none) ∙ ap length is)
 
 -- more was read behind what was read before
-pub brought : (a b c : Source) (old new : List ℕ) (count : Option ℕ) (n : ℕ) → count ≡ Some n → Takes a b old → Brings count b c old new → Takes a c new
+pub brought : (a b c : Option (List ℕ)) (old new : List ℕ) (count : Option ℕ) (n : ℕ) → count ≡ Some n → Consumes a b old → Brings count b c old new → Consumes a c new
 brought a b c old new count n is first brings =
     let more : Brings (Some n) b c old new = rw is at brings in
-    rw (more.2) (takes-trans a b c old more.0 first more.1)
+    rw (more.2) (Consumes-trans a b c old more.0 first more.1)
 
 -- what a line that is too long tells of what a reader brings
 pub long_told : (xs : List ℕ) (rest : Option (List ℕ)) → line_len xs ≡ length xs → 65536 < length xs → is_foreign xs ≡ false → TellsOf Session xs rest
 long_told xs None unended long told = tt
 long_told xs (Some ys) unended long told = told_long xs ys unended long told
-
--- what they tell whatever comes behind them, they are by themselves
-pub begins : (told : Beginning) (first : List ℕ) → ((rest : List ℕ) → Tells told first rest) → Begins told first
-begins Foreign first tells = sym (ap is_foreign (append-nil first)) ∙ tells []
-begins Session first tells = sym (ap is_foreign (append-nil first)) ∙ tells []
-begins Unread first tells = tt

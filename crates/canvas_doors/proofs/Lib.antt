@@ -1,4 +1,3 @@
 pub mod Begun
 pub mod Passing
-pub mod Resuming
 pub mod Written

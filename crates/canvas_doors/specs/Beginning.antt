@@ -1,7 +1,6 @@
 -- What the first bytes of a client tell.
 use Rattle.std.specs.Prelude.{◌≡◌, ℕ, ◌++◌, List, Option, None, Some, IfSome, length, true, false}
-use Rattle.std.specs.Io.KnownBytes.{IsAtEnd}
-use Rattle.canvas_session.specs.Source.{Rests, Source, Takes}
+use Rattle.std.specs.Io.KnownBytes.{Consumes, IsAtEnd, Keeps}
 use Rattle.canvas_doors.specs.Foreign.{is_foreign}
 use Rattle.canvas_doors.specs.declared.first_line.Beginning.{Beginning}
 use Rattle.canvas_doors.specs.declared.first_line.Beginning.TheVariants.{Foreign, Session, Unread}
@@ -16,13 +15,7 @@ Tells Unread first rest = Unit {0}
 abbrev pub TellsOf : Beginning → List ℕ → Option (List ℕ) → Type 0
 TellsOf told first rest = IfSome rest (λ bytes. Tells told first bytes)
 
--- what these bytes are by themselves
-abbrev pub Begins : Beginning → List ℕ → Type 0
-Begins Foreign first = is_foreign first ≡ true
-Begins Session first = is_foreign first ≡ false
-Begins Unread first = Unit {0}
-
 -- so many bytes were read, none only at the end, and stand behind those before; nothing was read where the read failed
-abbrev pub Brings : Option ℕ → Source → Source → List ℕ → List ℕ → Type 0
-Brings None from to old new = Rests from to × (new ≡ old)
-Brings (Some count) from to old new = (more : List ℕ) × Takes from to more × (new ≡ old ++ more) × (length more ≡ count) × (count ≡ 0 → IsAtEnd to.left)
+abbrev pub Brings : Option ℕ → Option (List ℕ) → Option (List ℕ) → List ℕ → List ℕ → Type 0
+Brings None from to old new = Keeps from to × (new ≡ old)
+Brings (Some count) from to old new = (more : List ℕ) × Consumes from to more × (new ≡ old ++ more) × (length more ≡ count) × (count ≡ 0 → IsAtEnd to)

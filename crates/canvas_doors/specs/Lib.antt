@@ -3,7 +3,5 @@ pub mod Beginning
 pub mod Foreign
 pub mod Gate
 pub mod Outlet
-pub mod Resumed
 pub mod Seats
-pub mod Timely
 pub mod Waits

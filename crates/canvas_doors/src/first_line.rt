@@ -1,14 +1,13 @@
 //! The first line that a client sends.
 
 ghost use Rattle.std.specs.Prelude.{◌≡◌, ◌<◌, ◌≤◌, ℕ, [], false, length, take, vec_len, List, IfNone, IfOk, IfSome};
-ghost use Rattle.std.specs.Io.KnownBytes.{IsAtEnd};
-ghost use Rattle.canvas_session.specs.Source.{Takes};
-ghost use Rattle.canvas_doors.specs.Beginning.{Begins, Brings, Tells, TellsOf};
+ghost use Rattle.std.specs.Io.KnownBytes.{Consumes, IsAtEnd, Keeps};
+ghost use Rattle.canvas_doors.specs.Beginning.{Brings, Tells, TellsOf};
 ghost use Rattle.canvas_doors.specs.Foreign.{is_foreign, line_len};
 
 use crate::foreign::{MOST_LINE, begins_foreign, is_foreign, line_len};
-use canvas_session::Hears;
 use std::alloc::AllocError;
+use std::io::Read;
 
 /// How many bytes are read at once.
 const PIECE: usize = 4_096;
@@ -27,13 +26,11 @@ pub enum Beginning {
 /// Reads until it is known whether what a client sends is a session, and puts what was read into
 /// `first`. Of a session that is its whole first line, or all that there is of it up to 65,537 bytes
 /// and a piece.
-pub fn read_first<R: Hears>(reader: &mut R, first: &mut Vec<u8>) -> Result<Beginning, AllocError>
+pub fn read_first<R: Read>(reader: &mut R, first: &mut Vec<u8>) -> Result<Beginning, AllocError>
     requires { first.old.items ≡ [] }
-    ensures read { IfOk result (λ _. Takes (R.source reader.old) (R.source reader.new)
+    ensures read { IfOk result (λ _. Consumes (R.remaining reader.old) (R.remaining reader.new)
         first.new.items) }
-    ensures told { IfOk result (λ told. TellsOf told first.new.items
-        (R.source reader.new).left) }
-    ensures begins { IfOk result (λ told. Begins told first.new.items) }
+    ensures told { IfOk result (λ told. TellsOf told first.new.items (R.remaining reader.new)) }
 {
     while first.len() <= MOST_LINE {
         let seen = first.len();
@@ -51,12 +48,12 @@ pub fn read_first<R: Hears>(reader: &mut R, first: &mut Vec<u8>) -> Result<Begin
 
 // Reads behind the bytes that came, and says how many more came: none at the end. `None` where the
 // read failed.
-fn read_more<R: Hears>(reader: &mut R, first: &mut Vec<u8>) -> Result<Option<usize>, AllocError>
-    ensures { IfOk result (λ count. Brings count (R.source reader.old) (R.source reader.new)
+fn read_more<R: Read>(reader: &mut R, first: &mut Vec<u8>) -> Result<Option<usize>, AllocError>
+    ensures { IfOk result (λ count. Brings count (R.remaining reader.old) (R.remaining reader.new)
         first.old.items first.new.items) }
 {
     let mut piece = [0u8; PIECE];
-    match reader.hear(&mut piece) {
+    match reader.read(&mut piece) {
         Ok(count) => {
             first.extend_from_slice(&piece[..count])?;
             Ok(Some(count))

@@ -13,10 +13,8 @@ mod gate;
 mod gated;
 mod only_reply;
 mod outlet;
-mod resumed;
 mod seats;
 mod timely;
-mod told;
 mod waits;
 
 pub use accepting::{Arrival, close_doors, is_passing, next_stream};
@@ -31,6 +29,5 @@ pub use gate::{Settles, Unkept};
 pub use gated::{Connection, Gated};
 pub use only_reply::{refuse, refuse_foreign};
 pub use outlet::{Outlet, WriteTwo};
-pub use resumed::Resumed;
 pub use seats::{Guest, Seats, Settling, Shares};
 pub use timely::{Lapse, Timely};

@@ -1,13 +1,9 @@
 //! Reading from a client that is not waited for without end.
 
-ghost use Rattle.std.specs.Prelude.{◌≡◌, [], None};
 ghost use Rattle.std.specs.Io.{ReadsAtMost};
-ghost use Rattle.canvas_session.specs.Source.{Hearing};
-ghost use Rattle.canvas_doors.specs.Timely.{heard_by};
 
 use crate::doors::Stream;
 use crate::waits::{time_left, waited_after};
-use canvas_session::{Heard, Hears};
 use std::cell::Cell;
 use std::io;
 use std::io::{ErrorKind, Read};
@@ -35,7 +31,6 @@ pub enum Lapse {
 pub struct Timely<'a, H: Clock> {
     rt: &'a H,
     stream: &'a Stream,
-    heard: Heard<&'a Stream>,
     // After how many silent seconds it is waited for no longer, 0 for never.
     idle: u64,
     // How many microseconds a line has.
@@ -55,13 +50,10 @@ impl<'a, H: Clock> Timely<'a, H> {
         stream: &'a Stream,
         idle: u64,
         lapse: &'a Cell<Option<Lapse>>,
-    ) -> Timely<'a, H>
-        ensures { result.heard.noted.bytes ≡ [] }
-    {
+    ) -> Timely<'a, H> {
         Timely {
             rt,
             stream,
-            heard: Heard::new(stream),
             idle,
             most: LINE_TIME * 1_000_000,
             waited: None,
@@ -76,13 +68,10 @@ impl<'a, H: Clock> Timely<'a, H> {
         stream: &'a Stream,
         seconds: u64,
         lapse: &'a Cell<Option<Lapse>>,
-    ) -> Timely<'a, H>
-        ensures { result.heard.noted.bytes ≡ [] }
-    {
+    ) -> Timely<'a, H> {
         Timely {
             rt,
             stream,
-            heard: Heard::new(stream),
             idle: 0,
             most: seconds.saturating_mul(1_000_000),
             waited: Some(0),
@@ -93,14 +82,14 @@ impl<'a, H: Clock> Timely<'a, H> {
 
     // Reads between two lines.
     fn read_next(&mut self, bytes: &mut [u8]) -> io::Result<usize>
-        ensures bound { ReadsAtMost result bytes.new }
-        ensures bytes { Hearing (heard_by self.old) (heard_by self.new) result bytes.new }
+        ensures { ReadsAtMost result bytes.new }
     {
         if self.is_hurried {
             self.stream.set_patience(patience(self.idle))?;
             self.is_hurried = false;
         }
-        match self.heard.hear(bytes) {
+        let mut stream = self.stream;
+        match stream.read(bytes) {
             Ok(count) => {
                 self.waited = waited_after(None, &bytes[..count], 0);
                 Ok(count)
@@ -111,8 +100,7 @@ impl<'a, H: Clock> Timely<'a, H> {
 
     // Reads inside a line that has been waited for so long.
     fn read_on(&mut self, bytes: &mut [u8], waited: u64) -> io::Result<usize>
-        ensures bound { ReadsAtMost result bytes.new }
-        ensures bytes { Hearing (heard_by self.old) (heard_by self.new) result bytes.new }
+        ensures { ReadsAtMost result bytes.new }
     {
         let Some(left) = time_left(waited, self.most) else {
             return Err(self.note(ErrorKind::WouldBlock.into(), Lapse::Slow));
@@ -124,7 +112,8 @@ impl<'a, H: Clock> Timely<'a, H> {
         let begun = Instant::now(self.rt)?;
         self.stream.set_read_timeout(Duration::from_micros(micros))?;
         self.is_hurried = true;
-        match self.heard.hear(bytes) {
+        let mut stream = self.stream;
+        match stream.read(bytes) {
             Ok(count) => {
                 let passed = self.micros_since(begun);
                 self.waited = waited_after(Some(waited), &bytes[..count], passed);
@@ -150,10 +139,8 @@ impl<'a, H: Clock> Timely<'a, H> {
     }
 }
 
-impl<H: Clock> Hears for Timely<'_, H> {
-    ghost source = { heard_by };
-
-    fn hear(&mut self, bytes: &mut [u8]) -> io::Result<usize> {
+impl<H: Clock> Read for Timely<'_, H> {
+    fn read(&mut self, bytes: &mut [u8]) -> io::Result<usize> {
         if self.lapse.get().is_some() {
             return Err(ErrorKind::WouldBlock.into());
         }
@@ -168,12 +155,6 @@ impl<H: Clock> Hears for Timely<'_, H> {
             }
         }
         Err(ErrorKind::Interrupted.into())
-    }
-}
-
-impl<H: Clock> Read for Timely<'_, H> {
-    fn read(&mut self, bytes: &mut [u8]) -> io::Result<usize> {
-        self.hear(bytes)
     }
 }
 

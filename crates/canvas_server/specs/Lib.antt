@@ -3,5 +3,4 @@ pub mod Doors
 pub mod Faults
 pub mod Settings
 pub mod Statuses
-pub mod Visit
 pub mod Words

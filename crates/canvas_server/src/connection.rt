@@ -1,16 +1,17 @@
 //! The bytes of one connection.
 
-ghost use Rattle.std.specs.Prelude.{◌≡◌, ℕ, IfSome};
+ghost use Rattle.std.specs.Prelude.{◌≡◌, ℕ, IfSome, List, Option};
 ghost use Rattle.canvas_server.specs.Connection.{IsAnswered};
 ghost use Rattle.canvas_doors.specs.Gate.{HasPassed};
 
 use crate::workers::Workers;
 use canvas_doors::{
-    Beginning, Connection, Gated, Outlet, Resumed, Settles, WriteTwo, read_first, refuse_foreign,
+    Beginning, Connection, Gated, Outlet, Settles, WriteTwo, read_first, refuse_foreign,
 };
 use canvas_look::Board;
-use canvas_session::{Hears, Served, SessionFault, Witness, serve_before};
+use canvas_session::{Served, SessionFault, Witness, serve_before};
 use std::alloc::Global;
+use std::io::Read;
 use std::marker::Brand;
 use std::sync::Wait;
 use std::thread::Threads;
@@ -26,7 +27,7 @@ pub enum Answered {
     Unread,
 }
 
-/// Answers what a reader brings until that has ended, to a writer; both come back. A gate is asked
+/// Answers what a reader brings until that has ended, to a writer that comes back. A gate is asked
 /// before any bytes are handed to the writer, and a witness is told of each answer of a session.
 /// `None` where no memory could be had or not all was sent.
 pub fn answer<
@@ -34,7 +35,7 @@ pub fn answer<
     B: Board,
     G: Settles,
     O: Witness,
-    R: Hears + Drop,
+    R: Read + Drop,
     W: WriteTwo + Drop,
 >(
     rt: &H,
@@ -45,17 +46,18 @@ pub fn answer<
     witness: &O,
     reader: R,
     writer: W,
-) -> (R, W, Option<Answered>)
-    ensures answered { IfSome result.2 (IsAnswered workers.now (record {
-      input = R.source reader;
-      unread = R.source result.0;
-      held = W.contents writer;
-      output = W.contents result.1;
-      before = B.seen board.old;
-      after = B.seen board.new;
-    })) }
+) -> (W, Option<Answered>)
+    ensures answered { IfSome result.1 (λ answered. (unread : Option (List ℕ))
+        × IsAnswered workers.now (record {
+          input = R.remaining reader;
+          unread = unread;
+          held = W.contents writer;
+          output = W.contents result.0;
+          before = B.seen board.old;
+          after = B.seen board.new;
+        }) answered) }
     ensures settled { ∥ ((n : ℕ)
-        × HasPassed (G.settled gate.now) (W.contents writer) (W.contents result.1) n) ∥₁ }
+        × HasPassed (G.settled gate.now) (W.contents writer) (W.contents result.0) n) ∥₁ }
 {
     answer_gated::<Brand, H, B, G, O, R, W>(
         rt, alloc, board, workers, gate, witness, reader, writer,
@@ -69,7 +71,7 @@ fn answer_gated<
     B: Board,
     G: Settles,
     O: Witness,
-    R: Hears + Drop,
+    R: Read + Drop,
     W: WriteTwo + Drop,
 >(
     rt: &H,
@@ -80,33 +82,28 @@ fn answer_gated<
     witness: &O,
     reader: R,
     writer: W,
-) -> (R, W, Option<Answered>)
+) -> (W, Option<Answered>)
     requires begun { K.begun ≡ W.contents writer }
     requires tells { (n : ℕ) → G.settled gate.now n → K.settled n }
-    ensures answered { IfSome result.2 (IsAnswered workers.now (record {
-      input = R.source reader;
-      unread = R.source result.0;
-      held = W.contents writer;
-      output = W.contents result.1;
-      before = B.seen board.old;
-      after = B.seen board.new;
-    })) }
-    ensures settled { ∥ ((n : ℕ) × HasPassed K.settled K.begun (W.contents result.1) n) ∥₁ }
+    ensures answered { IfSome result.1 (λ answered. (unread : Option (List ℕ))
+        × IsAnswered workers.now (record {
+          input = R.remaining reader;
+          unread = unread;
+          held = W.contents writer;
+          output = W.contents result.0;
+          before = B.seen board.old;
+          after = B.seen board.new;
+        }) answered) }
+    ensures settled { ∥ ((n : ℕ) × HasPassed K.settled K.begun (W.contents result.0) n) ∥₁ }
 {
     let gated = Gated::<K, H, G, W>::new(rt, gate, writer);
-    let (reader, gated, answered) = answer_input(rt, alloc, board, workers, witness, reader, gated);
-    (reader, gated.into_inner(), answered)
+    let (gated, answered) = answer_input(rt, alloc, board, workers, witness, reader, gated);
+    (gated.into_inner(), answered)
 }
 
-// Answers what a reader brings, to a writer; both come back. `None` where no memory could be had or
+// Answers what a reader brings, to a writer that comes back: `None` where no memory could be had or
 // not all was sent.
-fn answer_input<
-    H: Threads + Wait + Sync,
-    B: Board,
-    O: Witness,
-    R: Hears + Drop,
-    W: WriteTwo + Drop,
->(
+fn answer_input<H: Threads + Wait + Sync, B: Board, O: Witness, R: Read + Drop, W: WriteTwo + Drop>(
     rt: &H,
     alloc: Global,
     board: &mut B,
@@ -114,45 +111,44 @@ fn answer_input<
     witness: &O,
     mut reader: R,
     mut writer: W,
-) -> (R, W, Option<Answered>)
-    ensures { IfSome result.2 (IsAnswered workers.now (record {
-      input = R.source reader;
-      unread = R.source result.0;
-      held = W.contents writer;
-      output = W.contents result.1;
-      before = B.seen board.old;
-      after = B.seen board.new;
-    })) }
+) -> (W, Option<Answered>)
+    ensures { IfSome result.1 (λ answered. (unread : Option (List ℕ))
+        × IsAnswered workers.now (record {
+          input = R.remaining reader;
+          unread = unread;
+          held = W.contents writer;
+          output = W.contents result.0;
+          before = B.seen board.old;
+          after = B.seen board.new;
+        }) answered) }
 {
     let mut first = Vec::new(alloc);
     match read_first(&mut reader, &mut first) {
-        Err(_) => return (reader, writer, None),
-        Ok(Beginning::Unread) => return (reader, writer, Some(Answered::Unread)),
+        Err(_) => return (writer, None),
+        Ok(Beginning::Unread) => return (writer, Some(Answered::Unread)),
         Ok(Beginning::Foreign) => {
             if !refuse_foreign(&mut writer) {
-                return (reader, writer, None);
+                return (writer, None);
             }
-            return (reader, writer, Some(Answered::Foreign));
+            return (writer, Some(Answered::Foreign));
         }
         Ok(Beginning::Session) => {}
     }
     let mut outlet = match Outlet::new(alloc, writer) {
         Ok(outlet) => outlet,
-        Err(writer) => return (reader, writer, None),
+        Err(writer) => return (writer, None),
     };
-    let mut input = Resumed::new(first.as_slice(), reader);
     let ended = serve_before(
         rt,
         alloc,
         board,
         workers.count(),
         witness,
-        &mut input,
+        &mut first.as_slice().chain(reader),
         &mut outlet,
     );
-    let reader = input.into_inner();
     match outlet.finish() {
-        (writer, Ok(())) => (reader, writer, Some(Answered::Session(ended))),
-        (writer, Err(_)) => (reader, writer, None),
+        (writer, Ok(())) => (writer, Some(Answered::Session(ended))),
+        (writer, Err(_)) => (writer, None),
     }
 }

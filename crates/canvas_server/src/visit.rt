@@ -1,19 +1,15 @@
 //! One connection that has a seat: how long it may be silent, who is told of it, and what ends it.
 
-ghost use Rattle.std.specs.Prelude.{◌≡◌, [], None, Some};
-ghost use Rattle.canvas_doors.specs.Timely.{heard_by};
-ghost use Rattle.canvas_server.specs.Visit.{IsVisited, parting_by};
-
 use crate::connection::{Answered, answer};
 use crate::house::House;
 use canvas_doors::{
     Call, Ending, Events, Lapse, Parting, Settles, Stream, Timely, WriteTwo, set_up,
 };
 use canvas_look::Board;
-use canvas_session::{Cause, Hears, Told};
+use canvas_session::Cause;
 use std::cell::Cell;
 use std::io;
-use std::io::Write;
+use std::io::{Read, Write};
 use std::sync::Wait;
 use std::thread::Threads;
 use std::time::Clock;
@@ -54,29 +50,26 @@ struct Input<'c, 'e, H: Clock> {
     ending: &'e Ending,
 }
 
-impl<H: Clock> Hears for Input<'_, '_, H> {
-    ghost source = { λ input. heard_by input.client };
-
-    fn hear(&mut self, bytes: &mut [u8]) -> io::Result<usize> {
+impl<H: Clock> Read for Input<'_, '_, H> {
+    fn read(&mut self, bytes: &mut [u8]) -> io::Result<usize> {
         if self.ending.has_begun() {
             return Ok(0);
         }
-        self.client.hear(bytes)
+        self.client.read(bytes)
     }
 }
 
 /// What a client is sent. Each piece is told of.
 #[derive(Drop)]
 struct Output<'s, 'e, E: Events> {
-    stream: Told<&'s Stream>,
+    stream: &'s Stream,
     events: &'e E,
 }
 
 impl<E: Events> Write for Output<'_, '_, E> {
-    ghost contents = { λ output. Some output.stream.noted.bytes };
-
     fn write(&mut self, bytes: &[u8]) -> io::Result<usize> {
-        let sent = self.stream.write(bytes)?;
+        let mut stream = self.stream;
+        let sent = stream.write(bytes)?;
         self.events.sent(sent);
         Ok(sent)
     }
@@ -88,7 +81,8 @@ impl<E: Events> Write for Output<'_, '_, E> {
 
 impl<E: Events> WriteTwo for Output<'_, '_, E> {
     fn write_two(&mut self, first: &[u8], second: &[u8]) -> io::Result<usize> {
-        let sent = self.stream.write_two(first, second)?;
+        let mut stream = self.stream;
+        let sent = stream.write_two(first, second)?;
         self.events.sent(sent);
         Ok(sent)
     }
@@ -108,8 +102,7 @@ pub fn answer_visit<H: Threads + Wait + Clock + Sync, B: Board, G: Settles, E: E
     }
     set_up(stream, house.idle);
     house.events.began(seat);
-    let lapse = Cell::new(None);
-    let (parting, _, _) = answer_stream(rt, house, board, seat, stream, &lapse);
+    let parting = answer_stream(rt, house, board, seat, stream);
     house.events.ended(seat, &parting);
     house.ending.leave(rt, seat);
     house.ending.has_begun()
@@ -119,39 +112,30 @@ pub fn answer_visit<H: Threads + Wait + Clock + Sync, B: Board, G: Settles, E: E
         )
 }
 
-// Answers a client, and says how that ended, and what was taken from the client and sent.
-fn answer_stream<'x, 'h, H: Threads + Wait + Clock + Sync, B: Board, G: Settles, E: Events>(
+// Answers a client, and says how that ended.
+fn answer_stream<'x, H: Threads + Wait + Clock + Sync, B: Board, G: Settles, E: Events>(
     rt: &'x H,
-    house: &House<'h, B, G, E>,
+    house: &House<B, G, E>,
     board: &mut B,
     seat: usize,
     stream: &'x Stream,
-    lapse: &'x Cell<Option<Lapse>>,
-) -> (Parting, Input<'x, 'h, H>, Output<'x, 'h, E>)
-    ensures { IsVisited house.now.workers (record {
-      input = record { left = None; heard = [] };
-      unread = heard_by result.1.client;
-      held = Some [];
-      output = Some result.2.stream.noted.bytes;
-      before = B.seen board.old;
-      after = B.seen board.new;
-    }) result.0 }
-{
+) -> Parting {
+    let lapse = Cell::new(None);
     let gate = Watch {
         gate: house.gate,
         ending: house.ending,
         seat,
     };
     let input = Input {
-        client: Timely::lines(rt, stream, house.idle, lapse),
+        client: Timely::lines(rt, stream, house.idle, &lapse),
         ending: house.ending,
     };
     let output = Output {
-        stream: Told::new(stream),
+        stream,
         events: house.events,
     };
     let (alloc, workers) = (house.alloc, &house.workers);
-    let (input, output, answered) = answer(
+    let (_, answered) = answer(
         rt,
         alloc,
         board,
@@ -161,20 +145,17 @@ fn answer_stream<'x, 'h, H: Threads + Wait + Clock + Sync, B: Board, G: Settles,
         input,
         output,
     );
-    let parting = match answered {
+    match answered {
         None => Parting::Unsent,
         Some(Answered::Foreign) => Parting::Foreign,
         Some(Answered::Session(Ok(_))) => Parting::Finished,
         Some(Answered::Session(Err(fault))) => parting_of(fault.cause, lapse.get()),
         Some(Answered::Unread) => parting_of(Cause::ReadFault, lapse.get()),
-    };
-    (parting, input, output)
+    }
 }
 
 // How a session ended that did not end with its input.
-fn parting_of(cause: Cause, lapse: Option<Lapse>) -> Parting
-    ensures { result ≡ parting_by cause lapse }
-{
+fn parting_of(cause: Cause, lapse: Option<Lapse>) -> Parting {
     match (cause, lapse) {
         (Cause::ReadFault, Some(Lapse::Idle)) => Parting::Idle,
         (Cause::ReadFault, Some(Lapse::Slow)) => Parting::Slow,

@@ -1,8 +1,8 @@
 -- How a session goes on.
 use Rattle.std.proofs.Common.{◌≡◌, ℕ, suc, ◌+◌, ◌<◌, ◌≤◌, inl, inr, List, [], ◌∷◌, ◌++◌, Option, Result, length, take, drop, get_or, refl, sym, ap, ◌∙◌, arith, subst, append_assoc, append-nil, add-one, length-append, length-take-le}
 use Rattle.std.specs.List.{flat_map, AllByRecursion}
-use Rattle.std.specs.Io.KnownBytes.{Appends, Keeps}
-use Rattle.std.proofs.KnownBytes.{Appends-nil, Appends-trans, Appends-kept}
+use Rattle.std.specs.Io.KnownBytes.{Consumes, Appends, Keeps}
+use Rattle.std.proofs.KnownBytes.{Consumes-nil, Consumes-trans, Appends-nil, Appends-trans, Appends-kept}
 use Rattle.std.proofs.Math.Seq.{drop-cons, take-length, take-add, take-append_seam, drop-append_seam}
 use Rattle.std.proofs.lemmas.Grind.{flat_map-append}
 use Rattle.std.proofs.lemmas.List.{take-append-drop, get_or-take}
@@ -11,8 +11,6 @@ use Rattle.canvas_wire.specs.declared.fault.WireFault.{WireFault}
 use Rattle.canvas_wire.specs.Faults.{Gives}
 use Rattle.canvas_wire.specs.Requests.{request_of}
 use Rattle.canvas_look.specs.Seen.{Seen}
-use Rattle.canvas_session.specs.Source.{Source, Takes}
-use Rattle.canvas_session.proofs.Sources.{takes-nil, takes-trans}
 use Rattle.canvas_session.specs.Line.{LacksLf, IsLine, ended}
 use Rattle.canvas_session.specs.Pending.{TakesIn}
 use Rattle.canvas_session.specs.Response.{Response, text_of, texts_of}
@@ -70,10 +68,10 @@ line_and_rest xs n within at =
     rw (add-one, append_assoc, ← lf) (take-append-drop n xs)
 
 -- the two ends of a session
-abbrev pub ends : Source → Source → Option (List ℕ) → Option (List ℕ) → Seen → Seen → Ends
+abbrev pub ends : Option (List ℕ) → Option (List ℕ) → Option (List ℕ) → Option (List ℕ) → Seen → Seen → Ends
 ends from to out o s t = record { input = from; unread = to; held = out; output = o; before = s; after = t }
 
-pub session_begins : (workers : ℕ) (from : Source) (out : Option (List ℕ)) (s : Seen) (pending : List ℕ) → pending ≡ [] → IsSession workers (ends from from out out s s) pending 0 0
+pub session_begins : (workers : ℕ) (from out : Option (List ℕ)) (s : Seen) (pending : List ℕ) → pending ≡ [] → IsSession workers (ends from from out out s s) pending 0 0
 session_begins workers from out s pending e = rw e (record {
   talk = record {
     lines = [];
@@ -83,7 +81,7 @@ session_begins workers from out s pending e = rw e (record {
     few = omega arith;
     are_read = tt;
     steps = refl;
-    took = takes-nil from;
+    took = Consumes-nil from;
   };
   wrote = Appends-nil out;
   counted = refl;
@@ -91,7 +89,7 @@ session_begins workers from out s pending e = rw e (record {
 })
 
 -- bytes come, and the writer passes on what it holds
-pub session_waits : (workers : ℕ) (from mid to : Source) (out o p : Option (List ℕ)) (s t : Seen) (old new : List ℕ) (n w : ℕ) → IsSession workers (ends from mid out o s t) old n w
+pub session_waits : (workers : ℕ) (from mid to out o p : Option (List ℕ)) (s t : Seen) (old new : List ℕ) (n w : ℕ) → IsSession workers (ends from mid out o s t) old n w
     → TakesIn mid to old new → Keeps o p → IsSession workers (ends from to out p s t) new n w
 session_waits workers from mid to out o p s t old new n w h takes keeps =
     let before : List ℕ = flat_map ended h.talk.lines in
@@ -105,7 +103,7 @@ session_waits workers from mid to out o p s t old new n w h takes keeps =
         few = h.talk.few;
         are_read = h.talk.are_read;
         steps = h.talk.steps;
-        took = subst (Takes from to) joined (takes-trans from mid to (before ++ old) takes.0 h.talk.took takes.1);
+        took = subst (Consumes from to) joined (Consumes-trans from mid to (before ++ old) takes.0 h.talk.took takes.1);
       };
       wrote = Appends-kept out o p (texts_of h.talk.answers) h.wrote keeps;
       counted = h.counted;
@@ -113,7 +111,7 @@ session_waits workers from mid to out o p s t old new n w h takes keeps =
     }
 
 -- one more line is answered
-pub exchange_more : (workers : ℕ) (from to : Source) (out o p : Option (List ℕ)) (s t u : Seen) (old new : List ℕ) (k : ℕ) (a : Response) (h : Exchange workers (ends from to out o s t) old) → length h.lines < 1000000
+pub exchange_more : (workers : ℕ) (from to out o p : Option (List ℕ)) (s t u : Seen) (old new : List ℕ) (k : ℕ) (a : Response) (h : Exchange workers (ends from to out o s t) old) → length h.lines < 1000000
     → IsLine (take k old) → ended (take k old) ++ new ≡ old → Answers workers t (take k old) a u → Exchange workers (ends from to out p s u) new
 exchange_more workers from to out o p s t u old new k a h room line whole step =
     let lines : flat_map ended (h.lines ++ take k old ∷ []) ≡ flat_map ended h.lines ++ ended (take k old) = flat_map-append ended h.lines (take k old ∷ []) ∙ ap (λ (l : List ℕ). flat_map ended h.lines ++ l) (append-nil (ended (take k old))) in
@@ -127,13 +125,13 @@ exchange_more workers from to out o p s t u old new k a h room line whole step =
       few = omega (arith, room, length-append h.lines (take k old ∷ []));
       are_read = read_push h.lines h.reads (take k old) step.0 h.are_read step.1;
       steps = transcript_push workers s h.reads h.answers t step.0 a u h.steps step.2;
-      took = subst (Takes from to) took h.took;
+      took = subst (Consumes from to) took h.took;
     }
 
 texts_of-push : (answers : List Response) (a : Response) → texts_of (answers ++ a ∷ []) ≡ texts_of answers ++ text_of a
 texts_of-push answers a = flat_map-append text_of answers (a ∷ []) ∙ ap (λ (l : List ℕ). texts_of answers ++ l) (append-nil (text_of a))
 
-pub session_answers : (workers : ℕ) (from to : Source) (out o p : Option (List ℕ)) (s t u : Seen) (old new : List ℕ) (n w k sent : ℕ) (a : Response)
+pub session_answers : (workers : ℕ) (from to out o p : Option (List ℕ)) (s t u : Seen) (old new : List ℕ) (n w k sent : ℕ) (a : Response)
     → IsSession workers (ends from to out o s t) old n w → n < 1000000 → IsLine (take k old) → ended (take k old) ++ new ≡ old
     → Answers workers t (take k old) a u → Appends o p (take sent (text_of a)) → sent ≡ length (text_of a)
     → IsSession workers (ends from to out p s u) new (n + 1) (w + sent)
@@ -157,7 +155,7 @@ take_both front back w k e =
     ∙ ap (λ (l : List ℕ). front ++ take k l) (drop-append_seam front back)
 
 -- the last answer is cut off
-pub session_breaks : (workers : ℕ) (from to : Source) (out o p : Option (List ℕ)) (s t u : Seen) (old new : List ℕ) (n w k sent : ℕ) (a : Response)
+pub session_breaks : (workers : ℕ) (from to out o p : Option (List ℕ)) (s t u : Seen) (old new : List ℕ) (n w k sent : ℕ) (a : Response)
     → IsSession workers (ends from to out o s t) old n w → n < 1000000 → IsLine (take k old) → ended (take k old) ++ new ≡ old
     → Answers workers t (take k old) a u → Appends o p (take sent (text_of a)) → sent < length (text_of a)
     → IsBroken workers (ends from to out p s u) n (w + sent)
@@ -178,11 +176,11 @@ session_breaks workers from to out o p s t u old new n w k sent a h room line wh
       within = rw (append-nil (texts_of (h.talk.answers ++ a ∷ []))) (omega (arith, below));
       whole = rw front (omega (arith, h.bytes));
       counted = inr (omega (arith, h.counted, length-append h.talk.lines (take k old ∷ [])), below);
-      lines = first_lines from.left to.left talk.lines new talk.each talk.few talk.took.left;
+      lines = first_lines from to talk.lines new talk.each talk.few talk.took;
     }
 
 -- the writer fails after whole answers and some bytes of a closing line, or of none
-pub session_closing : (workers : ℕ) (from to : Source) (out o p : Option (List ℕ)) (s t : Seen) (pending closing : List ℕ) (n w k : ℕ) → IsSession workers (ends from to out o s t) pending n w
+pub session_closing : (workers : ℕ) (from to out o p : Option (List ℕ)) (s t : Seen) (pending closing : List ℕ) (n w k : ℕ) → IsSession workers (ends from to out o s t) pending n w
     → MayClose n pending closing → Appends o p (take k closing) → k ≤ length closing → IsBroken workers (ends from to out p s t) n (w + k)
 session_closing workers from to out o p s t pending closing n w k h closes wrote within =
     let same : n ≡ length h.talk.answers = h.counted ∙ answers_length workers (ends from to out o s t) pending h.talk in
@@ -196,11 +194,11 @@ session_closing workers from to out o p s t pending closing n w k h closes wrote
       within = omega (arith, within, h.bytes, length-append (texts_of h.talk.answers) closing);
       whole = rw front (omega (arith, h.bytes));
       counted = inl h.counted;
-      lines = first_lines from.left to.left h.talk.lines pending h.talk.each h.talk.few h.talk.took.left;
+      lines = first_lines from to h.talk.lines pending h.talk.each h.talk.few h.talk.took;
     }
 
 -- a closing line follows the answers
-pub session_closed : (workers code : ℕ) (from to : Source) (out o p : Option (List ℕ)) (s t : Seen) (pending : List ℕ) (n w k : ℕ) → IsSession workers (ends from to out o s t) pending n w
+pub session_closed : (workers code : ℕ) (from to out o p : Option (List ℕ)) (s t : Seen) (pending : List ℕ) (n w k : ℕ) → IsSession workers (ends from to out o s t) pending n w
     → Appends o p (take k (closing_line code)) → k ≡ length (closing_line code) → IsClosed workers code (ends from to out p s t) pending n (w + k)
 session_closed workers code from to out o p s t pending n w k h wrote all =
     let sent_all : take k (closing_line code) ≡ closing_line code = ap (λ j. take j (closing_line code)) all ∙ take-length (closing_line code) in

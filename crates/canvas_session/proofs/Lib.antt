@@ -1,4 +1,3 @@
-pub mod Sources
 pub mod Ranges
 pub mod Lf
 pub mod Writes

@@ -1,5 +1,5 @@
 -- What belongs to a history belongs to each longer one.
-use Rattle.std.proofs.Common.{◌≡◌, ℕ, ℤ, ◌+◌, ◌≤◌, true, false, ◌⊎◌, inl, inr, List, [], ◌∷◌, ◌++◌, Option, Result, Ok, Err, length, take, sym, ap, ◌∙◌, arith, subst}
+use Rattle.std.proofs.Common.{◌≡◌, ℕ, ℤ, ◌+◌, ◌≤◌, true, false, ◌⊎◌, inl, inr, List, [], ◌∷◌, ◌++◌, Option, None, Some, Result, Ok, Err, length, take, refl, sym, ap, ◌∙◌, arith, subst}
 use mathlib.Core.List.{IsPrefix}
 use Rattle.canvas_plane.specs.declared.windows.WindowFault.{WindowFault}
 use Rattle.canvas_record.specs.declared.edits.Change.{Change}

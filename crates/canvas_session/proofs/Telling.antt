@@ -1,8 +1,8 @@
 -- What sessions tell, by what they did.
 use Rattle.std.proofs.Common.{◌≡◌, ℕ, ◌≤◌, ◌⊎◌, inl, inr, List, [], ◌∷◌, ◌++◌, Option, Result, Ok, Err, length, take, refl, sym, arith, subst}
 use Rattle.std.specs.List.{AllByRecursion}
-use Rattle.std.specs.Io.KnownBytes.{Appends}
-use Rattle.std.proofs.KnownBytes.{Appends-nil}
+use Rattle.std.specs.Io.KnownBytes.{Consumes, Appends}
+use Rattle.std.proofs.KnownBytes.{Consumes-nil, Appends-nil}
 use Rattle.std.proofs.Math.Seq.{take-append_seam, take-length}
 use mathlib.Core.List.{IsPrefix}
 use Rattle.canvas_record.specs.declared.edits.Change.{Change}
@@ -10,8 +10,6 @@ use Rattle.canvas_record.specs.Contents.{Contents}
 use Rattle.canvas_record.specs.History.{AllFit}
 use Rattle.canvas_look.proofs.Prefixes.{prefix_self, prefix_trans, take_prefix}
 use Rattle.canvas_look.specs.Seen.{IsSound}
-use Rattle.canvas_session.specs.Source.{Source, Takes}
-use Rattle.canvas_session.proofs.Sources.{takes-nil}
 use Rattle.canvas_session.specs.Response.{texts_of}
 use Rattle.canvas_session.specs.Session.{Ends, Exchange, IsSession, IsClosed, IsBroken, IsUntouched, IsStopped, MayClose, Serves, closing_line}
 use Rattle.canvas_session.specs.OneHistory.{OneSession, AreOfOneLine, EachBelongs, SessionTells, board_of}
@@ -72,7 +70,7 @@ of-untouched workers e sound same = record {
   written = 0;
   each = tt;
   are_read = tt;
-  took = subst (λ (to : Source). Takes e.input to []) (sym same.reader) (takes-nil e.input);
+  took = subst (λ (to : Option (List ℕ)). Consumes e.input to []) (sym same.reader) (Consumes-nil e.input);
   wrote = subst (λ (to : Option (List ℕ)). Appends e.held to []) (sym same.writer) (Appends-nil e.held);
   closes = inl refl;
   belongs = belongs workers e.before e.after [] [] sound same.board;

@@ -1,4 +1,3 @@
-pub mod Source
 pub mod Line
 pub mod Next
 pub mod Pending

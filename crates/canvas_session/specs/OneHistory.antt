@@ -1,14 +1,13 @@
 -- That all that sessions were asked and answered belongs to one history.
 use Rattle.std.specs.Prelude.{◌≡◌, ℕ, false, List, [], ◌∷◌, ◌++◌, ◌⊎◌, take, Result}
 use Rattle.std.specs.List.{flat_map, AllByRecursion}
-use Rattle.std.specs.Io.KnownBytes.{Appends}
+use Rattle.std.specs.Io.KnownBytes.{Consumes, Appends}
 use mathlib.Core.List.{IsPrefix}
 use Rattle.canvas_record.specs.declared.edits.Change.{Change}
 use Rattle.canvas_record.specs.Contents.{Contents}
 use Rattle.canvas_wire.specs.declared.request.Request.{Request}
 use Rattle.canvas_wire.specs.declared.fault.WireFault.{WireFault}
 use Rattle.canvas_look.specs.Seen.{Seen}
-use Rattle.canvas_session.specs.Source.{Takes}
 use Rattle.canvas_session.specs.Line.{IsLine, ended}
 use Rattle.canvas_session.specs.Response.{Response, texts_of}
 use Rattle.canvas_session.specs.Transcript.{AreRead}
@@ -49,7 +48,7 @@ pub record SessionTells (workers : ℕ) (e : Ends) : Type 0 where
   pub written : ℕ
   pub each : AllByRecursion IsLine lines
   pub are_read : AreRead lines reads
-  pub took : Takes e.input e.unread (flat_map ended lines ++ pending)
+  pub took : Consumes e.input e.unread (flat_map ended lines ++ pending)
   pub wrote : Appends e.held e.output (take written (texts_of answers ++ closing))
   pub closes : (closing ≡ []) ⊎ ((closing ≡ closing_line 70) ⊎ (closing ≡ closing_line 73))
   pub belongs : BelongsTo workers e.before e.after.front reads answers

@@ -1,12 +1,11 @@
 -- A session: what was read, what was written, and what the board is then.
 use Rattle.std.specs.Prelude.{◌≡◌, ℕ, ◌+◌, ◌<◌, ◌≤◌, ◌⊎◌, List, [], ◌++◌, length, take, slice_index, Option, Result, Ok, Err}
 use Rattle.std.specs.List.{flat_map, AllByRecursion}
-use Rattle.std.specs.Io.KnownBytes.{Appends, IsAtEnd}
+use Rattle.std.specs.Io.KnownBytes.{Consumes, Appends, IsAtEnd}
 use Rattle.canvas_wire.specs.declared.request.Request.{Request}
 use Rattle.canvas_wire.specs.declared.fault.WireFault.{WireFault}
 use Rattle.canvas_wire.specs.Replies.{refused, line_of}
 use Rattle.canvas_look.specs.Seen.{Seen}
-use Rattle.canvas_session.specs.Source.{Source, Takes}
 use Rattle.canvas_session.specs.Line.{LacksLf, HasNoLf, IsLine, ended, AreAllLines, AreFirstLines}
 use Rattle.canvas_session.specs.Response.{Response, texts_of}
 use Rattle.canvas_session.specs.Transcript.{AreRead, IsTranscript}
@@ -16,10 +15,10 @@ use Rattle.canvas_session.specs.declared.fault.SessionFault.{SessionFault}
 use Rattle.canvas_session.specs.declared.served.Served.{Served}
 use Rattle.canvas_session.specs.Cause.{cause_code}
 
--- What a session works on: its reader, the bytes that its writer holds, where they are told, and the board; each before and after.
+-- What a session works on: the bytes that its reader has left and that its writer holds, where they are told, and the board; each before and after.
 pub record Ends : Type 0 where
-  pub input : Source
-  pub unread : Source
+  pub input : Option (List ℕ)
+  pub unread : Option (List ℕ)
   pub held : Option (List ℕ)
   pub output : Option (List ℕ)
   pub before : Seen
@@ -34,7 +33,7 @@ pub record Exchange (workers : ℕ) (e : Ends) (pending : List ℕ) : Type 0 whe
   pub few : length lines ≤ 1000000
   pub are_read : AreRead lines reads
   pub steps : IsTranscript workers e.before reads answers e.after
-  pub took : Takes e.input e.unread (flat_map ended lines ++ pending)
+  pub took : Consumes e.input e.unread (flat_map ended lines ++ pending)
 
 -- The responses were written, and nothing else.
 pub record IsSession (workers : ℕ) (e : Ends) (pending : List ℕ) (requests written : ℕ) : Type 0 where
@@ -85,7 +84,7 @@ pub record IsBroken (workers : ℕ) (e : Ends) (answered written : ℕ) : Type 0
   pub within : written ≤ length (texts_of talk.answers ++ closing)
   pub whole : length (texts_of (take answered talk.answers)) ≤ written
   pub counted : (answered ≡ length talk.lines) ⊎ ((answered + 1 ≡ length talk.lines) × (written < length (texts_of talk.answers)))
-  pub lines : AreFirstLines e.input.left talk.lines
+  pub lines : AreFirstLines e.input talk.lines
 
 -- nothing was read, written or changed
 pub record IsUntouched (e : Ends) : Type 0 where
@@ -96,8 +95,8 @@ pub record IsUntouched (e : Ends) : Type 0 where
 -- The input has ended, and each of its lines was answered.
 pub record IsServed (workers : ℕ) (e : Ends) (requests written : ℕ) : Type 0 where
   pub session : IsSession workers e [] requests written
-  pub at_end : IsAtEnd e.unread.left
-  pub lines : AreAllLines e.input.left session.talk.lines
+  pub at_end : IsAtEnd e.unread
+  pub lines : AreAllLines e.input session.talk.lines
 
 -- The input ended inside a line. The lines before it were answered.
 pub record IsCut (workers : ℕ) (e : Ends) (answered written : ℕ) : Type 0 where
@@ -106,8 +105,8 @@ pub record IsCut (workers : ℕ) (e : Ends) (answered written : ℕ) : Type 0 wh
   pub inside : 0 < length rest
   pub short : length rest ≤ 65536
   pub whole : HasNoLf rest
-  pub at_end : IsAtEnd e.unread.left
-  pub lines : AreAllLines e.input.left session.talk.lines
+  pub at_end : IsAtEnd e.unread
+  pub lines : AreAllLines e.input session.talk.lines
 
 -- A read failed. The lines that had come whole were answered.
 pub record IsUnread (workers : ℕ) (e : Ends) (answered written : ℕ) : Type 0 where
@@ -115,14 +114,14 @@ pub record IsUnread (workers : ℕ) (e : Ends) (answered written : ℕ) : Type 0
   pub session : IsSession workers e rest answered written
   pub short : length rest ≤ 65536
   pub whole : HasNoLf rest
-  pub lines : AreFirstLines e.input.left session.talk.lines
+  pub lines : AreFirstLines e.input session.talk.lines
 
 -- A line was too long. The lines before it were answered, and then it was refused.
 pub record IsTooLongClosed (workers : ℕ) (e : Ends) (answered written : ℕ) : Type 0 where
   pub pending : List ℕ
   pub closed : IsClosed workers 70 e pending answered written
   pub long : IsTooLong pending
-  pub lines : AreAllLines e.input.left closed.talk.lines
+  pub lines : AreAllLines e.input closed.talk.lines
 
 -- One line more came than a session answers. It was refused.
 pub record IsSpentClosed (workers : ℕ) (e : Ends) (answered written : ℕ) : Type 0 where
@@ -130,7 +129,7 @@ pub record IsSpentClosed (workers : ℕ) (e : Ends) (answered written : ℕ) : T
   pub closed : IsClosed workers 73 e pending answered written
   pub most : answered ≡ 1000000
   pub another : HasLine pending
-  pub lines : AreAllLines e.input.left closed.talk.lines
+  pub lines : AreAllLines e.input closed.talk.lines
 
 -- what each cause of an early end says
 abbrev pub IsStopped : ℕ → Ends → Cause → ℕ → ℕ → Type 0

@@ -6,10 +6,9 @@ ghost use Rattle.canvas_session.specs.Line.{LacksLf, HasNoLf};
 ghost use Rattle.canvas_session.specs.Pending.{TakesIn};
 ghost use Rattle.canvas_session.specs.Next.{IsInterrupted, IsNext};
 
-use crate::heard::Hears;
 use crate::pending::{Pending, ROOM};
 use std::io;
-use std::io::Write;
+use std::io::{Read, Write};
 
 /// What comes next in a session.
 #[derive(Clone, Copy, Debug, PartialEq, Eq)]
@@ -52,16 +51,16 @@ pub enum Interruption {
 }
 
 /// Finds what comes next. Where that takes a read, which may wait, the writer first passes on what it holds.
-pub fn find_next<R: Hears, W: Write>(
+pub fn find_next<R: Read, W: Write>(
     pending: &mut Pending,
     reader: &mut R,
     writer: &mut W,
 ) -> Result<Next, Interruption>
     requires { length pending.old ≤ 65537 }
-    ensures takes { TakesIn (R.source reader.old) (R.source reader.new) pending.old
+    ensures takes { TakesIn (R.remaining reader.old) (R.remaining reader.new) pending.old
         pending.new }
     ensures kept { Keeps (W.contents writer.old) (W.contents writer.new) }
-    ensures next { IfOk result (λ n. IsNext n pending.new (R.source reader.new)) }
+    ensures next { IfOk result (λ n. IsNext n pending.new (R.remaining reader.new)) }
     ensures interrupted { IfErr result (λ why. IsInterrupted why pending.new) }
 {
     if let Some(n) = lf_in(pending.as_slice()) {
@@ -77,12 +76,12 @@ pub fn find_next<R: Hears, W: Write>(
 }
 
 // Reads until it is known what comes next, where no whole line is pending.
-fn read_next<R: Hears>(pending: &mut Pending, reader: &mut R) -> io::Result<Next>
+fn read_next<R: Read>(pending: &mut Pending, reader: &mut R) -> io::Result<Next>
     requires fits { length pending.old ≤ 65537 }
     requires none { HasNoLf pending.old }
-    ensures takes { TakesIn (R.source reader.old) (R.source reader.new) pending.old
+    ensures takes { TakesIn (R.remaining reader.old) (R.remaining reader.new) pending.old
         pending.new }
-    ensures next { IfOk result (λ n. IsNext n pending.new (R.source reader.new)) }
+    ensures next { IfOk result (λ n. IsNext n pending.new (R.remaining reader.new)) }
     ensures unread { OnErr result (HasNoLf pending.new × (length pending.new ≤ 65536)) }
 {
     let mut seen = pending.as_slice().len();

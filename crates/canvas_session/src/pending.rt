@@ -1,13 +1,12 @@
 //! The bytes of a session that were read and are not answered yet.
 
 ghost use Rattle.std.specs.Prelude.{◌≡◌, ℕ, ◌<◌, ◌≤◌, ◌++◌, List, [], length, take, drop, ◌+◌, slice_range, nat_lt, vec_len, IfOk, OnOk, OnErr};
-ghost use Rattle.std.specs.Io.KnownBytes.{IsAtEnd};
+ghost use Rattle.std.specs.Io.KnownBytes.{Keeps, Consumes, IsAtEnd};
 ghost use Rattle.canvas_session.specs.Pending.{TakesIn, IsMore};
-ghost use Rattle.canvas_session.specs.Source.{Rests, Takes};
 
-use crate::heard::Hears;
 use std::alloc::{AllocError, Global};
 use std::io;
+use std::io::Read;
 use std::marker::Model;
 
 pub const ROOM: usize = 65_537;
@@ -56,12 +55,12 @@ impl Pending {
     }
 
     /// Reads what there is room for, and says whether something came.
-    pub fn fill<R: Hears>(&mut self, reader: &mut R) -> io::Result<bool>
+    pub fn fill<R: Read>(&mut self, reader: &mut R) -> io::Result<bool>
         requires { length self.old < 65537 }
-        ensures takes { TakesIn (R.source reader.old) (R.source reader.new) self.old
+        ensures takes { TakesIn (R.remaining reader.old) (R.remaining reader.new) self.old
             self.new }
         ensures fits { length self.new ≤ 65537 }
-        ensures more { IfOk result (λ any. IsMore any (R.source reader.new) self.old self.new) }
+        ensures more { IfOk result (λ any. IsMore any (R.remaining reader.new) self.old self.new) }
         ensures err { OnErr result (self.new ≡ self.old) }
     {
         let (start, end) = make_room(&mut self.bytes, self.start, self.end);
@@ -93,7 +92,7 @@ fn make_room(bytes: &mut Vec<u8>, start: usize, end: usize) -> (usize, usize)
 }
 
 /// Reads behind the range. How many bytes came is said at an error too.
-fn read_after<R: Hears>(
+fn read_after<R: Read>(
     reader: &mut R,
     bytes: &mut Vec<u8>,
     start: usize,
@@ -103,11 +102,11 @@ fn read_after<R: Hears>(
     requires room { end < vec_len bytes.old }
     ensures len { vec_len bytes.new ≡ vec_len bytes.old }
     ensures within { end + result.0 ≤ vec_len bytes.old }
-    ensures takes { TakesIn (R.source reader.old) (R.source reader.new)
+    ensures takes { TakesIn (R.remaining reader.old) (R.remaining reader.new)
         (slice_range bytes.old.items start end)
         (slice_range bytes.new.items start (end + result.0)) }
     ensures more { OnOk result.1
-        (IsMore (nat_lt 0 result.0) (R.source reader.new) (slice_range bytes.old.items start end)
+        (IsMore (nat_lt 0 result.0) (R.remaining reader.new) (slice_range bytes.old.items start end)
         (slice_range bytes.new.items start (end + result.0))) }
     ensures err { OnErr result.1 (slice_range bytes.new.items start (end + result.0)
         ≡ slice_range bytes.old.items start end) }
@@ -118,15 +117,15 @@ fn read_after<R: Hears>(
     }
 }
 
-fn read_at<R: Hears>(reader: &mut R, bytes: &mut Vec<u8>, end: usize) -> io::Result<usize>
+fn read_at<R: Read>(reader: &mut R, bytes: &mut Vec<u8>, end: usize) -> io::Result<usize>
     requires { end < vec_len bytes.old }
     ensures len { vec_len bytes.new ≡ vec_len bytes.old }
     ensures front { take end bytes.new.items ≡ take end bytes.old.items }
     ensures fits { IfOk result (λ n. end + n ≤ vec_len bytes.old) }
-    ensures ok { IfOk result (λ n. Takes (R.source reader.old) (R.source reader.new)
+    ensures ok { IfOk result (λ n. Consumes (R.remaining reader.old) (R.remaining reader.new)
         (take n (drop end bytes.new.items))) }
-    ensures end { IfOk result (λ n. n ≡ 0 → IsAtEnd (R.source reader.new).left) }
-    ensures err { OnErr result (Rests (R.source reader.old) (R.source reader.new)) }
+    ensures end { IfOk result (λ n. n ≡ 0 → IsAtEnd (R.remaining reader.new)) }
+    ensures err { OnErr result (Keeps (R.remaining reader.old) (R.remaining reader.new)) }
 {
-    reader.hear(&mut bytes[end..])
+    reader.read(&mut bytes[end..])
 }

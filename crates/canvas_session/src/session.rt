@@ -4,7 +4,6 @@ ghost use Rattle.std.specs.Prelude.{◌≡◌};
 ghost use Rattle.canvas_session.specs.Session.{Serves};
 
 use crate::fault::{Cause, SessionFault};
-use crate::heard::Hears;
 use crate::next::{Interruption, Next, find_next};
 use crate::output::{close, write_answer};
 use crate::pending::Pending;
@@ -14,7 +13,7 @@ use crate::witness::{Unwitnessed, Witness};
 use canvas_look::Board;
 use canvas_wire::RequestReader;
 use std::alloc::Global;
-use std::io::Write;
+use std::io::{Read, Write};
 use std::sync::Wait;
 use std::thread::Threads;
 
@@ -26,7 +25,7 @@ pub const MOST_REQUESTS: u64 = 1_000_000;
 /// A line is the bytes before an LF, at most 65,536. The writer is flushed before each read, which
 /// may wait, and at the end, so that no answer is held back; a writer that gathers small writes, as
 /// `BufWriter`, is welcome.
-pub fn serve<B: Board, R: Hears, W: Write, H: Threads + Wait + Sync>(
+pub fn serve<B: Board, R: Read, W: Write, H: Threads + Wait + Sync>(
     rt: &H,
     alloc: Global,
     board: &mut B,
@@ -35,8 +34,8 @@ pub fn serve<B: Board, R: Hears, W: Write, H: Threads + Wait + Sync>(
     writer: &mut W,
 ) -> Result<Served, SessionFault>
     ensures { Serves workers (record {
-      input = R.source reader.old;
-      unread = R.source reader.new;
+      input = R.remaining reader.old;
+      unread = R.remaining reader.new;
       held = W.contents writer.old;
       output = W.contents writer.new;
       before = B.seen board.old;
@@ -47,7 +46,7 @@ pub fn serve<B: Board, R: Hears, W: Write, H: Threads + Wait + Sync>(
 }
 
 /// The same, before a witness who is told of each answer.
-pub fn serve_before<B: Board, O: Witness, R: Hears, W: Write, H: Threads + Wait + Sync>(
+pub fn serve_before<B: Board, O: Witness, R: Read, W: Write, H: Threads + Wait + Sync>(
     rt: &H,
     alloc: Global,
     board: &mut B,
@@ -57,8 +56,8 @@ pub fn serve_before<B: Board, O: Witness, R: Hears, W: Write, H: Threads + Wait 
     writer: &mut W,
 ) -> Result<Served, SessionFault>
     ensures { Serves workers (record {
-      input = R.source reader.old;
-      unread = R.source reader.new;
+      input = R.remaining reader.old;
+      unread = R.remaining reader.new;
       held = W.contents writer.old;
       output = W.contents writer.new;
       before = B.seen board.old;

@@ -9,7 +9,7 @@ use crate::fakes::{Drip, Narrow};
 use canvas_board::Shared;
 use canvas_doc::Document;
 use canvas_line::{Lines, Opened};
-use canvas_session::{Heard, Served, serve};
+use canvas_session::{Served, serve};
 use std::alloc::Global;
 use std::marker::Brand;
 use std::process::Abort;
@@ -39,12 +39,10 @@ fn check_bytes<B: Lines, H: Threads + Wait + Abort + Sync>(
     alloc: Global,
     board: &mut Shared<B>,
 ) {
-    let mut drip = Heard::new(
-        Drip {
-            rest: RED,
-            reads_left: usize::MAX,
-        },
-    );
+    let mut drip = Drip {
+        rest: RED,
+        reads_left: usize::MAX,
+    };
     let mut narrow = Narrow {
         out: Vec::new(alloc),
         step: 1,

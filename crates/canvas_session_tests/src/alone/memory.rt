@@ -7,7 +7,7 @@ use crate::alone::sessions::{RED, RED_ANSWERS};
 use crate::asserts::holds;
 use canvas_board::Alone;
 use canvas_doc::Document;
-use canvas_session::{Cause, Heard, Served, SessionFault, serve};
+use canvas_session::{Cause, Served, SessionFault, serve};
 use std::alloc::Global;
 use std::process::Abort;
 use std::sync::Wait;
@@ -136,7 +136,7 @@ fn is_counted_right<H: Threads + Wait + Sync + Abort>(
     input: &[u8],
 ) -> bool {
     let mut reader = input;
-    let served = serve(rt, alloc, board, 1, &mut Heard::new(&mut reader), out);
+    let served = serve(rt, alloc, board, 1, &mut reader, out);
     let written = out.len() as u64;
     let counts = Served { requests, written };
     is_counted(&served, counts, reader.len() == input.len())
@@ -150,7 +150,7 @@ fn answers_again<H: Threads + Wait + Sync + Abort>(
     out: &mut Vec<u8>,
     end: End,
 ) -> bool {
-    let mut reader = Heard::new(end.again);
+    let mut reader = end.again;
     let served = serve(rt, alloc, board, 1, &mut reader, out);
     served.is_ok() && out.as_slice() == end.answers
 }

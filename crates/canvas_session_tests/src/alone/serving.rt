@@ -5,7 +5,7 @@ use crate::fakes::{Drip, Narrow};
 use canvas_board::Alone;
 use canvas_code::Coded;
 use canvas_doc::Document;
-use canvas_session::{Cause, Heard, Served, SessionFault, serve};
+use canvas_session::{Cause, Served, SessionFault, serve};
 use std::alloc::Global;
 use std::io::{Read, Write};
 use std::process::Abort;
@@ -25,7 +25,7 @@ pub(crate) fn served<H: Threads + Wait + Sync + Abort, R: Read, W: Write>(
     writer: &mut W,
 ) -> Result<Served, SessionFault> {
     let mut board = board(rt, alloc, Document::empty(alloc), 1_000_000);
-    serve(rt, alloc, &mut board, 1, &mut Heard::new(reader), writer)
+    serve(rt, alloc, &mut board, 1, reader, writer)
 }
 
 /// Whether every line of a session over a board has an answer, and these are written.
@@ -37,7 +37,7 @@ pub(crate) fn answers<H: Threads + Wait + Sync + Abort>(
     input: &[u8],
     output: &[u8],
 ) -> bool {
-    let mut reader = Heard::new(input);
+    let mut reader = input;
     let mut out = Vec::new(alloc);
     let served = serve(rt, alloc, &mut board, workers, &mut reader, &mut out);
     served.is_ok() && out.as_slice() == output

@@ -1,5 +1,5 @@
 use Rattle.std.proofs.Common.{arith}
-use Rattle.canvas_doors.proofs.Begun.{begins, brought, long_told}
+use Rattle.canvas_doors.proofs.Begun.{brought, long_told}
 use Rattle.canvas_doors.proofs.first_line.read_first.Goals as goal
 
 pub returns-in-Some-told_by-clause-read : goal.returns-in-Some-told_by-clause-read
@@ -14,9 +14,3 @@ loop-first-preserved g c = record {
 
 pub returns-clause-told : goal.returns-clause-told
 returns-clause-told g c = long_told c.loop-first.first.items _ c.loop-first.invariant.unended (omega (arith, c.len.ensures, c.loop-first-test.false)) c.loop-first.invariant.untold
-
-pub returns-in-Some-told_by-clause-begins : goal.returns-in-Some-told_by-clause-begins
-returns-in-Some-told_by-clause-begins g c = begins _ _ (rw c.deref.ensures.value at c.in-Some-told_by.ensures.told)
-
-pub returns-in-Some-eq0-clause-read : goal.returns-in-Some-eq0-clause-read
-returns-in-Some-eq0-clause-read g c = brought _ _ _ c.loop-first.first.items c.read_more.new.first.items c.in_ok-read_more.field-0 c.in-Some-eq0.field-0 c.in-Some-eq0.is c.loop-first.invariant.read c.in_ok-read_more.ensures

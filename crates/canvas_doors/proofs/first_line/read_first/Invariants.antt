@@ -1,11 +1,11 @@
 use Rattle.std.proofs.Common.{◌≡◌, ◌-◌, false, length}
-use Rattle.canvas_session.specs.Source.{Takes}
+use Rattle.std.specs.Io.KnownBytes.{Consumes}
 use Rattle.canvas_doors.specs.Foreign.{is_foreign, line_len}
 use Rattle.canvas_doors.proofs.first_line.read_first.Given as goal
 
 abbrev pub invariant-loop-first : goal.invariant-loop-first
 invariant-loop-first g l = record {
-  read : Takes (g.R.Hears.source l.initial.reader) (g.R.Hears.source l.reader) l.first.items;
+  read : Consumes (g.R.Read.remaining l.initial.reader) (g.R.Read.remaining l.reader) l.first.items;
   unended : line_len l.first.items ≡ length l.first.items;
   untold : is_foreign l.first.items ≡ false;
 }

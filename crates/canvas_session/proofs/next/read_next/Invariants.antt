@@ -5,7 +5,7 @@ use Rattle.canvas_session.proofs.next.read_next.Given as goal
 
 abbrev pub invariant-loop-n : goal.invariant-loop-n
 invariant-loop-n g l = record {
-  takes : TakesIn (g.R.Hears.source l.initial.reader) (g.R.Hears.source l.reader) l.initial.pending l.pending;
+  takes : TakesIn (g.R.Read.remaining l.initial.reader) (g.R.Read.remaining l.reader) l.initial.pending l.pending;
   fits : length l.pending ≤ 65537;
   within : l.seen ≤ length l.pending;
   before : LacksLf l.seen l.pending;

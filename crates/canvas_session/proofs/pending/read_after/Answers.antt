@@ -1,5 +1,5 @@
 use Rattle.std.proofs.Common.{[], take, drop, sym, ◌∙◌, append-nil}
-use Rattle.canvas_session.proofs.Sources.{takes-none}
+use Rattle.std.proofs.KnownBytes.{Consumes-nil, Consumes-kept}
 use Rattle.canvas_session.proofs.Ranges.{range_more, range_same}
 use Rattle.canvas_session.proofs.pending.read_after.Goals as goal
 
@@ -13,6 +13,6 @@ returns-in-Ok-clause-takes g c = (
 pub returns-in-Err-clause-takes : goal.returns-in-Err-clause-takes
 returns-in-Err-clause-takes g c = (
   [],
-  takes-none _ _ c.in-Err.ensures.err,
+  Consumes-kept _ _ _ [] (Consumes-nil _) c.in-Err.ensures.err,
   range_same c.args.bytes.now.items c.read_at.new.bytes.items c.args.start c.args.end c.requires.in_order c.in-Err.ensures.front ∙ sym (append-nil _),
 )
