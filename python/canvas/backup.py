@@ -121,8 +121,9 @@ class Journal:
         return self._names[0].hex()
 
     def append(self, texts: list[bytes]) -> None:
-        """Puts the lines of texts behind the others. They are put on the disk behind a closed gate, which is an LF in the place of
-        the first blank, so that none of them counts before all are there. The next closed gate is behind them."""
+        """Puts the lines of texts behind the others. They are put on the disk behind a closed gate, which is an LF in
+        the place of the first blank, so that none of them counts before all are there. The next closed gate is behind
+        them."""
         lines = self._lines_of(texts)
         self._cut()
         self._put(b"\n" + b"".join(lines)[1:] + b"\n")
@@ -154,7 +155,7 @@ class Journal:
     def _note(self, line: bytes) -> None:
         self.count += 1
         self._end += len(line)
-        text = line[1 : -2 - 2 * SEAL_BYTES] if self._has_seals else line[1:-1]
+        text = line[1:-2 - 2 * SEAL_BYTES] if self._has_seals else line[1:-1]
         self._last.append(text)
         self._names.append(hashlib.sha256(self._names[-1] + text).digest())
 
@@ -263,7 +264,8 @@ class Source:
 
     def _asked(self, since: int, generation: int | None) -> Feed:
         with self._as_a_door():
-            return Feed.connect(self.address, since, opening=True, generation=generation, seconds=self._seconds, named=self._is_named)
+            return Feed.connect(self.address, since, opening=True, generation=generation, seconds=self._seconds,
+                                named=self._is_named)
 
     def kept(self, generation: int | None) -> int | None:
         """How many edits of a generation are kept, which the refusal of a feed of what lies beyond them tells. None

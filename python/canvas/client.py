@@ -377,7 +377,8 @@ class Feed:
         feed._socket = connected(address, seconds)
         feed._keep_alive()
         wanted = {} if generation is None else {"generation": generation}
-        feed._ask({"since": since, **({"opening": True} if opening else {}), **wanted, **({"named": True} if named else {})})
+        flags = {name: True for name, is_asked in (("opening", opening), ("named", named)) if is_asked}
+        feed._ask({"since": since, **flags, **wanted})
         if named:
             feed._read_name()
         if opening:

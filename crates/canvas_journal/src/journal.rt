@@ -51,7 +51,8 @@ impl<D: Device + Drop> Journal<D> {
         ensures lines { IfOk result
             (λ r. map (λ v. v.items) r.1.lines.items ≡ recovered (D.seen device)) }
         ensures sealed { IfOk result
-            (λ r. AreSealed start.now (recovered (D.seen device)) × (r.1.name ≡ later_of start.now (texts_in start.now (recovered (D.seen device))))) }
+            (λ r. AreSealed start.now (recovered (D.seen device))
+            × (r.1.name ≡ later_of start.now (texts_in start.now (recovered (D.seen device))))) }
         ensures ended { IfOk result (λ r. EndsWell (D.seen device)) }
         // Nothing is called damaged that is not.
         ensures damaged { IfErr result (λ e. IsRefused start.now (D.seen device) e) }
@@ -134,7 +135,8 @@ fn renew<D: Device>(alloc: Global, device: &mut D, start: &Option<Name>) -> Resu
     ensures lines { IfOk result
         (λ r. map (λ v. v.items) r.lines.items ≡ recovered (D.seen device.old)) }
     ensures sealed { IfOk result
-        (λ r. AreSealed start.now (recovered (D.seen device.old)) × (r.name ≡ later_of start.now (texts_in start.now (recovered (D.seen device.old))))) }
+        (λ r. AreSealed start.now (recovered (D.seen device.old))
+        × (r.name ≡ later_of start.now (texts_in start.now (recovered (D.seen device.old))))) }
     ensures ended { OnOk result (EndsWell (D.seen device.old)) }
     ensures damaged { IfErr result (λ e. IsRefused start.now (D.seen device.old) e) }
     ensures end { IfOk result (λ r. r.end ≡ length (text (recovered (D.seen device.old)))) }

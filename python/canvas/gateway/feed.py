@@ -37,8 +37,8 @@ class Feed:
     """Follows a feed door for ever. Edits are kept as the lines that came, by their versions.
 
     `history` names the history that is followed; it is None while the door is away, and the same one after an outage
-    only where the server's history has the name that is known, or, at a server of version 0.5, where its last edits are those
-    that are known. `version` is that of the last edit.
+    only where the server's history has the name that is known, or, at a server of version 0.5, where its last edits are
+    those that are known. `version` is that of the last edit.
     """
 
     def __init__(self, address: Address) -> None:
