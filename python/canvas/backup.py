@@ -155,8 +155,7 @@ class Journal:
     def _note(self, line: bytes) -> None:
         self.count += 1
         self._end += len(line)
-        end = -2 - 2 * SEAL_BYTES if self._has_seals else -1
-        text = line[1:end]
+        text = line[1:-2 - 2 * SEAL_BYTES] if self._has_seals else line[1:-1]
         self._last.append(text)
         self._names.append(hashlib.sha256(self._names[-1] + text).digest())
 

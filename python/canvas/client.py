@@ -376,8 +376,9 @@ class Feed:
         feed._rest, feed._seconds = bytearray(), seconds
         feed._socket = connected(address, seconds)
         feed._keep_alive()
-        wanted = {"opening": opening or None, "generation": generation, "named": named or None}
-        feed._ask({"since": since, **{name: value for name, value in wanted.items() if value is not None}})
+        wanted = {} if generation is None else {"generation": generation}
+        flags = {name: True for name, is_asked in (("opening", opening), ("named", named)) if is_asked}
+        feed._ask({"since": since, **flags, **wanted})
         if named:
             feed._read_name()
         if opening:
