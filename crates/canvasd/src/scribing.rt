@@ -92,7 +92,8 @@ fn tell_all<G: Kept, H: Wait>(
         if len == 0 {
             return Err(FeedFault::Strange);
         }
-        name = note_names(&mut names, name, &journal.start, &piece[..len])?;
+        let told = piece.get(..len).unwrap_or(&[]);
+        name = note_names(&mut names, name, &journal.start, told)?;
         at = at.checked_add(len as u64).ok_or(FeedFault::Full)?;
     }
     unreachable!()
