@@ -1,6 +1,6 @@
 -- Which of the types that a server's threads share may cross threads. Types with a part that only clauses read get these lemmas by hand.
 use denote.RattleType.{RattleType}
-use denote.Param.Send.{IsSend, IsSync, sendable, owning_send, view_send, view_sync}
+use denote.Param.Send.{IsSend, IsSync, sendable, owning_send, array_send, view_send, view_sync}
 use denote.Param.SendFields.{as_row_send, declared_send, declared_sync}
 use denote.Ref.{NamedLft}
 use denote.Struct.Field.{row_field}
@@ -40,7 +40,7 @@ asked-send F s = view_send (asked_inside.the_row F) _ _ _ _ (declared_send (aske
 
 module _ (D B : RattleType) (d : device.Ghosts D.Denot) (l : lines.Ghosts B.Denot) (s : IsSend D) where
   keeper-send : IsSend (keeper.the_row D B d l)
-  keeper-send = view_send (keeper_inside.the_row D B d l) _ _ _ _ (declared_send (keeper_inside.the_type D B d l) (journal.the_send D s, (seat.the_send B l, (search sendable, (search (sendable, crosses), (option.the_send _ (search (sendable, crosses) depth 20), (option.the_send _ (search (sendable, crosses) depth 20), tt)))))))
+  keeper-send = view_send (keeper_inside.the_row D B d l) _ _ _ _ (declared_send (keeper_inside.the_type D B d l) (journal.the_send D s, (seat.the_send B l, (search sendable, (search (sendable, crosses), (option.the_send _ (search (sendable, crosses, array_send) depth 20), (option.the_send _ (search (sendable, crosses, array_send) depth 20), tt)))))))
 
   slot-send : IsSend (slot.the_row D B d l)
   slot-send = declared_send (slot.the_type D B d l) (option.the_send (keeper.the_row D B d l) keeper-send, (search sendable, (option.the_send _ fault.the_send, (seat.the_send B l, (search sendable, tt)))))
