@@ -32,6 +32,14 @@ class Fault(Exception):
     """The browser refused a command, or a script in the page failed."""
 
 
+class Left(Fault):
+    """The page was left before its answer."""
+
+
+LEFT = ("Inspected target navigated or closed", "Execution context was destroyed", "Cannot find context with specified id")
+"""What the browser says of that."""
+
+
 def words_of(folder):
     """How Chromium is started: without a window, and with the colours as they are."""
     return [
@@ -101,7 +109,8 @@ class Browser:
         await self._socket.send_str(json.dumps(message))
         found = await asyncio.wait_for(self._waiting[number], PATIENCE)
         if "error" in found:
-            raise Fault(f"{method}: {found['error']['message']}")
+            said = found["error"]["message"]
+            raise (Left if said in LEFT else Fault)(f"{method}: {said}")
         return found["result"]
 
     async def downloads(self, folder):
@@ -159,12 +168,18 @@ class Tab:
         return found["result"].get("value")
 
     async def until(self, script, seconds=PATIENCE):
-        """Waits until an expression is true, asked fifty times a second; raises TimeoutError where that takes longer."""
+        """Waits until an expression is true, asked fifty times a second; raises TimeoutError where that takes longer. The page may be left meanwhile."""
         end = asyncio.get_running_loop().time() + seconds
-        while not await self.value(script):
+        while not await self._is_so(script):
             if asyncio.get_running_loop().time() > end:
                 raise TimeoutError(f"not within {seconds} s: {script}")
             await asyncio.sleep(0.02)
+
+    async def _is_so(self, script):
+        try:
+            return await self.value(script)
+        except Left:
+            return False
 
     # -- pointer and keys ------------------------------------------------------------------------------------------
 
